@@ -1,17 +1,13 @@
 -- Six small images, as their words: their class, and what those of an object say. And what is counted of three tiles.
-use Rattle.std.proofs.Common.{◌≡◌, refl, ℕ, negsuc, true, false, List, [], ◌∷◌, ◌++◌}
-use Rattle.std.specs.Prelude.{flat_map, Some, None}
-use Rattle.raw_region.specs.Memory.{word_bytes, word_at, half_word_at, zeros}
+use Rattle.image_check.proofs.Common.{Anonymous, AreCounted, BadObject, Bytes, List, None, Numbers, Pairs, Some}
+use Rattle.image_check.proofs.Common.{Storage, Texts, Tile, [], class_of, false, flat_map, refl, true, ℕ, ◌++◌, ◌∷◌}
+use Rattle.image_check.proofs.Common.{◌≡◌}
+use Rattle.std.proofs.Common.{negsuc}
+use Rattle.raw_region.specs.Memory.{half_word_at, word_at, word_bytes, zeros}
 use Rattle.raw_region.specs.Format.{current}
 use Rattle.best_fit.specs.Table.{no_backing}
-use Rattle.block_tags.specs.declared.tile.Role.TheVariants.{Object as ObjectRole, Storage}
-use Rattle.block_tags.specs.declared.tile.Tile.{Tile}
+use Rattle.block_tags.specs.declared.tile.Role.TheVariants.{Object as ObjectRole}
 use Rattle.seg_types.specs.declared.kinds.ScalarKind.TheVariants.{I64}
-use Rattle.seg_types.specs.declared.kinds.Class.TheVariants.{Anonymous}
-use Rattle.segment_manager.specs.Directory.{Numbers, Bytes, Pairs, Texts}
-use Rattle.image_check.specs.declared.classes.ImageClass.TheVariants.{BadObject}
-use Rattle.image_check.specs.Classes.{class_of}
-use Rattle.image_check.specs.Counting.{AreCounted}
 use Rattle.image_check.proofs.read_off.Directory.{read_off}
 
 -- bytes from words

@@ -97,13 +97,17 @@ pub fn examine_window(
         → CountsTiles window.bytes steps.old steps.new) }
 {
     let format = window.version();
-    let mut visits = VisitCounter::new(mem::replace(steps, Steps::new()));
-    let checked = pass_all(format, alloc, &window, &mut visits);
-    *steps = visits.into_steps();
-    let region = window.into_region();
-    match checked {
-        Ok(_) => Ok(region),
-        Err(cause) => Err(ExamineRefused { region, cause }),
+    let mut counter = VisitCounter::new(mem::replace(steps, Steps::new()));
+    match pass_all(format, alloc, &window, &mut counter) {
+        Ok(_) => {
+            *steps = counter.into_steps();
+            Ok(window.into_region())
+        }
+        Err(cause) => {
+            *steps = counter.into_steps();
+            let region = window.into_region();
+            Err(ExamineRefused { region, cause })
+        }
     }
 }
 

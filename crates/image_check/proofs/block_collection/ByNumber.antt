@@ -1,15 +1,15 @@
 -- Blocks in the order of their places: what is found at a number and by a payload.
-use Rattle.std.proofs.Common.{◌≡◌, ◌≢◌, refl, sym, ap, subst, ◌∙◌, ℕ, zero, suc, ◌+◌, ◌≤◌, ◌<◌, ◌^◌, [], ◌∷◌, ◌++◌}
-use Rattle.std.proofs.Common.{length, arith, ◌⊎◌, inl, inr, ⊎_elim}
-use Rattle.std.specs.Prelude.{Option, Some, None, IfSome, IsOk, OnOk, Result, Ok, Err, nat_eq, position, slice_get}
-use Rattle.std.specs.Map.{keys_of, set_value}
-use Rattle.std.proofs.lemmas.Bool.{eq-eqb, eqb-true, false≢true, ne_eqb, cond-true, cond-false}
+use Rattle.image_check.proofs.Common.{AreBelow, Block, Blocks, Err, IsRow, None, Ok, Option, Result, Some, [], ap}
+use Rattle.image_check.proofs.Common.{arith, block_at, cond-false, cond-true, eq-eqb, eqb-true, false≢true, inl, inr}
+use Rattle.image_check.proofs.Common.{length, nat_eq, ne_eqb, refl, set_value, slice_get, subst, suc, sym, zero, ℕ}
+use Rattle.image_check.proofs.Common.{◌++◌, ◌+◌, ◌<◌, ◌^◌, ◌∙◌, ◌∷◌, ◌≡◌, ◌≢◌, ◌≤◌, ◌⊎◌}
+use Rattle.std.proofs.Common.{⊎_elim}
+use Rattle.std.specs.Prelude.{IfSome, IsOk, OnOk, position}
+use Rattle.std.specs.Map.{keys_of}
 use Rattle.std.proofs.lemmas.List.Quantifiers.{position-Some}
 use Rattle.std.proofs.lemmas.Option.{slice_get-get_or, slice_get_within}
 use Rattle.indexmap.specs.IndexMap.{set_value_at}
-use Rattle.image_check.specs.declared.owners.Block.{Block}
-use Rattle.image_check.specs.Owners.{Blocks, block_at}
-use Rattle.image_check.specs.Rows.{AreBelow, AreSortedBlocks, IsRow, HasSortedPayloads}
+use Rattle.image_check.specs.Rows.{AreSortedBlocks, HasSortedPayloads}
 
 -- ---- a block of a number
 

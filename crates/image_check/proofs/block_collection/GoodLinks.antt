@@ -1,14 +1,8 @@
 -- A link that is good for a role is found in the map of blocks.
-use Rattle.std.proofs.lemmas.Bool.{false≢true}
+use Rattle.image_check.proofs.Common.{AreBlocks, Block, Blocks, List, None, Option, Role, Some, Tile, ap, block_at}
+use Rattle.image_check.proofs.Common.{false, false≢true, refl, same_role, sym, tile_of, ℕ, ◌∙◌, ◌≡◌, ◌≢◌}
 use Rattle.image_check.proofs.block_collection.UsedTile.{same_role-refl}
-use Rattle.std.proofs.Common.{false, ◌≡◌, ◌≢◌, refl, sym, ap, ◌∙◌, ℕ, List}
-use Rattle.std.specs.Prelude.{Option, Some, None, option_map}
-use Rattle.block_tags.specs.declared.tile.Role.{Role}
-use Rattle.block_tags.specs.declared.tile.Tile.{Tile}
-use Rattle.best_fit.specs.Table.{same_role}
-use Rattle.image_check.specs.declared.owners.Block.{Block}
-use Rattle.image_check.specs.ObjectTests.{tile_of}
-use Rattle.image_check.specs.Owners.{Blocks, block_at, AreBlocks}
+use Rattle.std.specs.Prelude.{option_map}
 
 -- the length of a tile, if there is one
 abbrev pub len_of : Option Tile → Option ℕ

@@ -1,17 +1,11 @@
 -- A block that the map has is one of the live set that the bytes say.
-use Rattle.std.proofs.Common.{◌≡◌, refl, sym, ap, subst, ◌∙◌, ℕ, ◌+◌, Bool, true, false, ◌&&◌, ◌||◌, ◌==◌, List, []}
-use Rattle.std.proofs.Common.{◌∷◌, length, cond}
-use Rattle.std.specs.Prelude.{Option, Some, None, IsTrue, filter_map}
-use Rattle.std.specs.List.{cons_option, list_any}
-use Rattle.std.proofs.lemmas.Bool.{and_parts, eqb-true, eq-eqb, or_left, or_right}
-use Rattle.raw_region.specs.Memory.{bytes_of}
-use Rattle.block_tags.specs.declared.tile.Role.{Role}
-use Rattle.block_tags.specs.declared.tile.Tile.{Tile}
-use Rattle.best_fit.specs.Extents.{Extent, handle}
-use Rattle.best_fit.specs.Heap.{as_extent, is_live_in, live_of}
-use Rattle.image_check.specs.declared.owners.Block.{Block}
-use Rattle.image_check.specs.ObjectTests.{is_use, tile_of}
-use Rattle.image_check.specs.Owners.{AreBlocks, Blocks, block_at}
+use Rattle.image_check.proofs.Common.{AreBlocks, Block, Blocks, Extent, IsTrue, List, None, Option, Role, Some, Tile}
+use Rattle.image_check.proofs.Common.{[], and_parts, ap, as_extent, block_at, bytes_of, cond, cons_option, eq-eqb}
+use Rattle.image_check.proofs.Common.{eqb-true, false, filter_map, handle, is_live_in, is_use, length, list_any}
+use Rattle.image_check.proofs.Common.{or_left, or_right, refl, subst, sym, tile_of, true, ℕ, ◌&&◌, ◌+◌, ◌==◌, ◌||◌, ◌∙◌}
+use Rattle.image_check.proofs.Common.{◌∷◌, ◌≡◌}
+use Rattle.std.proofs.Common.{Bool}
+use Rattle.best_fit.specs.Heap.{live_of}
 use Rattle.image_check.specs.Passes.{tiles_in}
 use Rattle.image_check.proofs.block_collection.Lookup.{use-of}
 

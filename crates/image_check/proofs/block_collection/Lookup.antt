@@ -1,37 +1,27 @@
 -- The blocks of tiles that stand one behind the other are looked up by payload.
-use Rattle.std.proofs.Common.{◌≡◌, ◌≢◌, refl, sym, ap, subst, ◌∙◌, ℕ, ◌+◌, ◌-◌, ◌*◌, ◌/◌, ◌≤◌, ◌<◌, Bool, true, false}
-use Rattle.std.proofs.Common.{◌&&◌, ◌==◌, List, [], ◌∷◌, ◌++◌, length, arith, cond}
-use Rattle.std.specs.Prelude.{Option, Some, None, IsTrue, is_some, nat_eq, option_to_list, slice_get}
-use Rattle.std.specs.List.{cons_option}
-use Rattle.std.proofs.lemmas.Bool.{and_parts, and_from, eqb-true, eq-eqb, ne_eqb, cond-true, cond-false, false≢true}
-use mathlib.Core.Logic.{inl}
-use Rattle.raw_region.specs.Memory.{bytes_of}
+use Rattle.image_check.proofs.Common.{AreBelow, AreBlocks, Block, Blocks, HasTiles, Index, IsBlockAt, IsMarkingOf}
+use Rattle.image_check.proofs.Common.{IsTileAt, IsTrue, IsUnmarked, List, Node, None, Option, Owner, Role, Row, Some}
+use Rattle.image_check.proofs.Common.{Storage, Tile, WindowState, [], and_from, and_parts, ap, arith, block_at}
+use Rattle.image_check.proofs.Common.{bytes_of, cond, cond-false, cond-true, cons_option, debts, entries_of, entry_of}
+use Rattle.image_check.proofs.Common.{eq-eqb, eqb-true, false, false≢true, frame_of, frames, is_some, is_use, length}
+use Rattle.image_check.proofs.Common.{nat_eq, ne_eqb, new_block, option_to_list, owner_at, owner_in, rate_of, refl}
+use Rattle.image_check.proofs.Common.{said_row, same_role, slice_get, subst, suc, sym, tile_of, tiles_are_read_off}
+use Rattle.image_check.proofs.Common.{true, unspent_budget, visit_budget, weigh, zero, ℕ, ◌&&◌, ◌*◌, ◌++◌, ◌+◌, ◌-◌}
+use Rattle.image_check.proofs.Common.{◌/◌, ◌<◌, ◌==◌, ◌∙◌, ◌∷◌, ◌≡◌, ◌≢◌, ◌≤◌}
+use Rattle.std.proofs.Common.{Bool}
 use Rattle.raw_region.specs.Format.{current}
-use Rattle.block_tags.specs.declared.tile.Role.{Role}
-use Rattle.block_tags.specs.declared.tile.Role.TheVariants.{Object, Index, Storage, Node}
-use Rattle.block_tags.specs.declared.tile.Tile.{Tile}
-use Rattle.best_fit.specs.Table.{same_role}
-use Rattle.best_fit.proofs.Laws.{Row}
-use Rattle.image_check.specs.declared.owners.Block.{Block}
-use Rattle.image_check.specs.declared.owners.Owner.{Owner}
-use Rattle.image_check.specs.ObjectTests.{is_use, tile_of}
-use Rattle.image_check.specs.Rows.{AreBelow}
-use Rattle.image_check.specs.Passes.{HasTiles, tiles_in}
-use Rattle.image_check.specs.Owners.{Blocks, block_at, owner_in, owner_at, IsTileAt, IsBlockAt, AreBlocks, visit_budget}
-use Rattle.image_check.specs.Owners.{due_of, unspent_budget, debts, frame_of, frames, AreAligned, IsUnmarked}
-use Rattle.image_check.specs.Owners.{IsMarkingOf, new_block, entry_of, entries_of}
-use Rattle.std.proofs.Common.{zero, suc}
+use Rattle.block_tags.specs.declared.tile.Role.TheVariants.{Object}
+use Rattle.image_check.specs.Passes.{tiles_in}
+use Rattle.image_check.specs.Owners.{AreAligned, due_of}
 use Rattle.std.proofs.lemmas.List.{length-append}
-use Rattle.raw_region.specs.Memory.{WindowState}
-use Rattle.block_tags.proofs.Laws.{tiles_are_read_off}
-use Rattle.best_fit.proofs.Laws.{said_row}
 use Rattle.image_check.proofs.walks.Tiles.{WalksAt}
-use Rattle.image_check.specs.Visits.{rate_of, gathering_rates, weigh}
+use Rattle.image_check.specs.Visits.{gathering_rates}
 use Rattle.image_check.proofs.budget.Passes.{costs-each, costs-weigh}
 use Rattle.image_check.proofs.frame.Tags.{has_tags-AreWholeTiles}
 use Rattle.image_check.proofs.bytes.Members.{find_mem, mem_right}
 use Rattle.image_check.proofs.block_collection.Places.{in_row, payload-inside}
 use Rattle.image_check.proofs.block_collection.UsedTile.{from-there, same_role-is, same_role-refl}
+use mathlib.Core.Logic.{inl}
 
 -- a tile that is found stands there, and is not before the first
 found-far : (at : ℕ) (ts : List Tile) (end : ℕ) (role : Role) (n : ℕ) (t : Tile) → Row at ts end

@@ -1,22 +1,15 @@
 -- What the rows of the map say of their owners is what the tiles say of theirs.
-use Rattle.std.proofs.Common.{◌≡◌, refl, ap, ◌∙◌, ℕ, ◌+◌, ◌-◌, ◌*◌, ◌/◌, ◌≤◌, Bool, true, false, not, ◌||◌, List, []}
-use Rattle.std.proofs.Common.{◌∷◌, length, arith, cond}
-use Rattle.std.specs.Prelude.{Option, Some, None, filter_map, is_some}
-use Rattle.std.specs.List.{cons_option}
-use Rattle.raw_region.specs.Memory.{bytes_of}
+use Rattle.image_check.proofs.Common.{Block, Blocks, HasTiles, Index, List, Node, None, Option, Owner, Role, Row, Some}
+use Rattle.image_check.proofs.Common.{Storage, Tile, [], ap, arith, block_at, bytes_of, cond, cons_option, entries_of}
+use Rattle.image_check.proofs.Common.{false, filter_map, frames, has_owner, is_some, length, new_block, not, owner_at}
+use Rattle.image_check.proofs.Common.{owner_in, payload, rate_of, refl, same_role, true, weigh, ℕ, ◌*◌, ◌+◌, ◌-◌, ◌/◌}
+use Rattle.image_check.proofs.Common.{◌||◌, ◌∙◌, ◌∷◌, ◌≡◌, ◌≤◌}
+use Rattle.std.proofs.Common.{Bool}
 use Rattle.raw_region.specs.Format.{current}
-use Rattle.block_tags.specs.declared.tile.Role.{Role}
-use Rattle.block_tags.specs.declared.tile.Role.TheVariants.{Object, Index, Storage, Node}
-use Rattle.block_tags.specs.declared.tile.Tile.{Tile}
-use Rattle.best_fit.specs.Table.{same_role}
-use Rattle.best_fit.proofs.Laws.{Row}
-use Rattle.image_check.specs.declared.owners.Block.{Block}
-use Rattle.image_check.specs.declared.owners.Owner.{Owner}
-use Rattle.image_check.specs.ObjectTests.{payload}
+use Rattle.block_tags.specs.declared.tile.Role.TheVariants.{Object}
 use Rattle.image_check.specs.Orphans.{is_owned}
-use Rattle.image_check.specs.Owners.{Blocks, block_at, entries_of, frames, has_owner, new_block, owner_at, owner_in}
-use Rattle.image_check.specs.Passes.{HasTiles, blocks_in, tiles_in}
-use Rattle.image_check.specs.Visits.{orphan_rates, rate_of, weigh}
+use Rattle.image_check.specs.Passes.{blocks_in, tiles_in}
+use Rattle.image_check.specs.Visits.{orphan_rates}
 use Rattle.image_check.proofs.walks.Rows.{few-rows}
 use Rattle.image_check.proofs.frame.Tags.{has_tags-AreWholeTiles}
 

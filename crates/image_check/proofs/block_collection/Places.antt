@@ -1,17 +1,10 @@
 -- Where the tiles that good tags say lie, and their payloads.
-use Rattle.std.proofs.Common.{◌∙◌, ◌≡◌, refl, ap, ℕ, ◌+◌, ◌-◌, ◌%◌, ◌≤◌, ◌==◌, ◌&&◌, List, [], ◌∷◌, arith}
-use Rattle.std.specs.Prelude.{Some, IsTrue, nat_le}
-use Rattle.std.proofs.lemmas.Bool.{and_parts, or_cases, eqb-true, leb-true}
-use mathlib.Core.Logic.{inl, inr}
-use Rattle.raw_region.specs.Memory.{Memory}
-use Rattle.block_tags.specs.declared.tile.Role.{Role}
-use Rattle.block_tags.specs.declared.tile.Tile.{Tile}
-use Rattle.block_tags.specs.Format.{is_legal_size}
-use Rattle.block_tags.specs.Tiles.{tiles_of, has_tags}
-use Rattle.best_fit.proofs.Laws.{Row}
-use Rattle.image_check.specs.ObjectTests.{is_use, tile_of}
+use Rattle.image_check.proofs.Common.{IsTrue, List, Memory, Role, Row, Some, Tile, [], and_parts, ap, arith, eqb-true}
+use Rattle.image_check.proofs.Common.{has_tags, is_legal_size, is_use, leb-true, nat_le, or_cases, refl, tile_of}
+use Rattle.image_check.proofs.Common.{tiles_of, ℕ, ◌%◌, ◌&&◌, ◌+◌, ◌-◌, ◌==◌, ◌∙◌, ◌∷◌, ◌≡◌, ◌≤◌}
 use Rattle.image_check.proofs.bytes.Members.{Mem, find_mem}
 use Rattle.image_check.proofs.frame.Tags.{has_tags-AreWholeTiles}
+use mathlib.Core.Logic.{inl, inr}
 
 -- a tile among those of a row
 pub record InRow (at end : ℕ) (t : Tile) : Type 0 where

@@ -1,20 +1,14 @@
 -- Which tile stands for an extent in use, and when two rows of extents are one.
-use Rattle.std.proofs.Common.{◌≡◌, refl, sym, ap, subst, ◌∙◌, ℕ, ◌+◌, ◌<◌, ◌≤◌, Bool, true, false, ◌&&◌, ◌==◌, List, []}
-use Rattle.std.proofs.Common.{◌∷◌, arith, cond}
-use Rattle.std.specs.Prelude.{IsTrue, Option, Some, None, filter}
-use Rattle.std.proofs.lemmas.Bool.{and_parts, and_from, eqb-true, eq-eqb, false≢true}
+use Rattle.image_check.proofs.Common.{Extent, Index, IsTrue, List, Node, None, Option, Rising, Role, Row, Some, Storage}
+use Rattle.image_check.proofs.Common.{Tile, [], and_from, and_parts, ap, arith, as_extent, cond, eq-eqb, eqb-true}
+use Rattle.image_check.proofs.Common.{false, false≢true, filter, handle, is_use, payload, refl, rising-weak, same_role}
+use Rattle.image_check.proofs.Common.{sorted, subst, sym, tile_of, true, ℕ, ◌&&◌, ◌+◌, ◌<◌, ◌==◌, ◌∙◌, ◌∷◌, ◌≡◌, ◌≤◌}
+use Rattle.std.proofs.Common.{Bool}
+use Rattle.block_tags.specs.declared.tile.Role.TheVariants.{Object}
+use Rattle.best_fit.proofs.Laws.{extents_of as used}
+use Rattle.segment_manager.proofs.Laws.{all-sorted, all_of-sorted}
+use Rattle.image_check.proofs.bytes.Members.{Mem, all_mem, find_only, mem_all, mem_of_filter_map}
 use mathlib.Core.Logic.{inl, inr}
-use Rattle.block_tags.specs.declared.tile.Role.{Role}
-use Rattle.block_tags.specs.declared.tile.Role.TheVariants.{Object, Index, Storage, Node}
-use Rattle.block_tags.specs.declared.tile.Tile.{Tile}
-use Rattle.best_fit.specs.Extents.{Extent, handle}
-use Rattle.best_fit.specs.Heap.{as_extent}
-use Rattle.best_fit.specs.Table.{same_role}
-use Rattle.best_fit.proofs.Laws.{Row, extents_of as used}
-use Rattle.segment_manager.specs.Directory.{sorted}
-use Rattle.segment_manager.proofs.Laws.{Rising, all-sorted, all_of-sorted, rising-weak}
-use Rattle.image_check.specs.ObjectTests.{is_use, tile_of, payload}
-use Rattle.image_check.proofs.bytes.Members.{Mem, mem_all, all_mem, find_only, mem_of_filter_map}
 
 -- ---- roles
 

@@ -1,10 +1,7 @@
 -- What a pass may spend on all tiles, from what it spends on each.
-use Rattle.std.proofs.Common.{◌≡◌, ap, ℕ, ◌+◌, ◌*◌, ◌/◌, ◌≤◌, List, [], ◌∷◌, length, arith}
-use Rattle.block_tags.specs.declared.tile.Tile.{Tile}
-use Rattle.std.proofs.Common.{add-one}
+use Rattle.image_check.proofs.Common.{List, Rates, Row, Tile, [], add-one, ap, arith, length, rate_of, weigh, ℕ, ◌*◌}
+use Rattle.image_check.proofs.Common.{◌+◌, ◌/◌, ◌∷◌, ◌≡◌, ◌≤◌}
 use Rattle.image_check.proofs.read_off.GoodValues.{mul-next}
-use Rattle.best_fit.proofs.Laws.{Row}
-use Rattle.image_check.specs.Visits.{Rates, rate_of, weigh}
 
 -- all of them together
 abbrev pub costs : (Tile → ℕ) → List Tile → ℕ

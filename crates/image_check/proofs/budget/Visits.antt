@@ -1,29 +1,21 @@
 -- Counts of visits: what tiles weigh, and that all passes together stay within 64 for each 16 bytes of the size, and
 -- 64.
-use Rattle.std.proofs.Common.{true, ◌≡◌, refl, ap, ◌∙◌, ℕ, ◌+◌, ◌-◌, ◌*◌, ◌/◌, ◌%◌, ◌^◌, ◌<◌, ◌≤◌, List, [], ◌∷◌, ◌++◌}
-use Rattle.std.proofs.Common.{length, arith}
+use Rattle.image_check.proofs.Common.{EncodesTiles, HasTiles, Index, IsLinkClosed, IsTrue, List, Node, None, Option}
+use Rattle.image_check.proofs.Common.{Rates, Role, Row, Some, Spends, Storage, Tile, WindowState, [], ap, arith}
+use Rattle.image_check.proofs.Common.{bytes_of, is_in, is_legal_size, is_place, is_place-PayloadBounds, leads}
+use Rattle.image_check.proofs.Common.{legal_size, length, link_at, planting_rates, rate_of, refl, said_row, tag_rates}
+use Rattle.image_check.proofs.Common.{tiles_are_read_off, tree_rates, true, weigh, ℕ, ◌%◌, ◌*◌, ◌++◌, ◌+◌, ◌-◌, ◌/◌}
+use Rattle.image_check.proofs.Common.{◌<◌, ◌^◌, ◌∙◌, ◌∷◌, ◌≡◌, ◌≤◌}
 use Rattle.std.proofs.Math.Nat.{add-mul, mul-le-mul_right}
-use Rattle.std.specs.Prelude.{IsTrue, Option, Some, None}
-use Rattle.raw_region.specs.Memory.{WindowState, bytes_of}
-use Rattle.block_tags.specs.declared.tile.Role.{Role}
-use Rattle.block_tags.specs.declared.tile.Role.TheVariants.{Object, Index, Storage, Node}
-use Rattle.block_tags.specs.declared.tile.Tile.{Tile}
-use Rattle.block_tags.specs.Format.{is_legal_size}
-use Rattle.block_tags.specs.Windows.{EncodesTiles}
-use Rattle.block_tags.proofs.Laws.{tiles_are_read_off}
-use Rattle.best_fit.proofs.Laws.{Row, legal_size, said_row}
-use Rattle.offset_link.specs.Link.{link_at}
+use Rattle.block_tags.specs.declared.tile.Role.TheVariants.{Object}
 use Rattle.link_tree.specs.Tree.{bits}
-use Rattle.link_tree.specs.Nodes.{is_in, leads}
-use Rattle.link_tree.specs.Checking.{IsLinkClosed}
 use Rattle.std.proofs.lemmas.Int.Digits.{length-digits_of-le}
 use Rattle.image_check.specs.Opening.{IsRaisedFor}
-use Rattle.image_check.specs.Passes.{HasTiles, Spends, tiles_in}
-use Rattle.image_check.specs.Visits.{Rates, rate_of, weigh, both, tag_rates, step_rates, planting_visits}
-use Rattle.image_check.specs.Visits.{planting_rates, tree_rates, frame_rates, gathering_rates, block_rates, all_rates}
-use Rattle.image_check.specs.Visits.{note_rates}
-use Rattle.image_check.specs.FreeNodes.{is_place, placed, place_cells}
-use Rattle.image_check.specs.FreeLaws.{multiples, length-multiples, place_listed, placed_leads, is_place-PayloadBounds}
+use Rattle.image_check.specs.Passes.{tiles_in}
+use Rattle.image_check.specs.Visits.{all_rates, block_rates, both, frame_rates, gathering_rates, note_rates}
+use Rattle.image_check.specs.Visits.{planting_visits, step_rates}
+use Rattle.image_check.specs.FreeNodes.{place_cells, placed}
+use Rattle.image_check.specs.FreeLaws.{length-multiples, multiples, place_listed, placed_leads}
 use Rattle.image_check.proofs.walks.Tiles.{tags-IsTiledWindow}
 
 -- ---- sums of plain numbers

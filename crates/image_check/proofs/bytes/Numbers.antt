@@ -1,17 +1,13 @@
 -- Bytes and the numbers in them: how large a word is, which bytes spell it, and which words are made of zeros.
-use Rattle.std.proofs.Common.{◌≡◌, refl, sym, ap, ◌∙◌, ℕ, zero, suc, ◌+◌, ◌*◌, ◌^◌, ◌<◌, ◌≤◌, ◌==◌, List, [], ◌∷◌, ◌++◌}
-use Rattle.std.proofs.Common.{arith, subst}
-use Rattle.std.specs.Prelude.{IsTrue, nat_lt, slice_index, length}
-use Rattle.std.specs.List.{AllByRecursion}
-use Rattle.std.proofs.lemmas.Bool.{and_parts, and_from, eqb-true, eq-eqb, ltb-true, lt-ltb, cases_lt}
-use Rattle.std.proofs.lemmas.List.Folds.{list_all-append}
-use mathlib.Core.Logic.{⊎_elim}
+use Rattle.image_check.proofs.Common.{AllByRecursion, AreZero, IsTrue, List, Memory, [], and_from, and_parts, ap}
+use Rattle.image_check.proofs.Common.{are_bytes, arith, bytes_of, cases_lt, eq-eqb, eqb-true, is_zero, length}
+use Rattle.image_check.proofs.Common.{list_all-append, little_number, lt-ltb, ltb-true, nat_lt, read, refl, slice_index}
+use Rattle.image_check.proofs.Common.{subst, suc, sym, zero, ℕ, ◌*◌, ◌++◌, ◌+◌, ◌<◌, ◌==◌, ◌^◌, ◌∙◌, ◌∷◌, ◌≡◌, ◌≤◌}
 use Rattle.std.specs.Int.{bytes_low_first}
-use Rattle.byteorder.specs.Endian.{little_number}
 use Rattle.byteorder.specs.Numbers.{little_from-cons}
-use Rattle.raw_region.specs.Memory.{Memory, bytes_of, read, word_at, half_word_at, AreZero, are_bytes}
+use Rattle.raw_region.specs.Memory.{half_word_at, word_at}
 use Rattle.seg_types.proofs.Laws.{bytes-back, number-small}
-use Rattle.image_check.specs.EarlyTests.{is_zero}
+use mathlib.Core.Logic.{⊎_elim}
 
 -- ---- memory whose bytes are below 256
 

@@ -1,8 +1,8 @@
 -- A list made of the numbers of a range, up to one of them and from there on.
-use Rattle.std.proofs.Common.{◌≡◌, refl, sym, ap, subst, ◌∙◌, ℕ, zero, suc, ◌+◌, ◌<◌, Bool, true, false, ◌&&◌, List, []}
-use Rattle.std.proofs.Common.{◌∷◌, ◌++◌, map, add-one, arith}
-use Rattle.std.specs.List.{list_all, range_with_len}
-use Rattle.std.proofs.lemmas.Bool.{and_from, and_parts, cases_Bool}
+use Rattle.image_check.proofs.Common.{List, [], add-one, and_from, and_parts, ap, arith, cases_Bool, false, list_all}
+use Rattle.image_check.proofs.Common.{map, range_with_len, refl, subst, suc, sym, true, zero, ℕ, ◌&&◌, ◌++◌, ◌+◌, ◌<◌}
+use Rattle.image_check.proofs.Common.{◌∙◌, ◌∷◌, ◌≡◌}
+use Rattle.std.proofs.Common.{Bool}
 use mathlib.Core.Logic.{inl, inr}
 
 -- what stands behind the one of a number

@@ -1,8 +1,8 @@
 -- A word is its two half words.
-use Rattle.std.proofs.Common.{◌≡◌, refl, ap, ◌∙◌, ℕ, zero, suc, ◌+◌, ◌*◌, ◌/◌, ◌%◌, ◌^◌, ◌<◌, arith}
+use Rattle.image_check.proofs.Common.{Memory, ap, arith, refl, suc, zero, ℕ, ◌%◌, ◌*◌, ◌+◌, ◌/◌, ◌<◌, ◌^◌, ◌∙◌, ◌≡◌}
 use Rattle.std.proofs.Math.Nat.{pow-succ'}
-use Rattle.raw_region.specs.Memory.{Memory, word_at, half_word_at}
-use Rattle.image_check.proofs.bytes.Numbers.{AreSmall, number_at, number_at-suc, number_at-small}
+use Rattle.raw_region.specs.Memory.{half_word_at, word_at}
+use Rattle.image_check.proofs.bytes.Numbers.{AreSmall, number_at, number_at-small, number_at-suc}
 
 -- ---- a word is two half words
 

@@ -1,29 +1,18 @@
 -- The fields that count are the claims of a list of objects and of two tables: each is one, and each one counts.
-use Rattle.std.proofs.Common.{◌≡◌, refl, sym, ap, subst, ◌∙◌, ℕ, ◌+◌, ◌*◌, List, [], ◌++◌, length}
-use Rattle.std.specs.Prelude.{IsTrue, Some, flat_map, is_some}
-use Rattle.std.specs.List.{list_all}
-use mathlib.Core.Logic.{inl, inr}
-use Rattle.raw_region.specs.Memory.{Memory}
-use Rattle.offset_link.specs.Link.{link_at}
-use Rattle.link_tree.specs.Tree.{Tree, nodes_of, IsTree}
-use Rattle.link_tree.proofs.Laws.{reads_off}
-use Rattle.block_tags.specs.declared.tile.Role.TheVariants.{Node}
-use Rattle.block_tags.specs.declared.tile.Tile.{Tile}
-use Rattle.best_fit.specs.Extents.{handle}
-use Rattle.best_fit.specs.FreeTree.{cells_of}
-use Rattle.best_fit.specs.Table.{BackingArray}
-use Rattle.seg_types.specs.declared.kinds.Kind.{Kind}
-use Rattle.segment_manager.specs.Directory.{Value, Numbers, Elements, Bytes, Pairs, Texts, Object, kind_of, padded}
-use Rattle.image_check.specs.ObjectTests.{tile_of}
-use Rattle.image_check.specs.Fields.{values, Field, index_field, storage_field, element_fields, root_link, node_fields}
-use Rattle.image_check.specs.Fields.{counted_fields}
-use Rattle.image_check.proofs.bytes.Members.{Mem, mem_all, all_mem, mem_left, mem_right, mem_parts, mem_flat_map}
-use Rattle.image_check.proofs.bytes.Members.{mem_of_flat_map}
+use Rattle.image_check.proofs.Common.{BackingArray, Bytes, Elements, Field, IsTree, IsTrue, Kind, List, Memory, Node}
+use Rattle.image_check.proofs.Common.{Numbers, Pairs, Some, Texts, Tile, Tree, Value, [], ap, cells_of, counted_fields}
+use Rattle.image_check.proofs.Common.{element_fields, flat_map, handle, index_field, is_some, kind_of, length, link_at}
+use Rattle.image_check.proofs.Common.{list_all, node_fields, nodes_of, padded, reads_off, refl, root_link}
+use Rattle.image_check.proofs.Common.{storage_field, subst, sym, tile_of, values, ℕ, ◌*◌, ◌++◌, ◌+◌, ◌∙◌, ◌≡◌}
+use Rattle.segment_manager.specs.Directory.{Object}
+use Rattle.image_check.proofs.bytes.Members.{Mem, all_mem, mem_all, mem_flat_map, mem_left, mem_of_flat_map, mem_parts}
+use Rattle.image_check.proofs.bytes.Members.{mem_right}
 use Rattle.image_check.proofs.read_off.Directory.{tree_at}
 use Rattle.image_check.proofs.claims.ReachedLinks.{Covers, reached-sound, roots-covered}
-use Rattle.image_check.proofs.claims.Fields.{storage_claims, element_claims, node_claims, value_claims, table_claims}
-use Rattle.image_check.proofs.claims.Fields.{option_tree_claims, IsTreeRead}
+use Rattle.image_check.proofs.claims.Fields.{IsTreeRead, element_claims, node_claims, option_tree_claims}
+use Rattle.image_check.proofs.claims.Fields.{storage_claims, table_claims, value_claims}
 use Rattle.image_check.proofs.claims.TreeClaims.{IsLinkOf, links-closed, tree-covered}
+use mathlib.Core.Logic.{inl, inr}
 
 -- where the value of an object stands
 abbrev pub place_of : Object → ℕ

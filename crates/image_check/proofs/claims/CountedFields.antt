@@ -1,32 +1,25 @@
 -- The list of the fields that count has each link that counts, and no other.
-use Rattle.std.proofs.Common.{◌≡◌, refl, sym, ap, subst, ◌∙◌, ℕ, zero, suc, ◌+◌, ◌-◌, ◌*◌, ◌/◌, ◌≤◌, ◌<◌, min, Bool}
-use Rattle.std.proofs.Common.{true, false, ◌&&◌, ◌==◌, List, [], ◌∷◌, ◌++◌, length, arith}
-use Rattle.std.specs.Prelude.{IsTrue, Option, Some, None, nat_lt, flat_map, Contains, ◌↔◌, if◌then◌else◌}
-use Rattle.std.specs.List.{range_with_len}
-use Rattle.std.proofs.lemmas.Bool.{and_parts, and_from, ne_eqb, lt-ltb, ltb-true, cond-true, cond-false, false≢true}
-use Rattle.std.proofs.lemmas.Bool.{true≢false, cases_eq}
-use Rattle.std.proofs.lemmas.List.Elements.{All-contains, All-from_recursion, recursion_from_All, All-contains_itself}
-use mathlib.Core.Logic.{◌⊎◌, inl, inr}
-use Rattle.raw_region.specs.Memory.{Memory, word_at}
-use Rattle.offset_link.specs.Link.{link_at}
-use Rattle.link_tree.proofs.Laws.{some_same}
-use Rattle.block_tags.specs.declared.tile.Role.{Role}
-use Rattle.block_tags.specs.declared.tile.Role.TheVariants.{Index, Storage, Node}
-use Rattle.block_tags.specs.declared.tile.Tile.{Tile}
-use Rattle.best_fit.specs.Table.{same_role}
-use Rattle.best_fit.proofs.Laws.{Row}
-use Rattle.seg_types.specs.declared.kinds.ScalarKind.{ScalarKind}
-use Rattle.seg_types.specs.declared.kinds.Kind.{Kind}
-use Rattle.seg_types.specs.declared.kinds.Kind.TheVariants.{Scalar, String, Vector, Map, Strings}
-use Rattle.image_check.specs.ObjectTests.{is_use, good_for, payload, index_capacity}
-use Rattle.image_check.specs.Fields.{values, has_storage, Field, field_at, index_field, storage_field, element_offsets}
-use Rattle.image_check.specs.Fields.{element_fields, root_link, node_fields, counted_fields}
-use Rattle.image_check.specs.Meaning.{LeadsTo, IsCountedLink}
-use Rattle.image_check.proofs.bytes.Members.{Mem, mem_all, all_mem, mem_left, mem_right, mem_parts, mem_map, mem_of_map}
-use Rattle.image_check.proofs.bytes.Members.{mem_flat_map, mem_of_flat_map}
+use Rattle.image_check.proofs.Common.{Contains, Field, Index, IsCountedLink, IsTrue, Kind, LeadsTo, List, Map, Memory}
+use Rattle.image_check.proofs.Common.{Node, None, Option, Role, Row, Scalar, ScalarKind, Some, Storage, String, Tile}
+use Rattle.image_check.proofs.Common.{Vector, [], and_from, and_parts, ap, arith, cases_eq, cond-false, cond-true}
+use Rattle.image_check.proofs.Common.{counted_fields, element_fields, element_offsets, false, false≢true, flat_map}
+use Rattle.image_check.proofs.Common.{good_for, has_storage, if◌then◌else◌, index_capacity, index_field, is_use, length}
+use Rattle.image_check.proofs.Common.{link_at, lt-ltb, ltb-true, nat_lt, ne_eqb, node_fields, payload, range_with_len}
+use Rattle.image_check.proofs.Common.{refl, root_link, same_role, some_same, storage_field, subst, suc, sym, true}
+use Rattle.image_check.proofs.Common.{true≢false, values, zero, ℕ, ◌&&◌, ◌*◌, ◌++◌, ◌+◌, ◌-◌, ◌/◌, ◌<◌, ◌==◌, ◌∙◌, ◌∷◌}
+use Rattle.image_check.proofs.Common.{◌≡◌, ◌≤◌}
+use Rattle.std.proofs.Common.{Bool, min}
+use Rattle.std.specs.Prelude.{◌↔◌}
+use Rattle.std.proofs.lemmas.List.Elements.{All-contains, All-contains_itself, All-from_recursion, recursion_from_All}
+use Rattle.raw_region.specs.Memory.{word_at}
+use Rattle.seg_types.specs.declared.kinds.Kind.TheVariants.{Strings}
+use Rattle.image_check.specs.Fields.{field_at}
+use Rattle.image_check.proofs.bytes.Members.{Mem, all_mem, mem_all, mem_flat_map, mem_left, mem_map, mem_of_flat_map}
+use Rattle.image_check.proofs.bytes.Members.{mem_of_map, mem_parts, mem_right}
 use Rattle.image_check.proofs.block_collection.UsedTile.{one_tile}
-use Rattle.image_check.proofs.claims.ReachedLinks.{field, good_for-IsGood, AreClosed, reached-sound, roots-covered}
+use Rattle.image_check.proofs.claims.ReachedLinks.{AreClosed, field, good_for-IsGood, reached-sound, roots-covered}
 use Rattle.image_check.proofs.claims.FieldPlaces.{one-use}
+use mathlib.Core.Logic.{◌⊎◌, inl, inr}
 
 -- ---- membership and `Contains`
 

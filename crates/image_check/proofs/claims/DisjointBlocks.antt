@@ -1,26 +1,20 @@
 -- Where no two fields share a target, the blocks that objects and tables name are different blocks.
-use Rattle.std.proofs.Common.{◌≡◌, refl, sym, ap, subst, ◌∙◌, ℕ, ◌+◌, ◌<◌, List, [], ◌∷◌, ◌++◌, map, arith}
+use Rattle.image_check.proofs.Common.{BackingArray, Extent, Field, IsTrue, List, Memory, Row, Tile, [], and_parts, ap}
+use Rattle.image_check.proofs.Common.{arith, false≢true, flat_map, handle, map, map-append, nat_le, refl, rises_from}
+use Rattle.image_check.proofs.Common.{subst, sym, table_extents, value_extents, ℕ, ◌++◌, ◌+◌, ◌<◌, ◌∙◌, ◌∷◌, ◌≡◌}
 use Rattle.std.proofs.Common.{append_assoc}
-use Rattle.std.specs.Prelude.{IsTrue, nat_le, flat_map}
-use Rattle.std.proofs.lemmas.Bool.{and_parts, false≢true}
-use Rattle.std.proofs.lemmas.List.{map-append}
-use mathlib.Core.Logic.{inl, inr}
-use Rattle.raw_region.specs.Memory.{Memory}
-use Rattle.block_tags.specs.declared.tile.Tile.{Tile}
-use Rattle.best_fit.specs.Extents.{Extent, handle}
-use Rattle.best_fit.specs.Table.{BackingArray}
-use Rattle.best_fit.proofs.Laws.{Row, extents_of as used}
-use Rattle.segment_manager.specs.Directory.{Object, extents_of, value_extents, table_extents, rises_from}
-use Rattle.image_check.specs.Fields.{Field}
-use Rattle.image_check.proofs.bytes.Members.{Mem, mem_all, mem_left, mem_right, mem_parts, mem_map, Image, mem_of_map}
-use Rattle.image_check.proofs.bytes.Members.{mem_of_flat_map}
-use Rattle.image_check.proofs.read_off.OwnBlocks.{is_object_extent, IsOther, value-other}
+use Rattle.best_fit.proofs.Laws.{extents_of as used}
+use Rattle.segment_manager.specs.Directory.{Object, extents_of}
+use Rattle.image_check.proofs.bytes.Members.{Image, Mem, mem_all, mem_left, mem_map, mem_of_flat_map, mem_of_map}
+use Rattle.image_check.proofs.bytes.Members.{mem_parts, mem_right}
+use Rattle.image_check.proofs.read_off.OwnBlocks.{IsOther, is_object_extent, value-other}
 use Rattle.image_check.proofs.indexes.Entries.{Distinct, distinct-append, object-from}
-use Rattle.image_check.proofs.claims.Fields.{target_in, table_claims, value-targets}
-use Rattle.image_check.proofs.claims.CountedClaims.{place_of, claims_of, tables_claims, all_claims}
+use Rattle.image_check.proofs.claims.Fields.{table_claims, target_in, value-targets}
+use Rattle.image_check.proofs.claims.CountedClaims.{all_claims, claims_of, place_of, tables_claims}
 use Rattle.image_check.proofs.law.DenotedHasNoClass.{both-targets}
 use Rattle.image_check.proofs.claims.FieldPlaces.{ArePlaced, option-at, option-once, same-handle}
-use Rattle.image_check.proofs.claims.DisjointObjects.{claimed, objects-apart, value-once, claim-high}
+use Rattle.image_check.proofs.claims.DisjointObjects.{claim-high, claimed, objects-apart, value-once}
+use mathlib.Core.Logic.{inl, inr}
 
 module _ (ts : List Tile) (end : ℕ) (a : Row 128 ts end) (m : Memory) (os : List Object)
     (named unique : BackingArray) (r : ArePlaced m ts os named unique) where

@@ -1,36 +1,23 @@
 -- Where no two fields share a target, two objects name different blocks, and one object names a block once.
-use Rattle.std.proofs.Common.{◌≡◌, refl, sym, ap, subst, ◌∙◌, ℕ, ◌+◌, ◌≤◌, false, List, [], ◌∷◌, ◌++◌, map, arith}
-use Rattle.std.specs.Prelude.{IsTrue, Option, Some, None, flat_map}
-use Rattle.std.proofs.lemmas.Bool.{false≢true}
-use Rattle.std.proofs.lemmas.List.{map-append}
-use mathlib.Core.Logic.{inl, inr}
-use Rattle.raw_region.specs.Memory.{Memory}
-use Rattle.link_tree.specs.Tree.{Tree, leaf, fork, nodes_of}
-use Rattle.block_tags.specs.declared.tile.Role.{Role}
-use Rattle.block_tags.specs.declared.tile.Role.TheVariants.{Object as ObjectRole, Storage, Node}
-use Rattle.block_tags.specs.declared.tile.Tile.{Tile}
-use Rattle.best_fit.specs.Extents.{Extent, handle}
-use Rattle.best_fit.specs.Table.{BackingArray, same_role}
-use Rattle.best_fit.proofs.Laws.{Row}
-use Rattle.seg_vector.specs.Vector.{OwnedText}
-use Rattle.segment_manager.specs.Directory.{Value, Numbers, Elements, Bytes, Pairs, Texts, Object, value_len}
-use Rattle.segment_manager.specs.Directory.{value_extents}
-use Rattle.image_check.specs.ObjectTests.{is_use, payload}
-use Rattle.image_check.specs.Fields.{Field}
-use Rattle.image_check.proofs.bytes.Members.{Mem, mem_left, mem_right, mem_parts, mem_map, mem_of_map, mem_flat_map}
+use Rattle.image_check.proofs.Common.{BackingArray, Bytes, Elements, Extent, Field, IsTrue, List, Memory, Node, None}
+use Rattle.image_check.proofs.Common.{Numbers, Option, OwnedText, Pairs, Role, Row, Some, Storage, Texts, Tile, Tree}
+use Rattle.image_check.proofs.Common.{Value, [], ap, arith, false, false≢true, flat_map, fork, handle, is_use, leaf}
+use Rattle.image_check.proofs.Common.{map, map-append, nodes_of, payload, refl, same_role, subst, sym, value_extents}
+use Rattle.image_check.proofs.Common.{value_len, ℕ, ◌++◌, ◌+◌, ◌∙◌, ◌∷◌, ◌≡◌, ◌≤◌}
+use Rattle.block_tags.specs.declared.tile.Role.TheVariants.{Object as ObjectRole}
+use Rattle.segment_manager.specs.Directory.{Object}
+use Rattle.image_check.proofs.bytes.Members.{Mem, mem_flat_map, mem_left, mem_map, mem_of_map, mem_parts, mem_right}
 use Rattle.image_check.proofs.block_collection.UsedTile.{from-there, same_role-refl}
 use Rattle.image_check.proofs.claims.ReachedLinks.{field}
 use Rattle.image_check.proofs.indexes.Entries.{Distinct, distinct-append}
-use Rattle.image_check.proofs.claims.Fields.{target_in, array_claims, tree_claims, storage_claims, element_claims}
-use Rattle.image_check.proofs.claims.Fields.{node_claims}
-use Rattle.image_check.proofs.claims.Fields.{tree-targets, value-targets}
-use Rattle.image_check.proofs.claims.CountedClaims.{place_of, claims_of, tables_claims, all_claims}
-use Rattle.image_check.proofs.claims.Forests.{tree-at, AreAligned, NotBelow, two-trees, one-tree, targets-distinct}
-use Rattle.image_check.proofs.claims.FieldPlaces.{Lies, in-one, one-use, ArePlaced, option-once, storage-at, at_of}
-use Rattle.image_check.proofs.claims.FieldPlaces.{text-ats}
-use Rattle.image_check.proofs.claims.FieldPlaces.{nodes-len, elements-len, element-array, IsForest, forest}
-use Rattle.image_check.proofs.claims.FieldPlaces.{node-aligned}
-use Rattle.image_check.proofs.claims.FieldPlaces.{node-lies}
+use Rattle.image_check.proofs.claims.Fields.{array_claims, element_claims, node_claims, storage_claims, target_in}
+use Rattle.image_check.proofs.claims.Fields.{tree-targets, tree_claims, value-targets}
+use Rattle.image_check.proofs.claims.CountedClaims.{all_claims, claims_of, place_of, tables_claims}
+use Rattle.image_check.proofs.claims.Forests.{AreAligned, NotBelow, one-tree, targets-distinct, tree-at, two-trees}
+use Rattle.image_check.proofs.claims.FieldPlaces.{ArePlaced, IsForest, Lies, at_of, element-array, elements-len, forest}
+use Rattle.image_check.proofs.claims.FieldPlaces.{in-one, node-aligned, node-lies, nodes-len, one-use, option-once}
+use Rattle.image_check.proofs.claims.FieldPlaces.{storage-at, text-ats}
+use mathlib.Core.Logic.{inl, inr}
 
 module _ (ts : List Tile) (end : ℕ) (a : Row 128 ts end) (m : Memory) (os : List Object)
     (named unique : BackingArray) (r : ArePlaced m ts os named unique) where

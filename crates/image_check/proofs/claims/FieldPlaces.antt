@@ -1,42 +1,30 @@
 -- Where the fields of a value stand: in its own place, in its array, or in a node of its tree; and which tiles these
 -- lie in.
-use Rattle.std.proofs.Common.{◌≡◌, refl, sym, ap, subst, ◌∙◌, ℕ, ◌+◌, ◌*◌, ◌%◌, ◌≤◌, ◌<◌, false, ◌&&◌, List, [], ◌∷◌}
-use Rattle.std.proofs.Common.{◌++◌, length, map, arith}
-use Rattle.std.specs.Prelude.{IsTrue, Option, Some, None, nat_le, nat_lt, flat_map, option_to_list, int_lt}
-use Rattle.std.specs.List.{AllByRecursion, list_all}
-use Rattle.std.proofs.lemmas.Bool.{and_parts, leb-true, false≢true}
-use mathlib.Core.Logic.{◌⊎◌, inl, inr}
-use Rattle.raw_region.specs.Memory.{Memory}
-use Rattle.link_tree.specs.Tree.{Tree, leaf, nodes_of}
-use Rattle.block_tags.specs.declared.tile.Role.{Role}
-use Rattle.block_tags.specs.declared.tile.Role.TheVariants.{Object as ObjectRole, Storage, Node}
-use Rattle.block_tags.specs.declared.tile.Tile.{Tile}
-use Rattle.best_fit.specs.Extents.{Extent, handle, holds}
-use Rattle.best_fit.specs.Heap.{as_extent}
-use Rattle.best_fit.specs.Table.{BackingArray, has_backing, serves, same_role}
-use Rattle.best_fit.proofs.Laws.{Row, extents_of as used}
-use Rattle.seg_types.specs.declared.kinds.ScalarKind.{ScalarKind}
-use Rattle.seg_types.specs.Kinds.{is_value, size_of}
-use Rattle.seg_vector.specs.Vector.{OwnedText}
-use Rattle.seg_map.specs.Map.{is_rising, node_len}
-use Rattle.seg_map.specs.Numbers.{NumberPair, is_number_pair}
-use Rattle.segment_manager.specs.Directory.{Value, Numbers, Elements, Bytes, Pairs, Texts, Object, value_len}
-use Rattle.segment_manager.specs.Directory.{value_extents, table_extents, is_good_value, is_owned_text, rises_from}
-use Rattle.segment_manager.proofs.Laws.{AllByRecursion-front}
-use Rattle.image_check.specs.ObjectTests.{is_use, payload}
-use Rattle.image_check.specs.Fields.{Field}
-use Rattle.image_check.proofs.bytes.Members.{Mem, mem_parts, mem_of_map, mem_of_filter_map}
+use Rattle.image_check.proofs.Common.{AllByRecursion, AllByRecursion-front, BackingArray, Bytes, Elements, Extent}
+use Rattle.image_check.proofs.Common.{Field, IsTrue, List, Memory, Node, None, NumberPair, Numbers, Option, OwnedText}
+use Rattle.image_check.proofs.Common.{Pairs, Role, Row, ScalarKind, Some, Storage, Texts, Tile, Tree, Value, []}
+use Rattle.image_check.proofs.Common.{and_parts, ap, arith, as_extent, false, false≢true, flat_map, handle, has_backing}
+use Rattle.image_check.proofs.Common.{int_lt, is_good_value, is_number_pair, is_owned_text, is_rising, is_use, is_value}
+use Rattle.image_check.proofs.Common.{leaf, leb-true, length, list_all, map, nat_le, nat_lt, nodes_of, option_to_list}
+use Rattle.image_check.proofs.Common.{payload, refl, rises_from, same_role, serves, size_of, subst, sym, table_extents}
+use Rattle.image_check.proofs.Common.{value_extents, value_len, ℕ, ◌%◌, ◌&&◌, ◌*◌, ◌++◌, ◌+◌, ◌<◌, ◌∙◌, ◌∷◌, ◌≡◌, ◌≤◌}
+use Rattle.block_tags.specs.declared.tile.Role.TheVariants.{Object as ObjectRole}
+use Rattle.best_fit.specs.Extents.{holds}
+use Rattle.best_fit.proofs.Laws.{extents_of as used}
+use Rattle.seg_map.specs.Map.{node_len}
+use Rattle.segment_manager.specs.Directory.{Object}
+use Rattle.image_check.proofs.bytes.Members.{Mem, mem_of_filter_map, mem_of_map, mem_parts}
 use Rattle.image_check.proofs.block_collection.UsedTile.{as_extent-IsTileOf, from-there, one_tile, same_role-is}
 use Rattle.image_check.proofs.block_collection.UsedTile.{used-IsMember}
 use Rattle.image_check.proofs.claims.ReachedLinks.{field}
-use Rattle.image_check.proofs.read_off.Values.{node_of, node_handle}
-use Rattle.image_check.proofs.read_off.OwnBlocks.{is_object_extent, IsOther}
+use Rattle.image_check.proofs.read_off.Values.{node_handle, node_of}
+use Rattle.image_check.proofs.read_off.OwnBlocks.{IsOther, is_object_extent}
 use Rattle.image_check.proofs.indexes.Entries.{Distinct}
-use Rattle.image_check.proofs.claims.Fields.{target_in, option_claims, text_claims, array_claims, tree_claims}
-use Rattle.image_check.proofs.claims.Fields.{option_tree_claims, storage_claims, element_claims, node_claims}
-use Rattle.image_check.proofs.claims.Fields.{IsTreeRead}
-use Rattle.image_check.proofs.claims.CountedClaims.{place_of, all_claims}
+use Rattle.image_check.proofs.claims.Fields.{IsTreeRead, array_claims, element_claims, node_claims, option_claims}
+use Rattle.image_check.proofs.claims.Fields.{option_tree_claims, storage_claims, target_in, text_claims, tree_claims}
+use Rattle.image_check.proofs.claims.CountedClaims.{all_claims, place_of}
 use Rattle.image_check.proofs.claims.Forests.{Unshared}
+use mathlib.Core.Logic.{◌⊎◌, inl, inr}
 
 -- ---- tiles
 

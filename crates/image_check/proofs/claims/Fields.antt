@@ -1,36 +1,27 @@
 -- The fields by which a directory's blocks are named: each extent but the objects' own has one.
-use Rattle.std.proofs.Common.{◌≡◌, refl, sym, ap, subst, ◌∙◌, ℕ, zero, suc, ◌+◌, ◌-◌, ◌*◌, ◌/◌, ◌≤◌, min, true, ◌&&◌}
-use Rattle.std.proofs.Common.{◌==◌, List, [], ◌∷◌, ◌++◌, length, map, arith, append-nil}
-use Rattle.std.specs.Prelude.{IsTrue, Option, Some, None, nat_le, nat_lt, flat_map, option_to_list, option_map}
-use Rattle.std.specs.Prelude.{if◌then◌else◌}
-use Rattle.std.specs.List.{AllByRecursion, list_all, range_with_len}
-use Rattle.std.proofs.lemmas.Bool.{and_parts, eqb-true, leb-true, ltb-true, lt-ltb, le-ltb, ne_eqb, cond-true}
-use Rattle.std.proofs.lemmas.Bool.{cond-false}
-use Rattle.std.proofs.lemmas.List.{map-append}
-use Rattle.raw_region.specs.Memory.{Memory, word_at}
-use Rattle.offset_link.specs.Link.{link_at}
-use Rattle.link_tree.specs.Tree.{Tree, leaf, fork, nodes_of}
-use Rattle.block_tags.specs.declared.tile.Role.{Role}
-use Rattle.block_tags.specs.declared.tile.Role.TheVariants.{Index, Storage}
-use Rattle.block_tags.specs.declared.tile.Tile.{Tile}
-use Rattle.best_fit.specs.Extents.{Extent, handle, holds}
-use Rattle.best_fit.specs.Table.{BackingArray, has_backing, serves, same_role, table_link}
-use Rattle.best_fit.proofs.Laws.{Row, extents_of as used}
+use Rattle.image_check.proofs.Common.{AllByRecursion, AllByRecursion-behind, AllByRecursion-front, AreTextLinks}
+use Rattle.image_check.proofs.Common.{BackingArray, Bytes, Elements, Extent, Field, Index, IsTrue, IsValueAt, List}
+use Rattle.image_check.proofs.Common.{Memory, None, NumberPair, Numbers, Option, OwnedText, Pairs, Role, Row, Some}
+use Rattle.image_check.proofs.Common.{Storage, Texts, Tile, Tree, Value, [], and_parts, ap, arith, cond-false}
+use Rattle.image_check.proofs.Common.{cond-true, element_fields, element_offsets, eqb-true, flat_map, fork, good_for}
+use Rattle.image_check.proofs.Common.{handle, has_backing, has_own_block, if◌then◌else◌, index_field, is_good_value}
+use Rattle.image_check.proofs.Common.{is_owned_text, is_value, kind_of, le-ltb, leaf, leb-true, length, link_at}
+use Rattle.image_check.proofs.Common.{list_all, lt-ltb, ltb-true, map, map-append, nat_le, nat_lt, ne_eqb, nodes_of}
+use Rattle.image_check.proofs.Common.{option_to_list, own-block, payload, range_with_len, refl, same_role, serves}
+use Rattle.image_check.proofs.Common.{size_of, storage_field, subst, suc, sym, table_extents, table_link, true}
+use Rattle.image_check.proofs.Common.{value_extents, zero, ℕ, ◌&&◌, ◌*◌, ◌++◌, ◌+◌, ◌-◌, ◌/◌, ◌==◌, ◌∙◌, ◌∷◌, ◌≡◌, ◌≤◌}
+use Rattle.std.proofs.Common.{append-nil, min}
+use Rattle.std.specs.Prelude.{option_map}
+use Rattle.raw_region.specs.Memory.{word_at}
+use Rattle.best_fit.specs.Extents.{holds}
+use Rattle.best_fit.proofs.Laws.{extents_of as used}
 use Rattle.seg_types.specs.declared.kinds.Kind.TheVariants.{Strings as StringsKind}
-use Rattle.seg_types.specs.Kinds.{size_of, is_value}
-use Rattle.seg_vector.specs.Vector.{OwnedText, AreTextLinks}
-use Rattle.seg_map.specs.Numbers.{NumberPair}
-use Rattle.segment_manager.specs.Directory.{Value, Numbers, Elements, Bytes, Pairs, Texts, kind_of, value_extents}
-use Rattle.segment_manager.specs.Directory.{table_extents, is_good_value, has_own_block, is_owned_text}
-use Rattle.segment_manager.specs.Denotes.{IsValueAt}
-use Rattle.segment_manager.proofs.Laws.{AllByRecursion-behind, AllByRecursion-front, own-block}
-use Rattle.image_check.specs.ObjectTests.{good_for, payload}
-use Rattle.image_check.specs.Fields.{Field, field_at, index_field, storage_field, element_offsets, element_fields}
+use Rattle.image_check.specs.Fields.{field_at}
 use Rattle.image_check.proofs.bytes.Members.{Mem}
 use Rattle.image_check.proofs.block_collection.UsedTile.{used-IsMember}
 use Rattle.image_check.proofs.read_off.Directory.{tree_at}
 use Rattle.image_check.proofs.claims.ReachedLinks.{field}
-use Rattle.image_check.proofs.read_off.Values.{AreStored, nothing-left, text_extents, node_of, node_handle, no-places}
+use Rattle.image_check.proofs.read_off.Values.{AreStored, no-places, node_handle, node_of, nothing-left, text_extents}
 
 -- the payload that a field leads to
 abbrev pub target_in : Field → ℕ

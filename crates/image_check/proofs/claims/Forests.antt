@@ -1,12 +1,11 @@
 -- Trees whose links share no target have no node in common, and no node twice.
-use Rattle.std.proofs.Common.{◌≡◌, refl, sym, ap, subst, ◌∙◌, ℕ, ◌+◌, ◌%◌, List, [], ◌∷◌, ◌++◌, map, arith}
-use mathlib.Core.Logic.{◌⊎◌, inl, inr}
-use Rattle.link_tree.specs.Tree.{Tree, leaf, fork, nodes_of}
-use Rattle.image_check.specs.Fields.{Field}
-use Rattle.image_check.proofs.bytes.Members.{Mem, mem_left, mem_right, mem_parts, mem_map, mem_of_map}
+use Rattle.image_check.proofs.Common.{Field, List, Tree, [], ap, arith, fork, leaf, map, nodes_of, refl, subst, sym, ℕ}
+use Rattle.image_check.proofs.Common.{◌%◌, ◌++◌, ◌+◌, ◌∙◌, ◌∷◌, ◌≡◌}
+use Rattle.image_check.proofs.bytes.Members.{Mem, mem_left, mem_map, mem_of_map, mem_parts, mem_right}
 use Rattle.image_check.proofs.claims.ReachedLinks.{field}
 use Rattle.image_check.proofs.indexes.Entries.{Distinct, distinct-append}
-use Rattle.image_check.proofs.claims.Fields.{target_in, tree_claims, tree-targets}
+use Rattle.image_check.proofs.claims.Fields.{target_in, tree-targets, tree_claims}
+use mathlib.Core.Logic.{◌⊎◌, inl, inr}
 
 -- no two of these fields share a target
 pub record Unshared (K : Field → Type 0) : Type 0 where

@@ -1,22 +1,17 @@
 -- The links that are gone through from the roots of maps: each of them is one that can be reached, and none is left
 -- out.
-use Rattle.std.proofs.Common.{◌≡◌, refl, sym, ap, subst, ◌∙◌, ℕ, zero, suc, ◌+◌, ◌*◌, ◌≤◌, Bool, true, false, ◌&&◌}
-use Rattle.std.proofs.Common.{◌||◌, ◌==◌, List, [], ◌∷◌, length, arith}
-use Rattle.std.specs.Prelude.{IsTrue, Option, Some, None, flat_map, option_map, if◌then◌else◌}
-use Rattle.std.specs.List.{AllByRecursion, cons_option}
-use Rattle.std.proofs.lemmas.Bool.{and_parts, eqb-true, eq-eqb}
-use mathlib.Core.Logic.{◌⊎◌, inl, inr}
-use Rattle.raw_region.specs.Memory.{Memory}
-use Rattle.offset_link.specs.Link.{link_at}
-use Rattle.block_tags.specs.declared.tile.Role.{Role}
-use Rattle.block_tags.specs.declared.tile.Role.TheVariants.{Object, Index, Storage, Node}
-use Rattle.block_tags.specs.declared.tile.Tile.{Tile}
-use Rattle.seg_types.specs.declared.kinds.Kind.{Kind}
-use Rattle.seg_types.specs.declared.kinds.Kind.TheVariants.{Scalar, String, Vector, Map, Strings}
-use Rattle.image_check.specs.EarlyTests.{is_among}
-use Rattle.image_check.specs.ObjectTests.{is_use, good_for, payload, value_offset, kind_at}
-use Rattle.image_check.specs.Fields.{values, Field, root_link, node_fields}
+use Rattle.image_check.proofs.Common.{AllByRecursion, Field, Index, IsTrue, Kind, List, Map, Memory, Node, None, Option}
+use Rattle.image_check.proofs.Common.{Role, Scalar, Some, Storage, String, Tile, Vector, [], and_parts, ap, arith}
+use Rattle.image_check.proofs.Common.{cons_option, eq-eqb, eqb-true, false, flat_map, good_for, if◌then◌else◌, is_among}
+use Rattle.image_check.proofs.Common.{is_use, kind_at, length, link_at, node_fields, payload, refl, root_link, subst}
+use Rattle.image_check.proofs.Common.{suc, sym, true, value_offset, values, zero, ℕ, ◌&&◌, ◌*◌, ◌+◌, ◌==◌, ◌||◌, ◌∙◌}
+use Rattle.image_check.proofs.Common.{◌∷◌, ◌≡◌, ◌≤◌}
+use Rattle.std.proofs.Common.{Bool}
+use Rattle.std.specs.Prelude.{option_map}
+use Rattle.block_tags.specs.declared.tile.Role.TheVariants.{Object}
+use Rattle.seg_types.specs.declared.kinds.Kind.TheVariants.{Strings}
 use Rattle.image_check.proofs.bytes.Members.{Mem, find_mem, is_among-Mem}
+use mathlib.Core.Logic.{◌⊎◌, inl, inr}
 
 -- a field by its parts
 abbrev pub field : ℕ → ℕ → Field

@@ -1,21 +1,13 @@
 -- The links of a tree whose fields count: they are closed, and all of them are gone through.
-use Rattle.std.proofs.Common.{◌≡◌, refl, sym, ap, subst, ◌∙◌, ℕ, ◌+◌, Bool, List, [], ◌∷◌, ◌++◌}
-use Rattle.std.specs.Prelude.{IsTrue, Option, Some, None, is_some}
-use Rattle.std.specs.List.{list_all}
-use Rattle.std.proofs.lemmas.Bool.{and_parts, and_from, false≢true}
-use mathlib.Core.Logic.{◌⊎◌, inl, inr}
-use Rattle.raw_region.specs.Memory.{Memory}
-use Rattle.offset_link.specs.Link.{link_at}
-use Rattle.link_tree.specs.Tree.{Cell, Tree, leaf, fork, root_of, nodes_of, IsTree}
-use Rattle.link_tree.proofs.Laws.{some_same}
-use Rattle.block_tags.specs.declared.tile.Role.TheVariants.{Node}
-use Rattle.block_tags.specs.declared.tile.Tile.{Tile}
-use Rattle.best_fit.specs.FreeTree.{cells_of}
-use Rattle.image_check.specs.ObjectTests.{tile_of, good_for, payload}
-use Rattle.image_check.specs.Fields.{Field}
-use Rattle.image_check.proofs.bytes.Members.{Mem, mem_left, mem_right, mem_parts}
-use Rattle.image_check.proofs.claims.ReachedLinks.{field, good_for-IsGood, AreClosed, Covers}
+use Rattle.image_check.proofs.Common.{Cell, Field, IsTree, IsTrue, List, Memory, Node, None, Option, Some, Tile, Tree}
+use Rattle.image_check.proofs.Common.{[], and_from, and_parts, ap, cells_of, false≢true, fork, good_for, is_some, leaf}
+use Rattle.image_check.proofs.Common.{link_at, list_all, nodes_of, payload, refl, root_of, some_same, subst, sym}
+use Rattle.image_check.proofs.Common.{tile_of, ℕ, ◌++◌, ◌+◌, ◌∙◌, ◌∷◌, ◌≡◌}
+use Rattle.std.proofs.Common.{Bool}
+use Rattle.image_check.proofs.bytes.Members.{Mem, mem_left, mem_parts, mem_right}
+use Rattle.image_check.proofs.claims.ReachedLinks.{AreClosed, Covers, field, good_for-IsGood}
 use Rattle.image_check.proofs.claims.Fields.{tree_claims}
+use mathlib.Core.Logic.{◌⊎◌, inl, inr}
 
 -- ---- the links of a tree
 

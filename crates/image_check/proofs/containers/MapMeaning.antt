@@ -1,35 +1,25 @@
 -- What the tests of containers mean: a map that passes has its tree, and one that has it is read off, since no node
 -- stands in it twice.
-use Rattle.std.proofs.Common.{◌≡◌, refl, sym, ap, subst, ◌∙◌, ℕ, suc, ◌+◌, ◌-◌, ◌≤◌, Bool, false, ◌&&◌, ◌==◌, List, []}
-use Rattle.std.proofs.Common.{◌∷◌, length, map, arith}
-use Rattle.std.specs.Prelude.{IsTrue, Option, Some, None, ℤ, int_lt, is_some, nat_le}
-use Rattle.std.specs.List.{AllByRecursion, list_all}
-use Rattle.std.proofs.lemmas.Bool.{and_parts, and_from, false≢true}
-use Rattle.std.proofs.lemmas.List.{length-map}
-use mathlib.Core.Logic.{inl, inr}
-use Rattle.raw_region.specs.Memory.{Memory, word_at}
-use Rattle.offset_link.specs.Link.{link_at}
-use Rattle.link_tree.specs.Tree.{Tree, nodes_of, is_red_black, tree_from}
-use Rattle.link_tree.proofs.Laws.{reads_off, some_same}
-use Rattle.block_tags.specs.declared.tile.Role.TheVariants.{Node}
-use Rattle.block_tags.specs.declared.tile.Tile.{Tile}
-use Rattle.block_tags.specs.Tiles.{tiles_of}
-use Rattle.best_fit.specs.FreeTree.{cells_of}
-use Rattle.seg_types.specs.declared.kinds.ScalarKind.{ScalarKind}
-use Rattle.seg_types.specs.declared.kinds.Kind.{Kind}
-use Rattle.seg_types.specs.declared.kinds.Kind.TheVariants.{Scalar, String, Vector, Map, Strings}
-use Rattle.image_check.specs.ObjectTests.{tile_of, payload, rise_by, leads_to, are_spellings}
-use Rattle.image_check.specs.Fields.{is_node_of, key_at, are_pairs, is_map_at, is_container, values}
-use Rattle.image_check.specs.Meaning.{IsMapIn, IsContainerIn, TestsMeanRelations}
+use Rattle.image_check.proofs.Common.{AllByRecursion, IsTrue, Kind, List, Map, Memory, Node, None, Option, Scalar}
+use Rattle.image_check.proofs.Common.{ScalarKind, Some, String, Tile, Tree, Vector, [], and_from, and_parts, ap}
+use Rattle.image_check.proofs.Common.{are_pairs, are_spellings, arith, cells_of, false, false≢true, int_lt}
+use Rattle.image_check.proofs.Common.{is_container, is_map_at, is_node_of, is_red_black, is_some, key_at, leads_to}
+use Rattle.image_check.proofs.Common.{length, length-map, link_at, list_all, map, nat_le, nodes_of, payload, reads_off}
+use Rattle.image_check.proofs.Common.{refl, rise_by, size_of, some_same, subst, suc, sym, tile_of, tiles_of, tree_from}
+use Rattle.image_check.proofs.Common.{values, ℕ, ℤ, ◌&&◌, ◌+◌, ◌-◌, ◌==◌, ◌∙◌, ◌∷◌, ◌≡◌, ◌≤◌}
+use Rattle.std.proofs.Common.{Bool}
+use Rattle.raw_region.specs.Memory.{word_at}
+use Rattle.seg_types.specs.declared.kinds.Kind.TheVariants.{Strings}
+use Rattle.image_check.specs.Meaning.{IsContainerIn, IsMapIn, TestsMeanRelations}
 use Rattle.image_check.specs.MapLaws.{int_lt-not, int_lt-trans}
 use Rattle.image_check.proofs.frame.Tags.{has_tags-AreWholeTiles}
-use Rattle.image_check.proofs.bytes.Members.{Mem, mem_map, list_all_mem, list_all_from}
+use Rattle.image_check.proofs.bytes.Members.{Mem, list_all_from, list_all_mem, mem_map}
 use Rattle.image_check.proofs.claims.ReachedLinks.{good_for-IsGood}
 use Rattle.image_check.proofs.read_off.Values.{height-nodes}
 use Rattle.image_check.proofs.indexes.Entries.{Distinct}
 use Rattle.image_check.proofs.claims.CountedFields.{counted-means}
-use Rattle.image_check.proofs.containers.Meaning.{free_tree-means, shared-means, orphaned-means}
-use Rattle.seg_types.specs.Kinds.{size_of}
+use Rattle.image_check.proofs.containers.Meaning.{free_tree-means, orphaned-means, shared-means}
+use mathlib.Core.Logic.{inl, inr}
 
 -- ---- as many different numbers as a list has are at most its length
 

@@ -1,18 +1,10 @@
 -- Where a pair of a map lies, and what its fields say.
-use Rattle.std.proofs.Common.{◌≡◌, sym, ap, ◌∙◌, ℕ, ◌+◌, ◌*◌, ◌%◌, ◌≤◌, true, length, arith}
-use Rattle.std.specs.Prelude.{Option, int_lt}
-use Rattle.raw_region.specs.Memory.{WindowState, bytes_of, read, part}
-use Rattle.raw_region.proofs.Laws.{read-part}
-use Rattle.offset_link.specs.Link.{link_at}
-use Rattle.byteorder.specs.Endian.{little_number}
-use Rattle.seg_types.specs.declared.kinds.ScalarKind.{ScalarKind}
-use Rattle.seg_types.specs.declared.kinds.ScalarKind.TheVariants.{Bool as BoolKind, U8, I32, I64, U64}
-use Rattle.seg_types.specs.Kinds.{size_of, value_of}
-use Rattle.image_check.specs.FreeNodes.{is_place}
-use Rattle.image_check.specs.FreeLaws.{is_place-PayloadBounds, small_size}
-use Rattle.image_check.specs.Owners.{Blocks}
-use Rattle.image_check.specs.MapNodes.{is_pair, kept_link, key_before, pair_cells}
-use Rattle.image_check.specs.MapLaws.{is_pair-IsPairNode}
+use Rattle.image_check.proofs.Common.{Blocks, Option, ScalarKind, U8, WindowState, ap, arith, bytes_of, int_lt}
+use Rattle.image_check.proofs.Common.{is_pair-IsPairNode, is_place, is_place-PayloadBounds, kept_link, length, link_at}
+use Rattle.image_check.proofs.Common.{little_number, part, read, read-part, size_of, small_size, sym, true, value_of, ℕ}
+use Rattle.image_check.proofs.Common.{◌%◌, ◌*◌, ◌+◌, ◌∙◌, ◌≡◌, ◌≤◌}
+use Rattle.seg_types.specs.declared.kinds.ScalarKind.TheVariants.{Bool as BoolKind, I32, I64, U64}
+use Rattle.image_check.specs.MapNodes.{is_pair, key_before, pair_cells}
 
 -- a scalar has at most 8 bytes
 pub size-most : (k : ScalarKind) → size_of k ≤ 8

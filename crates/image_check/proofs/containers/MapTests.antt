@@ -1,32 +1,20 @@
 -- A map passes its test where the tree over its pairs is there and counted, and only there.
-use Rattle.std.proofs.Common.{◌≡◌, refl, sym, ap, subst, ◌∙◌, ℕ, ◌+◌, ◌*◌, inl, inr, true, false, ◌&&◌, nat_le, arith}
-use Rattle.std.specs.Prelude.{Option, Some, None}
-use Rattle.std.proofs.lemmas.Bool.{false≢true, cases_Bool, and_parts, and_from, eq-eqb, cond-false}
-use Rattle.raw_region.specs.Memory.{Memory, WindowState, bytes_of, read}
-use Rattle.offset_link.specs.Link.{link_at}
-use Rattle.link_tree.specs.Tree.{Cell, Tree, leaf, fork, root_of, nodes_of, AreCellsOf}
-use Rattle.link_tree.specs.Nodes.{is_in, leads}
-use Rattle.link_tree.proofs.Laws.{in_left, in_middle, in_parts, in_right}
-use Rattle.block_tags.specs.declared.tile.Role.TheVariants.{Object, Node}
-use Rattle.block_tags.specs.declared.tile.Tile.{Tile}
-use Rattle.best_fit.specs.Table.{same_role}
-use Rattle.best_fit.specs.FreeTree.{cells_of}
-use Rattle.seg_types.specs.declared.kinds.ScalarKind.{ScalarKind}
-use Rattle.seg_types.specs.Kinds.{size_of, is_spelling}
-use Rattle.image_check.specs.declared.owners.Block.{Block}
-use Rattle.image_check.specs.declared.owners.Owner.{Owner}
-use Rattle.image_check.specs.ObjectTests.{tile_of, are_spellings, leads_to}
-use Rattle.image_check.specs.Fields.{is_node_of}
-use Rattle.image_check.specs.Passes.{tiles_in, HasTiles}
-use Rattle.image_check.specs.Owners.{Blocks, AreBlocks, block_at, owner_at, owner_in, IsMarkedLink}
-use Rattle.image_check.specs.Owners as owners
-use Rattle.image_check.specs.Containers.{AreFollowed}
-use Rattle.image_check.specs.FreeNodes.{is_place}
-use Rattle.image_check.specs.MapNodes.{is_node_block, is_pair, is_rooted, pair_len}
-use Rattle.image_check.specs.MapLaws.{IsPairNode, is_pair-IsPairNode}
+use Rattle.image_check.proofs.Common.{AreBlocks, AreCellsOf, AreFollowed, Block, Blocks, Cell, HasTiles, IsMarkedLink}
+use Rattle.image_check.proofs.Common.{Memory, Node, None, Option, Owner, ScalarKind, Some, Tile, Tree, WindowState}
+use Rattle.image_check.proofs.Common.{and_from, and_parts, ap, are_spellings, arith, block_at, bytes_of, cases_Bool}
+use Rattle.image_check.proofs.Common.{cells_of, cond-false, eq-eqb, false, false≢true, fork, in_parts, inl, inr, is_in}
+use Rattle.image_check.proofs.Common.{is_node_of, is_pair-IsPairNode, is_place, is_rooted, is_spelling, leads, leads_to}
+use Rattle.image_check.proofs.Common.{leaf, link_at, nat_le, nodes_of, owner_at, owner_in, read, refl, root_of}
+use Rattle.image_check.proofs.Common.{same_role, size_of, subst, sym, tile_of, true, ℕ, ◌&&◌, ◌*◌, ◌+◌, ◌∙◌, ◌≡◌}
+use Rattle.link_tree.proofs.Laws.{in_left, in_middle, in_right}
+use Rattle.block_tags.specs.declared.tile.Role.TheVariants.{Object}
+use Rattle.image_check.specs.Passes.{tiles_in}
+use Rattle.image_check.specs.MapNodes.{is_node_block, is_pair, pair_len}
+use Rattle.image_check.specs.MapLaws.{IsPairNode}
 use Rattle.image_check.proofs.read_off.GoodValues.{mul-none}
 use Rattle.image_check.proofs.block_collection.UsedTile.{same_role-is, same_role-refl}
 use Rattle.image_check.proofs.walks.Places.{named, named-place}
+use Rattle.image_check.specs.Owners as owners
 
 -- ---- one spelling
 

@@ -1,25 +1,14 @@
 -- The nodes of a map among all blocks: links from them lead to them, and what is counted for them covers the check.
-use Rattle.std.proofs.Common.{◌≡◌, refl, sym, ap, ◌∙◌, ℕ, ◌+◌, ◌*◌, ◌/◌, ◌≤◌, inl, inr, true, ◌&&◌, nat_eq, nat_le}
-use Rattle.std.proofs.Common.{List, [], ◌∷◌, length, arith}
-use Rattle.std.specs.Prelude.{Option, Some, None, if◌then◌else◌}
+use Rattle.image_check.proofs.Common.{Block, Blocks, IsLinkClosed, List, Node, None, Option, ScalarKind, Some}
+use Rattle.image_check.proofs.Common.{WindowState, [], and_parts, ap, arith, block_at, block_weight, bytes_of}
+use Rattle.image_check.proofs.Common.{cases_Bool, cond-false, cond-true, container_block_rates, false≢true}
+use Rattle.image_check.proofs.Common.{if◌then◌else◌, inl, inr, is_in, is_pair-IsPairNode, is_rooted, kept_link, leads}
+use Rattle.image_check.proofs.Common.{leb-true, length, link_at, nat_eq, nat_le, or_left, or_right, rate_of, refl}
+use Rattle.image_check.proofs.Common.{rooted_weight, same_role, sym, true, ℕ, ◌&&◌, ◌*◌, ◌+◌, ◌/◌, ◌∙◌, ◌∷◌, ◌≡◌, ◌≤◌}
 use Rattle.std.specs.Map.{lookup}
-use Rattle.std.proofs.lemmas.Bool.{false≢true, cases_Bool, and_parts, leb-true, or_left, or_right, cond-true}
-use Rattle.std.proofs.lemmas.Bool.{cond-false}
-use Rattle.raw_region.specs.Memory.{WindowState, bytes_of}
-use Rattle.offset_link.specs.Link.{link_at}
-use Rattle.link_tree.specs.Nodes.{is_in, leads}
-use Rattle.link_tree.specs.Checking.{IsLinkClosed}
-use Rattle.block_tags.specs.declared.tile.Role.TheVariants.{Node}
-use Rattle.seg_types.specs.declared.kinds.ScalarKind.{ScalarKind}
-use Rattle.image_check.specs.declared.owners.Block.{Block}
-use Rattle.image_check.specs.Owners.{Blocks, block_at}
-use Rattle.image_check.specs.Containers.{container_block_rates, block_weight, rooted_weight}
-use Rattle.image_check.specs.Visits.{rate_of}
-use Rattle.image_check.specs.MapNodes.{is_node_block, is_pair, is_rooted, kept_link, pair_cells, pair_len}
-use Rattle.image_check.specs.MapLaws.{is_pair-IsPairNode}
+use Rattle.image_check.specs.MapNodes.{is_node_block, is_pair, pair_cells, pair_len}
 use Rattle.image_check.proofs.containers.MapPairs.{size-least}
 use Rattle.image_check.proofs.block_collection.UsedTile.{same_role-is}
-use Rattle.best_fit.specs.Table.{same_role}
 
 -- the payloads of the nodes of a map
 pub map_nodes : ℕ → ℕ → Blocks → List ℕ

@@ -1,29 +1,22 @@
 -- The test of a map is passed where its pairs are an ordered red-black tree of as many nodes as it counts, and only
 -- there.
-use Rattle.std.proofs.Common.{◌≡◌, refl, sym, ap, subst, ℕ, ◌+◌, inl, inr, Bool, true, false, ◌&&◌, ◌==◌, List, length}
-use Rattle.std.specs.Prelude.{Option, Some, None, int_lt}
-use Rattle.std.specs.List.{list_all}
-use Rattle.std.proofs.lemmas.Bool.{cases_Bool, and_parts, and_from, eq-eqb, eqb-true, cond-true, cond-false}
-use Rattle.raw_region.specs.Memory.{WindowState, bytes_of, word_at}
-use Rattle.offset_link.specs.Link.{link_at}
-use Rattle.link_tree.specs.Tree.{Cell, Tree, root_of, nodes_of, IsTree, IsSearchTree, tree_from}
-use Rattle.link_tree.specs.Nodes.{is_in, leads}
-use Rattle.link_tree.proofs.Laws.{all_at, all_from, root_in, tree_same}
-use Rattle.block_tags.specs.declared.tile.Role.TheVariants.{Node}
-use Rattle.best_fit.specs.FreeTree.{cells_of}
+use Rattle.image_check.proofs.Common.{AreBlocks, AreFollowed, Blocks, Cell, HasTiles, IsMarkedLink, IsSearchTree}
+use Rattle.image_check.proofs.Common.{IsTree, List, Node, None, Option, ScalarKind, Some, Tree, WindowState, all_at}
+use Rattle.image_check.proofs.Common.{all_from, and_from, and_parts, ap, bytes_of, cases_Bool, cells_of, cond-false}
+use Rattle.image_check.proofs.Common.{cond-true, eq-eqb, eqb-true, false, inl, inr, int_lt, is_in, is_map_at}
+use Rattle.image_check.proofs.Common.{is_node_of, is_some, kept_link, key_at, leads, length, link_at, list_all}
+use Rattle.image_check.proofs.Common.{nodes_of, refl, rise_by, root_of, subst, sym, tile_of, tree_from, true, ℕ, ◌&&◌}
+use Rattle.image_check.proofs.Common.{◌+◌, ◌==◌, ◌≡◌}
+use Rattle.std.proofs.Common.{Bool}
+use Rattle.raw_region.specs.Memory.{word_at}
+use Rattle.link_tree.proofs.Laws.{root_in, tree_same}
 use Rattle.best_fit.proofs.Laws.{holds_closed}
-use Rattle.seg_types.specs.declared.kinds.ScalarKind.{ScalarKind}
-use Rattle.image_check.specs.ObjectTests.{tile_of, rise_by}
-use Rattle.image_check.specs.Fields.{is_map_at, is_node_of, key_at}
-use Rattle.image_check.specs.Passes.{tiles_in, HasTiles}
-use Rattle.image_check.specs.Owners.{Blocks, AreBlocks, IsMarkedLink}
-use Rattle.image_check.specs.Containers.{AreFollowed}
-use Rattle.image_check.specs.MapNodes.{is_pair, kept_link, key_before, pair_cells}
+use Rattle.image_check.specs.Passes.{tiles_in}
+use Rattle.image_check.specs.MapNodes.{is_pair, key_before, pair_cells}
 use Rattle.image_check.specs.MapLaws.{keys_irreflexive, keys_transitive, pairs_left, pairs_right}
-use Rattle.image_check.proofs.containers.MapMeaning.{map-if, map-from}
+use Rattle.image_check.proofs.containers.MapMeaning.{map-from, map-if}
 use Rattle.image_check.proofs.containers.MapTests.{pair-node, tree-pairs}
-use Rattle.image_check.proofs.containers.TreeCells.{nodes-good, is_sorted-from, is_sorted-next, same-cells}
-use Rattle.std.specs.Prelude.{is_some}
+use Rattle.image_check.proofs.containers.TreeCells.{is_sorted-from, is_sorted-next, nodes-good, same-cells}
 
 -- the tree over the pairs, and the two words behind the root link
 pub record MapFound (c : WindowState) (es : Blocks) (k v : ScalarKind) (at : ℕ) : Type 0 where

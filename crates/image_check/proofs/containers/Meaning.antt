@@ -1,23 +1,19 @@
 -- What the tests mean, of tiles that stand one behind the other: the free tree, blocks that are shared, and orphans.
-use Rattle.std.proofs.Common.{◌≡◌, refl, sym, subst, ℕ, zero, suc, not, ◌&&◌, ◌==◌, List, [], ◌∷◌, ◌≢◌}
-use Rattle.std.specs.Prelude.{IsTrue, ◌↔◌}
-use Rattle.std.specs.List.{list_any}
-use Rattle.std.proofs.lemmas.Bool.{and_parts, and_from, or_cases, eqb-true, eq-eqb, not-true, not_from_false}
-use Rattle.std.proofs.lemmas.Bool.{false≢true, cases_Bool, both_ways}
-use mathlib.Core.Logic.{inl, inr}
-use Rattle.raw_region.specs.Memory.{Memory, word_at}
-use Rattle.block_tags.specs.declared.tile.Tile.{Tile}
-use Rattle.best_fit.proofs.Laws.{Row}
-use Rattle.image_check.specs.EarlyTests.{has_free_tree}
-use Rattle.image_check.specs.ObjectTests.{payload}
-use Rattle.image_check.specs.Fields.{Field, counted_fields, share_target, share_some, is_shared, needs_owner}
-use Rattle.image_check.specs.Fields.{leads_there, is_orphaned}
-use Rattle.image_check.specs.Meaning.{HasFreeTree, IsCountedLink, IsShared, IsOrphan}
-use Rattle.image_check.proofs.bytes.Members.{Mem, list_any_from, list_any_of, list_any_false}
+use Rattle.image_check.proofs.Common.{Field, IsCountedLink, IsTrue, List, Memory, Row, Tile, [], and_from, and_parts}
+use Rattle.image_check.proofs.Common.{both_ways, cases_Bool, counted_fields, eq-eqb, eqb-true, false≢true}
+use Rattle.image_check.proofs.Common.{has_free_tree, is_orphaned, is_shared, leads_there, list_any, needs_owner, not}
+use Rattle.image_check.proofs.Common.{not-true, not_from_false, or_cases, payload, refl, subst, suc, sym, zero, ℕ, ◌&&◌}
+use Rattle.image_check.proofs.Common.{◌==◌, ◌∷◌, ◌≡◌, ◌≢◌}
+use Rattle.std.specs.Prelude.{◌↔◌}
+use Rattle.raw_region.specs.Memory.{word_at}
+use Rattle.image_check.specs.Fields.{share_some, share_target}
+use Rattle.image_check.specs.Meaning.{HasFreeTree, IsOrphan, IsShared}
+use Rattle.image_check.proofs.bytes.Members.{Mem, list_any_false, list_any_from, list_any_of}
 use Rattle.image_check.proofs.claims.ReachedLinks.{field}
 use Rattle.image_check.proofs.frame.Formats.{tree-passes, tree-said}
 use Rattle.image_check.proofs.claims.UnsharedFields.{shared-not}
-use Rattle.image_check.proofs.claims.CountedFields.{Contains-Mem, Mem-Contains, listed-counts, is-listed}
+use Rattle.image_check.proofs.claims.CountedFields.{Contains-Mem, Mem-Contains, is-listed, listed-counts}
+use mathlib.Core.Logic.{inl, inr}
 
 -- ---- the free tree
 

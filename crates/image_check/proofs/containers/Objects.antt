@@ -1,19 +1,13 @@
 -- Where the containers of good objects stand, and what a look at a tile may take.
-use Rattle.std.proofs.Common.{◌≡◌, sym, ap, ◌∙◌, ℕ, ◌+◌, ◌*◌, ◌/◌, ◌≤◌, Bool, true, false, ◌&&◌, ◌==◌, nat_le, arith}
-use Rattle.std.specs.Prelude.{Option, Some, None, if◌then◌else◌}
-use Rattle.std.proofs.lemmas.Bool.{false≢true, true≢false, and_parts, leb-true}
-use Rattle.raw_region.specs.Memory.{Memory}
-use Rattle.block_tags.specs.declared.tile.Role.{Role}
-use Rattle.block_tags.specs.declared.tile.Role.TheVariants.{Object, Index, Storage, Node}
-use Rattle.block_tags.specs.declared.tile.Tile.{Tile}
-use Rattle.best_fit.specs.Table.{same_role}
-use Rattle.seg_types.specs.declared.kinds.Kind.{Kind}
-use Rattle.seg_types.specs.declared.kinds.Kind.TheVariants.{Scalar, String, Vector, Map, Strings}
-use Rattle.seg_index.specs.Keys.{count_at}
-use Rattle.image_check.specs.ObjectTests.{has_name, has_padding, is_indexed, is_object_tile, is_use, is_value_in}
-use Rattle.image_check.specs.ObjectTests.{kind_at, payload, value_offset}
-use Rattle.image_check.specs.Containers.{is_scalar, container_walk_rates}
-use Rattle.image_check.specs.Visits.{rate_of}
+use Rattle.image_check.proofs.Common.{Index, Kind, Map, Memory, Node, None, Option, Role, Scalar, Some, Storage, String}
+use Rattle.image_check.proofs.Common.{Tile, Vector, and_parts, ap, arith, container_walk_rates, count_at, false}
+use Rattle.image_check.proofs.Common.{false≢true, has_name, has_padding, if◌then◌else◌, is_indexed, is_object_tile}
+use Rattle.image_check.proofs.Common.{is_use, is_value_in, kind_at, leb-true, nat_le, payload, rate_of, same_role, sym}
+use Rattle.image_check.proofs.Common.{true, true≢false, value_offset, ℕ, ◌&&◌, ◌*◌, ◌+◌, ◌/◌, ◌==◌, ◌∙◌, ◌≡◌, ◌≤◌}
+use Rattle.std.proofs.Common.{Bool}
+use Rattle.block_tags.specs.declared.tile.Role.TheVariants.{Object}
+use Rattle.seg_types.specs.declared.kinds.Kind.TheVariants.{Strings}
+use Rattle.image_check.specs.Containers.{is_scalar}
 use Rattle.image_check.proofs.block_collection.UsedTile.{same_role-is}
 
 held : (p q : Bool) → (if p then q else false) ≡ true → q ≡ true

@@ -1,23 +1,18 @@
 -- The storage block of a container: where it lies, and what is counted for it.
-use Rattle.std.proofs.Common.{◌≡◌, refl, sym, ap, subst, ◌∙◌, ℕ, Bool, ◌+◌, ◌*◌, ◌/◌, ◌%◌, ◌<◌, ◌≤◌, inl, inr, true}
-use Rattle.std.proofs.Common.{false, nat_eq, nat_le, List, [], ◌∷◌, length, arith, ◌==◌}
-use Rattle.std.specs.Prelude.{Option, Some, None, is_none, if◌then◌else◌}
+use Rattle.image_check.proofs.Common.{AreBlocks, Block, Blocks, HasTiles, IsMarkedLink, List, None, Option, Some}
+use Rattle.image_check.proofs.Common.{Storage, Tile, [], ap, arith, block_at, block_weight, bytes_of, cases_Bool}
+use Rattle.image_check.proofs.Common.{cond-false, cond-true, container_block_rates, eq-eqb, false, false≢true}
+use Rattle.image_check.proofs.Common.{if◌then◌else◌, inl, inr, is_none, is_rooted, is_table_link, leads_to, leb-true}
+use Rattle.image_check.proofs.Common.{length, link_at, nat_eq, nat_le, owner_at, owner_in, rate_of, refl, rooted_weight}
+use Rattle.image_check.proofs.Common.{same_role, subst, sym, tile_of, true, ℕ, ◌%◌, ◌*◌, ◌+◌, ◌/◌, ◌<◌, ◌==◌, ◌∙◌, ◌∷◌}
+use Rattle.image_check.proofs.Common.{◌≡◌, ◌≤◌}
+use Rattle.std.proofs.Common.{Bool}
 use Rattle.std.specs.Map.{lookup}
-use Rattle.std.proofs.lemmas.Bool.{false≢true, cases_Bool, eq-eqb, leb-true, cond-true, cond-false}
-use Rattle.raw_region.specs.Memory.{bytes_of, word_at}
-use Rattle.offset_link.specs.Link.{link_at}
-use Rattle.block_tags.specs.declared.tile.Role.TheVariants.{Object, Storage}
-use Rattle.block_tags.specs.declared.tile.Tile.{Tile}
-use Rattle.best_fit.specs.Table.{same_role}
-use Rattle.image_check.specs.declared.owners.Block.{Block}
-use Rattle.image_check.specs.ObjectTests.{is_table_link, leads_to, tile_of}
-use Rattle.image_check.specs.Passes.{tiles_in, HasTiles}
-use Rattle.image_check.specs.Owners.{Blocks, AreBlocks, IsMarkedLink, block_at, owner_at, owner_in}
-use Rattle.image_check.specs.Owners as owners
-use Rattle.image_check.specs.Containers.{container_block_rates, block_weight, rooted_weight}
-use Rattle.image_check.specs.Visits.{rate_of}
-use Rattle.image_check.specs.MapNodes.{is_rooted}
+use Rattle.raw_region.specs.Memory.{word_at}
+use Rattle.block_tags.specs.declared.tile.Role.TheVariants.{Object}
+use Rattle.image_check.specs.Passes.{tiles_in}
 use Rattle.image_check.proofs.walks.Places.{named}
+use Rattle.image_check.specs.Owners as owners
 
 -- one block of those to which links lead from a place
 pub one-weight : (root n : ℕ) (b : Block) (es : Blocks) → block_at es n ≡ Some b → is_rooted root b.owner ≡ true

@@ -1,13 +1,10 @@
 -- Ordered trees over two ways to read the nodes: where no node is read as its own child, both read one tree.
-use Rattle.std.proofs.Common.{◌≡◌, refl, sym, ap, subst, ◌∙◌, ℕ, inl, inr, Bool, true, false, ◌&&◌, ◌==◌, List, [], ◌∷◌}
-use Rattle.std.proofs.Common.{◌++◌}
-use Rattle.std.specs.Prelude.{Some}
-use Rattle.std.specs.List.{list_all}
-use Rattle.std.proofs.lemmas.Bool.{false≢true, both_ways, and_parts, and_from, or_cases, eqb-true}
-use Rattle.link_tree.specs.Tree.{Cell, Tree, leaf, fork, root_of, nodes_of, AreCellsOf, is_sorted}
-use Rattle.link_tree.specs.Nodes.{is_in, leads}
-use Rattle.link_tree.proofs.Laws.{above_more, all_at, all_from, in_left, in_middle, in_parts, root_in}
-use Rattle.image_check.specs.ObjectTests.{rise_by}
+use Rattle.image_check.proofs.Common.{AreCellsOf, Cell, List, Some, Tree, [], all_at, all_from, and_from, and_parts, ap}
+use Rattle.image_check.proofs.Common.{both_ways, eqb-true, false, false≢true, fork, in_parts, inl, inr, is_in}
+use Rattle.image_check.proofs.Common.{is_sorted, leads, leaf, list_all, nodes_of, or_cases, refl, rise_by, root_of}
+use Rattle.image_check.proofs.Common.{subst, sym, true, ℕ, ◌&&◌, ◌++◌, ◌==◌, ◌∙◌, ◌∷◌, ◌≡◌}
+use Rattle.std.proofs.Common.{Bool}
+use Rattle.link_tree.proofs.Laws.{above_more, in_left, in_middle, root_in}
 
 -- ---- the parts of an ordered list
 

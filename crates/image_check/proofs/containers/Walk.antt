@@ -1,30 +1,23 @@
 -- The walk over the containers: what it keeps of the tiles that it has passed, and what its answer says.
-use Rattle.std.proofs.Common.{◌≡◌, refl, sym, ap, subst, ◌∙◌, ℕ, ◌+◌, ◌-◌, ◌*◌, ◌/◌, ◌≤◌, inl, inr, Bool, true, ◌&&◌}
-use Rattle.std.proofs.Common.{◌==◌, List, [], ◌∷◌, ◌++◌, length, arith}
-use Rattle.std.specs.Prelude.{Option, Some, None, Contains, filter, filter_map, option_map}
-use Rattle.std.specs.List.{list_all, cons_option}
-use Rattle.std.proofs.lemmas.Bool.{cases_Bool, cond-true, cond-false, and_parts}
-use Rattle.raw_region.specs.Memory.{WindowState, Memory, bytes_of}
+use Rattle.image_check.proofs.Common.{AreFollowed, Blocks, Contains, HasTiles, IsWholeMarking, Kind, List, Memory, None}
+use Rattle.image_check.proofs.Common.{Option, Row, Some, Tile, WindowState, [], and_parts, ap, arith, bytes_of}
+use Rattle.image_check.proofs.Common.{cases_Bool, class_at, code_before, cond-false, cond-true, cons_option}
+use Rattle.image_check.proofs.Common.{container_walk_rates, filter, filter_map, has_container, has_containers}
+use Rattle.image_check.proofs.Common.{has_objects, inl, inr, is_container, is_object_tile, is_use, kind_at, length}
+use Rattle.image_check.proofs.Common.{list_all, name_before, object_tiles, payload, rate_of, refl, rise_by, said_row}
+use Rattle.image_check.proofs.Common.{subst, sym, targets, tiles_are_read_off, true, value_offset, values, weigh, ℕ}
+use Rattle.image_check.proofs.Common.{◌&&◌, ◌*◌, ◌++◌, ◌+◌, ◌-◌, ◌/◌, ◌==◌, ◌∙◌, ◌∷◌, ◌≡◌, ◌≤◌}
+use Rattle.std.proofs.Common.{Bool}
+use Rattle.std.specs.Prelude.{option_map}
 use Rattle.block_tags.specs.declared.tile.Role.TheVariants.{Object}
-use Rattle.block_tags.specs.declared.tile.Tile.{Tile}
-use Rattle.block_tags.proofs.Laws.{tiles_are_read_off}
-use Rattle.seg_types.specs.declared.kinds.Kind.{Kind}
-use Rattle.seg_index.specs.Keys.{class_at, code_before, name_before}
-use Rattle.image_check.specs.ObjectTests.{has_objects, is_object_tile, is_use, kind_at, object_tiles, payload, rise_by}
-use Rattle.image_check.specs.ObjectTests.{targets, value_offset}
-use Rattle.image_check.specs.Fields.{has_containers, is_container, values}
-use Rattle.image_check.specs.Passes.{tiles_in, HasTiles}
-use Rattle.image_check.specs.Owners.{Blocks, IsWholeMarking}
-use Rattle.image_check.specs.Containers.{AreFollowed, IsCheckedTile, LiesInWindow, PaysFor, has_container}
-use Rattle.image_check.specs.Containers.{container_walk_rates, weigh_blocks, weight_below}
-use Rattle.image_check.specs.Visits.{rate_of, weigh}
+use Rattle.image_check.specs.Passes.{tiles_in}
+use Rattle.image_check.specs.Containers.{IsCheckedTile, LiesInWindow, PaysFor, weigh_blocks, weight_below}
 use Rattle.image_check.proofs.containers.Weights.{below-all, below-more}
 use Rattle.image_check.proofs.claims.CountedFields.{Mem-Contains}
 use Rattle.image_check.proofs.bytes.Members.{Mem, list_all_mem, mem_filter, mem_filter_map, mem_right}
 use Rattle.image_check.proofs.shared_blocks.Roots.{node-followed}
 use Rattle.image_check.proofs.walks.Rows.{PassesGaps, free-object, recoloured}
 use Rattle.image_check.proofs.walks.Places.{tile-lies}
-use Rattle.best_fit.proofs.Laws.{Row, said_row}
 use Rattle.image_check.proofs.walks.Tiles.{WalksAt, all-more}
 
 -- ---- the test of all tiles is that of all values

@@ -1,23 +1,17 @@
 -- What is counted for the blocks of containers, all together.
-use Rattle.std.proofs.Common.{◌≡◌, refl, sym, ap, ◌∙◌, ℕ, ◌+◌, ◌-◌, ◌*◌, ◌/◌, ◌<◌, ◌≤◌, Bool, true, false, nat_lt, ◌==◌}
-use Rattle.std.proofs.Common.{List, [], ◌∷◌, length, arith}
-use Rattle.std.specs.Prelude.{Option, Some, None, if◌then◌else◌}
+use Rattle.image_check.proofs.Common.{Block, Blocks, HasTiles, Index, List, Node, None, Option, Owner, Role, Row, Some}
+use Rattle.image_check.proofs.Common.{Storage, Tile, [], ap, arith, block_weight, cons_option, container_block_rates}
+use Rattle.image_check.proofs.Common.{container_walk_rates, entries_of, entry_of, false, frames, if◌then◌else◌}
+use Rattle.image_check.proofs.Common.{is_rooted, legal_size, length, nat_lt, new_block, rate_of, refl, rooted_weight}
+use Rattle.image_check.proofs.Common.{small_size, sym, true, weigh, ℕ, ◌*◌, ◌+◌, ◌-◌, ◌/◌, ◌<◌, ◌==◌, ◌∙◌, ◌∷◌, ◌≡◌}
+use Rattle.image_check.proofs.Common.{◌≤◌}
+use Rattle.std.proofs.Common.{Bool}
 use Rattle.std.proofs.Math.Nat.{add-mul, mul-le-mul_right}
-use Rattle.std.specs.List.{cons_option}
 use Rattle.std.proofs.lemmas.Bool.Decides.{nat_tests}
-use Rattle.block_tags.specs.declared.tile.Role.{Role}
-use Rattle.block_tags.specs.declared.tile.Role.TheVariants.{Object, Index, Storage, Node}
-use Rattle.block_tags.specs.declared.tile.Tile.{Tile}
-use Rattle.best_fit.proofs.Laws.{Row, legal_size}
-use Rattle.image_check.specs.declared.owners.Block.{Block}
-use Rattle.image_check.specs.declared.owners.Owner.{Owner}
-use Rattle.image_check.specs.FreeLaws.{small_size}
-use Rattle.image_check.specs.Passes.{tiles_in, HasTiles}
-use Rattle.image_check.specs.Owners.{Blocks, entries_of, entry_of, frames, new_block}
-use Rattle.image_check.specs.Containers.{container_block_rates, block_weight, is_rooted_below, rooted_weight}
-use Rattle.image_check.specs.Containers.{container_walk_rates, weigh_blocks, weight_below}
-use Rattle.image_check.specs.MapNodes.{is_rooted}
-use Rattle.image_check.specs.Visits.{container_rates, rate_of, weigh}
+use Rattle.block_tags.specs.declared.tile.Role.TheVariants.{Object}
+use Rattle.image_check.specs.Passes.{tiles_in}
+use Rattle.image_check.specs.Containers.{is_rooted_below, weigh_blocks, weight_below}
+use Rattle.image_check.specs.Visits.{container_rates}
 use Rattle.image_check.proofs.walks.Places.{image-row}
 
 -- ---- the blocks to which links lead from one tile

@@ -1,16 +1,13 @@
 -- The classes before the eighth: none of them holds of an image whose frame is right, and each wrong part of a frame
 -- has its own.
-use Rattle.std.proofs.Common.{◌≡◌, refl, ℕ, ◌<◌, Bool, false, not, ◌&&◌, ◌||◌, List, length}
-use Rattle.std.specs.Prelude.{IsTrue, nat_lt}
-use Rattle.std.proofs.lemmas.Bool.{and_from, or_from, or_left, or_right, lt-ltb, not_from_false}
-use Rattle.block_tags.specs.Format.{is_legal_size}
-use Rattle.image_check.specs.declared.classes.ImageClass.TheVariants.{Truncated, BadMagic, UnsupportedVersion, BadSize}
-use Rattle.image_check.specs.declared.classes.ImageClass.TheVariants.{BadReserved, BadTag, BadFreeTree}
-use Rattle.image_check.specs.EarlyTests.{size_word, has_magic, has_version, has_front, is_tiled}
+use Rattle.image_check.proofs.Common.{BadFreeTree, BadMagic, BadReserved, BadSize, BadTag, IsTrue, List, Truncated}
+use Rattle.image_check.proofs.Common.{UnsupportedVersion, and_from, false, has_early_class, has_front, has_magic}
+use Rattle.image_check.proofs.Common.{has_version, is_legal_size, is_tiled, length, lt-ltb, nat_lt, not, not_from_false}
+use Rattle.image_check.proofs.Common.{or_from, or_left, or_right, refl, size_word, ℕ, ◌&&◌, ◌<◌, ◌||◌, ◌≡◌}
+use Rattle.std.proofs.Common.{Bool}
 use Rattle.image_check.specs.Classes.{holds}
-use Rattle.image_check.specs.Opening.{has_early_class}
 use Rattle.image_check.specs.Frame.{has_frame, has_tree}
-use Rattle.image_check.proofs.frame.Tests.{has_frame-IsFrame, frame-clean}
+use Rattle.image_check.proofs.frame.Tests.{frame-clean, has_frame-IsFrame}
 
 -- ---- a right frame has no early class
 

@@ -1,28 +1,22 @@
 -- The first class that holds of an image whose first words are right: the parts of its frame in turn, and then the
 -- tests of blocks.
-use Rattle.std.proofs.Common.{◌≡◌, refl, ap, ◌∙◌, ℕ, Bool, true, false, not, ◌&&◌, List, [], ◌∷◌, length, arith, cond}
-use Rattle.std.specs.Prelude.{IsTrue, Some, None, find, nat_lt, nat_le}
-use Rattle.std.proofs.lemmas.Bool.{and_from, and_right, or_from, le-leb, le-ltb, not_from_true, not_from_false}
-use Rattle.raw_region.specs.Memory.{Memory, WindowState, bytes_of}
-use Rattle.block_tags.specs.declared.tile.Tile.{Tile}
-use Rattle.block_tags.specs.Format.{is_legal_size}
-use Rattle.block_tags.specs.Tiles.{tiles_of}
-use Rattle.best_fit.proofs.Laws.{legal_size}
-use Rattle.image_check.specs.declared.classes.ImageClass.{ImageClass}
-use Rattle.image_check.specs.declared.classes.ImageClass.TheVariants.{Truncated, BadMagic, UnsupportedVersion, BadSize}
-use Rattle.image_check.specs.declared.classes.ImageClass.TheVariants.{BadReserved, BadTag, BadFreeTree, BadIndex}
-use Rattle.image_check.specs.declared.classes.ImageClass.TheVariants.{BadObject, SharedBlock, BadContainer, OrphanBlock}
-use Rattle.image_check.specs.EarlyTests.{size_word, has_magic, has_version, has_front, has_size, has_reserved, is_tiled}
-use Rattle.image_check.specs.ObjectTests.{has_indexes, has_objects}
-use Rattle.image_check.specs.Fields.{is_shared, is_orphaned, has_containers}
-use Rattle.image_check.specs.Classes.{holds, class_of}
+use Rattle.image_check.proofs.Common.{BadContainer, BadFreeTree, BadIndex, BadMagic, BadObject, BadReserved, BadSize}
+use Rattle.image_check.proofs.Common.{BadTag, HasFront, ImageClass, IsTrue, List, Memory, None, OrphanBlock}
+use Rattle.image_check.proofs.Common.{SharedBlock, Some, Tile, Truncated, UnsupportedVersion, WindowState, [], and_from}
+use Rattle.image_check.proofs.Common.{and_right, ap, arith, bytes_of, class_of, cond, false, has_containers, has_front}
+use Rattle.image_check.proofs.Common.{has_indexes, has_magic, has_objects, has_reserved, has_size, has_version}
+use Rattle.image_check.proofs.Common.{is_legal_size, is_orphaned, is_shared, is_tiled, le-leb, le-ltb, legal_size}
+use Rattle.image_check.proofs.Common.{length, nat_le, nat_lt, not, not_from_false, not_from_true, or_from, refl}
+use Rattle.image_check.proofs.Common.{size_word, tiles_of, true, ℕ, ◌&&◌, ◌∙◌, ◌∷◌, ◌≡◌}
+use Rattle.std.proofs.Common.{Bool}
+use Rattle.std.specs.Prelude.{find}
+use Rattle.image_check.specs.Classes.{holds}
 use Rattle.image_check.specs.Checking.{late_by, late_class}
 use Rattle.image_check.specs.Passes.{tiles_in}
-use Rattle.image_check.specs.Reading.{HasFront}
 use Rattle.image_check.specs.Frame.{has_frame}
 use Rattle.image_check.proofs.reading.Deciding.{find-here, find-past}
 use Rattle.image_check.proofs.reading.Buffer.{HasFront-IsRight}
-use Rattle.image_check.proofs.frame.Tests.{has_frame-IsFrame, frame-clean, has_whole_size-HasWholeSize}
+use Rattle.image_check.proofs.frame.Tests.{frame-clean, has_frame-IsFrame, has_whole_size-HasWholeSize}
 use Rattle.image_check.proofs.frame.Formats.{IsEarlyClean}
 
 -- ---- the first four classes hold of no window whose first words are right

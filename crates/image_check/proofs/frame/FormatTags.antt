@@ -1,16 +1,13 @@
 -- Good tags in each format: those of format 0 are those of the others where no free tile is red.
-use Rattle.std.proofs.Common.{◌≡◌, refl, sym, ap, ◌∙◌, ℕ, zero, suc, ◌+◌, ◌-◌, ◌%◌, ◌<◌, Bool, true, false, not, ◌&&◌}
-use Rattle.std.proofs.Common.{◌||◌, List, [], ◌∷◌, arith}
-use Rattle.std.specs.Prelude.{Option, Some, None, is_none, ◌==◌, nat_le}
-use Rattle.std.specs.List.{list_all}
-use Rattle.std.proofs.lemmas.Bool.{and_parts}
-use Rattle.raw_region.specs.Memory.{Memory, word_at}
+use Rattle.image_check.proofs.Common.{Index, List, Memory, Node, None, Option, Role, Some, Storage, Tile, [], and_parts}
+use Rattle.image_check.proofs.Common.{ap, arith, false, has_free_tree, has_tags, is_none, list_all, nat_le, not, refl}
+use Rattle.image_check.proofs.Common.{suc, sym, tiles_of, true, zero, ℕ, ◌%◌, ◌&&◌, ◌+◌, ◌-◌, ◌<◌, ◌==◌, ◌||◌, ◌∙◌, ◌∷◌}
+use Rattle.image_check.proofs.Common.{◌≡◌}
+use Rattle.std.proofs.Common.{Bool}
+use Rattle.raw_region.specs.Memory.{word_at}
 use Rattle.raw_region.specs.Format.{current}
-use Rattle.block_tags.specs.declared.tile.Role.{Role}
-use Rattle.block_tags.specs.declared.tile.Role.TheVariants.{Object, Index, Storage, Node}
-use Rattle.block_tags.specs.declared.tile.Tile.{Tile}
-use Rattle.block_tags.specs.Tiles.{are_tags, has_tags, is_merged, is_tile, may_be_red, tag_word, tiles_of}
-use Rattle.image_check.specs.EarlyTests.{has_free_tree}
+use Rattle.block_tags.specs.declared.tile.Role.TheVariants.{Object}
+use Rattle.block_tags.specs.Tiles.{are_tags, is_merged, is_tile, may_be_red, tag_word}
 
 -- ---- a tile
 

@@ -1,39 +1,33 @@
 -- Header, tags and free tree of an image, in each format: what the first seven classes leave, and what leaves none of
 -- them.
-use Rattle.std.proofs.Common.{◌≡◌, refl, sym, ap, subst, ◌∙◌, ℕ, zero, suc, ◌+◌, ◌-◌, ◌*◌, ◌≤◌, ◌<◌, inl, Bool, true}
-use Rattle.std.proofs.Common.{false, not, ◌&&◌, List, [], ◌∷◌, ◌++◌, length, map, arith}
-use Rattle.std.specs.Prelude.{IsTrue, Option, Some, None, is_none, nat_le, nat_lt, nat_eq, filter}
-use Rattle.std.specs.List.{list_all}
+use Rattle.image_check.proofs.Common.{Apart, BadFreeTree, BadMagic, BadReserved, BadSize, BadTag, EncodesLiveSet}
+use Rattle.image_check.proofs.Common.{IsTreeOf, IsTrue, List, LiveSet, Memory, None, Option, Rising, Row, Some, Tile}
+use Rattle.image_check.proofs.Common.{Tree, Truncated, UnsupportedVersion, [], and_from, and_parts, and_right, ap}
+use Rattle.image_check.proofs.Common.{arith, bytes_of, cells_of, cond-false, cond-true, eq-eqb, eqb-true, false}
+use Rattle.image_check.proofs.Common.{false≢true, filter, has_free_tree, has_front, has_magic, has_reserved, has_size}
+use Rattle.image_check.proofs.Common.{has_tags, has_version, inl, is_among, is_legal_size, is_none, is_red_black}
+use Rattle.image_check.proofs.Common.{is_tiled, le-leb, le-ltb, leb-true, legal_size, length, link_at, list_all}
+use Rattle.image_check.proofs.Common.{live-rises, ltb-false, magic_number, map, nat_eq, nat_le, nat_lt, nodes_of, not}
+use Rattle.image_check.proofs.Common.{not-false, not_from_true, or_from, or_parts, reads_off, refl, rising-weak}
+use Rattle.image_check.proofs.Common.{size_word, subst, suc, sym, tiles_of, tree_from, true, zero, ℕ, ◌&&◌, ◌*◌, ◌++◌}
+use Rattle.image_check.proofs.Common.{◌+◌, ◌-◌, ◌<◌, ◌∙◌, ◌∷◌, ◌≡◌, ◌≤◌}
+use Rattle.std.proofs.Common.{Bool}
 use Rattle.std.specs.Cmp.Lexicographic.{pointwise}
-use Rattle.std.proofs.lemmas.Bool.{and_parts, and_from, and_right, or_parts, or_from, eqb-true, eq-eqb, leb-true}
-use Rattle.std.proofs.lemmas.Bool.{le-leb, le-ltb, ltb-false, false≢true, not_from_true, not-false, cond-true}
-use Rattle.std.proofs.lemmas.Bool.{cond-false}
-use Rattle.raw_region.specs.Memory.{Memory, bytes_of, word_at, half_word_at}
-use Rattle.offset_link.specs.Link.{link_at}
-use Rattle.link_tree.specs.Tree.{Tree, nodes_of, tree_from, is_red_black}
-use Rattle.link_tree.proofs.Laws.{reads_off}
-use Rattle.block_tags.specs.declared.tile.Tile.{Tile}
-use Rattle.block_tags.specs.Format.{is_legal_size}
-use Rattle.block_tags.specs.Tiles.{tiles_of, has_tags, is_free}
-use Rattle.best_fit.specs.Extents.{LiveSet, Gap, gaps, is_proper}
-use Rattle.best_fit.specs.FreeTree.{span, cells_of, sorted_gaps, payloads, IsTreeOf, IsFreeTree}
+use Rattle.raw_region.specs.Memory.{half_word_at, word_at}
+use Rattle.block_tags.specs.Tiles.{is_free}
+use Rattle.best_fit.specs.Extents.{Gap, gaps, is_proper}
+use Rattle.best_fit.specs.FreeTree.{IsFreeTree, payloads, sorted_gaps, span}
 use Rattle.best_fit.specs.GapNodes.{gaps_of}
-use Rattle.best_fit.specs.Heap.{EncodesLiveSet}
-use Rattle.best_fit.proofs.Laws.{Apart, Row, extents_of as used, gaps-live_in, gaps_of-free, gaps_of-used, legal_size}
-use Rattle.best_fit.proofs.Laws.{length-sorted, proper_live, spans_from-row, span_between-none, unused, use_cases}
-use Rattle.best_fit.proofs.Laws.{used as in_use}
-use Rattle.segment_manager.specs.Denotes.{IsHeader, magic_number}
-use Rattle.segment_manager.proofs.Laws.{Rising, live-rises, rising-weak}
-use Rattle.image_check.specs.declared.classes.ImageClass.TheVariants.{Truncated, BadMagic, UnsupportedVersion, BadSize}
-use Rattle.image_check.specs.declared.classes.ImageClass.TheVariants.{BadReserved, BadTag, BadFreeTree}
-use Rattle.image_check.specs.EarlyTests.{size_word, has_magic, has_version, has_front, has_size, has_reserved, is_tiled}
-use Rattle.image_check.specs.EarlyTests.{is_among, free_gaps, free_payloads, has_free_tree}
+use Rattle.best_fit.proofs.Laws.{extents_of as used, gaps-live_in, gaps_of-free, gaps_of-used, length-sorted}
+use Rattle.best_fit.proofs.Laws.{proper_live, span_between-none, spans_from-row, unused, use_cases, used as in_use}
+use Rattle.segment_manager.specs.Denotes.{IsHeader}
+use Rattle.image_check.specs.EarlyTests.{free_gaps, free_payloads}
 use Rattle.image_check.specs.Classes.{holds}
-use Rattle.image_check.proofs.bytes.Numbers.{two_rows, from_two_rows, AreSmall, half_word_at-AreZero}
-use Rattle.image_check.proofs.bytes.Numbers.{AreZero-half_word_at}
-use Rattle.image_check.proofs.bytes.Words.{word_at-halves, half_word_at-low, half_word_at-high}
+use Rattle.image_check.proofs.bytes.Numbers.{AreSmall, AreZero-half_word_at, from_two_rows, half_word_at-AreZero}
+use Rattle.image_check.proofs.bytes.Numbers.{two_rows}
+use Rattle.image_check.proofs.bytes.Words.{half_word_at-high, half_word_at-low, word_at-halves}
 use Rattle.image_check.proofs.frame.Tags.{has_tags-AreWholeTiles}
-use Rattle.image_check.proofs.bytes.Members.{list_all_from, Mem-is_among}
+use Rattle.image_check.proofs.bytes.Members.{Mem-is_among, list_all_from}
 use Rattle.image_check.proofs.read_off.Values.{height-nodes}
 use Rattle.image_check.proofs.law.Uniqueness.{tiles_in}
 

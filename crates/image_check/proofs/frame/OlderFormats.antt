@@ -1,27 +1,21 @@
 -- An image of an older format whose tags and free tree are made those of the current one, and then its version.
-use Rattle.std.proofs.Common.{◌≡◌, ◌≢◌, ap, refl, sym, subst, ◌∙◌, ℕ, zero, suc, ◌<◌, ◌≤◌, ◌⊎◌, inl, inr, List, []}
-use Rattle.std.proofs.Common.{length, arith}
-use Rattle.std.specs.Prelude.{IsTrue}
-use Rattle.std.specs.List.{AllByRecursion}
-use Rattle.std.proofs.lemmas.Bool.{cases_eq, cases_lt}
-use Rattle.raw_region.specs.Memory.{AreZero, WindowState, Memory, SameBytes, SameBytesExcept, bytes_of, half_word_at}
-use Rattle.raw_region.specs.Memory.{SameSurroundings, word_at}
+use Rattle.image_check.proofs.Common.{AllByRecursion, AreZero, Denotes, Directory, EncodesLiveSet, IsImage, IsTrue}
+use Rattle.image_check.proofs.Common.{List, LiveSet, Memory, RebuildsFreeTree, SameSurroundings, UpgradesFormat}
+use Rattle.image_check.proofs.Common.{WindowState, [], ap, arith, bytes_of, cases_eq, cases_lt, has_tags, inl, inr}
+use Rattle.image_check.proofs.Common.{is_legal_size, lay_out_one, length, refl, subst, suc, sym, zero, ℕ, ◌<◌, ◌∙◌, ◌≡◌}
+use Rattle.image_check.proofs.Common.{◌≢◌, ◌≤◌, ◌⊎◌}
+use Rattle.raw_region.specs.Memory.{SameBytes, SameBytesExcept, half_word_at, word_at}
 use Rattle.raw_region.specs.Format.{current}
 use Rattle.raw_region.proofs.Laws.{SameBytes-half_word, SameBytes-part}
-use Rattle.block_tags.specs.Format.{is_legal_size}
-use Rattle.block_tags.specs.Tiles.{has_tags}
-use Rattle.best_fit.specs.Extents.{LiveSet, gaps}
-use Rattle.best_fit.specs.Heap.{ChangesBytes, IsHeap, EncodesLiveSet, SameBlock, live_of}
-use Rattle.best_fit.specs.Rebuilding.{IsBesideGap, RebuildsFreeTree}
+use Rattle.best_fit.specs.Extents.{gaps}
+use Rattle.best_fit.specs.Heap.{ChangesBytes, IsHeap, SameBlock, live_of}
+use Rattle.best_fit.specs.Rebuilding.{IsBesideGap}
 use Rattle.best_fit.proofs.Laws.{blocks-trans, changed-header_blocks, free-refl, header_changed, is_proper-IsProper}
-use Rattle.best_fit.proofs.Laws.{keeps-refl, lay_out_one}
-use Rattle.segment_manager.specs.Denotes.{Denotes}
-use Rattle.segment_manager.specs.Directory.{Directory}
+use Rattle.best_fit.proofs.Laws.{keeps-refl}
 use Rattle.segment_manager.specs.State.{DenotesCurrent}
 use Rattle.segment_manager.proofs.Laws.{denotes-heap, denotes-later, denotes-live, directory-later}
-use Rattle.image_check.specs.Opening.{IsImage}
-use Rattle.image_check.specs.OpeningAny.{UpgradesVersion, UpgradesFormat, RebuildsTree, NewVersionsStand}
-use Rattle.image_check.specs.OpeningAny.{OlderDirectoriesStand, ReplantedStand}
+use Rattle.image_check.specs.OpeningAny.{NewVersionsStand, OlderDirectoriesStand, RebuildsTree, ReplantedStand}
+use Rattle.image_check.specs.OpeningAny.{UpgradesVersion}
 use Rattle.image_check.proofs.bytes.Numbers.{AreZero-half_word_at, half_word_at-AreZero}
 use Rattle.image_check.proofs.frame.FormatTags.{later-has_tags}
 use Rattle.image_check.proofs.bytes.Words.{word_at-halves}

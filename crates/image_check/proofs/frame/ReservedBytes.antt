@@ -1,10 +1,6 @@
 -- The bytes of the header that are kept for later.
-use Rattle.std.proofs.Common.{◌≡◌, ℕ, false, true, List}
-use Rattle.std.specs.Prelude.{◌⊎◌}
-use Rattle.std.proofs.Common.{inl, inr}
+use Rattle.image_check.proofs.Common.{AreZero, List, bytes_of, false, has_reserved, inl, inr, true, ℕ, ◌≡◌, ◌⊎◌}
 use Rattle.std.proofs.lemmas.Bool.{false_from_ne_true}
-use Rattle.raw_region.specs.Memory.{AreZero, bytes_of}
-use Rattle.image_check.specs.EarlyTests.{has_reserved}
 use Rattle.image_check.specs.HeaderPlaces.{IsFirstNonzero}
 use Rattle.image_check.proofs.bytes.Numbers.{from_two_rows, two_rows}
 

@@ -1,11 +1,7 @@
 -- The tiles that good tags say: a row, of which no two free ones are neighbours.
-use Rattle.std.proofs.Common.{ℕ, ◌-◌, false, List}
-use Rattle.std.specs.Prelude.{IsTrue}
-use Rattle.raw_region.specs.Memory.{Memory}
-use Rattle.block_tags.specs.declared.tile.Tile.{Tile}
-use Rattle.block_tags.specs.Tiles.{tiles_of, has_tags}
+use Rattle.image_check.proofs.Common.{Apart, IsTrue, List, Memory, Row, Tile, false, has_tags, tiles_of, ℕ, ◌-◌}
 use Rattle.block_tags.proofs.Laws.{AreTags-AreContiguous, has_tags-AreTilesOf, has_tags-is_merged}
-use Rattle.best_fit.proofs.Laws.{Apart, AreContiguous-Row, Row, is_merged-Apart}
+use Rattle.best_fit.proofs.Laws.{AreContiguous-Row, is_merged-Apart}
 
 -- the tiles of a segment of this size
 pub record AreWholeTiles (ts : List Tile) (size : ℕ) : Type 0 where

@@ -1,12 +1,10 @@
 -- The frame of an image: header, tags and free tree. What its tests say, and what passes them.
-use Rattle.std.proofs.Common.{◌≡◌, ℕ, Bool, not, ◌&&◌, ◌==◌, List, length, arith}
-use Rattle.std.specs.Prelude.{IsTrue, nat_le, nat_lt}
-use Rattle.std.proofs.lemmas.Bool.{and_parts, and_from, and_right, or_from, eq-eqb, eqb-true, le-leb, le-ltb}
-use Rattle.std.proofs.lemmas.Bool.{not_from_true}
-use Rattle.block_tags.specs.Format.{is_legal_size}
-use Rattle.best_fit.proofs.Laws.{legal_size}
-use Rattle.image_check.specs.EarlyTests.{size_word, has_magic, has_version, has_front, has_size, has_reserved, is_tiled}
-use Rattle.image_check.specs.Frame.{has_frame, has_whole_size, has_tree}
+use Rattle.image_check.proofs.Common.{IsTrue, List, and_from, and_parts, and_right, arith, eq-eqb, eqb-true, has_front}
+use Rattle.image_check.proofs.Common.{has_magic, has_reserved, has_size, has_version, is_legal_size, is_tiled, le-leb}
+use Rattle.image_check.proofs.Common.{le-ltb, legal_size, length, nat_le, nat_lt, not, not_from_true, or_from}
+use Rattle.image_check.proofs.Common.{size_word, ℕ, ◌&&◌, ◌==◌, ◌≡◌}
+use Rattle.std.proofs.Common.{Bool}
+use Rattle.image_check.specs.Frame.{has_frame, has_tree, has_whole_size}
 use Rattle.image_check.proofs.frame.Formats.{IsEarlyClean}
 
 -- the tests of a frame, by name

@@ -1,36 +1,25 @@
 -- What the check of a whole image finds: its first class, or a directory.
-use Rattle.std.proofs.Common.{◌≡◌, refl, sym, ap, subst, ◌∙◌, ℕ, ◌<◌, ◌≤◌, inl, inr, Bool, true, false, not, ◌||◌, List}
-use Rattle.std.proofs.Common.{[], ◌∷◌, length, arith}
-use Rattle.std.specs.Prelude.{IsTrue, IsOk, is_some, Option, Some, None, Result, Err}
-use Rattle.std.specs.List.{list_any}
-use Rattle.std.proofs.lemmas.Bool.{cases_Bool}
-use Rattle.raw_region.specs.Memory.{WindowState, bytes_of, are_bytes}
-use Rattle.block_tags.specs.declared.tile.Role.{Role}
-use Rattle.block_tags.specs.declared.tile.Tile.{Tile}
-use Rattle.block_tags.specs.Format.{is_legal_size}
-use Rattle.block_tags.specs.Tiles.{has_tags, tiles_of}
-use Rattle.image_check.specs.declared.classes.ImageClass.{ImageClass}
-use Rattle.image_check.specs.declared.classes.ImageClass.TheVariants.{BadTag, BadFreeTree, BadIndex, BadObject}
-use Rattle.image_check.specs.declared.classes.ImageClass.TheVariants.{SharedBlock, BadContainer, OrphanBlock}
-use Rattle.image_check.specs.EarlyTests.{has_free_tree, has_reserved, is_tiled}
-use Rattle.image_check.specs.ObjectTests.{has_indexes, has_objects}
-use Rattle.image_check.specs.Fields.{is_shared, is_orphaned, has_containers}
+use Rattle.image_check.proofs.Common.{BadContainer, BadFreeTree, BadIndex, BadObject, BadTag, Err, HasFront, HasTiles}
+use Rattle.image_check.proofs.Common.{ImageClass, IsImage, IsTrue, List, None, Option, OrphanBlock, Result, Role}
+use Rattle.image_check.proofs.Common.{SharedBlock, Some, Tile, WindowState, [], ap, are_bytes, arith, bytes_of}
+use Rattle.image_check.proofs.Common.{cases_Bool, class_of, entries_of, false, has_block, has_containers, has_free_tree}
+use Rattle.image_check.proofs.Common.{has_indexes, has_objects, has_reserved, has_tags, inl, inr, is_legal_size}
+use Rattle.image_check.proofs.Common.{is_orphaned, is_shared, is_some, is_tiled, length, list_any, not, refl, subst}
+use Rattle.image_check.proofs.Common.{sym, tiles_of, true, ℕ, ◌<◌, ◌||◌, ◌∙◌, ◌∷◌, ◌≡◌, ◌≤◌}
+use Rattle.std.proofs.Common.{Bool}
+use Rattle.std.specs.Prelude.{IsOk}
 use Rattle.image_check.specs.Checking.{late_by, late_class}
-use Rattle.image_check.specs.Classes.{class_of}
 use Rattle.image_check.specs.Frame.{has_frame}
 use Rattle.image_check.specs.Meaning.{HasOneDirectory}
-use Rattle.image_check.specs.Opening.{IsImage}
-use Rattle.image_check.specs.Owners.{entries_of}
-use Rattle.image_check.specs.Passes.{HasTiles, has_block, tiles_in}
-use Rattle.image_check.specs.Reading.{HasFront}
+use Rattle.image_check.specs.Passes.{tiles_in}
 use Rattle.image_check.specs.Verdicts.{IsVerdict, said_tiles}
 use Rattle.block_tags.specs.Checks.{StopsAt}
 use Rattle.image_check.proofs.frame.EarlyClasses.{tree-BadFreeTree}
 use Rattle.image_check.proofs.reading.Buffer.{HasFront-IsRight}
 use Rattle.image_check.proofs.frame.FormatTags.{good-has_tags}
 use Rattle.image_check.proofs.frame.FirstClass.{first-tag, first-tree, late-class}
-use Rattle.image_check.proofs.frame.Tests.{IsFrame-has_frame, has_frame-IsFrame, has_whole_size-HasWholeSize}
-use Rattle.image_check.proofs.frame.Tests.{HasWholeSize-has_whole_size}
+use Rattle.image_check.proofs.frame.Tests.{HasWholeSize-has_whole_size, IsFrame-has_frame, has_frame-IsFrame}
+use Rattle.image_check.proofs.frame.Tests.{has_whole_size-HasWholeSize}
 use Rattle.image_check.proofs.law.OneDirectory.{one_directory}
 
 -- ---- the frame

@@ -1,32 +1,29 @@
 -- The free tiles of a window and the tree over places: when the one makes up the other.
-use Rattle.std.proofs.Common.{◌≡◌, refl, sym, ap, subst, ◌∙◌, ℕ, ◌+◌, ◌-◌, ◌*◌, ◌/◌, ◌%◌, ◌≤◌, inl, inr, true, false}
-use Rattle.std.proofs.Common.{not, ◌&&◌, List, [], ◌∷◌, ◌++◌, length, arith, ◌==◌, nat_le, IsTrue}
-use Rattle.std.specs.Prelude.{Option, Some, None, is_none}
-use Rattle.std.specs.List.{list_all}
-use Rattle.std.proofs.lemmas.Bool.{false≢true, both_ways, cases_Bool, and_parts, and_from, or_cases, or_left, or_right}
-use Rattle.std.proofs.lemmas.Bool.{le-leb, eqb-true, eq-eqb, cond-true, cond-false, not-true}
-use Rattle.raw_region.specs.Memory.{Memory, WindowState, bytes_of, word_at}
-use Rattle.offset_link.specs.Link.{is_handle_place, link_at}
-use Rattle.offset_link.specs.Relinked.{is_bad}
-use Rattle.link_tree.specs.Tree.{Cell, Tree, IsTree, IsSearchTree, nodes_of, is_sorted}
-use Rattle.link_tree.specs.Nodes.{is_in, leads}
+use Rattle.image_check.proofs.Common.{Apart, Cell, EncodesTiles, IsSearchTree, IsTree, IsTreeOf, IsTrue, List, Memory}
+use Rattle.image_check.proofs.Common.{None, Option, Some, Tile, Tree, WindowState, [], and_from, and_parts, ap, arith}
+use Rattle.image_check.proofs.Common.{before_irreflexive, both_ways, bytes_of, cases_Bool, cells_of, cond-false}
+use Rattle.image_check.proofs.Common.{cond-true, eq-eqb, eqb-true, false, false≢true, has_free_tree, has_tags, inl, inr}
+use Rattle.image_check.proofs.Common.{is_bad, is_in, is_legal_size, is_none, is_place, is_place-from, is_planted}
+use Rattle.image_check.proofs.Common.{is_sorted, le-leb, leads, legal_size, length, link_at, list_all, nat_le, nodes_of}
+use Rattle.image_check.proofs.Common.{not, not-true, or_cases, or_left, or_right, refl, stands_before, subst, sym}
+use Rattle.image_check.proofs.Common.{tiles_are_read_off, true, ℕ, ◌%◌, ◌&&◌, ◌*◌, ◌++◌, ◌+◌, ◌-◌, ◌/◌, ◌==◌, ◌∙◌, ◌∷◌}
+use Rattle.image_check.proofs.Common.{◌≡◌, ◌≤◌}
+use Rattle.raw_region.specs.Memory.{word_at}
+use Rattle.offset_link.specs.Link.{is_handle_place}
 use Rattle.link_tree.proofs.Laws.{root_in, tree_same}
-use Rattle.block_tags.specs.declared.tile.Tile.{Tile}
 use Rattle.raw_region.specs.Format.{current}
-use Rattle.block_tags.specs.Format.{is_legal_size}
-use Rattle.block_tags.specs.Tiles.{has_tags, is_free, tile_at}
-use Rattle.block_tags.specs.Windows.{EncodesTiles}
-use Rattle.block_tags.proofs.Laws.{good_tags_say_tiles, one_tile_at_an_offset, tile_is_read_off, tiles_are_read_off}
+use Rattle.block_tags.specs.Tiles.{is_free, tile_at}
+use Rattle.block_tags.proofs.Laws.{good_tags_say_tiles, one_tile_at_an_offset, tile_is_read_off}
 use Rattle.best_fit.specs.Extents.{Gap}
-use Rattle.best_fit.specs.FreeTree.{IsTreeOf, cells_of, is_red, payloads, sorted_gaps}
+use Rattle.best_fit.specs.FreeTree.{is_red, payloads, sorted_gaps}
 use Rattle.best_fit.specs.GapNodes.{comes_before, gap_of, gaps_in, gaps_of, len_in, tiles_in}
 use Rattle.best_fit.specs.GapLaws.{comes}
-use Rattle.best_fit.proofs.Laws.{Apart, NodeAt, all_gaps, free-unused, gaps_of-free, gaps_of-used, holds_closed}
-use Rattle.best_fit.proofs.Laws.{in_sorted, legal_size, length-sorted, is_merged-Apart, node_from, node_len}
-use Rattle.best_fit.proofs.Laws.{sorted-is_sorted, unused, use_cases, used}
-use Rattle.image_check.specs.EarlyTests.{free_payloads, has_free_tree}
-use Rattle.image_check.specs.FreeNodes.{has_good_links, is_place, is_planted, len_at, place_cells, stands_before}
-use Rattle.image_check.specs.FreeLaws.{before_irreflexive, before_transitive, is_place-from}
+use Rattle.best_fit.proofs.Laws.{NodeAt, all_gaps, free-unused, gaps_of-free, gaps_of-used, holds_closed, in_sorted}
+use Rattle.best_fit.proofs.Laws.{is_merged-Apart, length-sorted, node_from, node_len, sorted-is_sorted, unused}
+use Rattle.best_fit.proofs.Laws.{use_cases, used}
+use Rattle.image_check.specs.EarlyTests.{free_payloads}
+use Rattle.image_check.specs.FreeNodes.{has_good_links, len_at, place_cells}
+use Rattle.image_check.specs.FreeLaws.{before_transitive}
 use Rattle.image_check.proofs.frame.Formats.{free-payloads, tree-passes, tree-said}
 use Rattle.image_check.proofs.free_tree.Places.{all-of, good-placed, is_sorted-same}
 use Rattle.image_check.proofs.walks.Tiles.{WalksAt, at-lies, at-meets}

@@ -1,16 +1,13 @@
 -- A tree over the places of a window where a payload may begin has few nodes.
-use Rattle.std.proofs.Common.{◌≡◌, refl, sym, ap, subst, ℕ, zero, suc, ◌+◌, ◌-◌, ◌*◌, ◌/◌, ◌^◌, ◌<◌, ◌≤◌, ◌⊎◌, inl, inr}
-use Rattle.std.proofs.Common.{true, List, [], ◌∷◌, ◌==◌, length, arith, IsTrue}
-use Rattle.std.specs.Prelude.{Option}
-use Rattle.std.proofs.lemmas.Bool.{cases_lt, eq-eqb, false≢true, or_left, or_right}
-use Rattle.raw_region.specs.Memory.{WindowState, bytes_of}
-use Rattle.link_tree.specs.Nodes.{is_in, leads}
-use Rattle.link_tree.specs.Tree.{Cell, AreCellsOf, IsSearchTree, Tree, fork, leaf, nodes_of, root_of}
-use Rattle.link_tree.proofs.Laws.{in_parts, tree_limit}
-use Rattle.block_tags.specs.Format.{is_legal_size}
-use Rattle.image_check.specs.FreeNodes.{is_place, place_cells, stands_before}
-use Rattle.image_check.specs.FreeLaws.{before_irreflexive, before_transitive, is_place-PayloadBounds, places_left}
-use Rattle.image_check.specs.FreeLaws.{places_right, small_size}
+use Rattle.image_check.proofs.Common.{AreCellsOf, Cell, IsSearchTree, IsTrue, List, Option, Tree, WindowState, [], ap}
+use Rattle.image_check.proofs.Common.{arith, before_irreflexive, bytes_of, cases_lt, eq-eqb, false≢true, fork, in_parts}
+use Rattle.image_check.proofs.Common.{inl, inr, is_in, is_legal_size, is_place, is_place-PayloadBounds, leads, leaf}
+use Rattle.image_check.proofs.Common.{length, nodes_of, or_left, or_right, refl, root_of, small_size, stands_before}
+use Rattle.image_check.proofs.Common.{subst, suc, sym, true, zero, ℕ, ◌*◌, ◌+◌, ◌-◌, ◌/◌, ◌<◌, ◌==◌, ◌^◌, ◌∷◌, ◌≡◌, ◌≤◌}
+use Rattle.image_check.proofs.Common.{◌⊎◌}
+use Rattle.link_tree.proofs.Laws.{tree_limit}
+use Rattle.image_check.specs.FreeNodes.{place_cells}
+use Rattle.image_check.specs.FreeLaws.{before_transitive, places_left, places_right}
 
 -- so many places from the first on
 places : ℕ → List ℕ

@@ -1,19 +1,16 @@
 -- Links that may be anything, and nodes that are looked for in an ordered list.
-use Rattle.std.proofs.Common.{◌≡◌, refl, sym, ap, subst, ◌∙◌, ℕ, ◌+◌, inl, inr, Bool, true, false, not, List, [], ◌∷◌}
-use Rattle.std.proofs.Common.{length, arith, ◌==◌, nat_eq, IsTrue}
-use Rattle.std.specs.Prelude.{Option, Some, None}
-use Rattle.std.specs.List.{find, list_all}
-use Rattle.std.proofs.lemmas.Bool.{false≢true, both_ways, cases_Bool, and_parts, and_from, or_cases, or_left, or_right}
-use Rattle.std.proofs.lemmas.Bool.{eqb-true, eq-eqb, ne_eqb, cond-true, cond-false, not-false, not-true}
-use Rattle.raw_region.specs.Memory.{WindowState, bytes_of}
-use Rattle.offset_link.specs.Link.{is_handle_place, link_at}
-use Rattle.offset_link.specs.Relinked.{is_bad}
-use Rattle.link_tree.specs.Tree.{is_sorted}
-use Rattle.link_tree.specs.Nodes.{first_not_before, is_in, leads}
-use Rattle.link_tree.proofs.Laws.{all_at, all_from, none_some, some_same}
-use Rattle.block_tags.specs.Format.{is_legal_size}
-use Rattle.image_check.specs.FreeNodes.{is_place, placed, place_cells}
-use Rattle.image_check.specs.FreeLaws.{is_place-from}
+use Rattle.image_check.proofs.Common.{IsTrue, List, None, Option, Some, WindowState, [], all_at, all_from, and_from}
+use Rattle.image_check.proofs.Common.{and_parts, ap, arith, both_ways, bytes_of, cases_Bool, cond-false, cond-true}
+use Rattle.image_check.proofs.Common.{eq-eqb, eqb-true, false, false≢true, inl, inr, is_bad, is_in, is_legal_size}
+use Rattle.image_check.proofs.Common.{is_place, is_place-from, is_sorted, leads, length, link_at, list_all, nat_eq}
+use Rattle.image_check.proofs.Common.{ne_eqb, not, not-false, not-true, or_cases, or_left, or_right, refl, some_same}
+use Rattle.image_check.proofs.Common.{subst, sym, true, ℕ, ◌+◌, ◌==◌, ◌∙◌, ◌∷◌, ◌≡◌}
+use Rattle.std.proofs.Common.{Bool}
+use Rattle.std.specs.List.{find}
+use Rattle.offset_link.specs.Link.{is_handle_place}
+use Rattle.link_tree.specs.Nodes.{first_not_before}
+use Rattle.link_tree.proofs.Laws.{none_some}
+use Rattle.image_check.specs.FreeNodes.{place_cells, placed}
 
 -- ---- links
 

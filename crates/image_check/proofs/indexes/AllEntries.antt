@@ -1,26 +1,20 @@
 -- The entries of an index, one after another: whether each leads to an object without an entry before it.
-use Rattle.std.proofs.Common.{◌≡◌, refl, sym, ap, subst, ◌∙◌, ℕ, Bool, true, false, not, List, [], ◌∷◌, ◌++◌}
-use Rattle.std.specs.Prelude.{Option, Some, None, IsTrue, is_some, is_none, flat_map, option_to_list}
-use Rattle.std.specs.List.{list_all}
-use Rattle.std.proofs.lemmas.Bool.{and_from, and_parts, both_ways, cases_Bool, cond-false, cond-true, false≢true}
+use Rattle.image_check.proofs.Common.{Block, Blocks, EntersLink, IsTrue, List, None, NotesEntries, Option, Owner, Some}
+use Rattle.image_check.proofs.Common.{Tile, [], and_from, and_parts, ap, are_distinct, are_enterable, are_new}
+use Rattle.image_check.proofs.Common.{both_ways, can_enter, cases_Bool, cond-false, cond-true, entry_in, false}
+use Rattle.image_check.proofs.Common.{false≢true, flat_map, good_for, index_of, is_among, is_none, is_some, list_all}
+use Rattle.image_check.proofs.Common.{list_all-append, not, option_to_list, refl, same_role, subst, sym, tile_of, true}
+use Rattle.image_check.proofs.Common.{ℕ, ◌++◌, ◌∙◌, ◌∷◌, ◌≡◌}
+use Rattle.std.proofs.Common.{Bool}
 use Rattle.std.proofs.lemmas.Grind.{flat_map-append}
-use Rattle.std.proofs.lemmas.List.Folds.{list_all-append}
-use mathlib.Core.Logic.{inl, inr}
 use Rattle.block_tags.specs.declared.tile.Role.TheVariants.{Object}
-use Rattle.block_tags.specs.declared.tile.Tile.{Tile}
-use Rattle.best_fit.specs.Table.{same_role}
-use Rattle.image_check.specs.declared.owners.Block.{Block}
-use Rattle.image_check.specs.declared.owners.Owner.{Owner}
-use Rattle.image_check.specs.EarlyTests.{is_among}
-use Rattle.image_check.specs.ObjectTests.{tile_of, good_for, are_distinct}
-use Rattle.image_check.specs.Owners.{Blocks, entry_in}
-use Rattle.image_check.specs.Entered.{NotesEntries, EntersLink, are_enterable, are_new, can_enter, index_of, is_new_in}
-use Rattle.image_check.specs.Entered.{root_in}
+use Rattle.image_check.specs.Entered.{is_new_in, root_in}
 use Rattle.image_check.proofs.indexes.Entries.{Distinct, distinct-append, distinct-passes}
-use Rattle.image_check.proofs.bytes.Members.{Mem, list_all_from, list_all_mem, is_among-Mem, Mem-is_among, mem_left}
-use Rattle.image_check.proofs.bytes.Members.{mem_right, mem_parts}
+use Rattle.image_check.proofs.bytes.Members.{Mem, Mem-is_among, is_among-Mem, list_all_from, list_all_mem, mem_left}
+use Rattle.image_check.proofs.bytes.Members.{mem_parts, mem_right}
 use Rattle.image_check.proofs.block_collection.UsedTile.{same_role-refl}
-use Rattle.image_check.proofs.indexes.OneEntry.{added-more, not-before, new-before, good}
+use Rattle.image_check.proofs.indexes.OneEntry.{added-more, good, new-before, not-before}
+use mathlib.Core.Logic.{inl, inr}
 
 -- ---- numbers that differ
 

@@ -1,29 +1,20 @@
 -- Both indexes, one after the other: whether they pass their test, and what is noted then.
-use Rattle.std.proofs.Common.{◌≡◌, refl, sym, ap, subst, ◌∙◌, ℕ, ◌+◌, Bool, true, false, ◌&&◌, List, [], ◌∷◌, ◌++◌}
-use Rattle.std.proofs.Common.{cond}
-use Rattle.std.specs.Prelude.{Option, Some, None, is_some, nat_eq}
-use Rattle.std.specs.List.{cons_option}
-use Rattle.std.proofs.lemmas.Bool.{and_from, and_parts, both_ways, cases_Bool, cond-false, cond-true}
-use mathlib.Core.Logic.{inl, inr}
-use Rattle.raw_region.specs.Memory.{Memory, bytes_of}
-use Rattle.block_tags.specs.declared.tile.Role.{Role}
+use Rattle.image_check.proofs.Common.{Block, Blocks, HasTiles, HaveEntries, IsMarking, IsUnmarked, List, Memory, None}
+use Rattle.image_check.proofs.Common.{NotesEntries, Option, Owner, Role, Some, Tile, [], and_from, and_parts, ap}
+use Rattle.image_check.proofs.Common.{are_distinct, are_new, block_at, both_ways, bytes_of, cases_Bool, cond}
+use Rattle.image_check.proofs.Common.{cond-false, cond-true, cons_option, entries_of, entry_in, entry_of, false, frames}
+use Rattle.image_check.proofs.Common.{has_index, has_indexes, index_of, is_among, is_some, nat_eq, new_block, owner_at}
+use Rattle.image_check.proofs.Common.{refl, same_role, subst, sym, targets, true, ℕ, ◌&&◌, ◌++◌, ◌+◌, ◌∙◌, ◌∷◌, ◌≡◌}
+use Rattle.std.proofs.Common.{Bool}
 use Rattle.block_tags.specs.declared.tile.Role.TheVariants.{Object}
-use Rattle.block_tags.specs.declared.tile.Tile.{Tile}
 use Rattle.link_tree.proofs.Laws.{none_some}
-use Rattle.best_fit.specs.Table.{same_role}
-use Rattle.image_check.specs.declared.owners.Block.{Block}
-use Rattle.image_check.specs.declared.owners.Owner.{Owner}
-use Rattle.image_check.specs.EarlyTests.{is_among}
-use Rattle.image_check.specs.ObjectTests.{are_distinct, has_index, has_indexes, targets}
-use Rattle.image_check.specs.Owners.{Blocks, IsMarking, IsUnmarked, block_at, entries_of, entry_in, entry_of, frames}
-use Rattle.image_check.specs.Owners.{new_block, owner_at}
-use Rattle.image_check.specs.Passes.{HasTiles, tiles_in}
-use Rattle.image_check.specs.Entered.{NotesEntries, AreEntered, HaveEntries, are_new, index_of, is_enterable, listed}
-use Rattle.image_check.specs.Entered.{root_in}
+use Rattle.image_check.specs.Passes.{tiles_in}
+use Rattle.image_check.specs.Entered.{AreEntered, is_enterable, listed, root_in}
 use Rattle.image_check.proofs.indexes.Entries.{Distinct, distinct-append, distinct-passes}
 use Rattle.image_check.proofs.bytes.Members.{Mem, Mem-is_among, is_among-Mem}
 use Rattle.image_check.proofs.indexes.AllEntries.{distinct-parts, new-from, new-parts, passes-distinct}
 use Rattle.image_check.proofs.block_collection.Lookup.{gathered-unmarked, unmarked-marking}
+use mathlib.Core.Logic.{inl, inr}
 
 -- ---- nothing is noted at first
 

@@ -1,24 +1,20 @@
 -- The entries of an index, numbers that differ, and objects in an order.
-use Rattle.std.proofs.Common.{◌≡◌, refl, sym, ap, subst, ◌∙◌, ℕ, ◌+◌, ◌*◌, ◌≤◌, Bool, true, false, not, ◌==◌, List, []}
-use Rattle.std.proofs.Common.{◌∷◌, ◌++◌, length, map, arith}
-use Rattle.std.specs.Prelude.{IsTrue, Option, Some, None, nat_le, flat_map, filter, fold, option_to_list, option_map}
-use Rattle.std.specs.List.{AllByRecursion, range_with_len}
-use Rattle.std.proofs.lemmas.Bool.{and_parts, and_from, eqb-true, leb-true, ne_eqb, false≢true, not_from_false}
-use mathlib.Core.Logic.{inl, inr}
-use Rattle.raw_region.specs.Memory.{Memory}
-use Rattle.offset_link.specs.Link.{link_at}
-use Rattle.block_tags.specs.declared.tile.Role.TheVariants.{Index}
-use Rattle.best_fit.specs.Extents.{Extent, handle}
-use Rattle.best_fit.specs.Table.{BackingArray, has_backing}
-use Rattle.seg_types.specs.declared.kinds.Class.{Class}
-use Rattle.seg_index.specs.Index.{AreLinksTo, AreIndexEntries, IsIndexAt}
-use Rattle.segment_manager.specs.Directory.{Object, is_class, rises_from, insert_by}
-use Rattle.segment_manager.proofs.Laws.{IsRanked, after, all-ordered, all_of-insert_by, before, ordered}
-use Rattle.image_check.specs.EarlyTests.{is_among}
-use Rattle.image_check.specs.ObjectTests.{entries, targets, are_distinct}
-use Rattle.image_check.proofs.bytes.Members.{Mem, mem_all, all_mem, list_any_false, mem_parts, Kept, mem_filter}
-use Rattle.image_check.proofs.bytes.Members.{mem_of_filter}
+use Rattle.image_check.proofs.Common.{AllByRecursion, AreIndexEntries, BackingArray, Class, Extent, Index, IsRanked}
+use Rattle.image_check.proofs.Common.{IsTrue, List, Memory, None, Option, Some, [], and_from, and_parts, ap}
+use Rattle.image_check.proofs.Common.{are_distinct, arith, entries, eqb-true, false, false≢true, filter, flat_map}
+use Rattle.image_check.proofs.Common.{handle, has_backing, is_among, is_class, leb-true, length, link_at, map, nat_le}
+use Rattle.image_check.proofs.Common.{ne_eqb, not, not_from_false, option_to_list, ordered, range_with_len, refl}
+use Rattle.image_check.proofs.Common.{rises_from, subst, sym, targets, true, ℕ, ◌*◌, ◌++◌, ◌+◌, ◌==◌, ◌∙◌, ◌∷◌, ◌≡◌}
+use Rattle.image_check.proofs.Common.{◌≤◌}
+use Rattle.std.proofs.Common.{Bool}
+use Rattle.std.specs.Prelude.{fold, option_map}
+use Rattle.seg_index.specs.Index.{AreLinksTo, IsIndexAt}
+use Rattle.segment_manager.specs.Directory.{Object, insert_by}
+use Rattle.segment_manager.proofs.Laws.{after, all-ordered, all_of-insert_by, before}
+use Rattle.image_check.proofs.bytes.Members.{Kept, Mem, all_mem, list_any_false, mem_all, mem_filter, mem_of_filter}
+use Rattle.image_check.proofs.bytes.Members.{mem_parts}
 use Rattle.image_check.proofs.read_off.Values.{nothing-left}
+use mathlib.Core.Logic.{inl, inr}
 
 -- ---- the entries of an index
 

@@ -1,25 +1,18 @@
 -- The first entry of an index that is wrong.
-use Rattle.std.proofs.Common.{◌≡◌, refl, sym, ap, subst, ◌∙◌, ℕ, ◌+◌, Bool, true, false, not, ◌&&◌, ◌||◌, List, ◌++◌}
-use Rattle.std.proofs.Common.{cond}
-use Rattle.std.specs.Prelude.{Option, Some, None, ◌==◌, is_none, is_some, MatchResult, Result, Ok, Err}
-use Rattle.std.specs.List.{list_all}
-use Rattle.std.proofs.lemmas.Bool.{and_from, and_parts, false_from_ne_true, not-true, or_parts, true≢false}
+use Rattle.image_check.proofs.Common.{Blocks, ChecksClass, EntersLink, Err, HaveEntries, List, MatchResult, Memory}
+use Rattle.image_check.proofs.Common.{None, NotesEntries, Ok, Option, Result, Some, Tile, and_from, and_parts, ap}
+use Rattle.image_check.proofs.Common.{are_distinct, are_enterable, are_new, are_ranked, can_enter, cond, entries, false}
+use Rattle.image_check.proofs.Common.{first_targets, good_for, has_index, index_of, inr, is_among, is_new, is_none}
+use Rattle.image_check.proofs.Common.{is_some, link_at, links_in, list_all, not, not-true, or_parts, refl, subst, sym}
+use Rattle.image_check.proofs.Common.{targets, tile_of, true, true≢false, ℕ, ◌&&◌, ◌++◌, ◌+◌, ◌==◌, ◌||◌, ◌∙◌, ◌≡◌}
+use Rattle.std.proofs.Common.{Bool}
+use Rattle.std.proofs.lemmas.Bool.{false_from_ne_true}
 use Rattle.std.proofs.lemmas.List.Folds.{list_any-append}
-use Rattle.std.proofs.Common.{inr}
-use Rattle.raw_region.specs.Memory.{Memory, word_at}
-use Rattle.offset_link.specs.Link.{link_at}
+use Rattle.raw_region.specs.Memory.{word_at}
 use Rattle.block_tags.specs.declared.tile.Role.TheVariants.{Object}
-use Rattle.block_tags.specs.declared.tile.Tile.{Tile}
-use Rattle.image_check.specs.EarlyTests.{is_among}
-use Rattle.image_check.specs.Entered.{NotesEntries, HaveEntries, EntersLink, are_enterable, are_new, can_enter}
-use Rattle.image_check.specs.Entered.{index_of}
-use Rattle.image_check.specs.Entered.{is_enterable, links_in}
-use Rattle.image_check.specs.IndexPlaces.{IsFirstWrong, IsWrongAt, earlier_targets, first_targets, is_head, is_new}
-use Rattle.image_check.specs.ObjectTests.{entries, good_for, has_index, are_distinct, targets, tile_of}
-use Rattle.image_check.specs.ObjectPasses.{are_ranked}
+use Rattle.image_check.specs.Entered.{is_enterable}
+use Rattle.image_check.specs.IndexPlaces.{IsFirstWrong, IsWrongAt, earlier_targets, is_head}
 use Rattle.image_check.specs.ObjectPlaces.{IsMisplaced, IsOutOfOrder}
-use Rattle.image_check.specs.Owners.{Blocks}
-use Rattle.image_check.specs.Passes.{ChecksClass}
 use Rattle.image_check.proofs.indexes.AllEntries.{can, targets_of}
 use Rattle.image_check.proofs.indexes.OneEntry.{good, new-before, not-before}
 use Rattle.image_check.proofs.indexes.Entries.{entries_in}

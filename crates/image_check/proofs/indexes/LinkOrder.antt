@@ -1,23 +1,18 @@
 -- The links of an index that passes its test, by their numbers.
-use Rattle.std.proofs.Common.{◌≡◌, refl, sym, ap, ◌∙◌, ℕ, ◌+◌, ◌*◌, ◌<◌, Bool, true, ◌&&◌, List, ◌∷◌, ◌++◌, arith}
-use Rattle.std.specs.Prelude.{Option, Some, None, IsSome, is_some, nat_le}
-use Rattle.std.specs.List.{list_all}
-use Rattle.std.proofs.lemmas.Bool.{and_parts}
-use Rattle.std.proofs.lemmas.List.Folds.{list_all-append}
-use mathlib.Core.Logic.{inl}
-use Rattle.raw_region.specs.Memory.{Memory, word_at}
-use Rattle.offset_link.specs.Link.{link_at}
-use Rattle.block_tags.specs.declared.tile.Role.TheVariants.{Object, Index}
-use Rattle.block_tags.specs.declared.tile.Tile.{Tile}
-use Rattle.image_check.specs.EarlyTests.{is_among}
-use Rattle.image_check.specs.ObjectTests.{entries, good_for, has_index, index_capacity, is_table_link, targets}
-use Rattle.image_check.specs.Entered.{links_in}
-use Rattle.image_check.proofs.indexes.AllEntries.{targets_of, targets-split}
+use Rattle.image_check.proofs.Common.{Index, IsSome, List, Memory, None, Option, Some, Tile, and_parts, ap, arith}
+use Rattle.image_check.proofs.Common.{entries, good_for, has_index, index_capacity, is_among, is_some, is_table_link}
+use Rattle.image_check.proofs.Common.{link_at, links_in, list_all, list_all-append, nat_le, refl, sym, targets, true, ℕ}
+use Rattle.image_check.proofs.Common.{◌&&◌, ◌*◌, ◌++◌, ◌+◌, ◌<◌, ◌∙◌, ◌∷◌, ◌≡◌}
+use Rattle.std.proofs.Common.{Bool}
+use Rattle.raw_region.specs.Memory.{word_at}
+use Rattle.block_tags.specs.declared.tile.Role.TheVariants.{Object}
+use Rattle.image_check.proofs.indexes.AllEntries.{targets-split, targets_of}
 use Rattle.image_check.proofs.indexes.Entries.{entries_in}
 use Rattle.image_check.proofs.indexes.Places.{IsIndexRoom, room-of}
 use Rattle.image_check.proofs.read_off.Numbers.{unguarded}
 use Rattle.image_check.proofs.bytes.Members.{Mem-is_among, mem_right}
 use Rattle.image_check.proofs.bytes.Ranges.{split}
+use mathlib.Core.Logic.{inl}
 
 good-some : (ts : List Tile) (link : Option ℕ) → is_some (good_for ts Object link) ≡ true → IsSome link
 good-some ts None h = h

@@ -1,29 +1,26 @@
 -- An index whose entries rise lists the objects of its class in their order.
-use Rattle.std.proofs.Common.{◌≡◌, refl, sym, ap, subst, ◌∙◌, ℕ, zero, suc, ◌+◌, ◌*◌, ◌≤◌, Bool, true, false, ◌&&◌}
-use Rattle.std.proofs.Common.{List, [], ◌∷◌, length, map, arith, cond}
-use Rattle.std.specs.Prelude.{IsTrue, Option, Some, None, nat_le, filter, fold, flat_map, option_to_list, option_map}
-use Rattle.std.specs.Prelude.{is_some}
-use Rattle.std.specs.List.{AllByRecursion, list_all, range_with_len}
-use Rattle.std.proofs.lemmas.Bool.{and_parts, and_from, leb-true, false≢true}
-use mathlib.Core.Logic.{inl, inr}
-use Rattle.raw_region.specs.Memory.{Memory, word_at}
-use Rattle.offset_link.specs.Link.{link_at}
-use Rattle.block_tags.specs.declared.tile.Role.TheVariants.{Object as ObjectRole, Index}
-use Rattle.block_tags.specs.declared.tile.Tile.{Tile}
-use Rattle.best_fit.specs.Extents.{Extent, handle}
-use Rattle.seg_types.specs.declared.kinds.Class.{Class}
-use Rattle.seg_index.specs.Index.{AreLinksTo, AreIndexEntries}
-use Rattle.segment_manager.specs.Directory.{Object, is_class, rises, rises_from, insert_by}
+use Rattle.image_check.proofs.Common.{AllByRecursion, AreIndexEntries, Class, Extent, Index, IsRanked, IsTrue, List}
+use Rattle.image_check.proofs.Common.{Memory, None, Option, Some, Tile, [], and_from, and_parts, ap, arith, cond}
+use Rattle.image_check.proofs.Common.{entries, false, false≢true, filter, flat_map, good_for, handle, has_index}
+use Rattle.image_check.proofs.Common.{index_capacity, is_class, is_some, is_table_link, leb-true, length, link_at}
+use Rattle.image_check.proofs.Common.{list_all, map, nat_le, option_to_list, ordered, range_with_len, refl, rise_by}
+use Rattle.image_check.proofs.Common.{rises, rises_from, subst, suc, sym, targets, tile_of, true, zero, ℕ, ◌&&◌, ◌*◌}
+use Rattle.image_check.proofs.Common.{◌+◌, ◌∙◌, ◌∷◌, ◌≡◌, ◌≤◌}
+use Rattle.std.proofs.Common.{Bool}
+use Rattle.std.specs.Prelude.{fold, option_map}
+use Rattle.raw_region.specs.Memory.{word_at}
+use Rattle.block_tags.specs.declared.tile.Role.TheVariants.{Object as ObjectRole}
+use Rattle.seg_index.specs.Index.{AreLinksTo}
+use Rattle.segment_manager.specs.Directory.{Object, insert_by}
 use Rattle.segment_manager.specs.Denotes.{handles}
-use Rattle.segment_manager.proofs.Laws.{AllRanked, IsRanked, IsStrict, Pairwise, all-insert_by, insert_by-rises}
-use Rattle.segment_manager.proofs.Laws.{ordered, ranked-sym, rises-pairwise, rises-tail}
-use Rattle.image_check.specs.ObjectTests.{tile_of, good_for, is_table_link, index_capacity, entries, targets, has_index}
-use Rattle.image_check.specs.ObjectTests.{rise_by}
-use Rattle.image_check.proofs.bytes.Members.{Mem, mem_all, all_mem, mem_map, mem_of_map, mem_of_filter}
+use Rattle.segment_manager.proofs.Laws.{AllRanked, IsStrict, Pairwise, all-insert_by, insert_by-rises, ranked-sym}
+use Rattle.segment_manager.proofs.Laws.{rises-pairwise, rises-tail}
+use Rattle.image_check.proofs.bytes.Members.{Mem, all_mem, mem_all, mem_map, mem_of_filter, mem_of_map}
 use Rattle.image_check.proofs.read_off.Directory.{block_for, table_at}
-use Rattle.image_check.proofs.indexes.Entries.{mem-ordered, mem-of-ordered, one_object, entries_in, object-from}
+use Rattle.image_check.proofs.indexes.Entries.{entries_in, mem-of-ordered, mem-ordered, object-from, one_object}
 use Rattle.image_check.proofs.read_off.Numbers.{IsLinked, linked, unguarded}
 use Rattle.image_check.proofs.read_off.Values.{no-places}
+use mathlib.Core.Logic.{inl, inr}
 
 -- ---- the entries
 

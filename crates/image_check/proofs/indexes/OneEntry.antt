@@ -1,25 +1,18 @@
 -- Noting one entry more at the object that it leads to.
-use Rattle.std.proofs.Common.{◌≡◌, ◌≢◌, refl, sym, ap, subst, ◌∙◌, ℕ, Bool, true, false, ◌||◌, ◌==◌, List, [], ◌∷◌}
-use Rattle.std.proofs.Common.{◌++◌, cond}
-use Rattle.std.specs.Prelude.{Option, Some, None, nat_eq, is_some, is_none}
-use Rattle.std.specs.Map.{set_value}
-use Rattle.std.proofs.lemmas.Bool.{and_parts, cases_Bool, cond-false, cond-true, ne_eqb, cases_eq, false≢true}
+use Rattle.image_check.proofs.Common.{Block, Blocks, EntersLink, IsBlockAt, IsTileAt, List, None, NotesEntries, Option}
+use Rattle.image_check.proofs.Common.{Owner, Role, Some, Tile, [], and_parts, ap, block_at, cases_Bool, cases_eq, cond}
+use Rattle.image_check.proofs.Common.{cond-false, cond-true, entry_in, false, false≢true, frame_of, frames, good_for}
+use Rattle.image_check.proofs.Common.{index_of, is_among, is_none, is_some, nat_eq, ne_eqb, owner_at, owner_in, refl}
+use Rattle.image_check.proofs.Common.{same_role, set_value, subst, sym, tile_of, true, ℕ, ◌++◌, ◌==◌, ◌||◌, ◌∙◌, ◌∷◌}
+use Rattle.image_check.proofs.Common.{◌≡◌, ◌≢◌}
+use Rattle.std.proofs.Common.{Bool}
 use Rattle.std.proofs.lemmas.List.Folds.{list_any-append}
-use mathlib.Core.Logic.{inl, inr}
-use Rattle.block_tags.specs.declared.tile.Role.{Role}
 use Rattle.block_tags.specs.declared.tile.Role.TheVariants.{Object}
-use Rattle.block_tags.specs.declared.tile.Tile.{Tile}
-use Rattle.best_fit.specs.Table.{same_role}
-use Rattle.image_check.specs.declared.owners.Block.{Block}
-use Rattle.image_check.specs.declared.owners.Owner.{Owner}
-use Rattle.image_check.specs.EarlyTests.{is_among}
-use Rattle.image_check.specs.ObjectTests.{tile_of, good_for}
-use Rattle.image_check.specs.Owners.{Blocks, block_at, entry_in, owner_at, owner_in, IsTileAt, IsBlockAt, frames}
-use Rattle.image_check.specs.Owners.{frame_of}
-use Rattle.image_check.specs.Entered.{NotesEntries, EntersLink, index_of, is_new_block, root_in, with_entry}
+use Rattle.image_check.specs.Entered.{is_new_block, root_in, with_entry}
 use Rattle.image_check.proofs.bytes.Members.{Mem-is_among, mem_right}
 use Rattle.image_check.proofs.shared_blocks.OneLink.{put-other, put-same}
 use Rattle.image_check.proofs.block_collection.UsedTile.{same_role-is}
+use mathlib.Core.Logic.{inl, inr}
 
 -- ---- one block in the place of another
 

@@ -1,23 +1,16 @@
 -- Where tiles lie in a row, how long the block of an index is, and how much a tile weighs.
-use Rattle.std.proofs.Common.{◌≡◌, refl, sym, ap, subst, ◌∙◌, ℕ, ◌+◌, ◌-◌, ◌*◌, ◌/◌, ◌%◌, ◌≤◌, true, false, ◌&&◌, ◌==◌}
-use Rattle.std.proofs.Common.{List, [], ◌∷◌, length, arith}
-use Rattle.std.specs.Prelude.{IsTrue, Option, Some, None, nat_le}
-use Rattle.std.proofs.lemmas.Bool.{and_parts, cases_Bool, cond-false, cond-true, eqb-true, false≢true, leb-true}
-use mathlib.Core.Logic.{inl, inr}
-use Rattle.raw_region.specs.Memory.{WindowState, Memory, word_at}
-use Rattle.offset_link.specs.Link.{link_at}
-use Rattle.block_tags.specs.declared.tile.Role.{Role}
-use Rattle.block_tags.specs.declared.tile.Role.TheVariants.{Index}
-use Rattle.block_tags.specs.declared.tile.Tile.{Tile}
-use Rattle.block_tags.proofs.Laws.{tiles_are_read_off}
-use Rattle.best_fit.specs.Table.{same_role}
-use Rattle.best_fit.proofs.Laws.{Row, said_row}
-use Rattle.image_check.specs.ObjectTests.{index_capacity, is_table_link, is_use, leads_to, tile_of}
-use Rattle.image_check.specs.Passes.{HasTiles, tiles_in}
-use Rattle.image_check.specs.Visits.{Rates, rate_of, weigh}
+use Rattle.image_check.proofs.Common.{HasTiles, Index, IsTrue, List, Memory, None, Option, Rates, Role, Row, Some, Tile}
+use Rattle.image_check.proofs.Common.{WindowState, [], and_parts, ap, arith, cases_Bool, cond-false, cond-true}
+use Rattle.image_check.proofs.Common.{eqb-true, false, false≢true, index_capacity, is_table_link, is_use, leads_to}
+use Rattle.image_check.proofs.Common.{leb-true, length, link_at, nat_le, rate_of, refl, said_row, same_role, subst, sym}
+use Rattle.image_check.proofs.Common.{tile_of, tiles_are_read_off, true, weigh, ℕ, ◌%◌, ◌&&◌, ◌*◌, ◌+◌, ◌-◌, ◌/◌, ◌==◌}
+use Rattle.image_check.proofs.Common.{◌∙◌, ◌∷◌, ◌≡◌, ◌≤◌}
+use Rattle.raw_region.specs.Memory.{word_at}
+use Rattle.image_check.specs.Passes.{tiles_in}
 use Rattle.image_check.proofs.bytes.Members.{Mem, find_mem}
 use Rattle.image_check.proofs.block_collection.UsedTile.{same_role-is}
 use Rattle.image_check.proofs.walks.Tiles.{tags-IsTiledWindow}
+use mathlib.Core.Logic.{inl, inr}
 
 -- ---- tiles in a row
 

@@ -1,14 +1,10 @@
 -- Objects of a class whose keys rise, one after another.
-use Rattle.std.proofs.Common.{◌≡◌, refl, sym, ◌∙◌, ℕ, Bool, true, false, ◌==◌, List, [], ◌∷◌, ◌++◌}
-use Rattle.std.specs.Prelude.{Option, Some, None}
-use Rattle.std.specs.List.{list_all}
-use Rattle.std.proofs.lemmas.Bool.{and_from, and_parts, both_ways, cases_Bool}
-use Rattle.std.proofs.lemmas.List.Folds.{list_all-append}
+use Rattle.image_check.proofs.Common.{List, Memory, None, Option, Some, [], and_from, and_parts, are_ranked, both_ways}
+use Rattle.image_check.proofs.Common.{cases_Bool, class_at, false, list_all, list_all-append, refl, rise_by, sym, true}
+use Rattle.image_check.proofs.Common.{ℕ, ◌++◌, ◌==◌, ◌∙◌, ◌∷◌, ◌≡◌}
+use Rattle.std.proofs.Common.{Bool}
+use Rattle.image_check.specs.ObjectPasses.{follows, key_before}
 use mathlib.Core.Logic.{inl, inr}
-use Rattle.raw_region.specs.Memory.{Memory}
-use Rattle.seg_index.specs.Keys.{class_at}
-use Rattle.image_check.specs.ObjectTests.{rise_by}
-use Rattle.image_check.specs.ObjectPasses.{are_ranked, follows, key_before}
 
 -- the last of a list of handles
 abbrev pub last_of : List ℕ → Option ℕ

@@ -1,46 +1,37 @@
 -- Bytes of which no class holds denote the directory that is read off.
-use Rattle.std.proofs.Common.{◌≡◌, refl, sym, ap, subst, ◌∙◌, ℕ, ◌+◌, ◌-◌, ◌≤◌, Bool, true, false, not, ◌&&◌, List, []}
-use Rattle.std.proofs.Common.{◌∷◌, ◌++◌, length, map, arith}
-use Rattle.std.specs.Prelude.{IsTrue, Some, None, nat_le, nat_lt, flat_map, if◌then◌else◌}
-use Rattle.std.specs.List.{list_any}
-use Rattle.std.proofs.lemmas.Bool.{and_from, eqb-true, le-leb, ltb-true, ltb-false, not-false, cases_eq}
-use Rattle.std.proofs.lemmas.List.{length-map}
-use mathlib.Core.Logic.{inl, inr}
-use Rattle.raw_region.specs.Memory.{Memory, bytes_of, word_at}
-use Rattle.block_tags.specs.declared.tile.Role.TheVariants.{Object as ObjectRole, Index}
-use Rattle.block_tags.specs.declared.tile.Tile.{Tile}
-use Rattle.best_fit.specs.Extents.{Extent, LiveSet, handle, is_proper}
+use Rattle.image_check.proofs.Common.{AreIndexEntries, BackingArray, Denotes, Directory, EncodesLiveSet, Extent, Field}
+use Rattle.image_check.proofs.Common.{Index, IsObjectAt, IsTrue, List, LiveSet, Memory, Named, None, Rising, Some, Tile}
+use Rattle.image_check.proofs.Common.{Unique, [], and_from, ap, arith, as_extent, by_kind, by_name, bytes_of, cases_eq}
+use Rattle.image_check.proofs.Common.{class_of, counted_fields, eqb-true, false, flat_map, handle, has_backing}
+use Rattle.image_check.proofs.Common.{if◌then◌else◌, is_object, is_use, le-leb, leads_there, length, length-map}
+use Rattle.image_check.proofs.Common.{list_any, ltb-false, ltb-true, map, named_objects, nat_le, nat_lt, needs_owner}
+use Rattle.image_check.proofs.Common.{not, not-false, object_tiles, ordered, payload, refl, rises, sorted, subst, sym}
+use Rattle.image_check.proofs.Common.{table_extents, true, unique_objects, value_extents, ℕ, ◌&&◌, ◌++◌, ◌+◌, ◌-◌, ◌∙◌}
+use Rattle.image_check.proofs.Common.{◌∷◌, ◌≡◌, ◌≤◌}
+use Rattle.std.proofs.Common.{Bool}
+use Rattle.raw_region.specs.Memory.{word_at}
+use Rattle.block_tags.specs.declared.tile.Role.TheVariants.{Object as ObjectRole}
+use Rattle.best_fit.specs.Extents.{is_proper}
 use Rattle.best_fit.specs.Fit.{insert}
-use Rattle.best_fit.specs.Heap.{as_extent, EncodesLiveSet}
-use Rattle.best_fit.specs.Table.{BackingArray, has_backing}
 use Rattle.best_fit.proofs.Laws.{extents_of as used}
-use Rattle.seg_types.specs.declared.kinds.Class.TheVariants.{Named, Unique}
-use Rattle.seg_index.specs.Index.{AreIndexEntries}
-use Rattle.segment_manager.specs.Directory.{Object, Directory, IsDirectory, sorted, extents_of, value_extents}
-use Rattle.segment_manager.specs.Directory.{table_extents, is_object, rises, by_name, by_kind, live, named_objects}
-use Rattle.segment_manager.specs.Directory.{unique_objects}
-use Rattle.segment_manager.specs.Denotes.{Denotes, IsObjectAt}
-use Rattle.segment_manager.proofs.Laws.{Rising, ordered}
-use Rattle.image_check.specs.ObjectTests.{is_use, payload, object_tiles}
-use Rattle.image_check.specs.Fields.{Field, counted_fields, needs_owner, leads_there}
-use Rattle.image_check.specs.Classes.{class_of}
+use Rattle.segment_manager.specs.Directory.{IsDirectory, Object, extents_of, live}
 use Rattle.image_check.proofs.bytes.Numbers.{AreSmall}
-use Rattle.image_check.proofs.bytes.Members.{Mem, mem_all, all_mem, list_all_from, list_any_of, list_any_none, mem_left}
-use Rattle.image_check.proofs.bytes.Members.{mem_right, mem_parts, mem_map, mem_of_map, mem_flat_map, mem_of_flat_map}
-use Rattle.image_check.proofs.bytes.Members.{mem_filter, mem_of_filter_map}
-use Rattle.image_check.proofs.block_collection.UsedTile.{as_extent-IsTileOf, rising-same, mem-sorted, mem-of-sorted}
-use Rattle.image_check.proofs.read_off.Directory.{table_at, object_from, object_block, directory_from, read_off}
+use Rattle.image_check.proofs.bytes.Members.{Mem, all_mem, list_all_from, list_any_none, list_any_of, mem_all}
+use Rattle.image_check.proofs.bytes.Members.{mem_filter, mem_flat_map, mem_left, mem_map, mem_of_filter_map}
+use Rattle.image_check.proofs.bytes.Members.{mem_of_flat_map, mem_of_map, mem_parts, mem_right}
+use Rattle.image_check.proofs.block_collection.UsedTile.{as_extent-IsTileOf, mem-of-sorted, mem-sorted, rising-same}
+use Rattle.image_check.proofs.read_off.Directory.{directory_from, object_block, object_from, read_off, table_at}
 use Rattle.image_check.proofs.law.Uniqueness.{tiles_in}
-use Rattle.image_check.proofs.frame.Formats.{IsFramed, live_in, framed-proper, framed-rising, framed-heap, second-fails}
+use Rattle.image_check.proofs.frame.Formats.{IsFramed, framed-heap, framed-proper, framed-rising, live_in, second-fails}
 use Rattle.image_check.proofs.indexes.Entries.{Distinct}
 use Rattle.image_check.proofs.claims.Fields.{target_in, value-targets}
-use Rattle.image_check.proofs.claims.CountedClaims.{place_of, claims_of, tables_claims, counted-claimed}
+use Rattle.image_check.proofs.claims.CountedClaims.{claims_of, counted-claimed, place_of, tables_claims}
 use Rattle.image_check.proofs.law.DenotedHasNoClass.{both-targets}
 use Rattle.image_check.proofs.claims.FieldPlaces.{same-handle}
 use Rattle.image_check.proofs.law.CleanTests.{IsLateClean, classes-clean}
-use Rattle.image_check.proofs.law.ReadObjects.{object-tile, tiles, of-object, said, by_offset, first_index}
-use Rattle.image_check.proofs.law.ReadObjects.{second_index}
-use Rattle.image_check.proofs.law.ReadObjects.{named_list, unique_list, claimed, table-member, once}
+use Rattle.image_check.proofs.law.ReadObjects.{by_offset, claimed, first_index, named_list, object-tile, of-object}
+use Rattle.image_check.proofs.law.ReadObjects.{once, said, second_index, table-member, tiles, unique_list}
+use mathlib.Core.Logic.{inl, inr}
 
 -- ---- lists of extents
 

@@ -1,19 +1,14 @@
 -- What each test says where no class holds.
-use Rattle.std.proofs.Common.{◌≡◌, refl, ap, subst, ℕ, Bool, true, false, not, List, [], ◌∷◌, cond}
-use Rattle.std.specs.Prelude.{IsTrue, Option, Some, None, find}
-use Rattle.std.specs.List.{AllByRecursion}
-use Rattle.std.proofs.lemmas.Bool.{not-false}
-use Rattle.raw_region.specs.Memory.{Memory, bytes_of}
-use Rattle.block_tags.specs.declared.tile.Tile.{Tile}
-use Rattle.block_tags.specs.Tiles.{tiles_of}
-use Rattle.image_check.specs.declared.classes.ImageClass.{ImageClass}
-use Rattle.image_check.specs.EarlyTests.{size_word, is_tiled}
-use Rattle.image_check.specs.ObjectTests.{has_indexes, has_objects}
-use Rattle.image_check.specs.Fields.{is_shared, is_orphaned, has_containers}
-use Rattle.image_check.specs.Classes.{holds as class_holds, classes, class_of}
+use Rattle.image_check.proofs.Common.{AllByRecursion, ImageClass, IsTrue, List, Memory, None, Option, Some, Tile, []}
+use Rattle.image_check.proofs.Common.{ap, bytes_of, class_of, classes, cond, false, has_containers, has_indexes}
+use Rattle.image_check.proofs.Common.{has_objects, is_orphaned, is_shared, is_tiled, not, not-false, refl, size_word}
+use Rattle.image_check.proofs.Common.{subst, tiles_of, true, ℕ, ◌∷◌, ◌≡◌}
+use Rattle.std.proofs.Common.{Bool}
+use Rattle.std.specs.Prelude.{find}
+use Rattle.image_check.specs.Classes.{holds as class_holds}
 use Rattle.image_check.proofs.bytes.Numbers.{AreSmall}
 use Rattle.image_check.proofs.law.Uniqueness.{tiles_in}
-use Rattle.image_check.proofs.frame.Formats.{IsFramed, IsEarlyClean, clean-framed, second-fails}
+use Rattle.image_check.proofs.frame.Formats.{IsEarlyClean, IsFramed, clean-framed, second-fails}
 
 -- the late tests pass
 pub record IsLateClean (format : ℕ) (m : Memory) (ts : List Tile) : Type 0 where

@@ -1,55 +1,45 @@
 -- No class holds of bytes that denote a directory.
-use Rattle.std.proofs.Common.{◌≡◌, refl, sym, ap, subst, ◌∙◌, ℕ, ◌+◌, ◌-◌, ◌≤◌, ◌<◌, Bool, true, false, not, ◌&&◌, List}
-use Rattle.std.proofs.Common.{[], ◌∷◌, ◌++◌, length, map, arith}
-use Rattle.std.specs.Prelude.{IsTrue, Option, Some, None, flat_map, find, int_lt}
-use Rattle.std.specs.List.{AllByRecursion, list_all, list_any}
-use Rattle.std.proofs.lemmas.Bool.{and_parts, and_right, not_from_true, eq-eqb, cond-false, false≢true}
-use Rattle.std.proofs.lemmas.List.{map-append, length-map}
-use mathlib.Core.Logic.{◌⊎◌, inl, inr}
-use Rattle.raw_region.specs.Memory.{Memory, bytes_of}
-use Rattle.block_tags.specs.declared.tile.Role.{Role}
-use Rattle.block_tags.specs.declared.tile.Role.TheVariants.{Object as ObjectRole, Index, Storage, Node}
-use Rattle.block_tags.specs.declared.tile.Tile.{Tile}
-use Rattle.block_tags.specs.Format.{is_legal_size}
-use Rattle.block_tags.specs.Tiles.{tiles_of, has_tags}
-use Rattle.best_fit.specs.Extents.{Extent, LiveSet, handle, holds, is_proper, proper_from}
+use Rattle.image_check.proofs.Common.{AllByRecursion, BackingArray, Bytes, Denotes, Directory, Elements, Extent, Field}
+use Rattle.image_check.proofs.Common.{ImageClass, Index, IsTrue, IsValueAt, List, LiveSet, Memory, Node, None, Numbers}
+use Rattle.image_check.proofs.Common.{Option, Pairs, Rising, Role, Row, Some, Storage, Texts, Tile, Value, []}
+use Rattle.image_check.proofs.Common.{and_parts, and_right, ap, arith, as_extent, bytes_of, class_of, classes}
+use Rattle.image_check.proofs.Common.{cond-false, counted_fields, eq-eqb, false, false≢true, flat_map, handle}
+use Rattle.image_check.proofs.Common.{has_containers, has_indexes, has_objects, has_tags, int_lt, is_good_value}
+use Rattle.image_check.proofs.Common.{is_legal_size, is_number_pair, is_orphaned, is_rising, is_shared, is_tiled}
+use Rattle.image_check.proofs.Common.{lay_out_one, leads_there, length, length-map, list_all, list_any, live-rises, map}
+use Rattle.image_check.proofs.Common.{map-append, needs_owner, not, not_from_true, object_len, payload, refl, same_role}
+use Rattle.image_check.proofs.Common.{size_word, sorted, subst, sym, table_extents, tiles_of, true, value_extents, ℕ}
+use Rattle.image_check.proofs.Common.{◌&&◌, ◌++◌, ◌+◌, ◌-◌, ◌<◌, ◌∙◌, ◌∷◌, ◌≡◌, ◌≤◌}
+use Rattle.std.proofs.Common.{Bool}
+use Rattle.std.specs.Prelude.{find}
+use Rattle.block_tags.specs.declared.tile.Role.TheVariants.{Object as ObjectRole}
+use Rattle.best_fit.specs.Extents.{holds, is_proper, proper_from}
 use Rattle.best_fit.specs.FreeTree.{IsFreeTree}
-use Rattle.best_fit.specs.Heap.{as_extent, live_of}
-use Rattle.best_fit.specs.Table.{BackingArray, same_role}
-use Rattle.best_fit.proofs.Laws.{lay_out_one, Row, extents_of as used}
-use Rattle.seg_map.specs.Map.{is_rising}
-use Rattle.seg_map.specs.Numbers.{is_number_pair}
-use Rattle.segment_manager.specs.Directory.{Value, Numbers, Elements, Bytes, Pairs, Texts, Object, Directory, sorted}
-use Rattle.segment_manager.specs.Directory.{extents_of, value_extents, table_extents, object_len, is_good_value, live}
-use Rattle.segment_manager.specs.Denotes.{Denotes, IsValueAt, IsHeader}
-use Rattle.segment_manager.proofs.Laws.{Rising, live-extents, live-rises, live-size, rising-insert, tables_of}
-use Rattle.image_check.specs.declared.classes.ImageClass.{ImageClass}
-use Rattle.image_check.specs.EarlyTests.{size_word, is_tiled}
-use Rattle.image_check.specs.ObjectTests.{payload, has_indexes, has_objects}
-use Rattle.image_check.specs.Fields.{has_containers, Field, counted_fields, is_shared, needs_owner, leads_there}
-use Rattle.image_check.specs.Fields.{is_orphaned}
-use Rattle.image_check.specs.Classes.{holds as class_holds, classes, class_of}
+use Rattle.best_fit.specs.Heap.{live_of}
+use Rattle.best_fit.proofs.Laws.{extents_of as used}
+use Rattle.segment_manager.specs.Directory.{Object, extents_of, live}
+use Rattle.segment_manager.specs.Denotes.{IsHeader}
+use Rattle.segment_manager.proofs.Laws.{live-extents, live-size, rising-insert, tables_of}
+use Rattle.image_check.specs.Classes.{holds as class_holds}
 use Rattle.image_check.proofs.bytes.Numbers.{AreSmall}
 use Rattle.image_check.proofs.frame.Tags.{has_tags-AreWholeTiles}
-use Rattle.image_check.proofs.bytes.Members.{Mem, mem_all, list_any_from, list_any_false, mem_left, mem_right}
-use Rattle.image_check.proofs.bytes.Members.{mem_parts}
-use Rattle.image_check.proofs.bytes.Members.{mem_map, mem_of_map, mem_flat_map, mem_of_flat_map, mem_filter_map}
-use Rattle.image_check.proofs.block_collection.UsedTile.{same_role-is, mem-sorted}
+use Rattle.image_check.proofs.bytes.Members.{Mem, list_any_false, list_any_from, mem_all, mem_filter_map, mem_flat_map}
+use Rattle.image_check.proofs.bytes.Members.{mem_left, mem_map, mem_of_flat_map, mem_of_map, mem_parts, mem_right}
+use Rattle.image_check.proofs.block_collection.UsedTile.{mem-sorted, same_role-is}
 use Rattle.image_check.proofs.read_off.Values.{node_of, tree-read}
 use Rattle.image_check.proofs.claims.ReachedLinks.{field}
 use Rattle.image_check.proofs.read_off.OwnBlocks.{IsOther, is_object_extent}
-use Rattle.image_check.proofs.law.Uniqueness.{tiles_in, denotes-IsRead, all_extents, from-use, good-object, stands, few}
-use Rattle.image_check.proofs.law.Uniqueness.{value-in-use, named-in-use, unique-in-use, named-table, unique-table}
+use Rattle.image_check.proofs.law.Uniqueness.{all_extents, denotes-IsRead, few, from-use, good-object, named-in-use}
+use Rattle.image_check.proofs.law.Uniqueness.{named-table, stands, tiles_in, unique-in-use, unique-table, value-in-use}
 use Rattle.image_check.proofs.frame.Formats.{IsFramed, framed-clean, free_tree-passes}
 use Rattle.image_check.proofs.indexes.Entries.{Distinct}
-use Rattle.image_check.proofs.read_off.GoodObjects.{values-of, values-has, indexes-pass, objects-pass, containers-pass}
-use Rattle.image_check.proofs.claims.Fields.{target_in, table_claims, IsTreeRead, value-targets, index-same}
-use Rattle.image_check.proofs.claims.Fields.{storage-same}
-use Rattle.image_check.proofs.claims.Fields.{element-same, option-targets}
-use Rattle.image_check.proofs.claims.UnsharedFields.{one_field, none-shared}
-use Rattle.image_check.proofs.claims.CountedClaims.{place_of, IsClaimed, claims_of, tables_claims, all_claims}
-use Rattle.image_check.proofs.claims.CountedClaims.{counted-claimed}
-use Rattle.image_check.proofs.claims.CountedClaims.{claimed-counted}
+use Rattle.image_check.proofs.read_off.GoodObjects.{containers-pass, indexes-pass, objects-pass, values-has, values-of}
+use Rattle.image_check.proofs.claims.Fields.{IsTreeRead, element-same, index-same, option-targets, storage-same}
+use Rattle.image_check.proofs.claims.Fields.{table_claims, target_in, value-targets}
+use Rattle.image_check.proofs.claims.UnsharedFields.{none-shared, one_field}
+use Rattle.image_check.proofs.claims.CountedClaims.{IsClaimed, all_claims, claimed-counted, claims_of, counted-claimed}
+use Rattle.image_check.proofs.claims.CountedClaims.{place_of, tables_claims}
+use mathlib.Core.Logic.{◌⊎◌, inl, inr}
 
 -- ---- extents that stand apart have different handles
 

@@ -1,7 +1,5 @@
 -- The law of images: no class holds exactly where a directory is denoted, and that directory is the only one.
-use Rattle.std.proofs.Common.{ℕ, ◌<◌, List}
-use Rattle.std.specs.Prelude.{IsTrue}
-use Rattle.raw_region.specs.Memory.{are_bytes}
+use Rattle.image_check.proofs.Common.{IsTrue, List, are_bytes, ℕ, ◌<◌}
 use Rattle.image_check.specs.Meaning.{HasOneDirectory}
 use Rattle.image_check.proofs.bytes.Numbers.{are_bytes-AreSmall}
 use Rattle.image_check.proofs.read_off.Directory.{read_off}

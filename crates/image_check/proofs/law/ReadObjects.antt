@@ -1,53 +1,43 @@
 -- The objects and indexes that are read off clean bytes pass their tests, their fields are those that count, and no
 -- block is named twice.
-use Rattle.std.proofs.Common.{◌≡◌, refl, sym, ap, subst, ◌∙◌, ℕ, ◌-◌, Bool, true, false, ◌&&◌, ◌==◌, List, [], ◌∷◌}
-use Rattle.std.proofs.Common.{◌++◌, length, map}
-use Rattle.std.specs.Prelude.{IsTrue, Option, Some, None, nat_lt, flat_map, filter, option_map, is_some, if◌then◌else◌}
-use Rattle.std.specs.List.{list_all}
+use Rattle.image_check.proofs.Common.{BackingArray, Class, Extent, Index, IsTrue, Kind, List, Memory, Named, Node, None}
+use Rattle.image_check.proofs.Common.{Option, Rising, Role, Row, Some, Storage, Tile, Unique, [], and_parts, ap}
+use Rattle.image_check.proofs.Common.{are_distinct, as_extent, by_kind, by_name, bytes_of, class_at, class_code}
+use Rattle.image_check.proofs.Common.{code_at, cond-false, cond-true, counted_fields, eq-eqb, eqb-true, false, filter}
+use Rattle.image_check.proofs.Common.{flat_map, handle, has_index, if◌then◌else◌, is_among, is_class, is_object_tile}
+use Rattle.image_check.proofs.Common.{is_some, is_use, kind_at, kind_of, length, list_all, map, name_at, nat_lt}
+use Rattle.image_check.proofs.Common.{needs_owner, object_tiles, payload, refl, rise_by, rises_from, subst, sym}
+use Rattle.image_check.proofs.Common.{table_extents, targets, tile_of, true, true≢false, value_offset, values, ℕ, ◌&&◌}
+use Rattle.image_check.proofs.Common.{◌++◌, ◌-◌, ◌==◌, ◌∙◌, ◌∷◌, ◌≡◌}
+use Rattle.std.proofs.Common.{Bool}
+use Rattle.std.specs.Prelude.{option_map}
 use Rattle.std.specs.Cmp.Lexicographic.{slice_cmp}
-use Rattle.std.specs.Ordering.{nat_cmp, is_lt}
-use Rattle.std.proofs.lemmas.Bool.{and_parts, eqb-true, eq-eqb, true≢false, cond-true, cond-false}
-use mathlib.Core.Logic.{inl, inr}
-use Rattle.raw_region.specs.Memory.{Memory, bytes_of}
-use Rattle.block_tags.specs.declared.tile.Role.{Role}
-use Rattle.block_tags.specs.declared.tile.Role.TheVariants.{Object as ObjectRole, Index, Storage, Node}
-use Rattle.block_tags.specs.declared.tile.Tile.{Tile}
-use Rattle.best_fit.specs.Extents.{Extent, handle}
-use Rattle.best_fit.specs.Heap.{as_extent}
-use Rattle.best_fit.specs.Table.{BackingArray}
-use Rattle.best_fit.proofs.Laws.{Row, extents_of as used}
-use Rattle.seg_types.specs.declared.kinds.Kind.{Kind}
-use Rattle.seg_types.specs.declared.kinds.Class.{Class}
-use Rattle.seg_types.specs.declared.kinds.Class.TheVariants.{Named, Unique}
-use Rattle.seg_types.specs.Kinds.{class_code}
-use Rattle.segment_manager.specs.Directory.{Object, kind_of, extents_of, table_extents, is_class, rises_from, by_name}
-use Rattle.segment_manager.specs.Directory.{by_kind}
-use Rattle.segment_manager.proofs.Laws.{Rising, by_kind-strict, by_name-strict}
-use Rattle.image_check.specs.EarlyTests.{is_among}
-use Rattle.image_check.specs.ObjectTests.{is_use, tile_of, payload, targets, has_index, are_distinct, object_tiles}
-use Rattle.image_check.specs.ObjectTests.{value_offset, kind_at, is_object_tile, rise_by}
-use Rattle.image_check.specs.Fields.{counted_fields, needs_owner, values}
+use Rattle.std.specs.Ordering.{is_lt, nat_cmp}
+use Rattle.block_tags.specs.declared.tile.Role.TheVariants.{Object as ObjectRole}
+use Rattle.best_fit.proofs.Laws.{extents_of as used}
+use Rattle.segment_manager.specs.Directory.{Object, extents_of}
+use Rattle.segment_manager.proofs.Laws.{by_kind-strict, by_name-strict}
 use Rattle.image_check.proofs.bytes.Numbers.{AreSmall}
-use Rattle.image_check.proofs.read_off.ObjectOrder.{extent_of, Rising-rises_from}
-use Rattle.image_check.proofs.bytes.Members.{Mem, mem_all, list_all_mem, is_among-Mem, mem_parts, mem_map, mem_of_map}
-use Rattle.image_check.proofs.bytes.Members.{mem_filter, mem_filter_map, mem_of_filter_map}
+use Rattle.image_check.proofs.read_off.ObjectOrder.{Rising-rises_from, extent_of}
+use Rattle.image_check.proofs.bytes.Members.{Mem, is_among-Mem, list_all_mem, mem_all, mem_filter, mem_filter_map}
+use Rattle.image_check.proofs.bytes.Members.{mem_map, mem_of_filter_map, mem_of_map, mem_parts}
 use Rattle.image_check.proofs.block_collection.UsedTile.{rising-filter}
-use Rattle.image_check.proofs.read_off.Directory.{table_at, object_from, object_block}
+use Rattle.image_check.proofs.read_off.Directory.{object_block, object_from, table_at}
 use Rattle.image_check.proofs.claims.ReachedLinks.{good_for-IsGood}
-use Rattle.image_check.proofs.read_off.OwnBlocks.{is_object_extent, IsOther, table-other, object_blocks}
+use Rattle.image_check.proofs.read_off.OwnBlocks.{IsOther, is_object_extent, object_blocks, table-other}
 use Rattle.image_check.proofs.law.Uniqueness.{tiles_in}
-use Rattle.image_check.proofs.frame.Formats.{IsFramed, framed-tiles, framed-rising}
+use Rattle.image_check.proofs.frame.Formats.{IsFramed, framed-rising, framed-tiles}
 use Rattle.image_check.proofs.indexes.Entries.{Distinct}
-use Rattle.image_check.proofs.claims.Fields.{index-same, storage-same, element-same}
+use Rattle.image_check.proofs.claims.Fields.{element-same, index-same, storage-same}
 use Rattle.image_check.proofs.claims.TreeClaims.{some-tile}
-use Rattle.image_check.proofs.claims.CountedClaims.{place_of, IsAmong, IsClaimed, claimed-counted}
+use Rattle.image_check.proofs.claims.CountedClaims.{IsAmong, IsClaimed, claimed-counted, place_of}
 use Rattle.image_check.proofs.claims.FieldPlaces.{ArePlaced}
 use Rattle.image_check.proofs.claims.DisjointBlocks.{extents-once}
 use Rattle.image_check.proofs.read_off.Objects.{IsSaid, tile-said}
-use Rattle.image_check.proofs.indexes.ObjectOrder.{IsIndexSaid, index-said, IsListed, listed}
-use Rattle.seg_index.specs.Keys.{code_at, class_at, name_at}
+use Rattle.image_check.proofs.indexes.ObjectOrder.{IsIndexSaid, IsListed, index-said, listed}
 use Rattle.image_check.proofs.claims.UnsharedFields.{shared-not}
 use Rattle.image_check.proofs.law.CleanTests.{IsLateClean}
+use mathlib.Core.Logic.{inl, inr}
 
 -- ---- tiles of objects
 

@@ -1,40 +1,33 @@
 -- Bytes denote one directory at most: the one that is read off.
-use Rattle.std.proofs.Common.{◌≡◌, refl, sym, ap, subst, ◌∙◌, ℕ, ◌+◌, ◌-◌, ◌≤◌, List, [], ◌∷◌, ◌++◌, length, map, arith}
+use Rattle.image_check.proofs.Common.{AllByRecursion, BackingArray, Denotes, Directory, Extent, Index, IsObjectAt}
+use Rattle.image_check.proofs.Common.{IsTrue, List, Memory, Rising, Row, Tile, [], and_parts, ap, arith, by_kind}
+use Rattle.image_check.proofs.Common.{by_name, bytes_of, class_at, count_at, count_of, false≢true, filter, flat_map}
+use Rattle.image_check.proofs.Common.{handle, has_backing, has_tags, is_object, kind_at, kind_of, lay_out_one, length}
+use Rattle.image_check.proofs.Common.{live-rises, map, named_objects, object_len, object_tiles, padded, refl}
+use Rattle.image_check.proofs.Common.{rising-weak, same_role, sorted, subst, sym, table_extents, tiles_of}
+use Rattle.image_check.proofs.Common.{unique_objects, value_extents, value_offset, ℕ, ◌++◌, ◌+◌, ◌-◌, ◌∙◌, ◌∷◌, ◌≡◌}
+use Rattle.image_check.proofs.Common.{◌≤◌}
 use Rattle.std.proofs.Common.{length-append}
-use Rattle.std.specs.Prelude.{IsTrue, flat_map, filter}
-use Rattle.std.specs.List.{AllByRecursion}
-use Rattle.std.proofs.lemmas.Bool.{and_parts, false≢true}
-use mathlib.Core.Logic.{◌⊎◌, inl, inr}
-use Rattle.raw_region.specs.Memory.{Memory, bytes_of}
-use Rattle.block_tags.specs.declared.tile.Role.TheVariants.{Object as ObjectRole, Index}
-use Rattle.block_tags.specs.declared.tile.Tile.{Tile}
-use Rattle.block_tags.specs.Tiles.{tiles_of, has_tags}
-use Rattle.best_fit.specs.Extents.{Extent, handle, holds}
+use Rattle.block_tags.specs.declared.tile.Role.TheVariants.{Object as ObjectRole}
+use Rattle.best_fit.specs.Extents.{holds}
 use Rattle.best_fit.specs.Heap.{live_of}
-use Rattle.best_fit.specs.Table.{BackingArray, has_backing, same_role}
-use Rattle.best_fit.proofs.Laws.{Row, extents_of as used, lay_out_one}
-use Rattle.segment_manager.specs.Directory.{Object, Directory, kind_of, count_of, padded, sorted, extents_of}
-use Rattle.segment_manager.specs.Directory.{value_extents, table_extents, is_object, object_len, live, named_objects}
-use Rattle.segment_manager.specs.Directory.{unique_objects, by_name, by_kind}
-use Rattle.segment_manager.specs.Denotes.{Denotes, IsObjectAt}
-use Rattle.segment_manager.proofs.Laws.{Rising, index-parts, live-extents, live-rises, live-size, rising-weak}
-use Rattle.segment_manager.proofs.Laws.{tables_of}
-use Rattle.image_check.specs.ObjectTests.{object_tiles, kind_at, value_offset}
+use Rattle.best_fit.proofs.Laws.{extents_of as used}
+use Rattle.segment_manager.specs.Directory.{Object, extents_of, live}
+use Rattle.segment_manager.proofs.Laws.{index-parts, live-extents, live-size, tables_of}
 use Rattle.image_check.proofs.bytes.Numbers.{AreSmall}
 use Rattle.image_check.proofs.frame.Tags.{has_tags-AreWholeTiles}
 use Rattle.image_check.proofs.read_off.ObjectOrder.{extent_of, rises_from-Rising}
-use Rattle.image_check.proofs.bytes.Members.{Mem, mem_all, all_mem, list_all_mem, mem_left, mem_right, mem_parts}
-use Rattle.image_check.proofs.bytes.Members.{mem_map}
-use Rattle.image_check.proofs.bytes.Members.{mem_of_map, mem_flat_map, mem_of_flat_map, mem_filter, mem_of_filter}
-use Rattle.image_check.proofs.block_collection.UsedTile.{same_role-is, rising-same, rising-filter, mem-sorted}
-use Rattle.image_check.proofs.block_collection.UsedTile.{mem-of-sorted}
-use Rattle.image_check.proofs.read_off.Directory.{value_from, kind_or_text, class_from, object_from, object_block}
-use Rattle.image_check.proofs.read_off.Directory.{read_off}
+use Rattle.image_check.proofs.bytes.Members.{Mem, all_mem, list_all_mem, mem_all, mem_filter, mem_flat_map, mem_left}
+use Rattle.image_check.proofs.bytes.Members.{mem_map, mem_of_filter, mem_of_flat_map, mem_of_map, mem_parts, mem_right}
+use Rattle.image_check.proofs.block_collection.UsedTile.{mem-of-sorted, mem-sorted, rising-filter, rising-same}
+use Rattle.image_check.proofs.block_collection.UsedTile.{same_role-is}
+use Rattle.image_check.proofs.read_off.Directory.{class_from, kind_or_text, object_block, object_from, read_off}
+use Rattle.image_check.proofs.read_off.Directory.{value_from}
 use Rattle.image_check.proofs.read_off.Values.{table-read, value-read}
-use Rattle.seg_index.specs.Keys.{count_at, class_at}
-use Rattle.image_check.proofs.read_off.HeadWords.{class-read, IsGoodObject, is_object-parts, AreWords, object-words}
-use Rattle.image_check.proofs.read_off.OwnBlocks.{is_object_extent, IsOther, table-other, value-other, object_blocks}
-use Rattle.image_check.proofs.read_off.OwnBlocks.{sorted-length, used-length, member-length}
+use Rattle.image_check.proofs.read_off.HeadWords.{AreWords, IsGoodObject, class-read, is_object-parts, object-words}
+use Rattle.image_check.proofs.read_off.OwnBlocks.{IsOther, is_object_extent, member-length, object_blocks}
+use Rattle.image_check.proofs.read_off.OwnBlocks.{sorted-length, table-other, used-length, value-other}
+use mathlib.Core.Logic.{◌⊎◌, inl, inr}
 
 -- ---- what denoting says of the tiles
 

@@ -1,28 +1,23 @@
 -- All tests of the objects together, and what is spent on them.
-use Rattle.std.proofs.Common.{◌≡◌, refl, sym, ap, subst, ◌∙◌, ℕ, ◌+◌, ◌-◌, ◌*◌, ◌/◌, ◌≤◌, Bool, true, false, ◌&&◌, ◌==◌}
-use Rattle.std.proofs.Common.{List, [], ◌∷◌, ◌++◌, length, arith, cond}
-use Rattle.std.specs.Prelude.{Option, Some, None, is_some}
-use Rattle.std.specs.List.{list_all}
-use Rattle.std.proofs.lemmas.Bool.{and_from, and_parts, both_ways, cases_Bool, cond-true, eqb-true, false≢true}
-use mathlib.Core.Logic.{inl, inr}
-use Rattle.raw_region.specs.Memory.{WindowState, Memory, bytes_of}
-use Rattle.block_tags.specs.declared.tile.Role.{Role}
-use Rattle.block_tags.specs.declared.tile.Role.TheVariants.{Object, Index, Storage, Node}
-use Rattle.block_tags.specs.declared.tile.Tile.{Tile}
-use Rattle.seg_types.specs.declared.kinds.Kind.{Kind}
-use Rattle.seg_index.specs.Keys.{class_at, code_before, count_at, name_before, name_len_at}
-use Rattle.image_check.specs.ObjectTests.{has_index, has_indexes, are_distinct, has_name, has_objects, has_padding}
-use Rattle.image_check.specs.ObjectTests.{is_indexed, is_object_tile, is_use, is_value_in, kind_at, object_tiles}
-use Rattle.image_check.specs.ObjectTests.{rise_by, targets, tile_of, value_offset}
-use Rattle.image_check.specs.ObjectPasses.{HaveHeads, are_ranked, entry_rates, has_value, is_right_tile, is_value_room}
-use Rattle.image_check.specs.ObjectPasses.{is_spelled, object_walk_rates}
-use Rattle.image_check.specs.Passes.{HasTiles, tiles_in}
-use Rattle.image_check.specs.Visits.{object_rates, rate_of, weigh}
+use Rattle.image_check.proofs.Common.{HasTiles, Index, Kind, List, Memory, Node, None, Option, Role, Some, Storage}
+use Rattle.image_check.proofs.Common.{Tile, WindowState, [], and_from, and_parts, ap, are_distinct, are_ranked, arith}
+use Rattle.image_check.proofs.Common.{both_ways, bytes_of, cases_Bool, class_at, code_before, cond, cond-true, count_at}
+use Rattle.image_check.proofs.Common.{eqb-true, false, false≢true, has_index, has_indexes, has_name, has_objects}
+use Rattle.image_check.proofs.Common.{has_padding, is_indexed, is_object_tile, is_right_tile, is_some, is_use}
+use Rattle.image_check.proofs.Common.{is_value_in, kind_at, length, list_all, name_before, name_len_at, object_tiles}
+use Rattle.image_check.proofs.Common.{object_walk_rates, rate_of, refl, rise_by, subst, sym, targets, tile_of, true}
+use Rattle.image_check.proofs.Common.{value_offset, weigh, ℕ, ◌&&◌, ◌*◌, ◌++◌, ◌+◌, ◌-◌, ◌/◌, ◌==◌, ◌∙◌, ◌∷◌, ◌≡◌, ◌≤◌}
+use Rattle.std.proofs.Common.{Bool}
+use Rattle.block_tags.specs.declared.tile.Role.TheVariants.{Object}
+use Rattle.image_check.specs.ObjectPasses.{HaveHeads, entry_rates, has_value, is_spelled, is_value_room}
+use Rattle.image_check.specs.Passes.{tiles_in}
+use Rattle.image_check.specs.Visits.{object_rates}
 use Rattle.image_check.proofs.indexes.ObjectOrder.{index-said}
-use Rattle.image_check.proofs.indexes.Places.{rows, in-row}
+use Rattle.image_check.proofs.indexes.Places.{in-row, rows}
 use Rattle.image_check.proofs.read_off.Numbers.{unguarded}
 use Rattle.image_check.proofs.bytes.Members.{find_mem, is_among-Mem, list_all_mem}
 use Rattle.image_check.proofs.objects.OneObject.{room-said, value-parts}
+use mathlib.Core.Logic.{inl, inr}
 
 -- ---- the objects, tile by tile
 

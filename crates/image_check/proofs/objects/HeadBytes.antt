@@ -1,16 +1,10 @@
 -- Bytes of the head of an object that are lent by a window, and what is tested of them.
-use Rattle.std.proofs.Common.{◌≡◌, sym, ap, ◌∙◌, ℕ, ◌+◌, ◌-◌, ◌*◌, ◌/◌, ◌<◌, ◌≤◌, false, ◌&&◌, ◌==◌, List, length}
-use Rattle.std.proofs.Common.{arith}
-use Rattle.std.specs.Prelude.{nat_le, if◌then◌else◌}
+use Rattle.image_check.proofs.Common.{List, Memory, ScalarKind, ap, arith, bytes_of, class_at, cond-true, eq-eqb, false}
+use Rattle.image_check.proofs.Common.{has_name, if◌then◌else◌, is_name, is_spelling, le-leb, length, name_at}
+use Rattle.image_check.proofs.Common.{name_len_at, nat_le, part, read, read-part, size_of, sym, value_offset, ℕ, ◌&&◌}
+use Rattle.image_check.proofs.Common.{◌*◌, ◌+◌, ◌-◌, ◌/◌, ◌<◌, ◌==◌, ◌∙◌, ◌≡◌, ◌≤◌}
 use Rattle.std.proofs.Math.Nat.{mul-le-mul_left}
-use Rattle.std.proofs.lemmas.Bool.{cond-true, eq-eqb, le-leb}
-use Rattle.raw_region.specs.Memory.{Memory, bytes_of, part, read}
-use Rattle.raw_region.proofs.Laws.{read-part}
-use Rattle.seg_types.specs.declared.kinds.ScalarKind.{ScalarKind}
-use Rattle.seg_types.specs.Kinds.{is_spelling, size_of}
-use Rattle.seg_types.specs.Names.{is_name}
-use Rattle.seg_index.specs.Keys.{class_at, name_at, name_len_at}
-use Rattle.image_check.specs.ObjectTests.{has_name, padding_at, value_offset}
+use Rattle.image_check.specs.ObjectTests.{padding_at}
 
 one-more : (i n : ℕ) → i < n → i + 1 ≤ n
 one-more i n l = omega arith

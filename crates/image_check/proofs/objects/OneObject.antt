@@ -1,14 +1,10 @@
 -- The test of one object, part by part.
-use Rattle.std.proofs.Common.{◌≡◌, refl, sym, ap, ◌∙◌, ℕ, ◌+◌, ◌*◌, ◌≤◌, Bool, true, false, ◌&&◌, ◌==◌, arith, cond}
-use Rattle.std.specs.Prelude.{Option, Some, None, nat_le}
-use Rattle.std.proofs.lemmas.Bool.{and_from, and_parts, leb-true, le-leb}
-use Rattle.raw_region.specs.Memory.{Memory}
-use Rattle.seg_types.specs.declared.kinds.Kind.{Kind}
-use Rattle.seg_types.specs.declared.kinds.Kind.TheVariants.{Scalar, String, Vector, Map, Strings}
-use Rattle.seg_types.specs.Kinds.{size_of}
-use Rattle.seg_index.specs.Keys.{count_at}
-use Rattle.image_check.specs.ObjectTests.{are_spellings, has_name, has_padding, is_indexed, is_value_in, kind_at}
-use Rattle.image_check.specs.ObjectTests.{value_offset}
+use Rattle.image_check.proofs.Common.{Kind, Map, Memory, None, Option, Scalar, Some, String, Vector, and_from}
+use Rattle.image_check.proofs.Common.{and_parts, ap, are_spellings, arith, cond, count_at, false, has_name, has_padding}
+use Rattle.image_check.proofs.Common.{is_indexed, is_value_in, kind_at, le-leb, leb-true, nat_le, refl, size_of, sym}
+use Rattle.image_check.proofs.Common.{true, value_offset, ℕ, ◌&&◌, ◌*◌, ◌+◌, ◌==◌, ◌∙◌, ◌≡◌, ◌≤◌}
+use Rattle.std.proofs.Common.{Bool}
+use Rattle.seg_types.specs.declared.kinds.Kind.TheVariants.{Strings}
 use Rattle.image_check.specs.ObjectPasses.{has_value, is_object_at, is_spelled, is_value_room}
 
 -- ---- a value

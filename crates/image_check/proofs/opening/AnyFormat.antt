@@ -1,19 +1,11 @@
 -- An image of any of the three formats that was read, and is opened or refused.
-use Rattle.std.proofs.Common.{refl, subst, ◌∙◌, inl, ℕ, List, length, Err, Ok}
-use Rattle.std.specs.Prelude.{Result}
-use Rattle.raw_region.specs.Device.{ReadDelta}
-use Rattle.raw_region.specs.Memory.{WindowState}
-use Rattle.segment_manager.specs.declared.modes.Mode.{Mode}
-use Rattle.segment_manager.specs.State.{IsSegment, SegmentState}
-use Rattle.image_check.specs.declared.errors.OpenError.{OpenError}
-use Rattle.image_check.specs.declared.errors.OpenError.TheVariants.{Image, RegionTooSmall, OutOfMemory, ReadFault}
-use Rattle.image_check.specs.declared.errors.OpenRefused.{OpenRefused}
-use Rattle.image_check.specs.Checking.{OpensWindow}
-use Rattle.image_check.specs.Formats.{format_of}
-use Rattle.image_check.specs.Opening.{IsImage, IsOpenCause}
-use Rattle.image_check.specs.OpeningAny.{UpgradesFormat, OpensAny}
-use Rattle.image_check.specs.OpeningBytes.{IsNotPlaced, IsWhyNotOf, as_given}
-use Rattle.image_check.specs.Reading.{IsImageRead, IsNotRead}
+use Rattle.image_check.proofs.Common.{Err, IsImage, IsImageRead, IsNotRead, IsOpenCause, List, Mode, Ok, OpenError}
+use Rattle.image_check.proofs.Common.{OpenRefused, OpensAny, OpensWindow, ReadDelta, Result, SegmentState}
+use Rattle.image_check.proofs.Common.{UpgradesFormat, WindowState, as_given, format_of, inl, length, refl, subst, ℕ}
+use Rattle.image_check.proofs.Common.{◌∙◌}
+use Rattle.segment_manager.specs.State.{IsSegment}
+use Rattle.image_check.specs.declared.errors.OpenError.TheVariants.{Image, OutOfMemory, ReadFault, RegionTooSmall}
+use Rattle.image_check.specs.OpeningBytes.{IsNotPlaced, IsWhyNotOf}
 use Rattle.image_check.proofs.opening.Decisions.{why-any}
 use Rattle.image_check.proofs.opening.InMemory.{back-as-was}
 use Rattle.image_check.proofs.opening.Refusals.{no-room, refused}
@@ -53,7 +45,7 @@ unplaced-any b region base mode refused n = record {
 
 module _ (image : ReadDelta) (region : List ℕ) (base : ℕ) (w : WindowState)
     (h : IsImageRead (format_of image.bytes) image region base w) where
-  -- an image of any format is opened as its window is
+  -- What an opening of any format answers, from what that of its window does.
   pub opens-any : (mode : Mode) (r : Result SegmentState OpenRefused) → OpensWindow (format_of image.bytes) w mode r
       → OpensAny image region base mode r
   opens-any mode (Ok s) o = record {

@@ -1,18 +1,13 @@
 -- What is decided of images of any of the three formats, and why none is opened.
-use Rattle.std.proofs.Common.{◌≡◌, sym, ap, ◌∙◌, ℕ, ◌<◌, ◌≤◌, ◌⊎◌, inl, inr, List, ◌++◌, length, arith}
-use Rattle.std.specs.Prelude.{IsTrue, Some, None}
-use Rattle.std.proofs.lemmas.Bool.{and_from, cases_lt}
+use Rattle.image_check.proofs.Common.{ImageClass, IsOpenCause, IsTrue, List, None, OpenError, ReadDelta, Some, and_from}
+use Rattle.image_check.proofs.Common.{ap, are_bytes, arith, cases_lt, class_of, format_of, inl, inr, length}
+use Rattle.image_check.proofs.Common.{list_all-append, sym, ℕ, ◌++◌, ◌<◌, ◌∙◌, ◌≡◌, ◌≤◌, ◌⊎◌}
 use Rattle.std.proofs.lemmas.List.{append_assoc, length-append}
-use Rattle.std.proofs.lemmas.List.Folds.{list_all-append}
-use Rattle.raw_region.specs.Device.{ReadDelta}
-use Rattle.raw_region.specs.Memory.{zeros, are_bytes}
-use Rattle.image_check.specs.declared.classes.ImageClass.{ImageClass}
-use Rattle.image_check.specs.declared.errors.OpenError.{OpenError}
-use Rattle.image_check.specs.declared.errors.OpenError.TheVariants.{Image, RegionTooSmall, OutOfMemory, ReadFault}
-use Rattle.image_check.specs.Classes.{DecidesClass, class_of}
+use Rattle.raw_region.specs.Memory.{zeros}
+use Rattle.image_check.specs.declared.errors.OpenError.TheVariants.{Image, OutOfMemory, ReadFault, RegionTooSmall}
+use Rattle.image_check.specs.Classes.{DecidesClass}
 use Rattle.image_check.specs.Deciding.{AllDecidedAny, decided}
-use Rattle.image_check.specs.Formats.{DecidesAny, class_of_any, format_of}
-use Rattle.image_check.specs.Opening.{IsOpenCause}
+use Rattle.image_check.specs.Formats.{DecidesAny, class_of_any}
 use Rattle.image_check.specs.OpeningAny.{IsWhyNotAny}
 use Rattle.image_check.proofs.reading.Deciding.{decided-none, decided-some, zeros-are_bytes, zeros-length}
 use Rattle.image_check.proofs.reading.Formats.{format_of-front}

@@ -1,41 +1,31 @@
 -- An image that lies in memory: why no segment is opened of it.
-use Rattle.std.proofs.Common.{◌≡◌, refl, sym, ap, subst, ◌∙◌, ℕ, ◌+◌, ◌<◌, ◌≤◌, Bool, true, false, ◌&&◌, List, [], ◌++◌}
-use Rattle.std.proofs.Common.{length, take, drop, arith, Some, Ok, Err}
-use Rattle.std.specs.Prelude.{IsTrue, MatchResult, Result, if◌then◌else◌}
-use Rattle.std.proofs.lemmas.Bool.{both_ways, cond-true}
+use Rattle.image_check.proofs.Common.{AcceptedVersions, BadMagic, BadSize, Err, ExamineError, ExamineRefused}
+use Rattle.image_check.proofs.Common.{ExaminesWindow, ImageClass, IsHandedBack, IsImage, IsImageRead, IsShown}
+use Rattle.image_check.proofs.Common.{IsTooSmallFor, IsTrue, IsWhyRefused, List, MatchResult, Mode, Ok, OpenError}
+use Rattle.image_check.proofs.Common.{OpenRefused, OpensBytes, OpensWindow, Result, SegmentState, Shows, Some}
+use Rattle.image_check.proofs.Common.{Truncated, UnsupportedVersion, WindowState, [], ap, arith, as_given, both_ways}
+use Rattle.image_check.proofs.Common.{class_of, cond-true, drop, error_for, false, format_in, front_of, has_block}
+use Rattle.image_check.proofs.Common.{has_early_class, has_front, has_magic, has_version, if◌then◌else◌, is_legal_size}
+use Rattle.image_check.proofs.Common.{length, opened_as, refl, size_word, subst, sym, take, true, ℕ, ◌&&◌, ◌++◌, ◌+◌}
+use Rattle.image_check.proofs.Common.{◌<◌, ◌∙◌, ◌≡◌, ◌≤◌}
+use Rattle.std.proofs.Common.{Bool}
 use Rattle.std.proofs.lemmas.List.{append-nil}
 use Rattle.raw_region.specs.Format.{current}
-use Rattle.raw_region.specs.Memory.{WindowState, whole}
-use Rattle.block_tags.specs.Format.{is_legal_size}
-use Rattle.segment_manager.specs.declared.modes.Mode.{Mode}
+use Rattle.raw_region.specs.Memory.{whole}
 use Rattle.segment_manager.specs.declared.modes.Mode.TheVariants.{ReadOnly}
-use Rattle.segment_manager.specs.State.{SegmentState}
-use Rattle.image_check.specs.declared.classes.ImageClass.{ImageClass}
-use Rattle.image_check.specs.declared.classes.ImageClass.TheVariants.{Truncated, BadMagic, UnsupportedVersion, BadSize}
-use Rattle.image_check.specs.declared.errors.OpenError.{OpenError}
 use Rattle.image_check.specs.declared.errors.OpenError.TheVariants.{Image}
-use Rattle.image_check.specs.declared.errors.OpenRefused.{OpenRefused}
-use Rattle.image_check.specs.declared.versions.AcceptedVersions.{AcceptedVersions}
-use Rattle.image_check.specs.declared.versions.AcceptedVersions.TheVariants.{Current, All}
-use Rattle.image_check.specs.declared.errors.ExamineError.{ExamineError}
-use Rattle.image_check.specs.declared.errors.ExamineError.TheVariants.{Image as Judged, RegionTooSmall, OutOfMemory}
-use Rattle.image_check.specs.declared.errors.ExamineError.TheVariants.{ReadFault}
-use Rattle.image_check.specs.declared.errors.ExamineRefused.{ExamineRefused}
-use Rattle.image_check.specs.EarlyTests.{has_front, has_magic, has_version, size_word}
-use Rattle.image_check.specs.Classes.{class_of, holds}
-use Rattle.image_check.specs.Causes.{IsShown, error_for, opened_as}
-use Rattle.image_check.specs.Checking.{ExaminesWindow, IsWhyRefused, OpensWindow, OpensWindowErr}
+use Rattle.image_check.specs.declared.versions.AcceptedVersions.TheVariants.{All, Current}
+use Rattle.image_check.specs.declared.errors.ExamineError.TheVariants.{Image as Judged, OutOfMemory, ReadFault}
+use Rattle.image_check.specs.declared.errors.ExamineError.TheVariants.{RegionTooSmall}
+use Rattle.image_check.specs.Classes.{holds}
+use Rattle.image_check.specs.Checking.{OpensWindowErr}
 use Rattle.image_check.specs.Examining.{ExaminesBytes}
-use Rattle.image_check.specs.Formats.{format_in}
 use Rattle.image_check.specs.HeaderPlaces.{IsFrontPlace}
-use Rattle.image_check.specs.Opening.{IsHandedBack, IsImage, IsTooSmallFor, has_early_class}
-use Rattle.image_check.specs.OpeningBytes.{IsMisfit, IsNotOpenedOf, IsNotPlaced, IsWhyNotOf, OpensBytes, as_given}
-use Rattle.image_check.specs.Passes.{IsRefusalFor, has_block}
-use Rattle.image_check.specs.Reading.{IsImageRead, front_of}
+use Rattle.image_check.specs.OpeningBytes.{IsMisfit, IsNotOpenedOf, IsNotPlaced, IsWhyNotOf}
+use Rattle.image_check.specs.Passes.{IsRefusalFor}
 use Rattle.image_check.proofs.reading.Deciding.{decided-some, first_class}
 use Rattle.image_check.proofs.frame.EarlyClasses.{cut-Truncated}
 use Rattle.image_check.proofs.reading.Fronts.{IsRight, front-decided, front-wrong, has_front-IsRight}
-use Rattle.image_check.specs.Verdicts.{Shows}
 use Rattle.image_check.proofs.opening.Region.{whole-kept}
 use Rattle.image_check.proofs.reading.Formats.{format_of-few}
 use Rattle.image_check.proofs.opening.Refusals.{back-from, no-room, opens, shown-why, verified}
@@ -140,7 +130,7 @@ not-placed format b region base mode refused n = record {
 
 -- ---- the format that it says
 
--- a format that is accepted is at most 2
+-- The format by which bytes are read is at most 2.
 pub format_in-few : (versions : AcceptedVersions) (b : List ℕ) → format_in versions b ≤ 2
 unfolding current
 format_in-few Current b = omega arith
@@ -180,7 +170,7 @@ module _ (format : ℕ) (b region : List ℕ) (base : ℕ) (w : WindowState)
     too_small = λ t. absurd (no-room format (as_given b) region base w h t);
   }
 
-  -- an image in memory is opened as its window is
+  -- What an opening of bytes answers, from what that of their window does.
   pub opens-bytes : (mode : Mode) (r : Result SegmentState OpenRefused) → format ≡ current
       → OpensWindow format w mode r → OpensBytes format b region base mode r
   opens-bytes mode (Ok s) now o =

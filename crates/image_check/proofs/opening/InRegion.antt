@@ -1,18 +1,16 @@
 -- A whole image in its place in a region: its first 24 bytes are written, and the others are read behind them.
-use Rattle.std.proofs.Common.{◌≡◌, sym, ap, subst, ◌∙◌, ℕ, ◌+◌, ◌-◌, ◌≤◌, Bool, true, false, List, ◌++◌, length, take}
-use Rattle.std.proofs.Common.{drop, arith}
-use Rattle.std.specs.Prelude.{nat_lt}
-use Rattle.std.proofs.lemmas.Bool.{le-ltb}
-use Rattle.std.proofs.lemmas.List.{take_at, length-append, length-take, length-drop}
+use Rattle.image_check.proofs.Common.{HasFront, IsHandedBack, IsImageRead, IsNotRead, List, OpenError, SameSurroundings}
+use Rattle.image_check.proofs.Common.{Stops, WindowState, added, ap, arith, both_added, drop, false, le-ltb, legal_size}
+use Rattle.image_check.proofs.Common.{length, length-drop, length-take, nat_lt, part, patched, subst, sym, take, true}
+use Rattle.image_check.proofs.Common.{ℕ, ◌++◌, ◌+◌, ◌-◌, ◌∙◌, ◌≡◌, ◌≤◌}
+use Rattle.std.proofs.Common.{Bool}
+use Rattle.std.proofs.lemmas.List.{length-append, take_at}
 use Rattle.raw_region.specs.Device.{AppendsBytes}
-use Rattle.raw_region.specs.Memory.{WindowState, SameSurroundings, part, patched, whole, cut_at}
+use Rattle.raw_region.specs.Memory.{cut_at, whole}
 use Rattle.raw_region.specs.Regions.{with_bytes}
-use Rattle.raw_region.proofs.Laws.{length-part, added, both_added}
-use Rattle.best_fit.proofs.Laws.{legal_size}
-use Rattle.image_check.specs.declared.errors.OpenError.{OpenError}
-use Rattle.image_check.specs.Opening.{IsHandedBack}
-use Rattle.image_check.specs.Reading.{HasFront, ReadsFrontOk, IsImageRead, IsNotRead, Stops}
-use Rattle.image_check.proofs.reading.Fronts.{IsRight, has_front-IsRight, IsRight-has_front, IsRight-append}
+use Rattle.raw_region.proofs.Laws.{length-part}
+use Rattle.image_check.specs.Reading.{ReadsFrontOk}
+use Rattle.image_check.proofs.reading.Fronts.{IsRight, IsRight-append, IsRight-has_front, has_front-IsRight}
 use Rattle.image_check.proofs.opening.Region.{written-back}
 use Rattle.image_check.proofs.reading.Stops.{read_since}
 

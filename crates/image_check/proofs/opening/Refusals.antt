@@ -1,28 +1,20 @@
 -- An image that was read and is refused, and why; or that is found good, and no segment is made of it.
-use Rattle.std.proofs.Common.{◌≡◌, refl, sym, ap, subst, ◌∙◌, inl, ℕ, ◌+◌, ◌≤◌, List, length, arith, Some, Ok, Err}
-use Rattle.raw_region.specs.Device.{ReadDelta}
+use Rattle.image_check.proofs.Common.{Err, ExamineError, ExamineRefused, ExaminesWindow, IsHandedBack, IsImage}
+use Rattle.image_check.proofs.Common.{IsImageRead, IsNotRead, IsOpenCause, IsShown, IsTooSmallFor, IsTrue, IsWhyRefused}
+use Rattle.image_check.proofs.Common.{List, Mode, Ok, OpenRefused, OpensWindow, ReadDelta, Result, SegmentState, Shows}
+use Rattle.image_check.proofs.Common.{Some, WindowState, ap, arith, class_of, error_for, false, has_block}
+use Rattle.image_check.proofs.Common.{has_early_class, has_front, inl, length, opened_as, refl, size_word, subst, sym}
+use Rattle.image_check.proofs.Common.{ℕ, ◌+◌, ◌∙◌, ◌≡◌, ◌≤◌}
 use Rattle.raw_region.specs.Format.{current}
-use Rattle.raw_region.specs.Memory.{WindowState, whole}
-use Rattle.segment_manager.specs.declared.modes.Mode.{Mode}
+use Rattle.raw_region.specs.Memory.{whole}
 use Rattle.segment_manager.specs.declared.modes.Mode.TheVariants.{ReadOnly}
-use Rattle.segment_manager.specs.State.{SegmentState}
-use Rattle.image_check.specs.declared.errors.OpenRefused.{OpenRefused}
-use Rattle.image_check.specs.EarlyTests.{has_front, size_word}
-use Rattle.image_check.specs.Classes.{class_of}
-use Rattle.image_check.specs.Opening.{IsHandedBack, IsTooSmallFor, IsImage, IsOpenCause, Opens, Verifies}
-use Rattle.image_check.specs.Opening.{has_early_class}
-use Rattle.image_check.specs.Checking.{ExaminesWindow, IsWhyRefused, OpensWindow, OpensWindowErr}
-use Rattle.image_check.specs.declared.errors.ExamineError.{ExamineError}
-use Rattle.image_check.specs.declared.errors.ExamineError.TheVariants.{Image, RegionTooSmall, OutOfMemory, ReadFault}
-use Rattle.image_check.specs.declared.errors.ExamineRefused.{ExamineRefused}
-use Rattle.image_check.specs.Causes.{IsShown, error_for, opened_as}
+use Rattle.image_check.specs.Opening.{Opens, Verifies}
+use Rattle.image_check.specs.Checking.{OpensWindowErr}
+use Rattle.image_check.specs.declared.errors.ExamineError.TheVariants.{Image, OutOfMemory, ReadFault, RegionTooSmall}
 use Rattle.image_check.specs.Examining.{Examines}
-use Rattle.image_check.specs.Verdicts.{Shows}
-use Rattle.image_check.specs.Reading.{IsImageRead, IsNotRead}
-use Rattle.image_check.specs.Passes.{IsRefusalFor, has_block}
+use Rattle.image_check.specs.Passes.{IsRefusalFor}
 use Rattle.image_check.proofs.reading.Buffer.{HasFront-IsRight, HasFront-least}
 use Rattle.image_check.proofs.opening.Region.{written-back}
-use Rattle.std.specs.Prelude.{IsTrue, Result, false}
 
 module _ (format : ℕ) (image : ReadDelta) (region : List ℕ) (base : ℕ) (w : WindowState)
     (h : IsImageRead format image region base w) where
@@ -79,7 +71,7 @@ module _ (format : ℕ) (image : ReadDelta) (region : List ℕ) (base : ℕ) (w 
     too_small = λ t. absurd (no-room t);
   }
 
-  -- an image is opened as its window is
+  -- What an opening answers, from what that of its window does.
   pub opens : (mode : Mode) (r : Result SegmentState OpenRefused) → format ≡ current → OpensWindow format w mode r
       → Opens format image region base mode r
   opens mode (Ok s) now o = record {
@@ -128,7 +120,7 @@ module _ (format : ℕ) (image : ReadDelta) (region : List ℕ) (base : ℕ) (w 
     too_small = no-room;
   }
 
-  -- an image is examined as its window is
+  -- What an examination answers, from what that of its window does.
   pub examines : (r : Result (List ℕ) ExamineRefused) → ExaminesWindow format w r
       → Examines format image region base r
   examines (Ok back) o = record { verifies = verified back o.0 o.1; shown = tt }

@@ -1,10 +1,10 @@
 -- A region that comes back when its window was written alone.
-use Rattle.std.proofs.Common.{◌≡◌, sym, ap, ◌∙◌, ℕ, ◌+◌, ◌≤◌, List, ◌++◌, length, take, drop, arith}
-use Rattle.std.proofs.lemmas.List.{append_assoc, drop_at, length-append, length-drop, length-take-le, take_at}
-use Rattle.raw_region.specs.Device.{ReadDelta}
-use Rattle.raw_region.specs.Memory.{WindowState, SameSurroundings, cut_at, whole}
-use Rattle.image_check.specs.EarlyTests.{size_word}
-use Rattle.image_check.specs.Opening.{HasRoomForImage, IsHandedBack}
+use Rattle.image_check.proofs.Common.{IsHandedBack, List, ReadDelta, SameSurroundings, WindowState, ap, arith, drop}
+use Rattle.image_check.proofs.Common.{length, length-drop, length-take-le, size_word, sym, take, ℕ, ◌++◌, ◌+◌, ◌∙◌, ◌≡◌}
+use Rattle.image_check.proofs.Common.{◌≤◌}
+use Rattle.std.proofs.lemmas.List.{append_assoc, drop_at, length-append, take_at}
+use Rattle.raw_region.specs.Memory.{cut_at, whole}
+use Rattle.image_check.specs.Opening.{HasRoomForImage}
 
 -- where a window stays and its bytes do, the region does
 pub whole-kept : (old new : WindowState) → SameSurroundings old new → new.bytes ≡ old.bytes → whole new ≡ whole old

@@ -1,7 +1,6 @@
 -- What is saved of a segment is accepted again.
-use Rattle.std.proofs.Common.{ℕ, ◌<◌, List, slice_index, arith}
+use Rattle.image_check.proofs.Common.{Directory, List, arith, slice_index, ℕ, ◌<◌}
 use Rattle.raw_region.specs.Format.{current}
-use Rattle.segment_manager.specs.Directory.{Directory}
 use Rattle.segment_manager.specs.State.{DenotesCurrent}
 use Rattle.image_check.specs.Saving.{IsSaved}
 use Rattle.raw_region.proofs.Bytes.{fits-are_bytes}

@@ -1,52 +1,44 @@
 -- The indexes and objects of a denoted directory pass their tests.
-use Rattle.std.proofs.Common.{◌≡◌, refl, sym, ap, subst, ◌∙◌, ℕ, zero, suc, ◌+◌, ◌-◌, ◌≤◌, Bool, true, false, ◌&&◌}
-use Rattle.std.proofs.Common.{◌==◌, List, [], ◌∷◌, ◌++◌, length, map, arith}
-use Rattle.std.specs.Prelude.{IsTrue, Some, None, nat_le, nat_lt, option_map, is_some, replicate, if◌then◌else◌}
-use Rattle.std.specs.List.{AllByRecursion, list_all}
+use Rattle.image_check.proofs.Common.{AllByRecursion, Anonymous, BackingArray, Class, Denotes, Directory, Extent}
+use Rattle.image_check.proofs.Common.{HasBytesAt, Index, IsRanked, IsTrue, Kind, List, Memory, Named, None, Row, Some}
+use Rattle.image_check.proofs.Common.{Tile, Unique, [], and_from, and_parts, ap, are_distinct, arith, by_kind, by_name}
+use Rattle.image_check.proofs.Common.{bytes_of, class_at, class_code, code_at, count_at, count_of, entries, eq-eqb}
+use Rattle.image_check.proofs.Common.{false, false≢true, good_for, handle, has_backing, has_containers, has_index}
+use Rattle.image_check.proofs.Common.{has_indexes, has_name, has_objects, has_padding, if◌then◌else◌, index_capacity}
+use Rattle.image_check.proofs.Common.{is_among, is_class, is_container, is_indexed, is_name, is_object_tile, is_some}
+use Rattle.image_check.proofs.Common.{is_table_link, is_value_in, is_zero, kind_at, kind_of, le-leb, leb-true, length}
+use Rattle.image_check.proofs.Common.{length-map, length-replicate, link_at, list_all, map, name_at, named_objects}
+use Rattle.image_check.proofs.Common.{nat_le, nat_lt, object_len, object_tiles, padded, payload, read, refl, rise_by}
+use Rattle.image_check.proofs.Common.{rises, same_role, subst, suc, sym, table_extents, targets, tile_of, true}
+use Rattle.image_check.proofs.Common.{unique_objects, value_offset, values, zero, ℕ, ◌&&◌, ◌++◌, ◌+◌, ◌-◌, ◌==◌, ◌∙◌}
+use Rattle.image_check.proofs.Common.{◌∷◌, ◌≡◌, ◌≤◌}
+use Rattle.std.proofs.Common.{Bool}
+use Rattle.std.specs.Prelude.{option_map, replicate}
 use Rattle.std.specs.Cmp.Lexicographic.{slice_cmp}
-use Rattle.std.specs.Ordering.{nat_cmp, is_lt}
-use Rattle.std.proofs.lemmas.Bool.{and_parts, and_from, eq-eqb, leb-true, le-leb, false≢true}
-use Rattle.std.proofs.lemmas.List.{length-map, length-replicate}
-use mathlib.Core.Logic.{inl, inr}
-use Rattle.raw_region.specs.Memory.{Memory, HasBytesAt, bytes_of, read, word_at}
-use Rattle.offset_link.specs.Link.{link_at}
-use Rattle.block_tags.specs.declared.tile.Role.TheVariants.{Object as ObjectRole, Index}
-use Rattle.block_tags.specs.declared.tile.Tile.{Tile}
-use Rattle.best_fit.specs.Extents.{Extent, handle, holds}
-use Rattle.best_fit.specs.Table.{BackingArray, has_backing, same_role}
-use Rattle.best_fit.proofs.Laws.{Row, extents_of as used}
-use Rattle.seg_types.specs.declared.kinds.Kind.{Kind}
-use Rattle.seg_types.specs.declared.kinds.Class.{Class}
-use Rattle.seg_types.specs.declared.kinds.Class.TheVariants.{Anonymous, Named, Unique}
-use Rattle.seg_types.specs.Kinds.{class_code}
-use Rattle.seg_types.specs.Names.{is_name}
+use Rattle.std.specs.Ordering.{is_lt, nat_cmp}
+use Rattle.raw_region.specs.Memory.{word_at}
+use Rattle.block_tags.specs.declared.tile.Role.TheVariants.{Object as ObjectRole}
+use Rattle.best_fit.specs.Extents.{holds}
+use Rattle.best_fit.proofs.Laws.{extents_of as used}
 use Rattle.seg_index.specs.Index.{IsIndexAt}
-use Rattle.segment_manager.specs.Directory.{Object, Directory, kind_of, count_of, table_extents, object_len, padded}
-use Rattle.segment_manager.specs.Directory.{is_class, rises, by_name, by_kind, named_objects, unique_objects}
-use Rattle.segment_manager.specs.Denotes.{Denotes, handles}
-use Rattle.segment_manager.proofs.Laws.{IsRanked, Pairwise, by_kind-strict, by_name-strict, good_name-short}
-use Rattle.segment_manager.proofs.Laws.{index-parts, rises-pairwise}
-use Rattle.image_check.specs.EarlyTests.{is_among, is_zero}
-use Rattle.image_check.specs.ObjectTests.{tile_of, good_for, is_table_link, payload, index_capacity, entries, targets}
-use Rattle.image_check.specs.ObjectTests.{has_index, are_distinct, has_indexes, object_tiles, value_offset, kind_at}
-use Rattle.image_check.specs.ObjectTests.{is_value_in, has_name, has_padding, is_indexed, is_object_tile, rise_by}
-use Rattle.image_check.specs.ObjectTests.{has_objects}
-use Rattle.image_check.specs.Fields.{values, is_container, has_containers}
+use Rattle.segment_manager.specs.Directory.{Object}
+use Rattle.segment_manager.specs.Denotes.{handles}
+use Rattle.segment_manager.proofs.Laws.{Pairwise, by_kind-strict, by_name-strict, good_name-short, index-parts}
+use Rattle.segment_manager.proofs.Laws.{rises-pairwise}
 use Rattle.image_check.proofs.bytes.Numbers.{AreSmall}
 use Rattle.image_check.proofs.read_off.ObjectOrder.{extent_of}
-use Rattle.image_check.proofs.bytes.Members.{Mem, mem_all, list_all_from, Mem-is_among, mem_map, Image, mem_of_map}
-use Rattle.image_check.proofs.bytes.Members.{Kept}
-use Rattle.image_check.proofs.bytes.Members.{mem_filter_map, mem_of_filter_map}
+use Rattle.image_check.proofs.bytes.Members.{Image, Kept, Mem, Mem-is_among, list_all_from, mem_all, mem_filter_map}
+use Rattle.image_check.proofs.bytes.Members.{mem_map, mem_of_filter_map, mem_of_map}
 use Rattle.image_check.proofs.block_collection.UsedTile.{Stands, used-IsMember}
 use Rattle.image_check.proofs.read_off.Directory.{object_block}
 use Rattle.image_check.proofs.read_off.Values.{HasBytesAt-behind}
-use Rattle.image_check.proofs.law.Uniqueness.{tiles_in, denotes-IsRead, object-in-use, good-object, stands, words, few}
-use Rattle.image_check.proofs.law.Uniqueness.{value-in-use, named-in-use, unique-in-use, named-table, unique-table}
-use Rattle.image_check.proofs.law.Uniqueness.{blocks-same}
-use Rattle.image_check.proofs.read_off.GoodValues.{link-passes, guarded, value_in-passes, container-passes}
-use Rattle.seg_index.specs.Keys.{code_at, count_at, class_at, name_at}
-use Rattle.image_check.proofs.indexes.Entries.{entries-are, targets-are, Distinct, distinct-append, distinct-passes}
-use Rattle.image_check.proofs.indexes.Entries.{mem-ordered, mem-of-ordered, one_object, not-itself}
+use Rattle.image_check.proofs.law.Uniqueness.{blocks-same, denotes-IsRead, few, good-object, named-in-use, named-table}
+use Rattle.image_check.proofs.law.Uniqueness.{object-in-use, stands, tiles_in, unique-in-use, unique-table}
+use Rattle.image_check.proofs.law.Uniqueness.{value-in-use, words}
+use Rattle.image_check.proofs.read_off.GoodValues.{container-passes, guarded, link-passes, value_in-passes}
+use Rattle.image_check.proofs.indexes.Entries.{Distinct, distinct-append, distinct-passes, entries-are, mem-of-ordered}
+use Rattle.image_check.proofs.indexes.Entries.{mem-ordered, not-itself, one_object, targets-are}
+use mathlib.Core.Logic.{inl, inr}
 
 -- ---- tests of one object
 

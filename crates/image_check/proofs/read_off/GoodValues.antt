@@ -1,44 +1,36 @@
 -- A good value that stands at an offset passes the tests of values and containers.
-use Rattle.std.proofs.Common.{◌≡◌, refl, sym, ap, subst, ◌∙◌, ℕ, zero, suc, ◌+◌, ◌*◌, ◌≤◌, ◌<◌, Bool, true, false, ◌&&◌}
-use Rattle.std.proofs.Common.{◌==◌, List, [], ◌∷◌, length, map, arith, append-nil, add-one}
-use Rattle.std.specs.Prelude.{IsTrue, Option, Some, None, nat_le, nat_lt, flat_map, option_to_list, option_map, is_none}
-use Rattle.std.specs.Prelude.{ℤ, pos, int_lt, if◌then◌else◌}
-use Rattle.std.specs.List.{AllByRecursion, list_all, range_with_len}
-use Rattle.std.proofs.lemmas.Bool.{and_parts, and_from, eq-eqb, leb-true, le-leb, ltb-true, ne_eqb, cond-true}
-use Rattle.std.proofs.lemmas.Bool.{cond-false}
-use Rattle.std.proofs.lemmas.List.{length-map}
-use native.Mathlib.Nat.{mul-suc}
-use Rattle.raw_region.specs.Memory.{Memory, HasBytesAt, read, word_at}
-use Rattle.offset_link.specs.Link.{link_at}
-use Rattle.link_tree.specs.Tree.{Tree, nodes_of, is_red_black}
-use Rattle.link_tree.proofs.Laws.{reads_off}
-use Rattle.block_tags.specs.declared.tile.Role.{Role}
-use Rattle.block_tags.specs.declared.tile.Role.TheVariants.{Storage, Node}
-use Rattle.block_tags.specs.declared.tile.Tile.{Tile}
-use Rattle.best_fit.specs.Extents.{Extent, handle, holds}
-use Rattle.best_fit.specs.Table.{BackingArray, has_backing, serves, same_role, table_link}
-use Rattle.best_fit.proofs.Laws.{Row, extents_of as used}
-use Rattle.seg_types.specs.declared.kinds.ScalarKind.{ScalarKind}
-use Rattle.seg_types.specs.declared.kinds.ScalarKind.TheVariants.{U8}
-use Rattle.seg_types.specs.Kinds.{size_of, spelling, is_value, is_spelling}
-use Rattle.seg_vector.specs.Vector.{spelled, OwnedText, AreTextLinks, AreInArray}
-use Rattle.seg_map.specs.Map.{is_rising, node_len}
-use Rattle.seg_map.specs.Numbers.{NumberPair, is_number_pair, IsNumberMapAt, IsNumberPairAt}
-use Rattle.segment_manager.specs.Directory.{Value, Numbers, Elements, Bytes, Pairs, Texts, kind_of, count_of, value_len}
-use Rattle.segment_manager.specs.Directory.{value_extents, table_extents, is_good_value, has_own_block, is_owned_text}
-use Rattle.segment_manager.specs.Denotes.{IsValueAt}
-use Rattle.segment_manager.proofs.Laws.{AllByRecursion-behind, AllByRecursion-front, Has-front, own-block}
-use Rattle.segment_manager.proofs.Laws.{spelling-length}
-use Rattle.image_check.specs.ObjectTests.{leads_to, is_table_link, are_spellings, is_value_in, rise_by}
-use Rattle.image_check.specs.Fields.{is_storage_at, is_node_of, key_at, are_pairs, is_map_at, is_element_at}
-use Rattle.image_check.specs.Fields.{element_offsets, is_array_at, is_container}
+use Rattle.image_check.proofs.Common.{AllByRecursion, AllByRecursion-behind, AllByRecursion-front, AreTextLinks}
+use Rattle.image_check.proofs.Common.{BackingArray, Bytes, Elements, Extent, HasBytesAt, IsNumberPairAt, IsTrue}
+use Rattle.image_check.proofs.Common.{IsValueAt, List, Memory, Node, None, NumberPair, Numbers, Option, OwnedText}
+use Rattle.image_check.proofs.Common.{Pairs, Role, Row, ScalarKind, Some, Storage, Texts, Tile, Tree, U8, Value, []}
+use Rattle.image_check.proofs.Common.{add-one, and_from, and_parts, ap, are_pairs, are_spellings, arith, cond-false}
+use Rattle.image_check.proofs.Common.{cond-true, count_of, element_offsets, eq-eqb, false, flat_map, handle}
+use Rattle.image_check.proofs.Common.{has_backing, has_own_block, if◌then◌else◌, int_lt, is_container, is_element_at}
+use Rattle.image_check.proofs.Common.{is_good_value, is_map_at, is_node_of, is_none, is_number_pair, is_owned_text}
+use Rattle.image_check.proofs.Common.{is_red_black, is_rising, is_spelling, is_table_link, is_value, is_value_in}
+use Rattle.image_check.proofs.Common.{key_at, kind_of, le-leb, leads_to, leb-true, length, length-map, link_at}
+use Rattle.image_check.proofs.Common.{list_all, ltb-true, map, nat_le, nat_lt, ne_eqb, nodes_of, option_to_list}
+use Rattle.image_check.proofs.Common.{own-block, range_with_len, read, reads_off, refl, rise_by, same_role, serves}
+use Rattle.image_check.proofs.Common.{size_of, spelled, spelling, spelling-length, subst, suc, sym, table_extents}
+use Rattle.image_check.proofs.Common.{table_link, true, value_extents, value_len, zero, ℕ, ℤ, ◌&&◌, ◌*◌, ◌+◌, ◌<◌, ◌==◌}
+use Rattle.image_check.proofs.Common.{◌∙◌, ◌∷◌, ◌≡◌, ◌≤◌}
+use Rattle.std.proofs.Common.{Bool, append-nil}
+use Rattle.std.specs.Prelude.{option_map, pos}
+use Rattle.raw_region.specs.Memory.{word_at}
+use Rattle.best_fit.specs.Extents.{holds}
+use Rattle.best_fit.proofs.Laws.{extents_of as used}
+use Rattle.seg_vector.specs.Vector.{AreInArray}
+use Rattle.seg_map.specs.Map.{node_len}
+use Rattle.seg_map.specs.Numbers.{IsNumberMapAt}
+use Rattle.segment_manager.proofs.Laws.{Has-front}
+use Rattle.image_check.specs.Fields.{is_array_at, is_storage_at}
 use Rattle.image_check.proofs.bytes.Numbers.{AreSmall, number_at, number_at-small}
 use Rattle.image_check.proofs.bytes.Members.{Mem}
 use Rattle.image_check.proofs.block_collection.UsedTile.{used-IsMember}
 use Rattle.image_check.proofs.read_off.Directory.{number_from}
-use Rattle.image_check.proofs.read_off.Values.{IsStored, HasBytesAt-behind, number-read, text_extents, node_of}
-use Rattle.image_check.proofs.read_off.Values.{node_handle}
-use Rattle.image_check.proofs.read_off.Values.{tree-read}
+use Rattle.image_check.proofs.read_off.Values.{HasBytesAt-behind, IsStored, node_handle, node_of, number-read}
+use Rattle.image_check.proofs.read_off.Values.{text_extents, tree-read}
+use native.Mathlib.Nat.{mul-suc}
 
 -- one more time n
 pub mul-next : (n j : ℕ) → n * (j + 1) ≡ n * j + n

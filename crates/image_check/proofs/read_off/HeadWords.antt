@@ -1,23 +1,15 @@
 -- The words in front of an object: its codes, the parts of its test, and what its four half words say.
-use Rattle.std.proofs.Common.{◌≡◌, refl, ap, ◌∙◌, ℕ, ◌+◌, ◌&&◌, length}
-use Rattle.std.specs.Prelude.{IsTrue, Option, Some, None, if◌then◌else◌}
-use Rattle.std.proofs.lemmas.Bool.{and_parts}
-use Rattle.raw_region.specs.Memory.{Memory}
+use Rattle.image_check.proofs.Common.{Anonymous, Class, IsObjectAt, IsTrue, Kind, Memory, Named, None, Option, Some}
+use Rattle.image_check.proofs.Common.{Unique, and_parts, ap, class_at, class_code, code_at, count_at, count_of, handle}
+use Rattle.image_check.proofs.Common.{if◌then◌else◌, is_good_value, is_object, kind_at, kind_of, kind_of_code, length}
+use Rattle.image_check.proofs.Common.{name_at, name_len_at, object_len, padded, refl, serves, value_offset, ℕ, ◌&&◌}
+use Rattle.image_check.proofs.Common.{◌+◌, ◌∙◌, ◌≡◌}
 use Rattle.block_tags.specs.declared.tile.Role.TheVariants.{Object as ObjectRole}
-use Rattle.best_fit.specs.Extents.{handle}
-use Rattle.best_fit.specs.Table.{serves}
-use Rattle.seg_types.specs.declared.kinds.Kind.{Kind}
-use Rattle.seg_types.specs.declared.kinds.Class.{Class}
-use Rattle.seg_types.specs.declared.kinds.Class.TheVariants.{Anonymous, Named, Unique}
-use Rattle.seg_types.specs.Kinds.{code_of, class_code, kind_of_code, is_kind_of}
-use Rattle.segment_manager.specs.Directory.{Object, kind_of, count_of, padded, is_good_value, has_good_name, is_object}
-use Rattle.segment_manager.specs.Directory.{object_len}
-use Rattle.segment_manager.specs.Denotes.{IsObjectAt}
+use Rattle.seg_types.specs.Kinds.{code_of, is_kind_of}
+use Rattle.segment_manager.specs.Directory.{Object, has_good_name}
 use Rattle.segment_manager.proofs.Laws.{code-read, entry-name_len, good_name-short, object-entry}
-use Rattle.image_check.specs.ObjectTests.{kind_at, value_offset}
 use Rattle.image_check.proofs.bytes.Numbers.{AreSmall}
 use Rattle.image_check.proofs.read_off.Directory.{class_from}
-use Rattle.seg_index.specs.Keys.{code_at, count_at, name_len_at, class_at, name_at}
 
 -- ---- codes
 

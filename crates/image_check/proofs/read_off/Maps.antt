@@ -1,36 +1,25 @@
 -- What the tests of maps let through is a good value, and so it is of values of all kinds.
-use Rattle.std.proofs.Common.{◌≡◌, refl, sym, ap, subst, ◌∙◌, ℕ, ◌+◌, Bool, false, ◌&&◌, ◌==◌, List, [], ◌∷◌, length}
-use Rattle.std.proofs.Common.{map}
-use Rattle.std.specs.Prelude.{IsTrue, Option, Some, None, is_some, ℤ, int_lt}
-use Rattle.std.specs.List.{AllByRecursion, list_all}
-use Rattle.std.proofs.lemmas.Bool.{and_parts, and_from, eqb-true, false≢true}
-use Rattle.std.proofs.lemmas.List.{length-map}
-use Rattle.raw_region.specs.Memory.{Memory, HasBytesAt, word_at}
-use Rattle.offset_link.specs.Link.{link_at}
-use Rattle.link_tree.specs.Tree.{Tree, nodes_of, is_red_black, IsRedBlack}
-use Rattle.link_tree.proofs.Laws.{reads_off, some_same}
-use Rattle.block_tags.specs.declared.tile.Role.TheVariants.{Node}
-use Rattle.block_tags.specs.declared.tile.Tile.{Tile}
-use Rattle.best_fit.specs.Extents.{handle}
-use Rattle.best_fit.specs.FreeTree.{cells_of}
-use Rattle.best_fit.specs.Table.{serves}
+use Rattle.image_check.proofs.Common.{AllByRecursion, HasBytesAt, IsNumberPairAt, IsTrue, Kind, List, Map, Memory, Node}
+use Rattle.image_check.proofs.Common.{None, NumberPair, Option, Pairs, Scalar, ScalarKind, Some, String, Tile, Tree}
+use Rattle.image_check.proofs.Common.{Vector, [], and_from, and_parts, ap, are_pairs, are_spellings, cells_of, eqb-true}
+use Rattle.image_check.proofs.Common.{false, false≢true, handle, int_lt, is_container, is_map_at, is_node_of}
+use Rattle.image_check.proofs.Common.{is_number_pair, is_red_black, is_rising, is_some, is_value, is_value_in, key_at}
+use Rattle.image_check.proofs.Common.{leads_to, length, length-map, link_at, list_all, map, nodes_of, reads_off, refl}
+use Rattle.image_check.proofs.Common.{rise_by, serves, size_of, some_same, spelling, subst, sym, tile_of, ℕ, ℤ, ◌&&◌}
+use Rattle.image_check.proofs.Common.{◌+◌, ◌==◌, ◌∙◌, ◌∷◌, ◌≡◌}
+use Rattle.std.proofs.Common.{Bool}
+use Rattle.raw_region.specs.Memory.{word_at}
+use Rattle.link_tree.specs.Tree.{IsRedBlack}
 use Rattle.best_fit.proofs.Laws.{extents_of as used}
-use Rattle.seg_types.specs.declared.kinds.ScalarKind.{ScalarKind}
-use Rattle.seg_types.specs.declared.kinds.Kind.{Kind}
-use Rattle.seg_types.specs.declared.kinds.Kind.TheVariants.{Scalar, String, Vector, Map, Strings as StringsKind}
-use Rattle.seg_types.specs.Kinds.{size_of, spelling, is_value}
-use Rattle.seg_map.specs.Map.{is_rising, node_len}
-use Rattle.seg_map.specs.Numbers.{NumberPair, is_number_pair, IsNumberPairAt}
-use Rattle.segment_manager.specs.Directory.{Pairs}
-use Rattle.image_check.specs.ObjectTests.{tile_of, leads_to, are_spellings, is_value_in, rise_by}
-use Rattle.image_check.specs.Fields.{is_node_of, key_at, are_pairs, is_map_at, is_container}
+use Rattle.seg_types.specs.declared.kinds.Kind.TheVariants.{Strings as StringsKind}
+use Rattle.seg_map.specs.Map.{node_len}
 use Rattle.image_check.proofs.bytes.Numbers.{AreSmall}
 use Rattle.image_check.proofs.bytes.Members.{Mem}
-use Rattle.image_check.proofs.read_off.Directory.{block_for, number_from, or_nothing, pair_from, tree_at, pairs_at}
+use Rattle.image_check.proofs.read_off.Directory.{block_for, number_from, or_nothing, pair_from, pairs_at, tree_at}
 use Rattle.image_check.proofs.read_off.Directory.{value_from}
-use Rattle.image_check.proofs.read_off.Values.{node_of, node_handle}
-use Rattle.image_check.proofs.read_off.Numbers.{number-stands, one-good, leads-back}
-use Rattle.image_check.proofs.read_off.Vectors.{IsBack, container-room, scalar-back, vector-back, text-back, texts-back}
+use Rattle.image_check.proofs.read_off.Values.{node_handle, node_of}
+use Rattle.image_check.proofs.read_off.Numbers.{leads-back, number-stands, one-good}
+use Rattle.image_check.proofs.read_off.Vectors.{IsBack, container-room, scalar-back, text-back, texts-back, vector-back}
 
 -- ---- maps
 

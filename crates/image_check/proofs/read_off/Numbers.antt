@@ -1,33 +1,26 @@
 -- Bytes and numbers that are read off stand there, and links that pass their tests lead to blocks.
-use Rattle.std.proofs.Common.{◌≡◌, refl, sym, ap, subst, ◌∙◌, ℕ, zero, suc, ◌+◌, ◌*◌, ◌≤◌, ◌<◌, Bool, true, false, ◌&&◌}
-use Rattle.std.proofs.Common.{◌==◌, List, [], ◌∷◌, ◌++◌, length, arith}
-use Rattle.std.specs.Prelude.{IsTrue, Option, Some, None, nat_le, nat_lt, option_to_list, option_map, is_none, ℤ}
-use Rattle.std.specs.Prelude.{if◌then◌else◌}
-use Rattle.std.specs.List.{AllByRecursion, list_all, range_with_len}
-use Rattle.std.proofs.lemmas.Bool.{and_parts, and_from, leb-true, lt-ltb, false≢true}
+use Rattle.image_check.proofs.Common.{AllByRecursion, AreTextLinks, Extent, HasBytesAt, IsTrue, List, Memory, None}
+use Rattle.image_check.proofs.Common.{Option, OwnedText, Role, ScalarKind, Some, Storage, Tile, [], and_from, and_parts}
+use Rattle.image_check.proofs.Common.{ap, are_spellings, arith, as_extent, false, false≢true, good_for, handle}
+use Rattle.image_check.proofs.Common.{has_backing, if◌then◌else◌, is_none, is_spelling, is_table_link, is_use, is_value}
+use Rattle.image_check.proofs.Common.{leads_to, leb-true, length, link_at, list_all, lt-ltb, nat_le, nat_lt}
+use Rattle.image_check.proofs.Common.{option_to_list, range_with_len, read, refl, same_role, serves, size_of, spelled}
+use Rattle.image_check.proofs.Common.{spelling, spelling-length, subst, suc, sym, true, zero, ℕ, ℤ, ◌&&◌, ◌*◌, ◌++◌}
+use Rattle.image_check.proofs.Common.{◌+◌, ◌<◌, ◌==◌, ◌∙◌, ◌∷◌, ◌≡◌, ◌≤◌}
+use Rattle.std.proofs.Common.{Bool}
+use Rattle.std.specs.Prelude.{option_map}
 use Rattle.std.specs.Int.{bytes_low_first}
-use Rattle.raw_region.specs.Memory.{Memory, HasBytesAt, read, word_at}
-use Rattle.offset_link.specs.Link.{link_at}
-use Rattle.block_tags.specs.declared.tile.Role.{Role}
-use Rattle.block_tags.specs.declared.tile.Role.TheVariants.{Storage}
-use Rattle.block_tags.specs.declared.tile.Tile.{Tile}
-use Rattle.best_fit.specs.Extents.{Extent, handle, holds}
-use Rattle.best_fit.specs.Heap.{as_extent}
-use Rattle.best_fit.specs.Table.{has_backing, serves, same_role}
+use Rattle.raw_region.specs.Memory.{word_at}
+use Rattle.best_fit.specs.Extents.{holds}
 use Rattle.best_fit.proofs.Laws.{extents_of as used}
-use Rattle.seg_types.specs.declared.kinds.ScalarKind.{ScalarKind}
-use Rattle.seg_types.specs.Kinds.{size_of, spelling, is_value, is_spelling}
 use Rattle.seg_types.proofs.Laws.{number-back}
-use Rattle.seg_vector.specs.Vector.{spelled, OwnedText, AreTextLinks}
-use Rattle.segment_manager.proofs.Laws.{spelling-length}
-use Rattle.image_check.specs.ObjectTests.{is_use, good_for, leads_to, is_table_link, are_spellings}
-use Rattle.image_check.proofs.bytes.Numbers.{AreSmall, number_at, number_at-small, bytes_low_first-number_at}
+use Rattle.image_check.proofs.bytes.Numbers.{AreSmall, bytes_low_first-number_at, number_at, number_at-small}
 use Rattle.image_check.proofs.bytes.Numbers.{read-length}
 use Rattle.image_check.proofs.bytes.Members.{Mem, mem_filter_map}
 use Rattle.image_check.proofs.block_collection.UsedTile.{same_role-is, same_role-refl}
 use Rattle.image_check.proofs.read_off.Directory.{block_for, number_from, numbers_from}
 use Rattle.image_check.proofs.claims.ReachedLinks.{good_for-IsGood}
-use Rattle.image_check.proofs.read_off.Values.{content, IsStored, AreStored, no-places}
+use Rattle.image_check.proofs.read_off.Values.{AreStored, IsStored, content, no-places}
 use Rattle.image_check.proofs.read_off.GoodValues.{mul-next, mul-none}
 
 -- ---- bytes that are read

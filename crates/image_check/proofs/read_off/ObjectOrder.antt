@@ -1,10 +1,7 @@
 -- Objects that stand by offset, and the blocks that they are in.
-use Rattle.std.proofs.Common.{refl, ℕ, ◌+◌, List, [], ◌∷◌, map}
-use Rattle.std.specs.Prelude.{nat_le, IsTrue}
-use Rattle.std.proofs.lemmas.Bool.{and_parts, and_from, leb-true, le-leb}
-use Rattle.best_fit.specs.Extents.{Extent}
-use Rattle.segment_manager.specs.Directory.{Object, rises_from}
-use Rattle.segment_manager.proofs.Laws.{Rising}
+use Rattle.image_check.proofs.Common.{Extent, IsTrue, List, Rising, [], and_from, and_parts, le-leb, leb-true, map}
+use Rattle.image_check.proofs.Common.{nat_le, refl, rises_from, ℕ, ◌+◌, ◌∷◌}
+use Rattle.segment_manager.specs.Directory.{Object}
 
 -- the block of an object
 abbrev pub extent_of : Object → Extent

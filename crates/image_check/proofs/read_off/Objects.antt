@@ -1,38 +1,28 @@
 -- The object in a tile that passes its tests: it is one of the format, and it stands there.
-use Rattle.std.proofs.Common.{◌≡◌, refl, sym, ap, subst, ◌∙◌, ℕ, zero, suc, ◌+◌, ◌-◌, ◌≤◌, Bool, true, false, ◌&&◌}
-use Rattle.std.proofs.Common.{◌==◌, List, ◌∷◌, length, arith}
-use Rattle.std.specs.Prelude.{IsTrue, Option, Some, None, nat_le, option_map, replicate, if◌then◌else◌}
-use Rattle.std.specs.List.{list_all}
-use Rattle.std.proofs.lemmas.Bool.{and_parts, and_from, eqb-true, leb-true, le-leb, false≢true}
-use Rattle.std.proofs.lemmas.List.{length-replicate}
-use mathlib.Core.Logic.{◌⊎◌, inl, inr}
-use Rattle.raw_region.specs.Memory.{Memory, HasBytesAt, read}
-use Rattle.block_tags.specs.declared.tile.Role.{Role}
-use Rattle.block_tags.specs.declared.tile.Role.TheVariants.{Object as ObjectRole, Index, Storage, Node}
-use Rattle.block_tags.specs.declared.tile.Tile.{Tile}
-use Rattle.best_fit.specs.Extents.{handle, holds}
-use Rattle.best_fit.specs.Heap.{as_extent}
-use Rattle.best_fit.specs.Table.{serves, same_role}
-use Rattle.seg_types.specs.declared.kinds.Kind.{Kind}
-use Rattle.seg_types.specs.declared.kinds.Class.TheVariants.{Named}
-use Rattle.seg_types.specs.Kinds.{code_of, class_code, kinds, kind_of_code, is_kind_of}
-use Rattle.seg_types.specs.Names.{is_name}
-use Rattle.segment_manager.specs.Directory.{Value, Object, kind_of, object_len, padded, has_good_name, is_good_value}
-use Rattle.segment_manager.specs.Directory.{is_object}
-use Rattle.segment_manager.specs.Denotes.{IsObjectAt}
-use Rattle.image_check.specs.EarlyTests.{is_zero}
-use Rattle.image_check.specs.ObjectTests.{is_use, payload, object_tiles, value_offset, kind_at, is_value_in, has_name}
-use Rattle.image_check.specs.ObjectTests.{has_padding, is_indexed, is_object_tile}
-use Rattle.image_check.specs.Fields.{values, is_container}
+use Rattle.image_check.proofs.Common.{HasBytesAt, Index, IsObjectAt, IsTrue, Kind, List, Memory, Named, Node, None}
+use Rattle.image_check.proofs.Common.{Option, Role, Some, Storage, Tile, Value, and_from, and_parts, ap, arith}
+use Rattle.image_check.proofs.Common.{as_extent, class_at, class_code, code_at, count_at, eqb-true, false, false≢true}
+use Rattle.image_check.proofs.Common.{handle, has_name, has_padding, if◌then◌else◌, is_container, is_good_value}
+use Rattle.image_check.proofs.Common.{is_indexed, is_name, is_object, is_object_tile, is_use, is_value_in, is_zero}
+use Rattle.image_check.proofs.Common.{kind_at, kind_of, kind_of_code, le-leb, leb-true, length, length-replicate}
+use Rattle.image_check.proofs.Common.{list_all, name_at, name_len_at, nat_le, object_len, object_tiles, padded, payload}
+use Rattle.image_check.proofs.Common.{read, refl, same_role, serves, subst, suc, sym, true, value_offset, values, zero}
+use Rattle.image_check.proofs.Common.{ℕ, ◌&&◌, ◌+◌, ◌-◌, ◌==◌, ◌∙◌, ◌∷◌, ◌≡◌, ◌≤◌}
+use Rattle.std.proofs.Common.{Bool}
+use Rattle.std.specs.Prelude.{option_map, replicate}
+use Rattle.block_tags.specs.declared.tile.Role.TheVariants.{Object as ObjectRole}
+use Rattle.best_fit.specs.Extents.{holds}
+use Rattle.seg_types.specs.Kinds.{code_of, is_kind_of, kinds}
+use Rattle.segment_manager.specs.Directory.{Object, has_good_name}
 use Rattle.image_check.proofs.bytes.Numbers.{AreSmall, read-length}
-use Rattle.image_check.proofs.bytes.Members.{Mem, list_all_mem, find_mem, mem_of_filter, mem_filter_map}
-use Rattle.image_check.proofs.read_off.Directory.{value_from, kind_or_text, class_from, object_from, object_block}
-use Rattle.image_check.proofs.read_off.Numbers.{HasBytesAt-read, HasBytesAt-append, unguarded}
+use Rattle.image_check.proofs.bytes.Members.{Mem, find_mem, list_all_mem, mem_filter_map, mem_of_filter}
+use Rattle.image_check.proofs.read_off.Directory.{class_from, kind_or_text, object_block, object_from, value_from}
+use Rattle.image_check.proofs.read_off.Numbers.{HasBytesAt-append, HasBytesAt-read, unguarded}
 use Rattle.image_check.proofs.read_off.Vectors.{IsBack}
 use Rattle.image_check.proofs.read_off.Maps.{value-back}
 use Rattle.image_check.proofs.claims.CountedClaims.{place_of}
 use Rattle.image_check.proofs.claims.FieldPlaces.{IsPlaced}
-use Rattle.seg_index.specs.Keys.{code_at, count_at, name_len_at, class_at, name_at}
+use mathlib.Core.Logic.{◌⊎◌, inl, inr}
 
 -- ---- codes
 

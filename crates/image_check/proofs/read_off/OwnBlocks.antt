@@ -1,31 +1,23 @@
 -- Which extents are objects' own blocks, and how many extents there are.
-use Rattle.std.proofs.Common.{◌≡◌, refl, ap, ◌∙◌, ℕ, suc, ◌*◌, ◌≤◌, Bool, true, false, ◌&&◌, List, [], ◌∷◌, ◌++◌}
-use Rattle.std.proofs.Common.{length, map, arith, length-append}
-use Rattle.std.specs.Prelude.{IsTrue, Option, Some, None, nat_le, nat_lt, flat_map, filter, option_to_list}
-use Rattle.std.specs.Prelude.{if◌then◌else◌, int_lt}
-use Rattle.std.specs.List.{AllByRecursion, list_all, cons_option}
-use Rattle.std.proofs.lemmas.Bool.{and_parts}
-use mathlib.Core.Logic.{inl, inr}
-use Rattle.block_tags.specs.declared.tile.Role.{Role}
-use Rattle.block_tags.specs.declared.tile.Role.TheVariants.{Object as ObjectRole, Index, Storage, Node}
-use Rattle.block_tags.specs.declared.tile.Tile.{Tile}
-use Rattle.best_fit.specs.Extents.{Extent, holds}
+use Rattle.image_check.proofs.Common.{AllByRecursion, BackingArray, Bytes, Elements, Extent, Index, IsTrue, List, Node}
+use Rattle.image_check.proofs.Common.{None, NumberPair, Numbers, Option, OwnedText, Pairs, Role, ScalarKind, Some}
+use Rattle.image_check.proofs.Common.{Storage, Texts, Tile, Value, [], and_parts, ap, arith, as_extent, cons_option}
+use Rattle.image_check.proofs.Common.{false, filter, flat_map, has_backing, has_own_block, if◌then◌else◌, int_lt}
+use Rattle.image_check.proofs.Common.{is_good_value, is_number_pair, is_owned_text, is_rising, is_value, length}
+use Rattle.image_check.proofs.Common.{list_all, map, nat_le, nat_lt, object_tiles, option_to_list, own-block, refl}
+use Rattle.image_check.proofs.Common.{same_role, serves, size_of, sorted, suc, table_extents, true, value_extents, ℕ}
+use Rattle.image_check.proofs.Common.{◌&&◌, ◌*◌, ◌++◌, ◌∙◌, ◌∷◌, ◌≡◌, ◌≤◌}
+use Rattle.std.proofs.Common.{Bool, length-append}
+use Rattle.block_tags.specs.declared.tile.Role.TheVariants.{Object as ObjectRole}
+use Rattle.best_fit.specs.Extents.{holds}
 use Rattle.best_fit.specs.Fit.{insert}
-use Rattle.best_fit.specs.Heap.{as_extent}
-use Rattle.best_fit.specs.Table.{BackingArray, has_backing, serves, same_role}
 use Rattle.best_fit.proofs.Laws.{extents_of as used}
-use Rattle.seg_types.specs.declared.kinds.ScalarKind.{ScalarKind}
-use Rattle.seg_types.specs.Kinds.{size_of, is_value}
-use Rattle.seg_vector.specs.Vector.{OwnedText}
-use Rattle.seg_map.specs.Map.{is_rising, node_len}
-use Rattle.seg_map.specs.Numbers.{NumberPair, is_number_pair}
-use Rattle.segment_manager.specs.Directory.{Value, Numbers, Elements, Bytes, Pairs, Texts, Object, sorted, extents_of}
-use Rattle.segment_manager.specs.Directory.{value_extents, table_extents, has_own_block, is_owned_text, is_good_value}
-use Rattle.segment_manager.proofs.Laws.{own-block}
-use Rattle.image_check.specs.ObjectTests.{object_tiles}
+use Rattle.seg_map.specs.Map.{node_len}
+use Rattle.segment_manager.specs.Directory.{Object, extents_of}
 use Rattle.image_check.proofs.bytes.Members.{Mem}
 use Rattle.image_check.proofs.block_collection.UsedTile.{same_role-is}
 use Rattle.image_check.proofs.read_off.Directory.{object_block}
+use mathlib.Core.Logic.{inl, inr}
 
 -- ---- the roles of what is not an object's own block
 

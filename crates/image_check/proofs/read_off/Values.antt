@@ -1,41 +1,31 @@
 -- What a value's bytes say is read off: numbers, tables, elements, texts and pairs.
-use Rattle.std.proofs.Common.{◌≡◌, refl, sym, ap, subst, ◌∙◌, ℕ, suc, ◌+◌, ◌*◌, ◌≤◌, ◌&&◌, List, [], ◌∷◌, ◌++◌, length}
-use Rattle.std.proofs.Common.{map, arith, length-append}
-use Rattle.std.specs.Prelude.{IsTrue, Option, Some, None, nat_le, nat_lt, flat_map, option_to_list, option_map, is_some}
-use Rattle.std.specs.Prelude.{ℤ, int_lt}
-use Rattle.std.specs.List.{AllByRecursion, list_all}
-use Rattle.std.proofs.lemmas.Bool.{and_parts, and_from, eqb-true, leb-true}
-use Rattle.std.proofs.lemmas.List.{length-map}
-use Rattle.byteorder.specs.Endian.{little_number}
-use Rattle.raw_region.specs.Memory.{Memory, HasBytesAt, read, word_at}
-use Rattle.offset_link.specs.Link.{link_at}
-use Rattle.link_tree.specs.Tree.{Tree, leaf, fork, nodes_of, height}
-use Rattle.link_tree.proofs.Laws.{reads_off}
-use Rattle.block_tags.specs.declared.tile.Role.{Role}
-use Rattle.block_tags.specs.declared.tile.Role.TheVariants.{Storage, Node}
-use Rattle.block_tags.specs.declared.tile.Tile.{Tile}
-use Rattle.best_fit.specs.Extents.{Extent, handle, holds}
-use Rattle.best_fit.specs.FreeTree.{cells_of, IsTreeOf}
-use Rattle.best_fit.specs.Heap.{as_extent}
-use Rattle.best_fit.specs.Table.{BackingArray, has_backing, serves, same_role, table_link}
-use Rattle.best_fit.proofs.Laws.{Row, extents_of as used}
-use Rattle.seg_types.specs.declared.kinds.ScalarKind.{ScalarKind}
-use Rattle.seg_types.specs.Kinds.{size_of, spelling, is_value, value_of}
+use Rattle.image_check.proofs.Common.{AllByRecursion, AllByRecursion-behind, AllByRecursion-front, AreTextLinks}
+use Rattle.image_check.proofs.Common.{BackingArray, Bytes, Elements, Extent, HasBytesAt, IsNumberPairAt, IsTreeOf}
+use Rattle.image_check.proofs.Common.{IsTrue, IsValueAt, List, Memory, Node, None, NumberPair, Numbers, Option}
+use Rattle.image_check.proofs.Common.{OwnedText, Pairs, Role, Row, ScalarKind, Some, Storage, Texts, Tile, Tree, Value}
+use Rattle.image_check.proofs.Common.{[], and_from, and_parts, ap, arith, as_extent, cells_of, count_of, eqb-true}
+use Rattle.image_check.proofs.Common.{flat_map, fork, handle, has_backing, has_own_block, int_lt, is_good_value}
+use Rattle.image_check.proofs.Common.{is_number_pair, is_owned_text, is_rising, is_some, is_value, kind_of, leaf}
+use Rattle.image_check.proofs.Common.{leb-true, length, length-map, link_at, list_all, little_number, map, nat_le}
+use Rattle.image_check.proofs.Common.{nat_lt, nodes_of, option_to_list, own-block, read, reads_off, refl, same_role}
+use Rattle.image_check.proofs.Common.{serves, size_of, spelled, spelling, spelling-length, subst, suc, sym}
+use Rattle.image_check.proofs.Common.{table_extents, table_link, tile_of, value_extents, value_of, ℕ, ℤ, ◌&&◌, ◌*◌}
+use Rattle.image_check.proofs.Common.{◌++◌, ◌+◌, ◌∙◌, ◌∷◌, ◌≡◌, ◌≤◌}
+use Rattle.std.proofs.Common.{length-append}
+use Rattle.std.specs.Prelude.{option_map}
+use Rattle.raw_region.specs.Memory.{word_at}
+use Rattle.link_tree.specs.Tree.{height}
+use Rattle.best_fit.specs.Extents.{holds}
+use Rattle.best_fit.proofs.Laws.{extents_of as used}
 use Rattle.seg_types.proofs.Laws.{all_spell_one}
-use Rattle.seg_vector.specs.Vector.{spelled, IsStorage, OwnedText, AreTextLinks, IsOwnedText, AreInArray}
-use Rattle.seg_map.specs.Map.{is_rising, node_len}
-use Rattle.seg_map.specs.Numbers.{NumberPair, is_number_pair, IsNumberPairAt}
-use Rattle.segment_manager.specs.Directory.{Value, Numbers, Elements, Bytes, Pairs, Texts, kind_of, count_of}
-use Rattle.segment_manager.specs.Directory.{value_extents, table_extents, is_good_value, has_own_block, is_owned_text}
-use Rattle.segment_manager.specs.Denotes.{IsValueAt}
-use Rattle.segment_manager.proofs.Laws.{AllByRecursion-behind, AllByRecursion-front, Has-front, own-block}
-use Rattle.segment_manager.proofs.Laws.{spelling-length}
-use Rattle.image_check.specs.ObjectTests.{tile_of}
+use Rattle.seg_vector.specs.Vector.{AreInArray, IsOwnedText, IsStorage}
+use Rattle.seg_map.specs.Map.{node_len}
+use Rattle.segment_manager.proofs.Laws.{Has-front}
 use Rattle.image_check.proofs.bytes.Members.{Mem}
 use Rattle.image_check.proofs.block_collection.UsedTile.{used-IsMember}
-use Rattle.image_check.proofs.read_off.Directory.{block_for, table_at, number_from, numbers_from, elements_at, bytes_at}
-use Rattle.image_check.proofs.read_off.Directory.{texts_from, texts_at, or_nothing, pair_from, tree_at, pairs_at}
-use Rattle.image_check.proofs.read_off.Directory.{value_from}
+use Rattle.image_check.proofs.read_off.Directory.{block_for, bytes_at, elements_at, number_from, numbers_from}
+use Rattle.image_check.proofs.read_off.Directory.{or_nothing, pair_from, pairs_at, table_at, texts_at, texts_from}
+use Rattle.image_check.proofs.read_off.Directory.{tree_at, value_from}
 
 -- ---- bytes one behind the other
 

@@ -1,39 +1,29 @@
 -- What the tests of scalars, vectors and texts let through is a good value: it is read off, and it stands there.
-use Rattle.std.proofs.Common.{◌≡◌, refl, sym, ap, subst, ◌∙◌, ℕ, zero, suc, ◌+◌, ◌*◌, ◌≤◌, true, ◌&&◌, ◌==◌, List, []}
-use Rattle.std.proofs.Common.{length, map, arith}
-use Rattle.std.specs.Prelude.{IsTrue, Option, Some, None, nat_le, nat_lt, flat_map, option_to_list, option_map}
-use Rattle.std.specs.List.{AllByRecursion, list_all, range_with_len}
-use Rattle.std.proofs.lemmas.Bool.{and_parts, and_from, eqb-true, leb-true, le-leb, lt-ltb}
-use Rattle.raw_region.specs.Memory.{Memory, HasBytesAt, read, word_at}
-use Rattle.offset_link.specs.Link.{link_at}
-use Rattle.block_tags.specs.declared.tile.Role.TheVariants.{Storage}
-use Rattle.block_tags.specs.declared.tile.Tile.{Tile}
-use Rattle.best_fit.specs.Extents.{Extent, handle}
-use Rattle.best_fit.specs.Table.{has_backing, serves}
+use Rattle.image_check.proofs.Common.{AllByRecursion, AreTextLinks, Bytes, Elements, Extent, HasBytesAt, IsTrue}
+use Rattle.image_check.proofs.Common.{IsValueAt, Kind, List, Memory, None, Numbers, Option, OwnedText, Scalar}
+use Rattle.image_check.proofs.Common.{ScalarKind, Some, Storage, String, Texts, Tile, U8, Value, Vector, [], and_from}
+use Rattle.image_check.proofs.Common.{and_parts, ap, are_spellings, arith, count_of, element_offsets, eqb-true}
+use Rattle.image_check.proofs.Common.{flat_map, handle, has_backing, has_own_block, is_element_at, is_good_value}
+use Rattle.image_check.proofs.Common.{is_owned_text, is_table_link, is_value, is_value_in, kind_of, le-leb, leb-true}
+use Rattle.image_check.proofs.Common.{length, link_at, list_all, lt-ltb, map, nat_le, nat_lt, option_to_list}
+use Rattle.image_check.proofs.Common.{range_with_len, read, refl, serves, size_of, spelled, subst, suc, sym, true}
+use Rattle.image_check.proofs.Common.{value_extents, value_len, zero, ℕ, ◌&&◌, ◌*◌, ◌+◌, ◌==◌, ◌∙◌, ◌≡◌, ◌≤◌}
+use Rattle.std.specs.Prelude.{option_map}
+use Rattle.raw_region.specs.Memory.{word_at}
 use Rattle.best_fit.proofs.Laws.{extents_of as used}
-use Rattle.seg_types.specs.declared.kinds.ScalarKind.{ScalarKind}
-use Rattle.seg_types.specs.declared.kinds.ScalarKind.TheVariants.{U8}
-use Rattle.seg_types.specs.declared.kinds.Kind.{Kind}
-use Rattle.seg_types.specs.declared.kinds.Kind.TheVariants.{Scalar, String, Vector, Strings as StringsKind}
-use Rattle.seg_types.specs.Kinds.{size_of, is_value}
-use Rattle.seg_vector.specs.Vector.{spelled, OwnedText, AreTextLinks, IsOwnedText}
-use Rattle.segment_manager.specs.Directory.{Value, Numbers, Elements, Bytes, Texts, kind_of, count_of, value_len}
-use Rattle.segment_manager.specs.Directory.{value_extents, is_good_value, has_own_block, is_owned_text}
-use Rattle.segment_manager.specs.Denotes.{IsValueAt}
+use Rattle.seg_types.specs.declared.kinds.Kind.TheVariants.{Strings as StringsKind}
+use Rattle.seg_vector.specs.Vector.{IsOwnedText}
 use Rattle.segment_manager.proofs.Laws.{AllByRecursion-append}
-use Rattle.image_check.specs.ObjectTests.{is_table_link, are_spellings, is_value_in}
-use Rattle.image_check.specs.Fields.{is_storage_at, is_element_at, element_offsets, is_array_at}
+use Rattle.image_check.specs.Fields.{is_array_at, is_storage_at}
 use Rattle.image_check.proofs.bytes.Numbers.{AreSmall, read-length}
 use Rattle.image_check.proofs.bytes.Members.{Mem}
-use Rattle.image_check.proofs.read_off.Directory.{block_for, table_at, numbers_from, elements_at, bytes_at, texts_from}
-use Rattle.image_check.proofs.read_off.Directory.{texts_at}
-use Rattle.image_check.proofs.read_off.Values.{text_extents, no-places}
+use Rattle.image_check.proofs.read_off.Directory.{block_for, bytes_at, elements_at, numbers_from, table_at, texts_at}
+use Rattle.image_check.proofs.read_off.Directory.{texts_from}
+use Rattle.image_check.proofs.read_off.Values.{no-places, text_extents}
 use Rattle.image_check.proofs.claims.Fields.{IsTreeRead}
-use Rattle.image_check.proofs.read_off.Numbers.{HasBytesAt-read, numbers-length, numbers-stand, numbers-good, unguarded}
-use Rattle.image_check.proofs.read_off.Numbers.{linked}
-use Rattle.image_check.proofs.read_off.Numbers.{content-some, content-none, length-if, held-length, held, stored-if}
-use Rattle.image_check.proofs.read_off.Numbers.{arrays-if}
-use Rattle.image_check.proofs.read_off.Numbers.{link-to, link-to_none}
+use Rattle.image_check.proofs.read_off.Numbers.{HasBytesAt-read, arrays-if, content-none, content-some, held}
+use Rattle.image_check.proofs.read_off.Numbers.{held-length, length-if, link-to, link-to_none, linked, numbers-good}
+use Rattle.image_check.proofs.read_off.Numbers.{numbers-length, numbers-stand, stored-if, unguarded}
 
 -- ---- a good value
 

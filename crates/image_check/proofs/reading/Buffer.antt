@@ -1,21 +1,16 @@
 -- A window whose first 24 bytes stand, and whose others are read behind them.
-use Rattle.std.proofs.Common.{◌≡◌, ap, ◌∙◌, ℕ, ◌+◌, ◌-◌, ◌≤◌, Bool, ◌&&◌, List, [], ◌++◌, length, take, drop, arith, Ok}
-use Rattle.std.proofs.Common.{Err}
-use Rattle.std.specs.Prelude.{Result, IfErr}
+use Rattle.image_check.proofs.Common.{Err, HasFront, IfErr, IsShort, List, Ok, OpenError, ReadsPastEnd, Result, Stops}
+use Rattle.image_check.proofs.Common.{WindowState, [], and_parts, ap, arith, both_added, drop, eqb-true, failed_reads}
+use Rattle.image_check.proofs.Common.{has_magic, has_version, is_legal_size, legal_size, length, length-take, part}
+use Rattle.image_check.proofs.Common.{patched, size_word, take, ℕ, ◌&&◌, ◌++◌, ◌+◌, ◌-◌, ◌∙◌, ◌≡◌, ◌≤◌}
+use Rattle.std.proofs.Common.{Bool}
 use Rattle.std.specs.List.{refill}
-use Rattle.std.proofs.lemmas.Bool.{and_parts, eqb-true}
-use Rattle.std.proofs.lemmas.List.{drop_all, append-nil, length-append, length-take}
+use Rattle.std.proofs.lemmas.List.{append-nil, drop_all, length-append}
 use Rattle.raw_region.specs.Answers.{AppendsProperPrefix}
-use Rattle.raw_region.specs.Memory.{WindowState, part, patched, whole}
-use Rattle.raw_region.proofs.Laws.{refill-all, both_added}
-use Rattle.block_tags.specs.Format.{is_legal_size}
-use Rattle.best_fit.proofs.Laws.{legal_size}
-use Rattle.image_check.specs.declared.errors.OpenError.{OpenError}
-use Rattle.image_check.specs.EarlyTests.{size_word, has_magic, has_version}
+use Rattle.raw_region.specs.Memory.{whole}
+use Rattle.raw_region.proofs.Laws.{refill-all}
 use Rattle.image_check.specs.Formats.{version_word}
-use Rattle.image_check.specs.Opening.{failed_reads}
-use Rattle.image_check.specs.Reading.{IsShort, ReadsPastEnd, HasFront, Stops}
-use Rattle.image_check.proofs.reading.Fronts.{IsRight, has_front-IsRight, IsRight-take, IsRight-append}
+use Rattle.image_check.proofs.reading.Fronts.{IsRight, IsRight-append, IsRight-take, has_front-IsRight}
 use Rattle.image_check.proofs.reading.Stops.{read_since, rest_stops, rise, whole_stops}
 
 -- the first words of a window, and how long it is

@@ -1,24 +1,22 @@
 -- Bytes read so far, and what may follow them: which class they decide.
-use Rattle.std.proofs.Common.{◌≡◌, refl, sym, ap, subst, ◌∙◌, ℕ, zero, suc, ◌+◌, ◌-◌, ◌%◌, ◌<◌, ◌≤◌, Bool, true, false}
-use Rattle.std.proofs.Common.{◌&&◌, ◌==◌, List, [], ◌∷◌, ◌++◌, length, arith, length-append, append-nil}
-use Rattle.std.specs.Prelude.{IsTrue, nat_lt, nat_le, Some, None, find}
-use Rattle.std.proofs.lemmas.Bool.{and_cases, and_parts, and_from, and_left, and_right, or_from, or_left, or_right}
-use Rattle.std.proofs.lemmas.Bool.{cond-true, cond-false, cases_Bool, cases_lt, not_from_true, not_from_false, le-ltb}
-use Rattle.std.proofs.lemmas.Bool.{lt-ltb, lt-leb, le-leb, leb-true, leb-false, ltb-true, ltb-false, eqb-true, or_cases}
-use Rattle.std.proofs.lemmas.Bool.{both_ways}
-use Rattle.std.proofs.lemmas.List.{get_or_append_left, length-replicate}
+use Rattle.image_check.proofs.Common.{BadContainer, BadFreeTree, BadIndex, BadMagic, BadObject, BadReserved, BadSize}
+use Rattle.image_check.proofs.Common.{BadTag, ImageClass, IsTrue, List, None, OrphanBlock, SharedBlock, Some, Truncated}
+use Rattle.image_check.proofs.Common.{UnsupportedVersion, [], and_from, and_left, and_parts, and_right, ap, are_bytes}
+use Rattle.image_check.proofs.Common.{arith, both_ways, bytes_of, cases_Bool, cases_lt, class_of, classes, cond-false}
+use Rattle.image_check.proofs.Common.{cond-true, decided_by, eqb-true, false, has_front, has_magic, has_size}
+use Rattle.image_check.proofs.Common.{has_version, is_legal_size, le-leb, le-ltb, leb-true, length, length-replicate}
+use Rattle.image_check.proofs.Common.{little_number, lt-ltb, ltb-false, ltb-true, magic_number, nat_le, nat_lt}
+use Rattle.image_check.proofs.Common.{not_from_false, not_from_true, or_cases, or_from, or_left, or_right, read, refl}
+use Rattle.image_check.proofs.Common.{size_word, subst, suc, sym, true, zero, ℕ, ◌%◌, ◌&&◌, ◌++◌, ◌+◌, ◌-◌, ◌<◌, ◌==◌}
+use Rattle.image_check.proofs.Common.{◌∙◌, ◌∷◌, ◌≡◌, ◌≤◌}
+use Rattle.std.proofs.Common.{Bool, append-nil, length-append}
+use Rattle.std.specs.Prelude.{find}
+use Rattle.std.proofs.lemmas.Bool.{and_cases, leb-false, lt-leb}
+use Rattle.std.proofs.lemmas.List.{get_or_append_left}
+use Rattle.raw_region.specs.Memory.{half_word_at, word_at, zeros}
+use Rattle.image_check.specs.Classes.{DecidesClass, holds}
+use Rattle.image_check.specs.Deciding.{AllDecided, decided}
 use mathlib.Core.Logic.{◌⊎◌, inl, inr}
-use Rattle.raw_region.specs.Memory.{bytes_of, read, word_at, half_word_at, zeros, are_bytes}
-use Rattle.byteorder.specs.Endian.{little_number}
-use Rattle.block_tags.specs.Format.{is_legal_size}
-use Rattle.segment_manager.specs.Denotes.{magic_number}
-use Rattle.image_check.specs.declared.classes.ImageClass.{ImageClass}
-use Rattle.image_check.specs.declared.classes.ImageClass.TheVariants.{Truncated, BadMagic, UnsupportedVersion, BadSize}
-use Rattle.image_check.specs.declared.classes.ImageClass.TheVariants.{BadReserved, BadTag, BadFreeTree, BadIndex}
-use Rattle.image_check.specs.declared.classes.ImageClass.TheVariants.{BadObject, SharedBlock, BadContainer, OrphanBlock}
-use Rattle.image_check.specs.EarlyTests.{size_word, has_magic, has_version, has_front, has_size}
-use Rattle.image_check.specs.Classes.{holds, classes, class_of, DecidesClass}
-use Rattle.image_check.specs.Deciding.{decided, decided_by, AllDecided}
 
 -- ---- the first class that holds
 

@@ -1,6 +1,6 @@
 -- How many ends a reader answered in a call that asks no more behind its end.
-use Rattle.std.proofs.Common.{◌≡◌, ℕ, ◌+◌, ◌≤◌, Bool, true, false, arith}
-use Rattle.std.specs.Prelude.{if◌then◌else◌}
+use Rattle.image_check.proofs.Common.{arith, false, if◌then◌else◌, true, ℕ, ◌+◌, ◌≡◌, ◌≤◌}
+use Rattle.std.proofs.Common.{Bool}
 use Rattle.raw_region.specs.Device.{EndsAtMostOnce, ReaderHistory}
 use Rattle.image_check.specs.Opening.{AsksToTheEnd}
 

@@ -1,15 +1,13 @@
 -- The format that bytes say, and that of bytes which begin with them.
-use Rattle.std.proofs.Common.{◌≡◌, refl, sym, ap, ◌∙◌, ℕ, ◌≤◌, inl, inr, Bool, true, false, ◌==◌, List, ◌++◌, length}
-use Rattle.std.proofs.Common.{take, drop, arith}
-use Rattle.std.specs.Prelude.{nat_le, if◌then◌else◌}
-use Rattle.std.proofs.lemmas.Bool.{cases_Bool, eqb-true, eq-eqb, leb-true, le-leb, both_ways}
+use Rattle.image_check.proofs.Common.{AcceptedVersions, List, added, ap, arith, both_added, both_ways, cases_Bool, drop}
+use Rattle.image_check.proofs.Common.{eq-eqb, eqb-true, false, format_in, format_of, if◌then◌else◌, inl, inr, le-leb}
+use Rattle.image_check.proofs.Common.{leb-true, length, nat_le, part, refl, sym, take, true, ℕ, ◌++◌, ◌==◌, ◌∙◌, ◌≡◌}
+use Rattle.image_check.proofs.Common.{◌≤◌}
+use Rattle.std.proofs.Common.{Bool}
 use Rattle.std.proofs.lemmas.List.{take-append-drop}
-use Rattle.raw_region.specs.Memory.{part}
 use Rattle.raw_region.specs.Format.{current}
-use Rattle.raw_region.proofs.Laws.{added, both_added}
-use Rattle.image_check.specs.declared.versions.AcceptedVersions.{AcceptedVersions}
-use Rattle.image_check.specs.declared.versions.AcceptedVersions.TheVariants.{Current, All}
-use Rattle.image_check.specs.Formats.{format_in, format_of, is_taken, version_word}
+use Rattle.image_check.specs.declared.versions.AcceptedVersions.TheVariants.{All, Current}
+use Rattle.image_check.specs.Formats.{is_taken, version_word}
 use Rattle.image_check.proofs.reading.Deciding.{half_word_at-front}
 
 -- ---- bytes that follow change nothing

@@ -1,20 +1,14 @@
 -- A call that finds no room has read the first 24 bytes, and no more: nothing else that stops it is want of room.
-use Rattle.std.proofs.Common.{◌≡◌, refl, sym, ap, ◌∙◌, ℕ, Bool, inl, inr, List, Result, Ok, Err}
-use Rattle.std.specs.Prelude.{IfErr}
-use Rattle.image_check.specs.declared.errors.ExamineError.{ExamineError}
-use Rattle.image_check.specs.declared.errors.ExamineError.TheVariants.{Image, RegionTooSmall, OutOfMemory, ReadFault}
-use Rattle.image_check.specs.declared.errors.OpenError.{OpenError}
+use Rattle.image_check.proofs.Common.{Err, ExamineError, ExamineRefused, ExaminesWindow, IfErr, IsShort, IsWhyRefused}
+use Rattle.image_check.proofs.Common.{List, Mode, Ok, OpenError, OpenRefused, OpensWindow, ReadsPastEnd, Result}
+use Rattle.image_check.proofs.Common.{SegmentState, WindowState, ap, error_for, failed_reads, inl, inr, refl, sym, ℕ}
+use Rattle.image_check.proofs.Common.{◌∙◌, ◌≡◌}
+use Rattle.std.proofs.Common.{Bool}
+use Rattle.image_check.specs.declared.errors.ExamineError.TheVariants.{Image, OutOfMemory, ReadFault, RegionTooSmall}
 use Rattle.image_check.specs.declared.errors.OpenError.TheVariants.{RegionTooSmall as TooSmall}
 use Rattle.raw_region.specs.Device.{ReaderHistory}
-use Rattle.raw_region.specs.Memory.{WindowState}
-use Rattle.segment_manager.specs.declared.modes.Mode.{Mode}
-use Rattle.segment_manager.specs.State.{SegmentState}
-use Rattle.image_check.specs.declared.errors.ExamineRefused.{ExamineRefused}
-use Rattle.image_check.specs.declared.errors.OpenRefused.{OpenRefused}
-use Rattle.image_check.specs.Causes.{error_for, opened_in}
-use Rattle.image_check.specs.Checking.{ExaminesWindow, IsWhyRefused, OpensWindow}
-use Rattle.image_check.specs.Opening.{ReadsFrontAlone, cause_of, failed_reads}
-use Rattle.image_check.specs.Reading.{ReadsPastEnd, IsShort}
+use Rattle.image_check.specs.Causes.{opened_in}
+use Rattle.image_check.specs.Opening.{ReadsFrontAlone, cause_of}
 use Rattle.image_check.proofs.reading.Stops.{rise}
 
 -- a reader that gives too few bytes
@@ -49,25 +43,25 @@ check-reads format b (OutOfMemory refusal) x = refl
 check-reads format b ReadFault x = absurd x
 
 module _ (format : ℕ) (w : WindowState) (mode : Mode) where
-  -- an opening from a window counts no failed read
+  -- The opening of a window counts no failed read.
   pub opened-reads : (r : Result SegmentState OpenRefused) → OpensWindow format w mode r → failed_reads (cause_of r) ≡ 0
   opened-reads (Ok s) o = refl
   opened-reads (Err e) o = ap rise o.cause ∙ check-reads format w.bytes o.why o.holds
 
-  -- an opening from a window that lacks room has read the front alone
+  -- The opening of a window never wants room.
   pub opened-roomy : (r : Result SegmentState OpenRefused) (old new : ReaderHistory) → OpensWindow format w mode r
       → ReadsFrontAlone old new (cause_of r)
   opened-roomy (Ok s) old new o = tt
   opened-roomy (Err e) old new o = λ t. absurd (check-roomy format w.bytes o.why o.holds (sym o.cause ∙ t))
 
 module _ (format : ℕ) (w : WindowState) where
-  -- an examination of a window counts no failed read
+  -- The examination of a window counts no failed read.
   pub examined-reads : (r : Result (List ℕ) ExamineRefused) → ExaminesWindow format w r
       → failed_reads (cause_of (opened_in r)) ≡ 0
   examined-reads (Ok back) o = refl
   examined-reads (Err e) o = check-reads format w.bytes e.cause o.0
 
-  -- an examination of a window that lacks room has read the front alone
+  -- The examination of a window never wants room.
   pub examined-roomy : (r : Result (List ℕ) ExamineRefused) (old new : ReaderHistory) → ExaminesWindow format w r
       → ReadsFrontAlone old new (cause_of (opened_in r))
   examined-roomy (Ok back) old new o = tt

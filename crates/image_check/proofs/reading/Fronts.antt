@@ -1,20 +1,15 @@
 -- The first 24 bytes of an image: what they say of its size, and what the code reads of them.
-use Rattle.std.proofs.Common.{◌≡◌, refl, sym, ap, ◌∙◌, ℕ, ◌+◌, ◌≤◌, Bool, true, false, ◌&&◌, ◌==◌, List, ◌++◌, length}
-use Rattle.std.proofs.Common.{take, drop, arith, Ok, Err, Some}
-use Rattle.std.specs.Prelude.{IsTrue, nat_le, Result, if◌then◌else◌}
-use Rattle.std.proofs.lemmas.Bool.{and_parts, and_from, and_left, eq-eqb, ne_eqb, le-ltb}
-use Rattle.std.proofs.lemmas.List.{length-append, length-take, take-append-drop}
-use Rattle.std.proofs.lemmas.List.Folds.{list_all-append}
-use Rattle.byteorder.specs.Endian.{little_number}
-use Rattle.raw_region.specs.Memory.{bytes_of, part, read, word_at, half_word_at}
-use Rattle.raw_region.proofs.Laws.{read-part}
-use Rattle.block_tags.specs.Format.{is_legal_size}
-use Rattle.segment_manager.specs.Denotes.{magic_number}
-use Rattle.image_check.specs.declared.classes.ImageClass.{ImageClass}
-use Rattle.image_check.specs.declared.classes.ImageClass.TheVariants.{BadMagic, UnsupportedVersion, BadSize}
-use Rattle.image_check.specs.EarlyTests.{size_word, has_magic, has_version, has_front, has_size, is_zero}
-use Rattle.image_check.specs.Deciding.{decided, decided_by}
-use Rattle.image_check.specs.Reading.{front_of}
+use Rattle.image_check.proofs.Common.{BadMagic, BadSize, Err, ImageClass, IsTrue, List, Ok, Result, Some}
+use Rattle.image_check.proofs.Common.{UnsupportedVersion, and_from, and_left, and_parts, ap, arith, bytes_of}
+use Rattle.image_check.proofs.Common.{decided_by, drop, eq-eqb, false, front_of, has_front, has_magic, has_size}
+use Rattle.image_check.proofs.Common.{has_version, if◌then◌else◌, is_legal_size, is_zero, le-ltb, length, length-take}
+use Rattle.image_check.proofs.Common.{list_all-append, little_number, magic_number, nat_le, ne_eqb, part, read}
+use Rattle.image_check.proofs.Common.{read-part, refl, size_word, sym, take, true, ℕ, ◌&&◌, ◌++◌, ◌+◌, ◌==◌, ◌∙◌, ◌≡◌}
+use Rattle.image_check.proofs.Common.{◌≤◌}
+use Rattle.std.proofs.Common.{Bool}
+use Rattle.std.proofs.lemmas.List.{length-append, take-append-drop}
+use Rattle.raw_region.specs.Memory.{half_word_at, word_at}
+use Rattle.image_check.specs.Deciding.{decided}
 use Rattle.image_check.proofs.reading.Deciding.{has_magic-front, has_version-front, size_word-front}
 
 -- ---- what the code reads

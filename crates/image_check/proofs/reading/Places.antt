@@ -1,25 +1,16 @@
 -- The places that the reading of an image tells.
-use Rattle.std.proofs.Common.{◌≡◌, sym, ap, subst, ◌∙◌, ℕ, ◌-◌, ◌<◌, ◌≤◌, List, [], ◌∷◌, ◌++◌, length, take, drop, true}
-use Rattle.std.proofs.Common.{arith, inl, inr}
-use Rattle.std.specs.Prelude.{IfErr, Ok, Err, Result, codes, slice_index}
-use Rattle.std.proofs.lemmas.Bool.{cond-false, cond-true}
-use Rattle.std.proofs.lemmas.List.{get_or_append_left, length-append, length-take-le}
-use Rattle.raw_region.specs.Memory.{WindowState}
-use Rattle.raw_region.proofs.Laws.{added, both_added}
-use Rattle.block_tags.specs.Format.{is_legal_size}
-use Rattle.image_check.specs.declared.classes.ImageClass.{ImageClass}
-use Rattle.image_check.specs.declared.classes.ImageClass.TheVariants.{Truncated, BadMagic, UnsupportedVersion, BadSize}
-use Rattle.image_check.specs.declared.classes.ImageClass.TheVariants.{BadReserved, BadTag, BadFreeTree, BadIndex}
-use Rattle.image_check.specs.declared.classes.ImageClass.TheVariants.{BadObject, SharedBlock, BadContainer, OrphanBlock}
-use Rattle.image_check.specs.declared.errors.ExamineError.{ExamineError}
-use Rattle.image_check.specs.declared.errors.ExamineError.TheVariants.{Image, RegionTooSmall, OutOfMemory, ReadFault}
-use Rattle.image_check.specs.declared.errors.OpenError.{OpenError}
+use Rattle.image_check.proofs.Common.{BadContainer, BadFreeTree, BadIndex, BadMagic, BadObject, BadReserved, BadSize}
+use Rattle.image_check.proofs.Common.{BadTag, Err, ExamineError, HasFront, IfErr, ImageClass, IsShown, List, Ok}
+use Rattle.image_check.proofs.Common.{OpenError, OrphanBlock, ReadsPastEnd, Result, SharedBlock, Shows, Truncated}
+use Rattle.image_check.proofs.Common.{UnsupportedVersion, WindowState, [], added, ap, arith, both_added, codes}
+use Rattle.image_check.proofs.Common.{cond-false, cond-true, drop, error_for, inl, inr, is_legal_size, length}
+use Rattle.image_check.proofs.Common.{length-take-le, size_word, slice_index, subst, sym, take, true, ℕ, ◌++◌, ◌-◌, ◌<◌}
+use Rattle.image_check.proofs.Common.{◌∙◌, ◌∷◌, ◌≡◌, ◌≤◌}
+use Rattle.std.proofs.lemmas.List.{get_or_append_left, length-append}
+use Rattle.image_check.specs.declared.errors.ExamineError.TheVariants.{Image, OutOfMemory, ReadFault, RegionTooSmall}
 use Rattle.image_check.specs.declared.verdict.Verdict.{Verdict}
-use Rattle.image_check.specs.Causes.{IsNodeLink, IsEnd, IsShown, error_for, error_in}
-use Rattle.image_check.specs.EarlyTests.{size_word}
+use Rattle.image_check.specs.Causes.{IsEnd, IsNodeLink, error_in}
 use Rattle.image_check.specs.HeaderPlaces.{IsFirstOther, IsFrontPlace}
-use Rattle.image_check.specs.Reading.{ReadsPastEnd, HasFront}
-use Rattle.image_check.specs.Verdicts.{Shows}
 use Rattle.image_check.proofs.reading.Deciding.{size_word-front}
 use Rattle.image_check.proofs.reading.Buffer.{HasFront-IsRight}
 use Rattle.image_check.proofs.reading.Fronts.{IsRight-append, IsRight-take}

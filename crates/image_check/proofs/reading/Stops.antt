@@ -1,26 +1,22 @@
 -- Why the reading of an image stops: too few bytes came, the first ones are wrong, or more follow.
-use Rattle.std.proofs.Common.{◌≡◌, refl, sym, ap, subst, ◌∙◌, ℕ, ◌+◌, ◌<◌, ◌≤◌, Bool, true, false, inl, inr}
-use Rattle.std.proofs.Common.{List, [], ◌∷◌, ◌++◌, length, take, arith, Some, None, Ok, Err}
-use Rattle.std.specs.Prelude.{IsTrue, nat_lt, nat_le, if◌then◌else◌}
-use Rattle.std.proofs.lemmas.Bool.{and_from, and_right, lt-ltb, le-ltb, lt-leb, le-leb, both_ways}
-use Rattle.std.proofs.lemmas.List.{length-append, length-take}
+use Rattle.image_check.proofs.Common.{BadMagic, BadSize, Err, ImageClass, IsShort, IsTooSmallFor, IsTrue, List, None}
+use Rattle.image_check.proofs.Common.{Ok, OpenError, ReadDelta, ReadsPastEnd, Some, Stops, Truncated}
+use Rattle.image_check.proofs.Common.{UnsupportedVersion, [], added, and_from, and_right, ap, arith, both_added}
+use Rattle.image_check.proofs.Common.{both_ways, decided_by, failed_reads, false, front_of, has_front, has_magic}
+use Rattle.image_check.proofs.Common.{has_size, has_version, if◌then◌else◌, inl, inr, is_legal_size, le-leb, le-ltb}
+use Rattle.image_check.proofs.Common.{legal_size, length, length-take, lt-ltb, nat_le, nat_lt, read_delta, refl}
+use Rattle.image_check.proofs.Common.{size_word, subst, sym, take, true, ℕ, ◌++◌, ◌+◌, ◌<◌, ◌∙◌, ◌∷◌, ◌≡◌, ◌≤◌}
+use Rattle.std.proofs.Common.{Bool}
+use Rattle.std.proofs.lemmas.Bool.{lt-leb}
+use Rattle.std.proofs.lemmas.List.{length-append}
 use Rattle.raw_region.specs.Answers.{AppendsProperPrefix}
-use Rattle.raw_region.specs.Device.{ReadDelta, read_delta}
-use Rattle.raw_region.proofs.Laws.{added, both_added}
-use Rattle.block_tags.specs.Format.{is_legal_size}
-use Rattle.best_fit.proofs.Laws.{legal_size}
-use Rattle.image_check.specs.declared.classes.ImageClass.{ImageClass}
-use Rattle.image_check.specs.declared.classes.ImageClass.TheVariants.{Truncated, BadMagic, UnsupportedVersion, BadSize}
-use Rattle.image_check.specs.declared.errors.OpenError.{OpenError}
 use Rattle.image_check.specs.declared.errors.OpenError.TheVariants.{Image, ReadFault}
-use Rattle.image_check.specs.EarlyTests.{size_word, has_magic, has_version, has_front, has_size}
 use Rattle.image_check.specs.Classes.{holds}
-use Rattle.image_check.specs.Deciding.{decided, decided_by}
-use Rattle.image_check.specs.Opening.{IsTooSmallFor, failed_reads, is_late}
-use Rattle.image_check.specs.Reading.{front_of, IsShort, ReadsPastEnd, Stops}
-use Rattle.image_check.proofs.reading.Deciding.{decided-some, decided-none, first_class}
-use Rattle.image_check.proofs.frame.EarlyClasses.{short-Truncated, cut-Truncated}
-use Rattle.image_check.proofs.reading.Fronts.{IsRight, IsRight-append, front_of-append, front-wrong, front-decided}
+use Rattle.image_check.specs.Deciding.{decided}
+use Rattle.image_check.specs.Opening.{is_late}
+use Rattle.image_check.proofs.reading.Deciding.{decided-none, decided-some, first_class}
+use Rattle.image_check.proofs.frame.EarlyClasses.{cut-Truncated, short-Truncated}
+use Rattle.image_check.proofs.reading.Fronts.{IsRight, IsRight-append, front-decided, front-wrong, front_of-append}
 
 -- ---- what a reader gave
 

@@ -1,19 +1,15 @@
 -- All links that count are noted, pass after pass.
-use Rattle.std.proofs.Common.{◌≡◌, refl, sym, subst, ℕ, true, List, arith}
-use Rattle.std.specs.Prelude.{Option, None}
-use mathlib.Core.Logic.{inl, inr}
-use Rattle.raw_region.specs.Memory.{bytes_of}
-use Rattle.seg_types.specs.declared.kinds.Kind.TheVariants.{Map, Strings}
-use Rattle.image_check.specs.Owners.{Blocks, IsMarkingOf}
-use Rattle.image_check.specs.Passes.{HasTiles, tiles_in}
-use Rattle.image_check.specs.Sharing.{NotesValues}
-use Rattle.std.specs.Prelude.{Result, Ok, Err, MatchResult, OnOk, not}
-use Rattle.image_check.specs.Fields.{is_shared}
-use Rattle.image_check.specs.Owners.{FollowsAll, IsSharedIn, IsUnmarked, IsWholeMarkingOf}
-use Rattle.image_check.specs.Passes.{ChecksClass}
-use Rattle.image_check.specs.Sharing.{AreIndexesNoted, IsIndexNoted}
+use Rattle.image_check.proofs.Common.{AreIndexesNoted, Blocks, ChecksClass, Err, HasTiles, IsIndexNoted, IsMarkingOf}
+use Rattle.image_check.proofs.Common.{IsSharedIn, IsUnmarked, IsWholeMarkingOf, List, Map, MatchResult, None}
+use Rattle.image_check.proofs.Common.{NotesValues, Ok, Option, Result, arith, bytes_of, is_shared, not, refl, subst}
+use Rattle.image_check.proofs.Common.{sym, true, ℕ, ◌≡◌}
+use Rattle.seg_types.specs.declared.kinds.Kind.TheVariants.{Strings}
+use Rattle.image_check.specs.Passes.{tiles_in}
+use Rattle.std.specs.Prelude.{OnOk}
+use Rattle.image_check.specs.Owners.{FollowsAll}
 use Rattle.image_check.proofs.block_collection.Lookup.{unmarked-marking}
 use Rattle.image_check.proofs.shared_blocks.Meaning.{some-shared-in}
+use mathlib.Core.Logic.{inl, inr}
 
 -- before the first link nothing is marked
 pub start-marking : (format : ℕ) (b : List ℕ) (es : Blocks) (pending : Option ℕ) (waiting : ℕ) → HasTiles b

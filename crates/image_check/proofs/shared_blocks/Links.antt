@@ -1,24 +1,17 @@
 -- Links of indexes, of storage and of elements, noted one by one.
-use Rattle.std.proofs.Common.{◌≡◌, refl, sym, ap, subst, ℕ, ◌+◌, ◌*◌, ◌^◌, ◌≤◌, ◌<◌, List, length, arith}
-use Rattle.std.specs.Prelude.{MatchResult, Option, None, Result}
-use Rattle.std.proofs.lemmas.Bool.{cases_eq}
-use mathlib.Core.Logic.{inl, inr}
-use Rattle.raw_region.specs.Memory.{Memory, bytes_of}
+use Rattle.image_check.proofs.Common.{AreElementsNoted, Blocks, HasTiles, Index, IsCountedLink, IsIndexNoted}
+use Rattle.image_check.proofs.Common.{IsMarkedLink, IsMarkingOf, IsRooted, IsSharedIn, IsStorageNoted, List, MarksLink}
+use Rattle.image_check.proofs.Common.{MatchResult, MayCount, Memory, Node, None, Option, Owner, Result, Role, Storage}
+use Rattle.image_check.proofs.Common.{Tile, ap, arith, bytes_of, cases_eq, index_capacity, length, link_at, owner, refl}
+use Rattle.image_check.proofs.Common.{subst, sym, ℕ, ◌*◌, ◌+◌, ◌<◌, ◌^◌, ◌≡◌, ◌≤◌}
 use Rattle.raw_region.specs.Format.{current}
-use Rattle.offset_link.specs.Link.{link_at}
-use Rattle.block_tags.specs.declared.tile.Role.{Role}
-use Rattle.block_tags.specs.declared.tile.Role.TheVariants.{Index, Storage, Node}
-use Rattle.block_tags.specs.declared.tile.Tile.{Tile}
-use Rattle.image_check.specs.declared.owners.Owner.{Owner}
-use Rattle.image_check.specs.ObjectTests.{index_capacity}
-use Rattle.image_check.specs.Meaning.{IsCountedLink}
-use Rattle.image_check.specs.Owners.{Blocks, IsIndexPlace, MarksLink, IsMarkingOf, IsMarkedLink, IsRooted, IsSharedIn}
-use Rattle.image_check.specs.Owners.{IsStart, MayCount, owner}
-use Rattle.image_check.specs.Passes.{HasTiles, tiles_in}
-use Rattle.image_check.specs.Sharing.{AreElementsNoted, IsElementPlace, MarksLinks, IsIndexNoted, IsStorageNoted}
+use Rattle.image_check.specs.Owners.{IsIndexPlace, IsStart}
+use Rattle.image_check.specs.Passes.{tiles_in}
+use Rattle.image_check.specs.Sharing.{IsElementPlace, MarksLinks}
 use Rattle.image_check.specs.Visits.{AddsVisits}
 use Rattle.image_check.proofs.shared_blocks.Worklist.{debts-small}
 use Rattle.image_check.proofs.block_collection.Places.{payload-inside}
+use mathlib.Core.Logic.{inl, inr}
 
 -- what noting a link at a place does, where no other link leads to it
 abbrev pub Marks : ℕ → List ℕ → Role → Option ℕ → Blocks → ℕ → Blocks → Option ℕ → ℕ → Result (Unit {0}) ℕ → ℕ → Type 0

@@ -1,22 +1,17 @@
 -- What is noted in the end decides which blocks are shared and which have no owner.
-use Rattle.std.proofs.Common.{◌≡◌, refl, sym, ap, subst, ◌∙◌, ℕ, ◌-◌, Bool, true, false, not, ◌&&◌, ◌||◌, ◌==◌, List}
-use Rattle.std.proofs.Common.{[], ◌∷◌, length}
-use Rattle.std.specs.Prelude.{Option, Some, None, IsTrue, Result, Ok, Err, find, is_some}
-use Rattle.std.specs.List.{list_all, list_any}
-use Rattle.std.proofs.lemmas.Bool.{eqb-true, eq-eqb, false≢true}
-use Rattle.raw_region.specs.Memory.{Memory, bytes_of}
+use Rattle.image_check.proofs.Common.{Blocks, ChecksClass, Err, Field, HasTiles, IsCountedLink, IsFirstWrongTile}
+use Rattle.image_check.proofs.Common.{IsSharedAt, IsTrue, IsWholeMarking, IsWholeMarkingOf, List, Memory, None, Ok}
+use Rattle.image_check.proofs.Common.{Option, Owner, Result, Row, Some, Tile, [], ap, bytes_of, counted_fields, eq-eqb}
+use Rattle.image_check.proofs.Common.{eqb-true, false, false≢true, has_owner, is_orphaned, is_shared, is_some}
+use Rattle.image_check.proofs.Common.{leads_there, length, list_all, list_any, needs_owner, not, owner, owner_at}
+use Rattle.image_check.proofs.Common.{payload, refl, subst, sym, true, ℕ, ◌&&◌, ◌-◌, ◌==◌, ◌||◌, ◌∙◌, ◌∷◌, ◌≡◌}
+use Rattle.std.proofs.Common.{Bool}
+use Rattle.std.specs.Prelude.{find}
 use Rattle.raw_region.specs.Format.{current}
-use Rattle.block_tags.specs.declared.tile.Tile.{Tile}
-use Rattle.best_fit.proofs.Laws.{Row}
-use Rattle.image_check.specs.declared.owners.Owner.{Owner}
-use Rattle.image_check.specs.ObjectTests.{payload}
-use Rattle.image_check.specs.Fields.{Field, counted_fields, is_left, is_orphaned, is_shared, leads_there, leave_some}
-use Rattle.image_check.specs.Fields.{needs_owner}
-use Rattle.image_check.specs.Meaning.{IsCountedLink, IsShared}
-use Rattle.image_check.specs.OwnerPlaces.{IsSharedAt}
-use Rattle.image_check.specs.Owners.{Blocks, IsWholeMarking, IsWholeMarkingOf, has_owner, owner, owner_at}
-use Rattle.image_check.specs.ObjectPlaces.{IsFirstTile, IsFirstWrongTile}
-use Rattle.image_check.specs.Passes.{ChecksClass, HasTiles, tiles_in}
+use Rattle.image_check.specs.Fields.{is_left, leave_some}
+use Rattle.image_check.specs.Meaning.{IsShared}
+use Rattle.image_check.specs.ObjectPlaces.{IsFirstTile}
+use Rattle.image_check.specs.Passes.{tiles_in}
 use Rattle.image_check.proofs.bytes.Members.{list_any_from, list_any_of}
 use Rattle.image_check.proofs.frame.Tags.{has_tags-AreWholeTiles}
 use Rattle.image_check.proofs.claims.CountedFields.{Contains-Mem, Mem-Contains, counted-means}

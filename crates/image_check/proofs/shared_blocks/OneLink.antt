@@ -1,24 +1,15 @@
 -- Noting that a link leads to a block: one owner more, and nothing else.
-use Rattle.std.proofs.Common.{◌≡◌, ◌≢◌, refl, sym, ap, subst, ◌∙◌, ℕ, ◌+◌, ◌*◌, ◌/◌, ◌≤◌, Bool, true, false, List, []}
-use Rattle.std.proofs.Common.{◌∷◌, length, arith, cond}
-use Rattle.std.specs.Prelude.{Option, Some, None, nat_eq, IsSome, is_some, ◌⊎◌}
-use Rattle.std.specs.Map.{set_value}
-use Rattle.std.proofs.lemmas.Bool.{eqb-true, ne_eqb, cond-true, cond-false, cases_eq, false≢true}
+use Rattle.image_check.proofs.Common.{Block, Blocks, IsBlockAt, IsCountedLink, IsFollowed, IsMarkedLink, IsMarking}
+use Rattle.image_check.proofs.Common.{IsRooted, IsSharedAt, IsSome, IsTileAt, LeadsTo, List, MarksLink, MayCount}
+use Rattle.image_check.proofs.Common.{Memory, Node, None, Option, Owner, Role, Some, Storage, Tile, [], ap, arith}
+use Rattle.image_check.proofs.Common.{block_at, cases_eq, cond, cond-false, cond-true, eqb-true, false, false≢true}
+use Rattle.image_check.proofs.Common.{frame_of, frames, is_some, length, link_at, nat_eq, ne_eqb, owner_at, owner_in}
+use Rattle.image_check.proofs.Common.{refl, same_role, set_value, subst, sym, tile_of, true, unspent_budget}
+use Rattle.image_check.proofs.Common.{visit_budget, ℕ, ◌*◌, ◌+◌, ◌/◌, ◌∙◌, ◌∷◌, ◌≡◌, ◌≢◌, ◌≤◌, ◌⊎◌}
+use Rattle.std.proofs.Common.{Bool}
+use Rattle.block_tags.specs.declared.tile.Role.TheVariants.{Object}
+use Rattle.image_check.specs.Owners.{IsChain, IsMember, IsWaiting, due_of}
 use mathlib.Core.Logic.{inl, inr}
-use Rattle.raw_region.specs.Memory.{Memory}
-use Rattle.offset_link.specs.Link.{link_at}
-use Rattle.block_tags.specs.declared.tile.Role.{Role}
-use Rattle.block_tags.specs.declared.tile.Role.TheVariants.{Object, Storage, Node}
-use Rattle.block_tags.specs.declared.tile.Tile.{Tile}
-use Rattle.best_fit.specs.Table.{same_role}
-use Rattle.image_check.specs.declared.owners.Block.{Block}
-use Rattle.image_check.specs.declared.owners.Owner.{Owner}
-use Rattle.image_check.specs.ObjectTests.{tile_of}
-use Rattle.image_check.specs.Meaning.{LeadsTo, IsCountedLink}
-use Rattle.image_check.specs.OwnerPlaces.{IsSharedAt}
-use Rattle.image_check.specs.Owners.{Blocks, block_at, owner_in, owner_at, IsTileAt, IsBlockAt, visit_budget, due_of}
-use Rattle.image_check.specs.Owners.{unspent_budget, frame_of, frames, IsWaiting, IsChain, IsMember, MayCount}
-use Rattle.image_check.specs.Owners.{IsMarkedLink, IsFollowed, IsRooted, IsMarking, MarksLink}
 
 -- ---- one block in the place of another
 

@@ -1,15 +1,8 @@
 -- Where the links begin that lead to a block, once all that count are noted.
-use Rattle.std.proofs.Common.{◌≡◌, ℕ, ◌+◌, List}
-use Rattle.std.specs.Prelude.{Some}
-use mathlib.Core.Logic.{inl, inr}
-use Rattle.raw_region.specs.Memory.{Memory}
-use Rattle.block_tags.specs.declared.tile.Role.TheVariants.{Node}
-use Rattle.block_tags.specs.declared.tile.Tile.{Tile}
-use Rattle.image_check.specs.declared.owners.Owner.{Owner}
-use Rattle.image_check.specs.ObjectTests.{tile_of}
-use Rattle.image_check.specs.Meaning.{IsCountedLink, LeadsTo}
-use Rattle.image_check.specs.Owners.{Blocks, IsFollowed, IsWholeMarking, owner, owner_at}
+use Rattle.image_check.proofs.Common.{Blocks, IsCountedLink, IsFollowed, IsWholeMarking, LeadsTo, List, Memory, Node}
+use Rattle.image_check.proofs.Common.{Owner, Some, Tile, owner, owner_at, tile_of, ℕ, ◌+◌, ◌≡◌}
 use Rattle.image_check.proofs.shared_blocks.Worklist.{none-waits}
+use mathlib.Core.Logic.{inl, inr}
 
 -- a field that is noted, with the place where the links begin that lead to it
 abbrev pub IsLed : Blocks → ℕ → ℕ → Type 0

@@ -1,35 +1,28 @@
 -- The links behind all values, noted in a walk over the tiles.
-use Rattle.std.proofs.Common.{◌≡◌, ◌≢◌, refl, sym, ap, subst, ◌∙◌, ℕ, suc, ◌+◌, ◌-◌, ◌*◌, ◌/◌, ◌≤◌, ◌<◌, Bool, true}
-use Rattle.std.proofs.Common.{false, ◌&&◌, ◌==◌, List, [], ◌∷◌, ◌++◌, length, arith, cond}
-use Rattle.std.specs.Prelude.{Option, Some, None, IsTrue, ◌⊎◌, option_map, Contains, nat_le, if◌then◌else◌}
-use Rattle.std.specs.List.{list_all}
-use Rattle.std.proofs.lemmas.Bool.{and_parts, false≢true, leb-true}
-use mathlib.Core.Logic.{inl, inr}
-use Rattle.raw_region.specs.Memory.{WindowState, Memory, bytes_of}
+use Rattle.image_check.proofs.Common.{Blocks, Contains, HasTiles, Index, IsCountedLink, IsMarkingOf, IsTileGrown}
+use Rattle.image_check.proofs.Common.{IsTrue, IsValueGrown, IsValueReady, Kind, List, Map, Memory, Node, None}
+use Rattle.image_check.proofs.Common.{NotesValues, Option, Owner, Rates, Role, Row, Scalar, Some, Storage, String, Tile}
+use Rattle.image_check.proofs.Common.{Vector, WindowState, [], and_parts, ap, arith, bytes_of, class_at, code_before}
+use Rattle.image_check.proofs.Common.{cond, count_at, debts, false, false≢true, has_link, has_name, has_objects}
+use Rattle.image_check.proofs.Common.{has_padding, if◌then◌else◌, is_indexed, is_object_tile, is_use, is_value_in}
+use Rattle.image_check.proofs.Common.{kind_at, leb-true, length, list_all, name_before, nat_le, object_tiles, owner_at}
+use Rattle.image_check.proofs.Common.{payload, rate_of, refl, rise_by, said_row, same_role, subst, suc, sym, targets}
+use Rattle.image_check.proofs.Common.{true, unspent_budget, value_offset, values, visit_budget, weigh, ℕ, ◌&&◌, ◌*◌}
+use Rattle.image_check.proofs.Common.{◌++◌, ◌+◌, ◌-◌, ◌/◌, ◌<◌, ◌==◌, ◌∙◌, ◌∷◌, ◌≡◌, ◌≢◌, ◌≤◌, ◌⊎◌}
+use Rattle.std.proofs.Common.{Bool}
+use Rattle.std.specs.Prelude.{option_map}
 use Rattle.raw_region.specs.Format.{current}
-use Rattle.block_tags.specs.declared.tile.Role.{Role}
-use Rattle.block_tags.specs.declared.tile.Role.TheVariants.{Object, Index, Storage, Node}
-use Rattle.block_tags.specs.declared.tile.Tile.{Tile}
-use Rattle.best_fit.proofs.Laws.{Row, said_row}
-use Rattle.seg_types.specs.declared.kinds.Kind.{Kind}
-use Rattle.seg_types.specs.declared.kinds.Kind.TheVariants.{Scalar, String, Vector, Map, Strings}
-use Rattle.seg_index.specs.Keys.{class_at, code_before, count_at, name_before}
-use Rattle.image_check.specs.declared.owners.Owner.{Owner}
-use Rattle.image_check.specs.ObjectTests.{has_name, has_objects, has_padding, is_indexed, is_object_tile, is_use}
-use Rattle.image_check.specs.ObjectTests.{is_value_in, kind_at, object_tiles, payload, rise_by, targets, value_offset}
-use Rattle.image_check.specs.Fields.{values}
-use Rattle.image_check.specs.Meaning.{IsCountedLink}
-use Rattle.image_check.specs.Owners.{Blocks, IsMarkingOf, IsStart, KeepsMarks, unspent_budget, debts, visit_budget}
-use Rattle.image_check.specs.Owners.{owner_at}
-use Rattle.image_check.specs.Passes.{HasTiles, tiles_in}
-use Rattle.image_check.specs.Sharing.{AllElements, NotesValues, IsInStorage, IsPlaceOf, IsTileGrown, IsValueGrown}
-use Rattle.image_check.specs.Sharing.{IsValueNoted, IsValueReady, OfObject, has_link, object_cost, value_rates}
-use Rattle.image_check.specs.Visits.{Rates, rate_of, sharing_rates, weigh}
+use Rattle.block_tags.specs.declared.tile.Role.TheVariants.{Object}
+use Rattle.seg_types.specs.declared.kinds.Kind.TheVariants.{Strings}
+use Rattle.image_check.specs.Owners.{IsStart, KeepsMarks}
+use Rattle.image_check.specs.Passes.{tiles_in}
+use Rattle.image_check.specs.Sharing.{AllElements, IsInStorage, IsPlaceOf, IsValueNoted, OfObject, object_cost}
+use Rattle.image_check.specs.Sharing.{value_rates}
+use Rattle.image_check.specs.Visits.{sharing_rates}
 use Rattle.image_check.proofs.claims.CountedFields.{Contains-Mem, Mem-Contains}
 use Rattle.image_check.proofs.claims.FieldPlaces.{Lies, in-one, one-use}
 use Rattle.image_check.proofs.block_collection.Lookup.{at-all}
 use Rattle.image_check.proofs.block_collection.Places.{InRow, found, in_row}
-use Rattle.best_fit.specs.Table.{same_role}
 use Rattle.image_check.proofs.shared_blocks.Links.{grown-in}
 use Rattle.image_check.proofs.bytes.Members.{Mem, list_all_mem, mem_filter, mem_filter_map, mem_left, mem_of_filter}
 use Rattle.image_check.proofs.bytes.Members.{mem_of_filter_map, mem_parts, mem_right}
@@ -37,6 +30,7 @@ use Rattle.image_check.proofs.claims.ReachedLinks.{good_for-IsGood}
 use Rattle.image_check.proofs.walks.Rows.{PassesGaps, free-object, recoloured}
 use Rattle.image_check.proofs.frame.Tags.{has_tags-AreWholeTiles}
 use Rattle.image_check.proofs.walks.Tiles.{WalksAt}
+use mathlib.Core.Logic.{inl, inr}
 
 -- ---- places in tiles
 

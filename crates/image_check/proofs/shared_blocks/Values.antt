@@ -1,28 +1,20 @@
 -- The links behind a value, noted one after another.
-use Rattle.std.proofs.Common.{◌≡◌, refl, sym, ap, subst, ◌∙◌, ℕ, ◌+◌, ◌*◌, ◌%◌, ◌≤◌, ◌<◌, List, length, arith}
-use Rattle.std.specs.Prelude.{Option, Some, None, IsTrue, ◌⊎◌, option_map}
-use Rattle.std.proofs.lemmas.Bool.{false≢true}
-use mathlib.Core.Logic.{inl, inr}
-use Rattle.raw_region.specs.Memory.{bytes_of, word_at}
+use Rattle.image_check.proofs.Common.{AreElementsNoted, AreTextsNoted, Blocks, Err, HasTiles, IsCountedLink}
+use Rattle.image_check.proofs.Common.{IsMarkedLink, IsMarkingOf, IsStorageNoted, IsTrue, IsValueGrown, IsValueReady}
+use Rattle.image_check.proofs.Common.{Kind, List, Map, MarksLink, MatchResult, MayCount, Node, None, Ok, Option, Result}
+use Rattle.image_check.proofs.Common.{Scalar, ScalarKind, Some, Storage, String, Tile, Vector, ap, arith, bytes_of}
+use Rattle.image_check.proofs.Common.{false≢true, good_for, has_link, has_storage, length, link_at, owner, payload}
+use Rattle.image_check.proofs.Common.{refl, subst, sym, tile_of, ℕ, ◌%◌, ◌*◌, ◌+◌, ◌<◌, ◌∙◌, ◌≡◌, ◌≤◌, ◌⊎◌}
+use Rattle.std.specs.Prelude.{option_map}
+use Rattle.raw_region.specs.Memory.{word_at}
 use Rattle.raw_region.specs.Format.{current}
-use Rattle.offset_link.specs.Link.{link_at}
-use Rattle.block_tags.specs.declared.tile.Role.TheVariants.{Storage, Node}
-use Rattle.block_tags.specs.declared.tile.Tile.{Tile}
-use Rattle.seg_types.specs.declared.kinds.ScalarKind.{ScalarKind}
-use Rattle.seg_types.specs.declared.kinds.Kind.{Kind}
-use Rattle.seg_types.specs.declared.kinds.Kind.TheVariants.{Scalar, String, Vector, Map, Strings}
-use Rattle.image_check.specs.ObjectTests.{good_for, payload, tile_of}
-use Rattle.image_check.specs.Fields.{has_storage}
-use Rattle.image_check.specs.Meaning.{IsCountedLink}
-use Rattle.image_check.specs.Owners.{Blocks, MarksLink, IsMarkingOf, IsMarkedLink, MayCount, owner}
-use Rattle.image_check.specs.Passes.{HasTiles, tiles_in}
-use Rattle.image_check.specs.Sharing.{AllElements, AreElementsNoted, AreTextsNoted, IsElementPlace, IsInStorage}
-use Rattle.image_check.specs.Sharing.{IsStorageNoted, IsStorageStart, IsValueGrown, IsValueReady, has_link}
-use Rattle.std.specs.Prelude.{Result, Ok, Err, MatchResult}
-use Rattle.image_check.specs.Sharing.{Pays}
+use Rattle.seg_types.specs.declared.kinds.Kind.TheVariants.{Strings}
+use Rattle.image_check.specs.Passes.{tiles_in}
+use Rattle.image_check.specs.Sharing.{AllElements, IsElementPlace, IsInStorage, IsStorageStart, Pays}
 use Rattle.image_check.proofs.block_collection.Places.{Found, found}
 use Rattle.image_check.proofs.shared_blocks.Links.{grown-in, grown-none, grown-on, marked-grown}
 use Rattle.image_check.proofs.claims.ReachedLinks.{good_for-IsGood}
+use mathlib.Core.Logic.{inl, inr}
 
 -- ---- the array of a vector of texts
 

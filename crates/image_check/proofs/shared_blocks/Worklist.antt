@@ -1,32 +1,18 @@
 -- Going through the nodes that wait: one turn notes the links of the first of them.
-use Rattle.std.proofs.Common.{◌≡◌, refl, sym, ap, subst, ◌∙◌, ℕ, suc, ◌+◌, ◌-◌, ◌*◌, ◌≤◌, List, [], ◌∷◌, length, arith}
-use Rattle.std.specs.Prelude.{Option, Some, None, IsSome, ◌⊎◌, Result, Ok, Err, MatchResult}
-use Rattle.std.proofs.lemmas.Bool.{false≢true}
-use mathlib.Core.Logic.{inl, inr}
-use Rattle.raw_region.specs.Memory.{Memory}
-use Rattle.offset_link.specs.Link.{link_at}
-use Rattle.block_tags.specs.declared.tile.Role.{Role}
-use Rattle.block_tags.specs.declared.tile.Role.TheVariants.{Node}
-use Rattle.block_tags.specs.declared.tile.Tile.{Tile}
-use Rattle.image_check.specs.declared.owners.Block.{Block}
-use Rattle.image_check.specs.declared.owners.Owner.{Owner}
-use Rattle.image_check.specs.ObjectTests.{tile_of}
-use Rattle.image_check.specs.Meaning.{LeadsTo, IsCountedLink}
-use Rattle.image_check.specs.Owners.{Blocks, block_at, owner_in, owner_at, IsTileAt, unspent_budget, IsWaiting, IsChain}
-use Rattle.image_check.specs.Owners.{IsMember, MayCount, IsFollowed, IsRooted, IsMarking, IsMarkingOf, MarksLink}
-use Rattle.image_check.specs.Owners.{next_in, next_at, root_in, KeepsMarks}
-use Rattle.block_tags.specs.declared.tile.Role.TheVariants.{Object, Index, Storage}
-use Rattle.best_fit.specs.Table.{same_role}
-use Rattle.image_check.specs.Owners.{owner}
-use Rattle.image_check.specs.Owners.{visit_budget, debts}
-use Rattle.image_check.specs.Passes.{HasTiles, tiles_in}
-use Rattle.best_fit.proofs.Laws.{Row}
-use Rattle.raw_region.specs.Memory.{bytes_of}
+use Rattle.image_check.proofs.Common.{Block, Blocks, Err, HasTiles, Index, IsCountedLink, IsFollowed, IsMarking}
+use Rattle.image_check.proofs.Common.{IsMarkingOf, IsRooted, IsSome, IsTileAt, LeadsTo, List, MarksLink, MatchResult}
+use Rattle.image_check.proofs.Common.{MayCount, Memory, Node, None, Ok, Option, Owner, Result, Role, Row, Some, Storage}
+use Rattle.image_check.proofs.Common.{Tile, [], ap, arith, block_at, bytes_of, debts, false≢true, length, link_at}
+use Rattle.image_check.proofs.Common.{owner, owner_at, owner_in, refl, same_role, subst, suc, sym, tile_of}
+use Rattle.image_check.proofs.Common.{unspent_budget, visit_budget, ℕ, ◌*◌, ◌+◌, ◌-◌, ◌/◌, ◌∙◌, ◌∷◌, ◌≡◌, ◌≤◌, ◌⊎◌}
+use Rattle.image_check.specs.Owners.{IsChain, IsMember, IsWaiting, KeepsMarks, next_at, next_in, root_in}
+use Rattle.block_tags.specs.declared.tile.Role.TheVariants.{Object}
+use Rattle.image_check.specs.Passes.{tiles_in}
 use Rattle.raw_region.specs.Format.{current}
-use Rattle.std.specs.Prelude.{◌/◌}
 use Rattle.image_check.proofs.frame.Tags.{has_tags-AreWholeTiles}
 use Rattle.image_check.proofs.block_collection.Places.{legal-small}
 use Rattle.image_check.proofs.shared_blocks.OneLink.{owner-is}
+use mathlib.Core.Logic.{inl, inr}
 
 -- a field that counts leads where it is said to
 pub counts-link : (format : ℕ) (m : Memory) (ts : List Tile) (at n : ℕ) → IsCountedLink format m ts at n

@@ -1,14 +1,9 @@
 -- What is counted of tiles, with one more behind them.
-use Rattle.std.proofs.Common.{◌≡◌, refl, sym, ap, ◌∙◌, ℕ, ◌+◌, ◌<◌, ◌^◌, false, List, [], ◌∷◌, ◌++◌, length, arith}
-use Rattle.std.proofs.Common.{IsTrue}
-use Rattle.std.specs.Prelude.{Option, Some, None, is_none, is_some}
-use Rattle.raw_region.specs.Memory.{WindowState}
-use Rattle.block_tags.specs.declared.tile.Role.{Role}
-use Rattle.block_tags.specs.declared.tile.Tile.{Tile}
-use Rattle.block_tags.specs.Format.{is_legal_size}
+use Rattle.image_check.proofs.Common.{AreCounted, IsTrue, List, None, Option, Role, Some, Tile, WindowState, [], ap}
+use Rattle.image_check.proofs.Common.{arith, false, is_legal_size, is_none, is_some, length, refl, small_size, sym, ℕ}
+use Rattle.image_check.proofs.Common.{◌++◌, ◌+◌, ◌<◌, ◌^◌, ◌∙◌, ◌∷◌, ◌≡◌}
 use Rattle.image_check.specs.declared.counting.Counts.{Counts}
-use Rattle.image_check.specs.Counting.{AreCounted, last_used}
-use Rattle.image_check.specs.FreeLaws.{small_size}
+use Rattle.image_check.specs.Counting.{last_used}
 use Rattle.image_check.proofs.frame.Formats.{few-free}
 use Rattle.image_check.proofs.free_tree.Meaning.{free-more, none-free}
 use Rattle.image_check.proofs.block_collection.Lookup.{count-free, count-most, count-push, count-used}

@@ -1,10 +1,6 @@
 -- What was read of the tile that a walk over the tiles of a window stands at.
-use Rattle.std.proofs.Common.{◌≡◌, ◌<◌, List}
-use Rattle.std.specs.Prelude.{Option, Some}
-use Rattle.raw_region.specs.Memory.{WindowState}
-use Rattle.block_tags.specs.declared.tile.Tile.{Tile}
+use Rattle.image_check.proofs.Common.{EncodesTiles, List, Option, Some, Tile, WindowState, ◌<◌, ◌≡◌}
 use Rattle.block_tags.specs.Lists.{next_in}
-use Rattle.block_tags.specs.Windows.{EncodesTiles}
 use Rattle.best_fit.proofs.Laws.{Meets}
 use Rattle.image_check.proofs.walks.Tiles.{Walks, WalksAt, at-meets, left_from, walk-at, walk-nearer, walk-read}
 

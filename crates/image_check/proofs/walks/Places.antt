@@ -1,16 +1,9 @@
 -- Where the tiles of an image lie.
-use Rattle.std.proofs.Common.{◌≡◌, sym, subst, ℕ, ◌+◌, ◌-◌, ◌%◌, ◌≤◌, inl, inr, true, List, [], ◌∷◌, length, arith}
-use Rattle.std.specs.Prelude.{Some}
-use Rattle.raw_region.specs.Memory.{WindowState, bytes_of}
+use Rattle.image_check.proofs.Common.{HasTiles, List, Role, Row, Some, Tile, WindowState, [], arith, bytes_of, inl, inr}
+use Rattle.image_check.proofs.Common.{is_place, is_place-from, legal_size, length, some_same, subst, sym, tile_of, true}
+use Rattle.image_check.proofs.Common.{ℕ, ◌%◌, ◌+◌, ◌-◌, ◌∷◌, ◌≡◌, ◌≤◌}
 use Rattle.raw_region.specs.Format.{current}
-use Rattle.link_tree.proofs.Laws.{some_same}
-use Rattle.block_tags.specs.declared.tile.Role.{Role}
-use Rattle.block_tags.specs.declared.tile.Tile.{Tile}
-use Rattle.best_fit.proofs.Laws.{Row, legal_size}
-use Rattle.image_check.specs.ObjectTests.{tile_of}
-use Rattle.image_check.specs.Passes.{tiles_in, HasTiles}
-use Rattle.image_check.specs.FreeNodes.{is_place}
-use Rattle.image_check.specs.FreeLaws.{is_place-from}
+use Rattle.image_check.specs.Passes.{tiles_in}
 use Rattle.image_check.proofs.free_tree.Meaning.{handle_from}
 use Rattle.image_check.proofs.bytes.Members.{Mem}
 use Rattle.image_check.proofs.claims.ReachedLinks.{good_for-IsGood}

@@ -1,20 +1,12 @@
 -- A walk over the rows of the map of blocks, that keeps something of the tiles passed: a row is the next tile in use.
-use Rattle.std.proofs.Common.{◌≡◌, refl, sym, ap, subst, ◌∙◌, ℕ, zero, suc, ◌+◌, ◌≤◌, false, List, [], ◌∷◌, ◌++◌}
-use Rattle.std.proofs.Common.{length, arith}
-use Rattle.std.specs.Prelude.{Option, Some, None, is_some, slice_get}
-use Rattle.std.specs.List.{cons_option}
-use Rattle.std.proofs.lemmas.List.{append-nil, length-map}
-use Rattle.raw_region.specs.Memory.{WindowState}
-use Rattle.block_tags.specs.declared.tile.Role.{Role}
+use Rattle.image_check.proofs.Common.{Block, Blocks, EncodesTiles, List, None, Option, Role, Some, Tile, WindowState}
+use Rattle.image_check.proofs.Common.{[], ap, arith, cons_option, entries_of, entry_of, false, frame_of, frames}
+use Rattle.image_check.proofs.Common.{is_some, is_use, length, length-map, new_block, refl, same_role, slice_get, subst}
+use Rattle.image_check.proofs.Common.{suc, sym, tiles_are_read_off, zero, ℕ, ◌++◌, ◌+◌, ◌∙◌, ◌∷◌, ◌≡◌, ◌≤◌}
+use Rattle.std.proofs.lemmas.List.{append-nil}
 use Rattle.block_tags.specs.declared.tile.Role.TheVariants.{Object}
-use Rattle.block_tags.specs.declared.tile.Tile.{Tile}
-use Rattle.block_tags.specs.Windows.{IsTiledWindow, EncodesTiles}
-use Rattle.block_tags.proofs.Laws.{tiles_are_read_off}
-use Rattle.best_fit.specs.Table.{same_role}
+use Rattle.block_tags.specs.Windows.{IsTiledWindow}
 use Rattle.best_fit.proofs.Laws.{passed_on}
-use Rattle.image_check.specs.declared.owners.Block.{Block}
-use Rattle.image_check.specs.ObjectTests.{is_use}
-use Rattle.image_check.specs.Owners.{Blocks, entries_of, entry_of, frame_of, frames, new_block}
 use Rattle.image_check.specs.Passes.{tiles_in}
 use Rattle.image_check.proofs.block_collection.Lookup.{count-free, count-push, count-used}
 use Rattle.image_check.proofs.walks.Tiles.{WalksAt}

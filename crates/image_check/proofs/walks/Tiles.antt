@@ -1,22 +1,17 @@
 -- A walk over the tiles of a window, from the first by `next`, that keeps something of the tiles behind it.
-use Rattle.std.proofs.Common.{◌≡◌, refl, sym, ap, subst, ◌∙◌, ℕ, ◌+◌, ◌-◌, ◌*◌, ◌%◌, ◌<◌, ◌≤◌, inl, inr, Bool, true}
-use Rattle.std.proofs.Common.{false, not, ◌&&◌, List, [], ◌∷◌, ◌++◌, length, arith}
-use Rattle.std.specs.Prelude.{IsTrue, Option, Some, None, find}
-use Rattle.std.specs.List.{list_all}
-use Rattle.std.proofs.lemmas.List.Folds.{list_all-append}
+use Rattle.image_check.proofs.Common.{EncodesTiles, IsFirstWrongTile, IsTrue, List, None, Option, Row, Some, Tile}
+use Rattle.image_check.proofs.Common.{WindowState, [], and_from, and_parts, ap, arith, bytes_of, cases_Bool, cond-false}
+use Rattle.image_check.proofs.Common.{cond-true, false, has_tags, inl, inr, is_legal_size, length, list_all}
+use Rattle.image_check.proofs.Common.{list_all-append, not, refl, said_row, subst, sym, tiles_are_read_off, tiles_of}
+use Rattle.image_check.proofs.Common.{true, ℕ, ◌%◌, ◌&&◌, ◌*◌, ◌++◌, ◌+◌, ◌-◌, ◌<◌, ◌∙◌, ◌∷◌, ◌≡◌, ◌≤◌}
+use Rattle.std.proofs.Common.{Bool}
+use Rattle.std.specs.Prelude.{find}
 use Rattle.std.proofs.lemmas.List.{append-nil}
-use Rattle.std.proofs.lemmas.Bool.{and_from, and_parts, cases_Bool, cond-false, cond-true}
-use Rattle.raw_region.specs.Memory.{WindowState, bytes_of}
 use Rattle.raw_region.specs.Format.{current}
-use Rattle.block_tags.specs.declared.tile.Tile.{Tile}
-use Rattle.block_tags.specs.Format.{is_legal_size}
 use Rattle.block_tags.specs.Lists.{first_in, next_in}
-use Rattle.block_tags.specs.Tiles.{has_tags, tiles_of}
-use Rattle.block_tags.specs.Windows.{EncodesTiles, IsTiledWindow}
-use Rattle.block_tags.proofs.Laws.{good_tags_say_tiles, tiles_are_read_off}
-use Rattle.image_check.specs.ObjectPlaces.{IsFirstWrongTile}
-use Rattle.best_fit.proofs.Laws.{Meets, Row, first_here, meets, next_here, next_nearer, none_left, passed_on, said_row}
-use Rattle.best_fit.proofs.Laws.{to_go}
+use Rattle.block_tags.specs.Windows.{IsTiledWindow}
+use Rattle.block_tags.proofs.Laws.{good_tags_say_tiles}
+use Rattle.best_fit.proofs.Laws.{Meets, first_here, meets, next_here, next_nearer, none_left, passed_on, to_go}
 
 -- ---- where a tile stands in a row
 

@@ -1,7 +1,5 @@
 -- What the tiles weigh that a walk has passed.
-use Rattle.std.proofs.Common.{◌≡◌, ◌+◌, ◌*◌, ◌/◌, ◌≤◌, List, [], ◌∷◌, ◌++◌, arith}
-use Rattle.block_tags.specs.declared.tile.Tile.{Tile}
-use Rattle.image_check.specs.Visits.{Rates, rate_of, weigh}
+use Rattle.image_check.proofs.Common.{List, Rates, Tile, [], arith, rate_of, weigh, ◌*◌, ◌++◌, ◌+◌, ◌/◌, ◌∷◌, ◌≡◌, ◌≤◌}
 
 pub weigh-append : (r : Rates) (xs ys : List Tile) → weigh r (xs ++ ys) ≡ weigh r xs + weigh r ys
 weigh-append r [] ys = omega arith

@@ -12,7 +12,7 @@ use Rattle.seg_types.specs.Names.{Key}
 use Rattle.seg_types.specs.Kinds.{is_value}
 use Rattle.seg_types.specs.Values.{kind_of_scalar, scalar_of, value_of_scalar}
 use Rattle.seg_types.proofs.Laws.{scalar_of-kind, scalar_of-value}
-use Rattle.seg_types.specs.Commands.{Assign, BadSyntax, Bytes, Command, ConstructIt, Content, Elements, Literal}
+use Rattle.seg_types.specs.Commands.{Assign, Bytes, Command, ConstructIt, Content, Elements, Literal}
 use Rattle.seg_types.specs.Commands.{LineTooLong}
 use Rattle.seg_types.specs.Commands.{NoPairs, Nothing, Numbers, Reading, Strings, UnknownCommand, DestroyPtr}
 use Rattle.segment_lang.specs.Words as said
@@ -162,13 +162,6 @@ pub no_pairs_content : (k v : ScalarKind) (n : ℕ) (bytes : List ℕ)
     → option_and_then (content (Map k v) n) (words bytes) ≡ cond (at_end bytes) (Some (NoPairs k v)) None
 no_pairs_content k v n bytes = take_end (content (Map k v) n) (λ w ws. refl) bytes
 
--- the values that are read are the elements
-pub elements_read : (k : ScalarKind) (o : Option (List ℤ)) (w : TypedNumbers) → Some w ≡ option_map (typed_numbers k) o
-    → Some (Elements w.kind w.numbers) ≡ option_map (Elements k) o
-elements_read k None w h = cc
-elements_read k (Some zs) w h = let e : w ≡ typed_numbers k zs = cc in
-    ap (λ (w : TypedNumbers). Some (Elements w.kind w.numbers)) e
-
 one_scalar : (k : ScalarKind) (n : ℕ) (o : Option ℤ) (v : ScalarValue) → Some v ≡ option_map (scalar_of k) o
     → ((z : ℤ) → o ≡ Some z → is_value k z ≡ true)
     → Some (Numbers (kind_of_scalar v) (replicate n (value_of_scalar v))) ≡ option_map (λ z. Numbers k (replicate n z))
@@ -308,8 +301,3 @@ command_in_front line part rest reader e short h =
 pub no_error : (o : Option Command) (r : Reading) → true ≡ is_some o → as_reading o ≡ r → is_wrong r ≡ false
 no_error None r h e = absurd (cc)
 no_error (Some c) r h e = ap is_wrong (sym e)
-
--- a line that is no command is bad syntax
-pub bad_syntax : (o : Option Command) (r : Reading) → false ≡ is_some o → as_reading o ≡ r → BadSyntax ≡ r
-bad_syntax None r h e = e
-bad_syntax (Some c) r h e = absurd (cc)

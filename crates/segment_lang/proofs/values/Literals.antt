@@ -1,5 +1,5 @@
 -- Values of a kind that literals are, where they are any.
-use Rattle.std.proofs.Common.{◌≡◌, ap, sym, ◌∙◌, refl, ℤ, Option, Some, None, Result, Ok, Err}
+use Rattle.std.proofs.Common.{◌≡◌, ap, sym, ◌∙◌, refl, ℤ, Some, Result, Ok, Err}
 use Rattle.std.specs.Option.{option_map}
 use Rattle.std.specs.Result.{result_ok}
 use Rattle.seg_types.specs.declared.kinds.ScalarKind.{ScalarKind}

@@ -171,13 +171,3 @@ literal_is None x h = sym (ap is_some h)
 literal_is (Some l) x h = sym (ap is_some h)
 
 -- ---- all of them
-
--- where there are some, they are those that the words are
-pub as_some : {A : Type 0} (n : Option (List A)) → is_some n ≡ true → Some (unwrap_or n []) ≡ n
-as_some None h = cc
-as_some (Some zs) h = refl
-
--- a list that is not there
-pub as_none : {A : Type 0} (n : Option (List A)) → is_some n ≡ false → None ≡ n
-as_none None h = refl
-as_none (Some zs) h = cc

@@ -1,7 +1,6 @@
-use Rattle.std.proofs.Common.{◌≡◌, sym, subst, ◌∙◌, true, ℕ, Bool, ◌+◌, ◌*◌, arith}
-use Rattle.std.specs.List.{list_all, range_with_len}
-use Rattle.raw_region.specs.Memory.{bytes_of}
-use Rattle.image_check.specs.Fields.{is_element_at}
+use Rattle.image_check.proofs.Common.{arith, bytes_of, is_element_at, list_all, range_with_len, subst, sym, true, ℕ}
+use Rattle.image_check.proofs.Common.{◌*◌, ◌+◌, ◌∙◌, ◌≡◌}
+use Rattle.std.proofs.Common.{Bool}
 use Rattle.image_check.proofs.bytes.Ranges.{all-broken, all-further, all-map}
 use Rattle.image_check.proofs.arrays.are_elements.Goals as goal
 

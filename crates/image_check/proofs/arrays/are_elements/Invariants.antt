@@ -1,9 +1,5 @@
-use Rattle.std.proofs.Common.{◌≡◌, ◌+◌, ◌*◌, ◌≤◌, true, List}
-use Rattle.std.specs.List.{list_all, range_with_len}
-use Rattle.raw_region.specs.Memory.{bytes_of}
-use Rattle.block_tags.specs.declared.tile.Tile.{Tile}
-use Rattle.image_check.specs.Fields.{is_element_at}
-use Rattle.image_check.specs.Owners.{AreBlocks}
+use Rattle.image_check.proofs.Common.{AreBlocks, List, Tile, bytes_of, is_element_at, list_all, range_with_len, true}
+use Rattle.image_check.proofs.Common.{◌*◌, ◌+◌, ◌≡◌, ◌≤◌}
 use Rattle.image_check.proofs.arrays.are_elements.Given as goal
 
 -- the elements so far lead to their texts, and each was looked at twice at most

@@ -1,4 +1,4 @@
-use Rattle.std.proofs.Common.{arith}
+use Rattle.image_check.proofs.Common.{arith}
 use Rattle.image_check.specs.Passes.{tiles_in}
 use Rattle.image_check.proofs.containers.StorageBlocks.{storage-read}
 use Rattle.image_check.proofs.arrays.is_array.Goals as goal

@@ -1,8 +1,5 @@
-use Rattle.std.proofs.Common.{ap, ◌∙◌, ◌*◌, ◌≤◌, arith}
+use Rattle.image_check.proofs.Common.{Storage, ap, arith, is_table_link, size_of, ◌*◌, ◌∙◌, ◌≤◌}
 use Rattle.std.proofs.Math.Nat.{mul-le-mul_left}
-use Rattle.block_tags.specs.declared.tile.Role.TheVariants.{Storage}
-use Rattle.seg_types.specs.Kinds.{size_of}
-use Rattle.image_check.specs.ObjectTests.{is_table_link}
 use Rattle.image_check.specs.Passes.{tiles_in}
 use Rattle.image_check.proofs.containers.MapPairs.{size-times}
 use Rattle.image_check.proofs.containers.StorageBlocks.{storage-read}

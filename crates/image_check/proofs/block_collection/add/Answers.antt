@@ -1,4 +1,4 @@
-use Rattle.std.proofs.Common.{sym, ap, ◌∙◌, ◌++◌, length, option_to_list, arith}
+use Rattle.image_check.proofs.Common.{ap, arith, length, option_to_list, sym, ◌++◌, ◌∙◌}
 use Rattle.image_check.proofs.block_collection.Lookup.{entry-is}
 use Rattle.image_check.proofs.block_collection.add.Goals as goal
 

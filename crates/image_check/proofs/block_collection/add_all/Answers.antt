@@ -1,8 +1,7 @@
-use Rattle.std.proofs.Common.{length, arith}
+use Rattle.image_check.proofs.Common.{arith, length}
 use Rattle.image_check.proofs.block_collection.Places.{legal-small}
 use Rattle.image_check.proofs.walks.OneTile.{read-at, read-met, read-nearer}
-use Rattle.image_check.proofs.walks.Tiles.{at-within, tags-IsTiledWindow, walk-end, walk-on}
-use Rattle.image_check.proofs.walks.Tiles.{walk-start}
+use Rattle.image_check.proofs.walks.Tiles.{at-within, tags-IsTiledWindow, walk-end, walk-on, walk-start}
 use Rattle.image_check.proofs.block_collection.Lookup.{Gathering, gathering-below, gathering-more, gathering-room}
 use Rattle.image_check.proofs.block_collection.add_all.Goals as goal
 

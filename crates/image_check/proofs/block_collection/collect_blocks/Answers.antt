@@ -1,4 +1,4 @@
-use Rattle.std.proofs.Common.{◌∙◌, arith}
+use Rattle.image_check.proofs.Common.{arith, ◌∙◌}
 use Rattle.image_check.specs.Passes.{tiles_in}
 use Rattle.image_check.proofs.block_collection.Lookup.{gathering-weigh}
 use Rattle.image_check.proofs.block_collection.Owners.{entries-count}

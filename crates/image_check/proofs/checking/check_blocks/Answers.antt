@@ -1,18 +1,14 @@
 -- The first pass that fails has its class, and all passes together spend what each may.
-use Rattle.std.proofs.Common.{◌≡◌, refl, true}
-use Rattle.std.specs.Prelude.{not}
-use Rattle.raw_region.specs.Memory.{bytes_of}
-use Rattle.image_check.specs.Containers.{has_container}
-use Rattle.image_check.specs.Fields.{counted_fields, is_left, is_orphaned}
+use Rattle.image_check.proofs.Common.{IsFirstWrongTile, IsSharedAt, bytes_of, counted_fields, has_container}
+use Rattle.image_check.proofs.Common.{is_orphaned, not, refl, true, ◌≡◌}
+use Rattle.image_check.specs.Fields.{is_left}
 use Rattle.image_check.specs.IndexPlaces.{IsWrongIndex}
-use Rattle.image_check.specs.ObjectPlaces.{IsFirstTile, IsFirstWrongTile, IsWrongObject}
-use Rattle.image_check.specs.OwnerPlaces.{IsSharedAt}
+use Rattle.image_check.specs.ObjectPlaces.{IsFirstTile, IsWrongObject}
 use Rattle.image_check.specs.Passes.{tiles_in}
-use Rattle.image_check.specs.Visits.{both, index_rates, object_rates, sharing_rates, container_rates, orphan_rates}
+use Rattle.image_check.specs.Visits.{both, container_rates, index_rates, object_rates, orphan_rates, sharing_rates}
 use Rattle.image_check.proofs.budget.Visits.{spend-both, spend-less}
-use Rattle.image_check.proofs.frame.WholeCheck.{blocks-class, frame-tiles, late-index, late-object, late-shared}
-use Rattle.image_check.proofs.frame.WholeCheck.{late-container}
-use Rattle.image_check.proofs.frame.WholeCheck.{late-none, late-orphan, of-tiles}
+use Rattle.image_check.proofs.frame.WholeCheck.{blocks-class, frame-tiles, late-container, late-index, late-none}
+use Rattle.image_check.proofs.frame.WholeCheck.{late-object, late-orphan, late-shared, of-tiles}
 use Rattle.image_check.proofs.shared_blocks.Worklist.{of-err, of-ok}
 use Rattle.image_check.proofs.checking.check_blocks.Goals as goal
 

@@ -1,9 +1,6 @@
-use Rattle.std.proofs.Common.{refl, ap, sym, ◌∙◌}
-use Rattle.std.specs.Prelude.{is_some}
-use Rattle.std.proofs.lemmas.Bool.{not-true, not-false}
-use Rattle.image_check.specs.Visits.{tag_rates, tree_rates}
+use Rattle.image_check.proofs.Common.{ap, is_some, not-false, not-true, refl, sym, tag_rates, tree_rates, ◌∙◌}
 use Rattle.image_check.proofs.budget.Visits.{frame-raised, spend-both, tags-raised, tags-spend}
-use Rattle.image_check.proofs.frame.WholeCheck.{IsChecked, checked-tags, checked-tiles, checked-tree, checked-frame}
+use Rattle.image_check.proofs.frame.WholeCheck.{IsChecked, checked-frame, checked-tags, checked-tiles, checked-tree}
 use Rattle.image_check.proofs.walks.Counts.{not-given}
 use Rattle.image_check.proofs.frame.FirstClass.{first-reserved}
 use Rattle.image_check.proofs.checking.check_frame.Goals as goal

@@ -1,4 +1,4 @@
-use Rattle.std.proofs.Common.{inl, inr}
+use Rattle.image_check.proofs.Common.{inl, inr}
 use Rattle.image_check.proofs.frame.ReservedBytes.{all-reserved, not-reserved}
 use Rattle.image_check.proofs.checking.check_reserved.Goals as goal
 

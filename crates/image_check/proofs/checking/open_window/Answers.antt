@@ -1,13 +1,8 @@
 -- Each row is a tile in use, and one visit more. The visits are the steps.
-use Rattle.std.proofs.Common.{◌≡◌, sym, subst, ◌∙◌, ℕ, true, arith}
-use Rattle.image_check.specs.declared.errors.ExamineError.{ExamineError}
-use Rattle.image_check.specs.declared.errors.OpenError.{OpenError}
-use Rattle.image_check.specs.Checking.{IsWhyRefused}
-use Rattle.image_check.specs.Opening.{IsImage, is_late}
-use Rattle.image_check.specs.OpeningAny.{UpgradesFormat}
-use Rattle.image_check.specs.Owners.{entries_of}
-use Rattle.image_check.specs.Passes.{Spends, tiles_in}
-use Rattle.image_check.specs.Reading.{HasFront}
+use Rattle.image_check.proofs.Common.{ExamineError, HasFront, IsImage, IsWhyRefused, OpenError, Spends, UpgradesFormat}
+use Rattle.image_check.proofs.Common.{arith, entries_of, subst, sym, true, ℕ, ◌∙◌, ◌≡◌}
+use Rattle.image_check.specs.Opening.{is_late}
+use Rattle.image_check.specs.Passes.{tiles_in}
 use Rattle.image_check.specs.Visits.{all_rates}
 use Rattle.image_check.proofs.budget.Visits.{noted-raised}
 use Rattle.image_check.proofs.reading.Buffer.{HasFront-least, HasFront-version}
@@ -17,30 +12,30 @@ use Rattle.image_check.proofs.checking.open_window.Goals as goal
 
 pub version-format-requires : goal.version-format-requires
 version-format-requires c =
-    let least = HasFront-least c.requires.0 c.args.window c.requires.1.0 in omega arith
+    let least = HasFront-least c.requires.0 c.args.window c.requires.1 in omega arith
 
 pub pass_all-requires-clause-format : goal.pass_all-requires-clause-format
 pass_all-requires-clause-format c =
-    let same = HasFront-version c.requires.0 c.args.window c.version-format.result c.requires.1.0
+    let same = HasFront-version c.requires.0 c.args.window c.version-format.result c.requires.1
     c.version-format.ensures in
-    let few = c.requires.1.1 in
+    let few = c.requires.2 in
     omega arith
 
 pub pass_all-requires-clause-front : goal.pass_all-requires-clause-front
 pass_all-requires-clause-front c =
     subst (λ f. HasFront f c.args.window)
-    (sym (HasFront-version c.requires.0 c.args.window c.version-format.result c.requires.1.0 c.version-format.ensures))
-    c.requires.1.0
+    (sym (HasFront-version c.requires.0 c.args.window c.version-format.result c.requires.1 c.version-format.ensures))
+    c.requires.1
 
-pub into_segment-requires-clause-format : goal.into_segment-requires-clause-format
-into_segment-requires-clause-format c =
-    let same = HasFront-version c.requires.0 c.args.window c.version-format.result c.requires.1.0
+pub into_segment-segment-requires-clause-format : goal.into_segment-segment-requires-clause-format
+into_segment-segment-requires-clause-format c =
+    let same = HasFront-version c.requires.0 c.args.window c.version-format.result c.requires.1
     c.version-format.ensures in
-    let few = c.requires.1.1 in
+    let few = c.requires.2 in
     omega arith
 
-pub into_segment-requires-clause-blocks : goal.into_segment-requires-clause-blocks
-into_segment-requires-clause-blocks c =
+pub into_segment-segment-requires-clause-blocks : goal.into_segment-segment-requires-clause-blocks
+into_segment-segment-requires-clause-blocks c =
     let b = c.args.window.bytes in
     let p = c.in-Ok.ensures.pass in
     frame-AreBlocks (tiles_in b) c.in-Ok.owners.blocks.entries (entries_of (tiles_in b)) p.frame

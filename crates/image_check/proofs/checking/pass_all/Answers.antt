@@ -1,8 +1,8 @@
 -- The frame, the blocks in use and their classes, one after another, and what each of them spends.
-use Rattle.std.proofs.Common.{arith}
+use Rattle.image_check.proofs.Common.{arith}
 use Rattle.image_check.proofs.budget.Visits.{blocks-raised, blocks-spent, gathered-raised}
 use Rattle.image_check.proofs.frame.EarlyClasses.{frame-no_early_class}
-use Rattle.image_check.proofs.frame.WholeCheck.{no-memory-used, blocks-image, frame-tiles}
+use Rattle.image_check.proofs.frame.WholeCheck.{blocks-image, frame-tiles, no-memory-used}
 use Rattle.image_check.proofs.checking.pass_all.Goals as goal
 
 pub collect_blocks-requires : goal.collect_blocks-requires

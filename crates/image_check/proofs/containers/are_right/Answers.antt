@@ -1,16 +1,13 @@
 -- Each turn of the walk passes one tile in use.
-use Rattle.std.proofs.Common.{◌≡◌, ◌∙◌, sym, arith}
-use Rattle.raw_region.specs.Memory.{bytes_of}
-use Rattle.image_check.specs.Containers.{has_container}
-use Rattle.image_check.specs.Owners.{frame_of}
+use Rattle.image_check.proofs.Common.{arith, bytes_of, frame_of, has_container, sym, ◌∙◌, ◌≡◌}
 use Rattle.image_check.specs.Passes.{tiles_in}
 use Rattle.image_check.proofs.containers.Walk.{IsHere, IsPaid, is-here, lies-same, paid-end, paid-gap, paid-more}
 use Rattle.image_check.proofs.containers.Walk.{paid-start, paid-stop, pays-same, ready-same, test-same}
 use Rattle.image_check.proofs.claims.CountedFields.{Mem-Contains}
 use Rattle.image_check.proofs.walks.Rows.{RowAt, row-at, rows-end, rows-on, rows-start}
 use Rattle.image_check.proofs.walks.Tiles.{fails-there, tags-IsTiledWindow}
-use Rattle.image_check.proofs.containers.are_right.Goals as goal
 use Rattle.image_check.proofs.containers.are_right.Goals.{After-tile_of-tile}
+use Rattle.image_check.proofs.containers.are_right.Goals as goal
 
 row : (c : After-tile_of-tile) → RowAt c.args.window.now
     (IsPaid c.args.format c.args.window.now c.args.blocks.now.entries c.args.visits.now c.rows.visits) c.rows.number

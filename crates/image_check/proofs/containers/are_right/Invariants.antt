@@ -1,4 +1,4 @@
-use Rattle.std.proofs.Common.{◌-◌, length}
+use Rattle.image_check.proofs.Common.{length, ◌-◌}
 use Rattle.image_check.proofs.containers.Walk.{IsPaid}
 use Rattle.image_check.proofs.walks.Rows.{RowWalks}
 use Rattle.image_check.proofs.containers.are_right.Given as goal

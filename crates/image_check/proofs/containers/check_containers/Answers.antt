@@ -1,8 +1,6 @@
-use Rattle.std.proofs.Common.{Bool, subst, sym, arith}
-use Rattle.raw_region.specs.Memory.{bytes_of}
-use Rattle.image_check.specs.Containers.{has_container}
-use Rattle.image_check.specs.ObjectPlaces.{IsFirstWrongTile}
-use Rattle.image_check.specs.Passes.{ChecksClass, tiles_in}
+use Rattle.image_check.proofs.Common.{ChecksClass, IsFirstWrongTile, arith, bytes_of, has_container, subst, sym}
+use Rattle.std.proofs.Common.{Bool}
+use Rattle.image_check.specs.Passes.{tiles_in}
 use Rattle.image_check.proofs.containers.Walk.{containers-same, marked-followed, marked-ready}
 use Rattle.image_check.proofs.containers.Weights.{blocks-weigh, both-weigh, few-blocks}
 use Rattle.image_check.proofs.claims.CountedFields.{Contains-Mem}

@@ -1,8 +1,6 @@
-use Rattle.std.proofs.Common.{◌≡◌, sym, ap, ◌∙◌, arith, true, ◌+◌, ◌/◌, inl, inr}
-use Rattle.std.proofs.lemmas.Bool.{cases_Bool}
-use Rattle.raw_region.specs.Memory.{bytes_of}
+use Rattle.image_check.proofs.Common.{ap, arith, bytes_of, cases_Bool, inl, inr, is_use, kind_at, sym, true}
+use Rattle.image_check.proofs.Common.{value_offset, ◌+◌, ◌/◌, ◌∙◌, ◌≡◌}
 use Rattle.block_tags.specs.declared.tile.Role.TheVariants.{Object}
-use Rattle.image_check.specs.ObjectTests.{is_use, kind_at, value_offset}
 use Rattle.image_check.specs.Containers.{is_scalar}
 use Rattle.image_check.proofs.containers.Weights.{below-more, below-step, rooted-all}
 use Rattle.image_check.proofs.containers.Objects.{container-room, value-behind, walk-least, walk-object}

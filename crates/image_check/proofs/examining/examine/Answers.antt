@@ -1,6 +1,4 @@
-use Rattle.std.proofs.Common.{subst, sym, arith}
-use Rattle.std.proofs.lemmas.Result.{err_from_is_err_and}
-use Rattle.raw_region.specs.Device.{ReadsSource, read_delta}
+use Rattle.image_check.proofs.Common.{ReadsSource, arith, err_from_is_err_and, read_delta, subst, sym}
 use Rattle.raw_region.specs.Format.{current}
 use Rattle.image_check.proofs.reading.FrontAlone.{examined-reads, examined-roomy}
 use Rattle.image_check.proofs.opening.Refusals.{examines, unread}

@@ -1,5 +1,4 @@
-use Rattle.std.proofs.lemmas.Result.{err_from_is_err_and}
-use Rattle.image_check.specs.Formats.{format_in}
+use Rattle.image_check.proofs.Common.{err_from_is_err_and, format_in}
 use Rattle.image_check.proofs.opening.InMemory.{examines-bytes, format_in-few, unplaced-bytes}
 use Rattle.image_check.proofs.examining_bytes.examine_bytes.Goals as goal
 

@@ -1,17 +1,9 @@
 -- The tree that the check finds over places is that of the free tiles.
-use Rattle.std.proofs.Common.{◌≡◌, refl, sym, ap, subst, ◌∙◌, ◌+◌, ◌*◌, ◌≤◌, true, List, length, ℕ}
-use Rattle.std.specs.Prelude.{Option, is_some}
-use Rattle.std.proofs.lemmas.Bool.{both_ways}
-use Rattle.raw_region.specs.Memory.{WindowState, bytes_of}
-use Rattle.offset_link.specs.Link.{link_at}
-use Rattle.offset_link.specs.Relinked.{is_bad}
-use Rattle.link_tree.specs.Tree.{IsSearchTree, nodes_of}
-use Rattle.image_check.specs.FreeNodes.{is_place, place_cells, stands_before}
-use Rattle.image_check.specs.Passes.{HasTiles, Spends}
-use Rattle.image_check.specs.Visits.{planting_rates, tree_rates}
-use Rattle.link_tree.specs.Checking.{IsLinkClosed}
-use Rattle.link_tree.specs.Nodes.{is_in, leads}
-use Rattle.link_tree.proofs.Laws.{some_same}
+use Rattle.image_check.proofs.Common.{HasTiles, IsLinkClosed, IsSearchTree, List, Option, Spends, WindowState, ap}
+use Rattle.image_check.proofs.Common.{both_ways, bytes_of, is_bad, is_in, is_place, is_some, leads, length, link_at}
+use Rattle.image_check.proofs.Common.{nodes_of, planting_rates, refl, some_same, stands_before, subst, sym, tree_rates}
+use Rattle.image_check.proofs.Common.{true, ℕ, ◌*◌, ◌+◌, ◌∙◌, ◌≡◌, ◌≤◌}
+use Rattle.image_check.specs.FreeNodes.{place_cells}
 use Rattle.image_check.proofs.budget.Visits.{check-short, tree-planted, tree-steps}
 use Rattle.image_check.proofs.walks.Counts.{not-given}
 use Rattle.image_check.proofs.free_tree.NodeCount.{nodes-few}

@@ -1,8 +1,5 @@
-use Rattle.std.proofs.Common.{ℕ, ◌<◌, ap, arith, sym, ◌∙◌}
-use Rattle.std.specs.Prelude.{◌≢◌}
-use Rattle.std.proofs.lemmas.Bool.{eq-eqb, ne_eqb}
-use Rattle.raw_region.specs.Memory.{bytes_of, word_at}
-use Rattle.image_check.specs.EarlyTests.{has_free_tree}
+use Rattle.image_check.proofs.Common.{ap, arith, bytes_of, eq-eqb, has_free_tree, ne_eqb, sym, ℕ, ◌<◌, ◌∙◌, ◌≢◌}
+use Rattle.raw_region.specs.Memory.{word_at}
 use Rattle.image_check.specs.Passes.{tiles_in}
 use Rattle.image_check.proofs.budget.Visits.{treeless-spend}
 use Rattle.image_check.proofs.frame.FormatTags.{later-free_tree}

@@ -1,15 +1,10 @@
-use Rattle.std.proofs.Common.{◌≡◌, refl, sym, ap, ◌∙◌, true, false, List, ◌++◌, ◌∷◌, arith}
-use Rattle.std.specs.List.{list_all}
-use Rattle.link_tree.specs.Tree.{nodes_of}
-use Rattle.block_tags.specs.declared.tile.Tile.{Tile}
-use Rattle.image_check.specs.FreeNodes.{is_planted}
-use Rattle.image_check.specs.Visits.{planting_rates}
-use Rattle.block_tags.proofs.Laws.{tiles_are_read_off}
+use Rattle.image_check.proofs.Common.{List, Tile, ap, arith, false, is_planted, list_all, nodes_of, planting_rates}
+use Rattle.image_check.proofs.Common.{refl, sym, tiles_are_read_off, true, ◌++◌, ◌∙◌, ◌∷◌, ◌≡◌}
 use Rattle.image_check.proofs.walks.Counts.{counted-few}
 use Rattle.image_check.proofs.budget.Visits.{search-for-tile, within-all, within-more, within-none, within-stop}
 use Rattle.image_check.proofs.walks.OneTile.{read-at, read-met, read-nearer}
-use Rattle.image_check.proofs.walks.Tiles.{all-fails, all-more, at-meets, tags-IsTiledWindow, walk-end}
-use Rattle.image_check.proofs.walks.Tiles.{walk-on, walk-start}
+use Rattle.image_check.proofs.walks.Tiles.{all-fails, all-more, at-meets, tags-IsTiledWindow, walk-end, walk-on}
+use Rattle.image_check.proofs.walks.Tiles.{walk-start}
 use Rattle.image_check.proofs.free_tree.Meaning.{at-len, at-place}
 use Rattle.image_check.proofs.free_tree.count_planted.Goals as goal
 

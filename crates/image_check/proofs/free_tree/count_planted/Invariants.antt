@@ -1,11 +1,6 @@
-use Rattle.std.proofs.Common.{◌≡◌, true, List}
-use Rattle.std.specs.List.{list_all}
-use Rattle.raw_region.specs.Memory.{bytes_of}
-use Rattle.link_tree.specs.Tree.{Tree, IsSearchTree, nodes_of}
-use Rattle.block_tags.specs.declared.tile.Tile.{Tile}
-use Rattle.image_check.specs.Counting.{AreCounted}
-use Rattle.image_check.specs.FreeNodes.{is_planted, place_cells, stands_before}
-use Rattle.image_check.specs.Visits.{planting_rates}
+use Rattle.image_check.proofs.Common.{AreCounted, IsSearchTree, List, Tile, Tree, bytes_of, is_planted, list_all}
+use Rattle.image_check.proofs.Common.{nodes_of, planting_rates, stands_before, true, ◌≡◌}
+use Rattle.image_check.specs.FreeNodes.{place_cells}
 use Rattle.image_check.proofs.budget.Visits.{Within}
 use Rattle.image_check.proofs.walks.Tiles.{Walks, left_from}
 use Rattle.image_check.proofs.free_tree.count_planted.Given as goal

@@ -1,5 +1,4 @@
-use Rattle.std.proofs.Common.{arith}
-use Rattle.image_check.specs.Visits.{tag_rates}
+use Rattle.image_check.proofs.Common.{arith, tag_rates}
 use Rattle.image_check.proofs.walks.Counts.{counted-few}
 use Rattle.image_check.proofs.budget.Visits.{two-for-tile, within-all, within-more, within-none}
 use Rattle.image_check.proofs.walks.OneTile.{read-at, read-met, read-nearer}

@@ -1,7 +1,4 @@
-use Rattle.std.proofs.Common.{List}
-use Rattle.block_tags.specs.declared.tile.Tile.{Tile}
-use Rattle.image_check.specs.Counting.{AreCounted}
-use Rattle.image_check.specs.Visits.{tag_rates}
+use Rattle.image_check.proofs.Common.{AreCounted, List, Tile, tag_rates}
 use Rattle.image_check.proofs.budget.Visits.{Within}
 use Rattle.image_check.proofs.walks.Tiles.{Walks, left_from}
 use Rattle.image_check.proofs.free_tree.count_tiles.Given as goal

@@ -1,5 +1,4 @@
-use Rattle.std.proofs.Common.{arith, length, ◌+◌}
-use Rattle.image_check.specs.FreeLaws.{is_place-PayloadBounds, small_size}
+use Rattle.image_check.proofs.Common.{arith, is_place-PayloadBounds, length, small_size, ◌+◌}
 use Rattle.image_check.proofs.free_tree.is_planted.Goals as goal
 
 pub overflow_add-node : goal.overflow_add-node

@@ -1,9 +1,7 @@
-use Rattle.std.proofs.Common.{sym, ap, ◌∙◌, length, arith}
-use Rattle.raw_region.specs.Memory.{bytes_of}
-use Rattle.link_tree.specs.Tree.{nodes_of}
+use Rattle.image_check.proofs.Common.{ap, arith, before_irreflexive, bytes_of, length, nodes_of, stands_before, sym}
+use Rattle.image_check.proofs.Common.{◌∙◌}
 use Rattle.best_fit.specs.GapLaws.{comes}
-use Rattle.image_check.specs.FreeNodes.{is_before, len_at, stands_before}
-use Rattle.image_check.specs.FreeLaws.{before_irreflexive}
+use Rattle.image_check.specs.FreeNodes.{is_before, len_at}
 use Rattle.image_check.proofs.free_tree.Places.{found-tells, nothing-tells}
 use Rattle.image_check.proofs.budget.Visits.{search-short}
 use Rattle.image_check.proofs.free_tree.is_reached.Goals as goal

@@ -1,10 +1,6 @@
-use Rattle.std.proofs.Common.{refl, sym, ap, ◌∙◌}
-use Rattle.std.proofs.lemmas.Bool.{ne_eqb}
-use Rattle.raw_region.specs.Memory.{bytes_of, word_at}
-use Rattle.segment_manager.specs.Denotes.{magic_number}
-use Rattle.block_tags.specs.Format.{is_legal_size}
-use Rattle.image_check.specs.Formats.{format_in}
-use Rattle.image_check.proofs.reading.Fronts.{IsReadOf, front-version, front-size, front-right}
+use Rattle.image_check.proofs.Common.{ap, bytes_of, format_in, is_legal_size, magic_number, ne_eqb, refl, sym, ◌∙◌}
+use Rattle.raw_region.specs.Memory.{word_at}
+use Rattle.image_check.proofs.reading.Fronts.{IsReadOf, front-right, front-size, front-version}
 use Rattle.image_check.proofs.reading.Formats.{other-format, taken-format}
 use Rattle.image_check.proofs.header.judge_front.Goals as goal
 

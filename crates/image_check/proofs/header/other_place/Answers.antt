@@ -1,10 +1,6 @@
-use Rattle.std.proofs.Common.{◌≡◌, ◌∙◌, ◌∷◌, [], ◌<◌, ℕ, List, ap, sym, true, arith}
-use Rattle.std.specs.Prelude.{codes, slice_index}
-use Rattle.std.proofs.lemmas.Bool.{eq-eqb, true≢false}
-use Rattle.byteorder.specs.Endian.{little_number}
-use Rattle.raw_region.specs.Memory.{bytes_of, read, word_at}
-use Rattle.segment_manager.specs.Denotes.{magic_number}
-use Rattle.image_check.specs.EarlyTests.{has_magic}
+use Rattle.image_check.proofs.Common.{List, [], ap, arith, bytes_of, codes, eq-eqb, has_magic, little_number}
+use Rattle.image_check.proofs.Common.{magic_number, read, slice_index, sym, true, true≢false, ℕ, ◌<◌, ◌∙◌, ◌∷◌, ◌≡◌}
+use Rattle.raw_region.specs.Memory.{word_at}
 use Rattle.image_check.proofs.header.other_place.Goals as goal
 
 magic-bytes : (b : List ℕ) → ((i : ℕ) → i < 8 → slice_index b i ≡ slice_index (codes "MSEGFILE") i)

@@ -1,5 +1,4 @@
-use Rattle.std.proofs.Common.{◌≡◌, ℕ, ◌<◌}
-use Rattle.std.specs.Prelude.{codes, slice_index}
+use Rattle.image_check.proofs.Common.{codes, slice_index, ℕ, ◌<◌, ◌≡◌}
 use Rattle.image_check.proofs.header.other_place.Given as goal
 
 abbrev pub invariant-bytes : goal.invariant-bytes

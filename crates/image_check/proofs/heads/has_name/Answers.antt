@@ -1,5 +1,4 @@
-use Rattle.std.proofs.Common.{sym, ◌∙◌, length}
-use Rattle.raw_region.specs.Memory.{bytes_of}
+use Rattle.image_check.proofs.Common.{bytes_of, length, sym, ◌∙◌}
 use Rattle.image_check.proofs.objects.HeadBytes.{named-right}
 use Rattle.image_check.proofs.heads.has_name.Goals as goal
 

@@ -1,6 +1,5 @@
 -- No two kinds have one code.
-use Rattle.std.proofs.Common.{sym, ap, ◌∙◌}
-use Rattle.seg_types.specs.Kinds.{kind_of_code}
+use Rattle.image_check.proofs.Common.{ap, kind_of_code, sym, ◌∙◌}
 use Rattle.segment_manager.proofs.Laws.{code-read}
 use Rattle.image_check.proofs.heads.kind_of_code.Goals as goal
 

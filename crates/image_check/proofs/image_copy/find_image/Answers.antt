@@ -1,4 +1,4 @@
-use Rattle.std.proofs.Common.{ap, ◌∙◌}
+use Rattle.image_check.proofs.Common.{ap, ◌∙◌}
 use Rattle.raw_region.specs.Memory.{whole}
 use Rattle.raw_region.proofs.Laws.{whole-cut_at}
 use Rattle.image_check.proofs.image_copy.find_image.Goals as goal

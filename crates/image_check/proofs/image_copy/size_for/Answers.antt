@@ -1,5 +1,4 @@
-use Rattle.std.proofs.Common.{sym, length, arith}
-use Rattle.image_check.specs.Formats.{format_in}
+use Rattle.image_check.proofs.Common.{arith, format_in, length, sym}
 use Rattle.image_check.proofs.opening.InMemory.{front-place, misfit-cut, misfit-front, misfit-more, more-place}
 use Rattle.image_check.proofs.opening.InMemory.{says-right}
 use Rattle.image_check.proofs.image_copy.size_for.Goals as goal

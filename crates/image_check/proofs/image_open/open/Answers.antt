@@ -1,8 +1,5 @@
-use Rattle.std.proofs.Common.{Err, refl, subst, sym, arith}
-use Rattle.raw_region.specs.Device.{ReadsSource, read_delta}
+use Rattle.image_check.proofs.Common.{Err, OpenRefused, ReadsSource, arith, opened_as, read_delta, refl, subst, sym}
 use Rattle.raw_region.specs.Format.{current}
-use Rattle.image_check.specs.declared.errors.OpenRefused.{OpenRefused}
-use Rattle.image_check.specs.Causes.{opened_as}
 use Rattle.image_check.specs.Opening.{Opens}
 use Rattle.image_check.proofs.reading.FrontAlone.{opened-reads, opened-roomy}
 use Rattle.image_check.proofs.opening.Refusals.{opens, unread-opens}

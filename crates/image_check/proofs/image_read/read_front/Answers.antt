@@ -1,13 +1,9 @@
-use Rattle.std.proofs.Common.{◌≡◌, ℕ, ◌≤◌, ◌++◌, length, take, drop, sym, ap, subst, ◌∙◌, arith}
-use Rattle.std.proofs.lemmas.List.{length-append, length-drop}
-use Rattle.raw_region.proofs.Laws.{added, both_added}
-use Rattle.image_check.specs.Causes.{error_for}
-use Rattle.image_check.specs.Verdicts.{Shows}
-use Rattle.std.proofs.lemmas.Result.{err_from_is_err_and}
-use Rattle.image_check.specs.Formats.{format_in}
-use Rattle.image_check.specs.Reading.{front_of}
+use Rattle.image_check.proofs.Common.{Shows, added, ap, arith, both_added, drop, err_from_is_err_and, error_for}
+use Rattle.image_check.proofs.Common.{format_in, front_of, length, length-drop, subst, sym, take, ℕ, ◌++◌, ◌∙◌, ◌≡◌}
+use Rattle.image_check.proofs.Common.{◌≤◌}
+use Rattle.std.proofs.lemmas.List.{length-append}
 use Rattle.image_check.proofs.reading.FrontAlone.{short-roomy}
-use Rattle.image_check.proofs.reading.Stops.{front_stops, wrong_front_stops, wrong_front_decides}
+use Rattle.image_check.proofs.reading.Stops.{front_stops, wrong_front_decides, wrong_front_stops}
 use Rattle.image_check.proofs.reading.Formats.{since-format}
 use Rattle.image_check.proofs.reading.Places.{end-shown, front-shown}
 use Rattle.image_check.proofs.image_read.read_front.Goals as goal

@@ -1,10 +1,6 @@
-use Rattle.std.proofs.Common.{ℕ, ◌≤◌, length, drop, sym, subst, ap, ◌∙◌, arith}
-use Rattle.raw_region.specs.Device.{read_delta}
-use Rattle.raw_region.specs.Memory.{WindowState, patched}
+use Rattle.image_check.proofs.Common.{IsImageRead, IsNotRead, IsShown, WindowState, ap, arith, drop, error_for}
+use Rattle.image_check.proofs.Common.{format_in, length, patched, read_delta, subst, sym, ℕ, ◌∙◌, ◌≤◌}
 use Rattle.raw_region.specs.Regions.{with_bytes}
-use Rattle.image_check.specs.Causes.{IsShown, error_for}
-use Rattle.image_check.specs.Formats.{format_in}
-use Rattle.image_check.specs.Reading.{IsImageRead, IsNotRead}
 use Rattle.image_check.proofs.reading.Buffer.{HasFront-least}
 use Rattle.image_check.proofs.opening.InRegion.{IsBegun, begun-HasFront, begun-read, begun-start, begun-stops}
 use Rattle.image_check.proofs.reading.Formats.{since-format}

@@ -1,8 +1,8 @@
-use Rattle.std.proofs.Common.{◌≡◌, ◌-◌, ap, ◌∙◌, length, take, drop, arith}
-use Rattle.std.proofs.lemmas.List.{length-append, length-drop, length-take-le}
-use Rattle.image_check.specs.Causes.{error_for, error_in}
-use Rattle.std.proofs.lemmas.Result.{err_from_is_err_and}
-use Rattle.image_check.proofs.reading.Buffer.{filled_short, filled_whole, rest-filled, front-length}
+use Rattle.image_check.proofs.Common.{ap, arith, drop, err_from_is_err_and, error_for, length, length-drop}
+use Rattle.image_check.proofs.Common.{length-take-le, take, ◌-◌, ◌∙◌, ◌≡◌}
+use Rattle.std.proofs.lemmas.List.{length-append}
+use Rattle.image_check.specs.Causes.{error_in}
+use Rattle.image_check.proofs.reading.Buffer.{filled_short, filled_whole, front-length, rest-filled}
 use Rattle.image_check.proofs.reading.FrontAlone.{end-roomy, short-roomy}
 use Rattle.image_check.proofs.reading.Places.{end-shown, err-in, err-out, whole-shown}
 use Rattle.image_check.proofs.image_read.read_rest.Goals as goal

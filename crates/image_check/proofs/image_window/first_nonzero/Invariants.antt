@@ -1,5 +1,4 @@
-use Rattle.std.proofs.Common.{◌≡◌, ℕ, ◌<◌, ◌≤◌}
-use Rattle.std.specs.Prelude.{slice_index}
+use Rattle.image_check.proofs.Common.{slice_index, ℕ, ◌<◌, ◌≡◌, ◌≤◌}
 use Rattle.image_check.proofs.image_window.first_nonzero.Given as goal
 
 abbrev pub invariant-bytes : goal.invariant-bytes

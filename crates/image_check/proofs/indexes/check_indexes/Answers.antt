@@ -1,12 +1,10 @@
 -- The second index is entered after the first.
-use Rattle.std.proofs.Common.{inl, inr, sym, subst}
-use Rattle.raw_region.specs.Memory.{bytes_of}
+use Rattle.image_check.proofs.Common.{AreBlocks, Blocks, bytes_of, inl, inr, subst, sym}
 use Rattle.image_check.specs.Passes.{tiles_in}
-use Rattle.image_check.proofs.indexes.BothIndexes.{first-wrong, second-wrong, both-right, both-entered, entries-mark}
-use Rattle.image_check.proofs.indexes.BothIndexes.{entries-unmarked, first-entered, none-entered}
+use Rattle.image_check.proofs.indexes.BothIndexes.{both-entered, both-right, entries-mark, entries-unmarked}
+use Rattle.image_check.proofs.indexes.BothIndexes.{first-entered, first-wrong, none-entered, second-wrong}
 use Rattle.image_check.proofs.indexes.EntryPlaces.{entered-right}
 use Rattle.image_check.proofs.block_collection.Lookup.{tags-blocks}
-use Rattle.image_check.specs.Owners.{AreBlocks, Blocks}
 use Rattle.image_check.proofs.indexes.check_indexes.Goals as goal
 
 pub enter_index-requires-clause-blocks : goal.enter_index-requires-clause-blocks

@@ -1,15 +1,12 @@
 -- Each turn passes one entry.
-use Rattle.std.proofs.Common.{◌≡◌, ◌+◌, ◌*◌, sym, ap, subst, ◌∙◌, ℕ, List, ◌++◌, ◌∷◌, [], arith, inl, inr, refl, true}
-use Rattle.std.specs.Prelude.{Option}
+use Rattle.image_check.proofs.Common.{List, NotesEntries, Option, [], ap, are_enterable, arith, bytes_of, can_enter}
+use Rattle.image_check.proofs.Common.{first_targets, inl, inr, is_new, link_at, links_in, refl, subst, sym, true, ℕ}
+use Rattle.image_check.proofs.Common.{◌*◌, ◌++◌, ◌+◌, ◌∙◌, ◌∷◌, ◌≡◌}
 use Rattle.std.proofs.lemmas.List.FromFn.{map-range_with_len_more}
-use Rattle.raw_region.specs.Memory.{bytes_of}
-use Rattle.offset_link.specs.Link.{link_at}
-use Rattle.image_check.specs.Entered.{NotesEntries, are_enterable, can_enter, links_in}
-use Rattle.image_check.specs.IndexPlaces.{first_targets, is_new}
 use Rattle.image_check.proofs.indexes.EntryPlaces.{entered-new, not-new}
 use Rattle.image_check.proofs.block_collection.ByNumber.{one-more}
 use Rattle.image_check.proofs.bytes.Ranges.{split}
-use Rattle.image_check.proofs.indexes.AllEntries.{one-entered, wrong-entry, targets_of}
+use Rattle.image_check.proofs.indexes.AllEntries.{one-entered, targets_of, wrong-entry}
 use Rattle.image_check.proofs.indexes.enter_all.Goals as goal
 
 pub overflow_mul-place : goal.overflow_mul-place

@@ -1,10 +1,6 @@
-use Rattle.std.proofs.Common.{◌≡◌, ℕ, ◌+◌, ◌-◌, ◌*◌, ◌<◌, ◌≤◌, true, List, ◌++◌}
-use Rattle.raw_region.specs.Memory.{bytes_of}
-use Rattle.offset_link.specs.Link.{link_at}
-use Rattle.block_tags.specs.declared.tile.Tile.{Tile}
-use Rattle.image_check.specs.Owners.{AreBlocks}
-use Rattle.image_check.specs.Entered.{NotesEntries, HaveEntries, are_enterable, links_in}
-use Rattle.image_check.specs.IndexPlaces.{first_targets, is_new}
+use Rattle.image_check.proofs.Common.{AreBlocks, HaveEntries, List, NotesEntries, Tile, are_enterable, bytes_of}
+use Rattle.image_check.proofs.Common.{first_targets, is_new, link_at, links_in, true, ℕ, ◌*◌, ◌++◌, ◌+◌, ◌-◌, ◌<◌, ◌≡◌}
+use Rattle.image_check.proofs.Common.{◌≤◌}
 use Rattle.image_check.proofs.indexes.enter_all.Given as goal
 
 -- the entries that were passed are noted

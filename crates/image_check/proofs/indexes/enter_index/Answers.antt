@@ -1,13 +1,13 @@
 -- The entries lie in the tile of the index.
-use Rattle.std.proofs.Common.{◌+◌, ◌-◌, ◌*◌, ◌/◌, ◌≤◌, refl, sym, ◌∙◌, arith, inl, length}
-use Rattle.raw_region.specs.Memory.{bytes_of, word_at}
-use Rattle.block_tags.specs.declared.tile.Role.TheVariants.{Index}
+use Rattle.image_check.proofs.Common.{Index, arith, bytes_of, inl, length, refl, sym, weigh, ◌*◌, ◌+◌, ◌-◌, ◌/◌, ◌∙◌}
+use Rattle.image_check.proofs.Common.{◌≤◌}
+use Rattle.raw_region.specs.Memory.{word_at}
 use Rattle.image_check.specs.Passes.{tiles_in}
-use Rattle.image_check.specs.Visits.{index_rates, weigh}
+use Rattle.image_check.specs.Visits.{index_rates}
 use Rattle.image_check.proofs.indexes.EntryPlaces.{index-entered, wrong-head}
-use Rattle.image_check.proofs.indexes.Places.{IsIndexRoom, rows, in-row, room-of, weigh-one}
-use Rattle.image_check.proofs.indexes.enter_index.Goals as goal
+use Rattle.image_check.proofs.indexes.Places.{IsIndexRoom, in-row, room-of, rows, weigh-one}
 use Rattle.image_check.proofs.indexes.enter_index.Goals.{In-Some}
+use Rattle.image_check.proofs.indexes.enter_index.Goals as goal
 
 room : (c : In-Some) → IsIndexRoom (tiles_in c.args.window.now.bytes) c.in-Some.block
     (word_at (bytes_of c.args.window.now.bytes) (c.args.at + 8))

@@ -1,11 +1,8 @@
-use Rattle.std.proofs.Common.{refl, ◌+◌, ◌*◌, None, arith}
-use mathlib.Core.Logic.{inl}
-use Rattle.raw_region.specs.Memory.{bytes_of}
-use Rattle.block_tags.specs.declared.tile.Role.TheVariants.{Storage}
-use Rattle.image_check.specs.Owners.{MarksLink, IsSharedIn, owner}
+use Rattle.image_check.proofs.Common.{IsSharedIn, MarksLink, None, Storage, arith, bytes_of, owner, refl, ◌*◌, ◌+◌}
 use Rattle.image_check.specs.Passes.{tiles_in}
 use Rattle.image_check.proofs.shared_blocks.Worklist.{of-err, of-ok}
 use Rattle.image_check.proofs.shared_blocks.Links.{elements-on, few-wait}
+use mathlib.Core.Logic.{inl}
 use Rattle.image_check.proofs.links.mark_elements.Goals as goal
 
 pub mark-requires-clause-no_overflow : goal.mark-requires-clause-no_overflow

@@ -1,4 +1,4 @@
-use Rattle.std.proofs.Common.{◌-◌}
+use Rattle.image_check.proofs.Common.{◌-◌}
 use Rattle.image_check.proofs.shared_blocks.Links.{NotedElements}
 use Rattle.image_check.proofs.links.mark_elements.Given as goal
 

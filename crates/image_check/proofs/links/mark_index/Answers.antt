@@ -1,14 +1,9 @@
-use Rattle.std.proofs.Common.{◌<◌, None, arith}
-use mathlib.Core.Logic.{inl}
-use Rattle.std.proofs.Common.{refl}
-use Rattle.raw_region.specs.Memory.{bytes_of}
-use Rattle.block_tags.specs.declared.tile.Role.TheVariants.{Index}
-use Rattle.image_check.specs.ObjectTests.{index_capacity}
-use Rattle.image_check.specs.Owners.{MarksLink, IsSharedIn, owner}
+use Rattle.image_check.proofs.Common.{Index, IsIndexNoted, IsSharedIn, MarksLink, None, arith, bytes_of, index_capacity}
+use Rattle.image_check.proofs.Common.{owner, refl, ◌<◌}
 use Rattle.image_check.specs.Passes.{tiles_in}
-use Rattle.image_check.specs.Sharing.{IsIndexNoted}
 use Rattle.image_check.proofs.shared_blocks.Worklist.{map-ok}
 use Rattle.image_check.proofs.shared_blocks.Links.{few-wait, index-may, index-start, marked-index}
+use mathlib.Core.Logic.{inl}
 use Rattle.image_check.proofs.links.mark_index.Goals as goal
 
 pub mark-requires-clause-no_overflow : goal.mark-requires-clause-no_overflow

@@ -1,12 +1,10 @@
-use Rattle.std.proofs.Common.{◌+◌, ◌<◌, None, arith, refl, subst}
-use mathlib.Core.Logic.{inl}
-use Rattle.raw_region.specs.Memory.{bytes_of, word_at}
-use Rattle.block_tags.specs.declared.tile.Role.TheVariants.{Storage}
-use Rattle.image_check.specs.Owners.{MarksLink, IsSharedIn, owner}
+use Rattle.image_check.proofs.Common.{IsSharedIn, IsStorageNoted, MarksLink, None, Storage, arith, bytes_of, owner}
+use Rattle.image_check.proofs.Common.{refl, subst, ◌+◌, ◌<◌}
+use Rattle.raw_region.specs.Memory.{word_at}
 use Rattle.image_check.specs.Passes.{tiles_in}
-use Rattle.image_check.specs.Sharing.{IsStorageNoted}
 use Rattle.image_check.proofs.shared_blocks.Worklist.{map-ok}
 use Rattle.image_check.proofs.shared_blocks.Links.{Marks, few-wait, marked-storage}
+use mathlib.Core.Logic.{inl}
 use Rattle.image_check.proofs.links.mark_storage.Goals as goal
 
 pub mark-requires-clause-no_overflow : goal.mark-requires-clause-no_overflow

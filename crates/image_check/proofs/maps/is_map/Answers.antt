@@ -1,8 +1,5 @@
-use Rattle.std.proofs.Common.{refl, sym, ◌∙◌, inl, inr, length}
-use Rattle.std.specs.Prelude.{nat_eq}
-use Rattle.std.proofs.lemmas.Bool.{both_ways, cases_Bool, eqb-true, eq-eqb, ne_eqb}
-use Rattle.link_tree.specs.Tree.{nodes_of}
-use Rattle.link_tree.proofs.Laws.{some_same}
+use Rattle.image_check.proofs.Common.{both_ways, cases_Bool, eq-eqb, eqb-true, inl, inr, length, nat_eq, ne_eqb}
+use Rattle.image_check.proofs.Common.{nodes_of, refl, some_same, sym, ◌∙◌}
 use Rattle.image_check.proofs.containers.Maps.{found-map, not-map}
 use Rattle.image_check.proofs.maps.is_map.Goals as goal
 

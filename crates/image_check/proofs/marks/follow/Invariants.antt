@@ -1,6 +1,5 @@
 -- What is noted counts, and what was noted before stays. Each turn there is less left to follow.
-use Rattle.std.proofs.Common.{◌+◌, ◌*◌}
-use Rattle.image_check.specs.Owners.{unspent_budget}
+use Rattle.image_check.proofs.Common.{unspent_budget, ◌*◌, ◌+◌}
 use Rattle.image_check.proofs.shared_blocks.Worklist.{IsGoing}
 use Rattle.image_check.proofs.marks.follow.Given as goal
 

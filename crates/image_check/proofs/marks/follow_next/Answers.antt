@@ -1,18 +1,13 @@
-use Rattle.std.proofs.Common.{◌≡◌, sym, ap, subst, ◌∙◌, ℕ, ◌+◌, ◌-◌, ◌≤◌, List, length, Some, None, arith}
-use Rattle.std.specs.Prelude.{Option}
-use Rattle.raw_region.specs.Memory.{bytes_of}
-use Rattle.block_tags.specs.declared.tile.Role.TheVariants.{Node}
+use Rattle.image_check.proofs.Common.{Block, Blocks, HasTiles, IsMarkingOf, IsSharedIn, List, MarksLink, Node, None}
+use Rattle.image_check.proofs.Common.{Option, Some, ap, arith, block_at, bytes_of, length, owner, subst, sym, ℕ, ◌+◌}
+use Rattle.image_check.proofs.Common.{◌-◌, ◌∙◌, ◌≡◌, ◌≤◌}
 use Rattle.raw_region.specs.Format.{current}
-use Rattle.image_check.specs.declared.owners.Block.{Block}
-use Rattle.image_check.specs.Passes.{HasTiles, tiles_in}
-use Rattle.image_check.specs.Owners.{IsMarkingOf, MarksLink, IsSharedIn, IsTurn, Blocks, block_at, next_in, root_in}
-use Rattle.image_check.specs.Owners.{owner}
+use Rattle.image_check.specs.Passes.{tiles_in}
+use Rattle.image_check.specs.Owners.{IsTurn, next_in, root_in}
 use Rattle.image_check.proofs.block_collection.Places.{IsInside, legal-small, payload-inside}
-use Rattle.image_check.proofs.shared_blocks.Worklist.{leader, left-counts, left-rooted, map-ok, node-there, node-tile}
-use Rattle.image_check.proofs.shared_blocks.Worklist.{of-err, of-ok}
-use Rattle.image_check.proofs.shared_blocks.Worklist.{right-counts, right-rooted, root-is, taken, turn-keeps, turn-less}
-use Rattle.image_check.proofs.shared_blocks.Worklist.{turned}
-use Rattle.image_check.proofs.shared_blocks.Worklist.{debts-small}
+use Rattle.image_check.proofs.shared_blocks.Worklist.{debts-small, leader, left-counts, left-rooted, map-ok, node-there}
+use Rattle.image_check.proofs.shared_blocks.Worklist.{node-tile, of-err, of-ok, right-counts, right-rooted, root-is}
+use Rattle.image_check.proofs.shared_blocks.Worklist.{taken, turn-keeps, turn-less, turned}
 use Rattle.image_check.proofs.marks.follow_next.Goals as goal
 
 -- the node lies in the window
@@ -63,8 +58,8 @@ its-root : (format : ℕ) (b : List ℕ) (es : Blocks) (pending : Option ℕ) (w
 its-root format b es pending waiting k n e block root f g =
     g ∙ ap (λ x. root_in x n) f ∙ root-is format (bytes_of b) (tiles_in b) es pending waiting k n e
 
-pub mark-requires-in-Ok-clause-room : goal.mark-requires-in-Ok-clause-room
-mark-requires-in-Ok-clause-room g c =
+pub mark-requires-in-Ok-clause-no_overflow : goal.mark-requires-in-Ok-clause-no_overflow
+mark-requires-in-Ok-clause-no_overflow g c =
     let b = c.args.window.now.bytes in
     let o = c.args.owners.now in
     let k = its-turn g.format b o.blocks.entries o.pending o.waiting c.requires.1.0 c.args.node c.requires.1.1

@@ -1,9 +1,7 @@
-use Rattle.std.proofs.Common.{sym, subst, ◌∙◌, ℕ, ◌+◌, Some}
-use Rattle.block_tags.specs.declared.tile.Role.TheVariants.{Node}
-use Rattle.image_check.specs.Owners.{MarksLink, Blocks}
+use Rattle.image_check.proofs.Common.{Blocks, MarksLink, Node, Some, subst, sym, ℕ, ◌+◌, ◌∙◌}
 use Rattle.image_check.proofs.block_collection.UsedTile.{same_role-is}
 use Rattle.image_check.proofs.block_collection.GoodLinks.{differ}
-use Rattle.image_check.proofs.shared_blocks.OneLink.{no-block, other-role, shared, node-owned, other-owned}
+use Rattle.image_check.proofs.shared_blocks.OneLink.{no-block, node-owned, other-owned, other-role, shared}
 use Rattle.image_check.proofs.marks.mark.Goals as goal
 
 pub returns-in_default-find-clause-marks : goal.returns-in_default-find-clause-marks

@@ -1,7 +1,5 @@
-use Rattle.std.proofs.Common.{arith, ◌∙◌, sym, subst}
-use Rattle.std.specs.Prelude.{IsTrue}
-use Rattle.raw_region.specs.Memory.{WindowState}
-use Rattle.best_fit.specs.Heap.{is_live_in, live_of}
+use Rattle.image_check.proofs.Common.{IsTrue, WindowState, arith, is_live_in, subst, sym, ◌∙◌}
+use Rattle.best_fit.specs.Heap.{live_of}
 use Rattle.image_check.proofs.noting.note_blocks.Goals as goal
 
 pub insert_hint-requires : goal.insert_hint-requires

@@ -1,26 +1,17 @@
 -- Each turn of the walk passes one tile in use.
-use Rattle.std.proofs.Common.{◌≡◌, ◌+◌, ◌-◌, ◌*◌, ◌/◌, ◌≤◌, refl, sym, ap, ◌∙◌, ℕ, true, inl, List, ◌∷◌, ◌++◌, length}
-use Rattle.std.proofs.Common.{arith}
-use Rattle.std.specs.Prelude.{None}
-use Rattle.std.specs.List.{list_all}
-use Rattle.std.proofs.lemmas.Bool.{cond-false}
-use Rattle.raw_region.specs.Memory.{WindowState, Memory, bytes_of}
+use Rattle.image_check.proofs.Common.{List, Memory, None, Tile, WindowState, ap, arith, bytes_of, cond-false, frame_of}
+use Rattle.image_check.proofs.Common.{inl, is_object_tile, is_right_tile, is_use, length, list_all, object_walk_rates}
+use Rattle.image_check.proofs.Common.{rate_of, refl, said_row, sym, tiles_are_read_off, true, weigh, ℕ, ◌*◌, ◌++◌, ◌+◌}
+use Rattle.image_check.proofs.Common.{◌-◌, ◌/◌, ◌∙◌, ◌∷◌, ◌≡◌, ◌≤◌}
 use Rattle.block_tags.specs.declared.tile.Role.TheVariants.{Object}
-use Rattle.block_tags.specs.declared.tile.Tile.{Tile}
-use Rattle.block_tags.proofs.Laws.{tiles_are_read_off}
-use Rattle.best_fit.proofs.Laws.{said_row}
-use Rattle.image_check.specs.ObjectTests.{is_object_tile, is_use}
-use Rattle.image_check.specs.ObjectPasses.{is_right_tile, object_walk_rates}
-use Rattle.image_check.specs.Owners.{frame_of}
-use Rattle.image_check.specs.Visits.{rate_of, weigh}
 use Rattle.image_check.proofs.indexes.Places.{InRow, in-row}
 use Rattle.image_check.proofs.bytes.Members.{mem_right}
 use Rattle.image_check.proofs.walks.Rows.{PassesGaps, RowAt, free-object, recoloured, row-at, rows-end, rows-on}
 use Rattle.image_check.proofs.walks.Rows.{rows-start}
 use Rattle.image_check.proofs.walks.Tiles.{all-more, fails-there, tags-IsTiledWindow}
-use Rattle.image_check.proofs.walks.Weights.{weigh-more, weigh-front}
-use Rattle.image_check.proofs.object_walk.are_right.Goals as goal
+use Rattle.image_check.proofs.walks.Weights.{weigh-front, weigh-more}
 use Rattle.image_check.proofs.object_walk.are_right.Goals.{After-row-payload}
+use Rattle.image_check.proofs.object_walk.are_right.Goals as goal
 
 -- what is kept of the tiles behind the walk
 abbrev Kept : ℕ → WindowState → ℕ → ℕ → List Tile → Type 0

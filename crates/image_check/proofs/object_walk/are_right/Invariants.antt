@@ -1,9 +1,5 @@
-use Rattle.std.proofs.Common.{◌≡◌, ◌+◌, ◌-◌, ◌≤◌, true, List, length}
-use Rattle.std.specs.List.{list_all}
-use Rattle.raw_region.specs.Memory.{bytes_of}
-use Rattle.block_tags.specs.declared.tile.Tile.{Tile}
-use Rattle.image_check.specs.ObjectPasses.{is_right_tile, object_walk_rates}
-use Rattle.image_check.specs.Visits.{weigh}
+use Rattle.image_check.proofs.Common.{List, Tile, bytes_of, is_right_tile, length, list_all, object_walk_rates, true}
+use Rattle.image_check.proofs.Common.{weigh, ◌+◌, ◌-◌, ◌≡◌, ◌≤◌}
 use Rattle.image_check.proofs.walks.Rows.{RowWalks}
 use Rattle.image_check.proofs.object_walk.are_right.Given as goal
 

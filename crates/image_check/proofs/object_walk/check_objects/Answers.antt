@@ -1,10 +1,8 @@
 -- The entries are looked at once all objects are right by themselves.
-use Rattle.std.proofs.Common.{arith, inl, inr}
-use Rattle.raw_region.specs.Memory.{bytes_of}
+use Rattle.image_check.proofs.Common.{arith, bytes_of, inl, inr}
 use Rattle.image_check.specs.Passes.{tiles_in}
-use Rattle.image_check.proofs.objects.AllObjects.{heads-of, named-index, unique-index, right-from, weights-sum}
-use Rattle.image_check.proofs.objects.AllObjects.{wrong-named}
-use Rattle.image_check.proofs.objects.AllObjects.{wrong-tiles, wrong-unique}
+use Rattle.image_check.proofs.objects.AllObjects.{heads-of, named-index, right-from, unique-index, weights-sum}
+use Rattle.image_check.proofs.objects.AllObjects.{wrong-named, wrong-tiles, wrong-unique}
 use Rattle.image_check.proofs.object_walk.check_objects.Goals as goal
 
 pub returns-in-Err-clause-verdict : goal.returns-in-Err-clause-verdict

@@ -1,6 +1,5 @@
 -- A value is looked at where it has room.
-use Rattle.std.proofs.Common.{sym, ◌∙◌, length, arith}
-use Rattle.raw_region.specs.Memory.{bytes_of}
+use Rattle.image_check.proofs.Common.{arith, bytes_of, length, sym, ◌∙◌}
 use Rattle.image_check.proofs.objects.OneObject.{no-room, room-wider}
 use Rattle.image_check.proofs.object_walk.is_object.Goals as goal
 

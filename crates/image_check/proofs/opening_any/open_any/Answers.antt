@@ -1,9 +1,5 @@
-use Rattle.std.proofs.Common.{Err, subst, sym}
-use Rattle.raw_region.specs.Device.{ReadsSource, read_delta}
-use Rattle.image_check.specs.declared.errors.OpenRefused.{OpenRefused}
-use Rattle.image_check.specs.Causes.{opened_as}
-use Rattle.image_check.specs.Formats.{format_of}
-use Rattle.image_check.specs.OpeningAny.{OpensAny}
+use Rattle.image_check.proofs.Common.{Err, OpenRefused, OpensAny, ReadsSource, format_of, opened_as, read_delta, subst}
+use Rattle.image_check.proofs.Common.{sym}
 use Rattle.image_check.proofs.reading.FrontAlone.{opened-reads, opened-roomy}
 use Rattle.image_check.proofs.opening.AnyFormat.{opens-any, unread-any}
 use Rattle.image_check.proofs.reading.Formats.{format_of-few}

@@ -1,9 +1,4 @@
-use Rattle.std.proofs.Common.{Err, subst, sym}
-use Rattle.image_check.specs.declared.errors.OpenRefused.{OpenRefused}
-use Rattle.image_check.specs.Causes.{opened_as}
-use Rattle.image_check.specs.Formats.{format_of}
-use Rattle.image_check.specs.OpeningAny.{OpensAny}
-use Rattle.image_check.specs.OpeningBytes.{as_given}
+use Rattle.image_check.proofs.Common.{Err, OpenRefused, OpensAny, as_given, format_of, opened_as, subst, sym}
 use Rattle.image_check.proofs.opening.AnyFormat.{opens-any, unplaced-any}
 use Rattle.image_check.proofs.reading.Formats.{format_of-few}
 use Rattle.image_check.proofs.opening_any_bytes.open_any_bytes.Goals as goal

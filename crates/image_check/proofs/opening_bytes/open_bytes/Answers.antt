@@ -1,8 +1,5 @@
-use Rattle.std.proofs.Common.{Err, refl, subst, sym, arith}
+use Rattle.image_check.proofs.Common.{Err, OpenRefused, OpensBytes, arith, opened_as, refl, subst, sym}
 use Rattle.raw_region.specs.Format.{current}
-use Rattle.image_check.specs.declared.errors.OpenRefused.{OpenRefused}
-use Rattle.image_check.specs.Causes.{opened_as}
-use Rattle.image_check.specs.OpeningBytes.{OpensBytes}
 use Rattle.image_check.proofs.opening.InMemory.{not-placed, opens-bytes}
 use Rattle.image_check.proofs.opening_bytes.open_bytes.Goals as goal
 

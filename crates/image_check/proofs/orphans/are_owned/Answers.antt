@@ -1,10 +1,6 @@
-use Rattle.std.proofs.Common.{◌≡◌, ℕ, ap, refl, sym, ◌∙◌, true, List, Some, arith}
-use Rattle.std.specs.List.{list_all}
-use Rattle.raw_region.specs.Memory.{WindowState}
-use Rattle.block_tags.specs.declared.tile.Tile.{Tile}
-use Rattle.image_check.specs.declared.owners.Block.{Block}
+use Rattle.image_check.proofs.Common.{Block, Blocks, List, Some, Tile, WindowState, ap, arith, block_at, frame_of}
+use Rattle.image_check.proofs.Common.{has_owner, list_all, refl, sym, true, ℕ, ◌∙◌, ◌≡◌}
 use Rattle.image_check.specs.Orphans.{is_owned}
-use Rattle.image_check.specs.Owners.{Blocks, block_at, frame_of, has_owner}
 use Rattle.image_check.proofs.block_collection.Owners.{free-tests, tile-tests}
 use Rattle.image_check.proofs.walks.Rows.{PassesGaps, RowAt, row-at, rows-end, rows-on, rows-start}
 use Rattle.image_check.proofs.walks.Tiles.{all-more, fails-there, tags-IsTiledWindow}

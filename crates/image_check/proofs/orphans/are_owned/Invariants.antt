@@ -1,9 +1,6 @@
-use Rattle.std.proofs.Common.{◌≡◌, ◌+◌, ◌-◌, ◌≤◌, true, length, List}
-use Rattle.std.specs.List.{list_all}
-use Rattle.block_tags.specs.declared.tile.Tile.{Tile}
-use Rattle.raw_region.specs.Memory.{WindowState}
-use Rattle.image_check.specs.Owners.{entries_of, frames, has_owner}
-use Rattle.image_check.specs.Passes.{HasTiles, tiles_in}
+use Rattle.image_check.proofs.Common.{HasTiles, List, Tile, WindowState, entries_of, frames, has_owner, length}
+use Rattle.image_check.proofs.Common.{list_all, true, ◌+◌, ◌-◌, ◌≡◌, ◌≤◌}
+use Rattle.image_check.specs.Passes.{tiles_in}
 use Rattle.image_check.proofs.walks.Rows.{RowWalks}
 use Rattle.image_check.proofs.orphans.are_owned.Given as goal
 

@@ -1,4 +1,4 @@
-use Rattle.std.proofs.Common.{arith}
+use Rattle.image_check.proofs.Common.{arith}
 use Rattle.image_check.proofs.shared_blocks.Meaning.{orphan-found}
 use Rattle.image_check.proofs.block_collection.Owners.{rows-weigh}
 use Rattle.image_check.proofs.orphans.check_orphans.Goals as goal

@@ -1,7 +1,6 @@
-use Rattle.std.proofs.Common.{sym, ap, ◌∙◌}
-use Rattle.image_check.specs.ObjectTests.{good_for}
+use Rattle.image_check.proofs.Common.{ap, good_for, sym, ◌∙◌}
 use Rattle.image_check.proofs.block_collection.UsedTile.{same_role-is}
-use Rattle.image_check.proofs.block_collection.GoodLinks.{differ, len_of, one-tile, none-there, other-there}
+use Rattle.image_check.proofs.block_collection.GoodLinks.{differ, len_of, none-there, one-tile, other-there}
 use Rattle.image_check.proofs.owners.good_len.Goals as goal
 
 pub returns-in-Some-clause-value : goal.returns-in-Some-clause-value

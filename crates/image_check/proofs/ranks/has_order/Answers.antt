@@ -1,16 +1,14 @@
 -- The entries lie in the tile of the index.
-use Rattle.std.proofs.Common.{◌≡◌, ◌+◌, ◌-◌, ◌*◌, ◌/◌, ◌≤◌, refl, sym, ◌∙◌, Some, arith, length}
-use Rattle.raw_region.specs.Memory.{bytes_of, word_at}
-use Rattle.offset_link.specs.Link.{link_at}
-use Rattle.block_tags.specs.declared.tile.Role.TheVariants.{Index}
+use Rattle.image_check.proofs.Common.{Index, Some, arith, bytes_of, length, link_at, refl, sym, weigh, ◌*◌, ◌+◌, ◌-◌}
+use Rattle.image_check.proofs.Common.{◌/◌, ◌∙◌, ◌≡◌, ◌≤◌}
+use Rattle.raw_region.specs.Memory.{word_at}
 use Rattle.image_check.specs.Passes.{tiles_in}
 use Rattle.image_check.specs.ObjectPasses.{entry_rates}
-use Rattle.image_check.specs.Visits.{weigh}
 use Rattle.image_check.proofs.indexes.EntryPlaces.{order-found}
-use Rattle.image_check.proofs.indexes.LinkOrder.{index-room, entry-some, entry-among}
-use Rattle.image_check.proofs.indexes.Places.{IsIndexRoom, rows, in-row, weigh-one}
-use Rattle.image_check.proofs.ranks.has_order.Goals as goal
+use Rattle.image_check.proofs.indexes.LinkOrder.{entry-among, entry-some, index-room}
+use Rattle.image_check.proofs.indexes.Places.{IsIndexRoom, in-row, rows, weigh-one}
 use Rattle.image_check.proofs.ranks.has_order.Goals.{In-Some}
+use Rattle.image_check.proofs.ranks.has_order.Goals as goal
 
 leads : (c : In-Some) → link_at (bytes_of c.args.window.now.bytes) c.args.at ≡ Some c.in-Some.block
 leads c = sym c.header_link.ensures ∙ c.in-Some.is

@@ -1,18 +1,13 @@
 -- Each turn passes one entry.
-use Rattle.std.proofs.Common.{◌≡◌, ◌+◌, ◌*◌, ◌≤◌, sym, ap, subst, ◌∙◌, ℕ, true, false, List, ◌++◌, ◌∷◌, [], Some}
-use Rattle.std.proofs.Common.{add-one, arith, length, refl}
-use Rattle.std.specs.Prelude.{Option}
+use Rattle.image_check.proofs.Common.{List, Option, Some, [], add-one, ap, are_ranked, arith, bytes_of, false, length}
+use Rattle.image_check.proofs.Common.{link_at, links_in, name_len_at, refl, some_same, subst, sym, true, ℕ, ◌*◌, ◌++◌}
+use Rattle.image_check.proofs.Common.{◌+◌, ◌∙◌, ◌∷◌, ◌≡◌, ◌≤◌}
 use Rattle.std.proofs.lemmas.List.FromFn.{map-range_with_len_more}
-use Rattle.link_tree.proofs.Laws.{some_same}
-use Rattle.raw_region.specs.Memory.{bytes_of}
-use Rattle.offset_link.specs.Link.{link_at}
-use Rattle.seg_index.specs.Keys.{name_len_at}
-use Rattle.image_check.specs.Entered.{links_in}
-use Rattle.image_check.specs.ObjectPasses.{are_ranked, follows}
+use Rattle.image_check.specs.ObjectPasses.{follows}
 use Rattle.image_check.specs.ObjectPlaces.{link_before}
 use Rattle.image_check.proofs.bytes.Ranges.{split}
-use Rattle.image_check.proofs.indexes.AllEntries.{targets_of, targets-split}
-use Rattle.image_check.proofs.indexes.Ranks.{last_of, last-of-more, ranked-more, ranked-broken}
+use Rattle.image_check.proofs.indexes.AllEntries.{targets-split, targets_of}
+use Rattle.image_check.proofs.indexes.Ranks.{last-of-more, last_of, ranked-broken, ranked-more}
 use Rattle.image_check.proofs.ranks.rise.Goals as goal
 
 pub returns-then-not-follows-clause-verdict : goal.returns-then-not-follows-clause-verdict

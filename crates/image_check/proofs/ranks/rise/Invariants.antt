@@ -1,9 +1,6 @@
-use Rattle.std.proofs.Common.{◌≡◌, ℕ, ◌+◌, ◌-◌, ◌*◌, ◌≤◌, true, length, Some}
-use Rattle.raw_region.specs.Memory.{bytes_of}
-use Rattle.seg_index.specs.Keys.{name_len_at}
-use Rattle.image_check.specs.IndexPlaces.{first_targets}
+use Rattle.image_check.proofs.Common.{Some, are_ranked, bytes_of, first_targets, length, name_len_at, true, ℕ, ◌*◌, ◌+◌}
+use Rattle.image_check.proofs.Common.{◌-◌, ◌≡◌, ◌≤◌}
 use Rattle.image_check.specs.ObjectPlaces.{link_before}
-use Rattle.image_check.specs.ObjectPasses.{are_ranked}
 use Rattle.image_check.proofs.indexes.Ranks.{last_of}
 use Rattle.image_check.proofs.ranks.rise.Given as goal
 

@@ -1,4 +1,4 @@
-use Rattle.std.proofs.Common.{arith}
+use Rattle.image_check.proofs.Common.{arith}
 use Rattle.image_check.proofs.opening.Saved.{accepted_image}
 use Rattle.image_check.proofs.saving.write_image.Goals as goal
 

@@ -1,8 +1,8 @@
-use Rattle.std.proofs.Common.{◌+◌, ◌*◌, ◌≤◌, arith}
-use Rattle.image_check.specs.Owners.{FollowsAll, IsSharedIn, IsWholeMarkingOf, unspent_budget}
+use Rattle.image_check.proofs.Common.{AreIndexesNoted, IsSharedIn, IsWholeMarkingOf, NotesValues, arith, unspent_budget}
+use Rattle.image_check.proofs.Common.{weigh, ◌*◌, ◌+◌, ◌≤◌}
+use Rattle.image_check.specs.Owners.{FollowsAll}
 use Rattle.image_check.specs.Passes.{tiles_in}
-use Rattle.image_check.specs.Sharing.{AreIndexesNoted, NotesValues, value_rates}
-use Rattle.image_check.specs.Visits.{weigh}
+use Rattle.image_check.specs.Sharing.{value_rates}
 use Rattle.image_check.proofs.shared_blocks.Worklist.{of-err, of-ok}
 use Rattle.image_check.proofs.shared_blocks.AllNoted.{finds-from, on-ok, whole}
 use Rattle.image_check.proofs.shared_blocks.Tiles.{sharing-weigh}

@@ -1,7 +1,5 @@
-use Rattle.std.proofs.Common.{refl}
+use Rattle.image_check.proofs.Common.{AreTextsNoted, IsSharedIn, IsStorageNoted, IsValueGrown, refl}
 use Rattle.seg_types.specs.declared.kinds.Kind.TheVariants.{Strings}
-use Rattle.image_check.specs.Owners.{IsSharedIn}
-use Rattle.image_check.specs.Sharing.{AreTextsNoted, IsStorageNoted, IsValueGrown}
 use Rattle.image_check.proofs.shared_blocks.Worklist.{map-ok, of-ok}
 use Rattle.image_check.proofs.shared_blocks.Values.{array-value, storage-may}
 use Rattle.image_check.proofs.shared_blocks.mark_array.Goals as goal

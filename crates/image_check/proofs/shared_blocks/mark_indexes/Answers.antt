@@ -1,9 +1,7 @@
-use Rattle.std.proofs.Common.{refl}
-use mathlib.Core.Logic.{inl}
-use Rattle.image_check.specs.Owners.{IsSharedIn}
-use Rattle.image_check.specs.Sharing.{AreIndexesNoted, IsIndexNoted}
+use Rattle.image_check.proofs.Common.{AreIndexesNoted, IsIndexNoted, IsSharedIn, refl}
 use Rattle.image_check.proofs.shared_blocks.Worklist.{map-ok, of-ok}
 use Rattle.image_check.proofs.shared_blocks.AllNoted.{indexes-noted, start-marking}
+use mathlib.Core.Logic.{inl}
 use Rattle.image_check.proofs.shared_blocks.mark_indexes.Goals as goal
 
 pub mark_index-requires : goal.mark_index-requires

@@ -1,8 +1,5 @@
-use Rattle.std.proofs.Common.{sym, ap, subst, ◌∙◌}
-use Rattle.raw_region.specs.Memory.{bytes_of}
-use Rattle.image_check.specs.ObjectTests.{kind_at, payload, value_offset}
-use Rattle.image_check.specs.Owners.{IsSharedIn}
-use Rattle.image_check.specs.Sharing.{IsTileGrown, IsValueGrown, IsValueReady}
+use Rattle.image_check.proofs.Common.{IsSharedIn, IsTileGrown, IsValueGrown, IsValueReady, ap, bytes_of, kind_at}
+use Rattle.image_check.proofs.Common.{payload, subst, sym, value_offset, ◌∙◌}
 use Rattle.image_check.proofs.shared_blocks.Worklist.{map-ok}
 use Rattle.image_check.proofs.shared_blocks.Tiles.{tile-grown}
 use Rattle.image_check.proofs.shared_blocks.mark_object.Goals as goal

@@ -1,8 +1,6 @@
-use Rattle.std.proofs.Common.{sym, ◌∙◌, ◌+◌, ◌<◌, arith}
-use Rattle.raw_region.specs.Memory.{bytes_of, word_at}
-use Rattle.image_check.specs.Owners.{IsSharedIn}
+use Rattle.image_check.proofs.Common.{AreElementsNoted, AreTextsNoted, IsSharedIn, arith, bytes_of, sym, ◌+◌, ◌<◌, ◌∙◌}
+use Rattle.raw_region.specs.Memory.{word_at}
 use Rattle.image_check.specs.Passes.{tiles_in}
-use Rattle.image_check.specs.Sharing.{AreElementsNoted, AreTextsNoted}
 use Rattle.image_check.proofs.shared_blocks.Worklist.{map-ok}
 use Rattle.image_check.proofs.shared_blocks.Values.{array-aligned, array-at, array-inside, array-long, texts-noted}
 use Rattle.image_check.proofs.shared_blocks.Values.{texts-starts}

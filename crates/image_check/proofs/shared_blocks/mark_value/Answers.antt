@@ -1,15 +1,12 @@
-use Rattle.std.proofs.Common.{refl, sym, ap, subst, ◌+◌, ◌*◌, None, arith}
-use mathlib.Core.Logic.{inl}
-use Rattle.raw_region.specs.Memory.{bytes_of}
-use Rattle.block_tags.specs.declared.tile.Role.TheVariants.{Node}
-use Rattle.image_check.specs.Fields.{has_storage}
-use Rattle.image_check.specs.Owners.{MarksLink, IsSharedIn, unspent_budget, owner}
+use Rattle.image_check.proofs.Common.{IsSharedIn, IsStorageNoted, IsValueGrown, IsValueReady, MarksLink, Node, None, ap}
+use Rattle.image_check.proofs.Common.{arith, bytes_of, has_link, has_storage, owner, refl, subst, sym, unspent_budget}
+use Rattle.image_check.proofs.Common.{◌*◌, ◌+◌}
 use Rattle.image_check.specs.Passes.{tiles_in}
-use Rattle.image_check.specs.Sharing.{IsStorageNoted, IsValueGrown, IsValueReady, has_link}
 use Rattle.image_check.proofs.shared_blocks.Worklist.{map-ok}
 use Rattle.image_check.proofs.shared_blocks.Links.{Marks, few-wait}
 use Rattle.image_check.proofs.shared_blocks.Values.{map-value, pays-from, root-may, storage-may, text-value}
 use Rattle.image_check.proofs.shared_blocks.Values.{vector-value}
+use mathlib.Core.Logic.{inl}
 use Rattle.image_check.proofs.shared_blocks.mark_value.Goals as goal
 
 pub mark-requires-clause-no_overflow : goal.mark-requires-clause-no_overflow

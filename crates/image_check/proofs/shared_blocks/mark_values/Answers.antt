@@ -1,12 +1,10 @@
 -- Each turn of the walk passes one tile in use.
-use Rattle.std.proofs.Common.{◌≡◌, ◌+◌, ◌*◌, ◌≤◌, ◌∙◌, sym, arith}
-use Rattle.raw_region.specs.Memory.{bytes_of}
-use Rattle.image_check.specs.Owners.{IsSharedIn, unspent_budget, frame_of}
-use Rattle.image_check.specs.Sharing.{IsTileGrown, IsValueReady, object_cost}
+use Rattle.image_check.proofs.Common.{IsSharedIn, IsTileGrown, IsValueReady, arith, bytes_of, frame_of, sym}
+use Rattle.image_check.proofs.Common.{unspent_budget, ◌*◌, ◌+◌, ◌∙◌, ◌≡◌, ◌≤◌}
+use Rattle.image_check.specs.Sharing.{object_cost}
 use Rattle.image_check.proofs.shared_blocks.Worklist.{of-err, of-ok}
 use Rattle.image_check.proofs.shared_blocks.Tiles.{Noting, cost-same, grown-same, noting-end, noting-gap, noting-on}
-use Rattle.image_check.proofs.shared_blocks.Tiles.{noting-refused, noting-start, object-same, ready-here}
-use Rattle.image_check.proofs.shared_blocks.Tiles.{room-here}
+use Rattle.image_check.proofs.shared_blocks.Tiles.{noting-refused, noting-start, object-same, ready-here, room-here}
 use Rattle.image_check.proofs.walks.Rows.{few-rows, row-at, rows-end, rows-on, rows-start}
 use Rattle.image_check.proofs.walks.Tiles.{tags-IsTiledWindow}
 use Rattle.image_check.proofs.shared_blocks.mark_values.Goals as goal

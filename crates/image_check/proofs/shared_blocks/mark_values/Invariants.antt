@@ -1,5 +1,4 @@
-use Rattle.std.proofs.Common.{◌+◌, ◌*◌, ◌-◌, length}
-use Rattle.image_check.specs.Owners.{unspent_budget, entries_of}
+use Rattle.image_check.proofs.Common.{entries_of, length, unspent_budget, ◌*◌, ◌+◌, ◌-◌}
 use Rattle.image_check.specs.Passes.{tiles_in}
 use Rattle.image_check.proofs.shared_blocks.Tiles.{Noting}
 use Rattle.image_check.proofs.walks.Rows.{RowWalks}

@@ -1,10 +1,9 @@
 -- Each turn passes one element.
-use Rattle.std.proofs.Common.{◌+◌, ◌*◌, sym, ◌∙◌, ℕ, Bool, arith}
-use Rattle.raw_region.specs.Memory.{bytes_of, read}
-use Rattle.seg_types.specs.Kinds.{is_spelling, size_of}
+use Rattle.image_check.proofs.Common.{arith, bytes_of, is_spelling, read, size_of, sym, ℕ, ◌*◌, ◌+◌, ◌∙◌}
+use Rattle.std.proofs.Common.{Bool}
 use Rattle.image_check.proofs.objects.HeadBytes.{element-spelled}
 use Rattle.image_check.proofs.containers.MapPairs.{size-most}
-use Rattle.image_check.proofs.bytes.Ranges.{all-further, all-broken}
+use Rattle.image_check.proofs.bytes.Ranges.{all-broken, all-further}
 use Rattle.image_check.proofs.spellings.are_spellings.Goals as goal
 
 pub element-requires-clause-max_len : goal.element-requires-clause-max_len

@@ -1,6 +1,4 @@
-use Rattle.std.proofs.Common.{◌≡◌, ◌+◌, ◌-◌, ◌≤◌, true}
-use Rattle.raw_region.specs.Memory.{bytes_of}
-use Rattle.image_check.specs.ObjectTests.{are_spellings}
+use Rattle.image_check.proofs.Common.{are_spellings, bytes_of, true, ◌+◌, ◌-◌, ◌≡◌, ◌≤◌}
 use Rattle.image_check.proofs.spellings.are_spellings.Given as goal
 
 -- the elements that were passed are spelled

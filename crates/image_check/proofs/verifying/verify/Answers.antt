@@ -1,7 +1,5 @@
-use Rattle.std.proofs.Common.{Err, subst, sym}
-use Rattle.raw_region.specs.Device.{read_delta}
+use Rattle.image_check.proofs.Common.{Err, OpenRefused, read_delta, subst, sym}
 use Rattle.raw_region.specs.Format.{current}
-use Rattle.image_check.specs.declared.errors.OpenRefused.{OpenRefused}
 use Rattle.image_check.specs.Opening.{Verifies}
 use Rattle.image_check.proofs.verifying.verify.Goals as goal
 

@@ -1,4 +1,4 @@
-use Rattle.std.proofs.Common.{◌∙◌, arith}
+use Rattle.image_check.proofs.Common.{arith, ◌∙◌}
 use Rattle.image_check.proofs.reading.Fronts.{half_word-part}
 use Rattle.image_check.proofs.versions.version_in.Goals as goal
 

@@ -1,4 +1,4 @@
-use Rattle.std.proofs.Common.{refl}
+use Rattle.image_check.proofs.Common.{refl}
 use Rattle.image_check.proofs.walks.Counts.{counted-free, counted-used}
 use Rattle.image_check.proofs.counting.Counts.add.Goals as goal
 

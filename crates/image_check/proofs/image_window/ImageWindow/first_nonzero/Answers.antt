@@ -1,7 +1,7 @@
-use Rattle.std.proofs.Common.{◌≡◌, ap, refl, subst, ◌∙◌, List, [], ◌∷◌, ℕ, drop, length, take}
+use Rattle.image_check.proofs.Common.{AreZero, List, [], ap, bytes_of, drop, length, part, refl, subst, take, ℕ, ◌∙◌}
+use Rattle.image_check.proofs.Common.{◌∷◌, ◌≡◌}
 use Rattle.std.specs.Prelude.{MatchOption}
 use Rattle.std.proofs.Math.Seq.{take-length}
-use Rattle.raw_region.specs.Memory.{AreZero, bytes_of, part}
 use Rattle.image_check.specs.HeaderPlaces.{IsFirstNonzero}
 use Rattle.image_check.proofs.image_window.ImageWindow.first_nonzero.Goals as goal
 

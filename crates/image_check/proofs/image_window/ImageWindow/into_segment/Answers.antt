@@ -1,13 +1,8 @@
 -- A heap of the image's blocks, with the current version.
-use Rattle.std.proofs.Common.{◌≡◌, sym, subst, ◌∙◌}
-use Rattle.std.specs.Prelude.{IsTrue}
+use Rattle.image_check.proofs.Common.{IsImage, IsTrue, LiveSet, RebuildsFreeTree, SameSurroundings, UpgradesFormat}
+use Rattle.image_check.proofs.Common.{WindowState, is_live_in, subst, sym, ◌∙◌, ◌≡◌}
 use Rattle.raw_region.specs.Format.{current}
-use Rattle.raw_region.specs.Memory.{SameSurroundings, WindowState}
-use Rattle.best_fit.specs.Extents.{LiveSet}
-use Rattle.best_fit.specs.Heap.{is_live_in, live_of}
-use Rattle.best_fit.specs.Rebuilding.{RebuildsFreeTree}
-use Rattle.image_check.specs.Opening.{IsImage}
-use Rattle.image_check.specs.OpeningAny.{UpgradesFormat}
+use Rattle.best_fit.specs.Heap.{live_of}
 use Rattle.image_check.proofs.block_collection.InLiveSet.{block_live}
 use Rattle.image_check.proofs.opening.AnyFormat.{renewed-segment}
 use Rattle.image_check.proofs.frame.OlderFormats.{image-heap, upgraded, upgraded-live, upgraded-place}

@@ -1,9 +1,4 @@
-use Rattle.std.proofs.Common.{sym, ap, subst, ◌∙◌, arith, ℕ}
-use Rattle.std.specs.Prelude.{Option}
-use Rattle.std.proofs.lemmas.Bool.{both_ways}
-use Rattle.raw_region.specs.Memory.{bytes_of}
-use Rattle.link_tree.specs.Tree.{IsSearchTree}
-use Rattle.link_tree.specs.Nodes.{leads}
+use Rattle.image_check.proofs.Common.{IsSearchTree, Option, ap, arith, both_ways, bytes_of, leads, subst, sym, ℕ, ◌∙◌}
 use Rattle.image_check.specs.MapNodes.{is_pair, key_before, pair_cells}
 use Rattle.image_check.proofs.containers.MapWeights.{check-visits}
 use Rattle.image_check.proofs.image_window.pairs.check_pairs.Goals as goal

@@ -1,5 +1,4 @@
-use Rattle.std.proofs.Common.{arith, length}
-use Rattle.image_check.specs.FreeLaws.{is_place-PayloadBounds, small_size}
+use Rattle.image_check.proofs.Common.{arith, is_place-PayloadBounds, length, small_size}
 use Rattle.image_check.proofs.image_window.places.has_good_links.Goals as goal
 
 pub load_checked-requires-clause-aligned : goal.load_checked-requires-clause-aligned
@@ -21,6 +20,6 @@ pub load_checked-requires-then-is_ok-clause-aligned : goal.load_checked-requires
 load_checked-requires-then-is_ok-clause-aligned c = let whole =
     (is_place-PayloadBounds c.args.window.now c.args.node c.requires).whole in omega arith
 
-pub load_checked-requires-then-is_ok-clause-inside : goal.load_checked-requires-then-is_ok-clause-inside
-load_checked-requires-then-is_ok-clause-inside c = let high =
+pub load_checked-requires-then-is_ok-clause-in_bounds : goal.load_checked-requires-then-is_ok-clause-in_bounds
+load_checked-requires-then-is_ok-clause-in_bounds c = let high =
     (is_place-PayloadBounds c.args.window.now c.args.node c.requires).high in omega arith

@@ -1,7 +1,5 @@
-use Rattle.std.proofs.Common.{sym, ◌∙◌, length}
-use Rattle.raw_region.specs.Memory.{bytes_of}
-use Rattle.offset_link.specs.Link.{link_at}
-use Rattle.image_check.proofs.free_tree.Places.{good-placed, bad-placed}
+use Rattle.image_check.proofs.Common.{bytes_of, length, link_at, sym, ◌∙◌}
+use Rattle.image_check.proofs.free_tree.Places.{bad-placed, good-placed}
 use Rattle.image_check.proofs.image_window.places.placed_link.Goals as goal
 
 pub returns-in-Ok : goal.returns-in-Ok

@@ -1,7 +1,5 @@
-use Rattle.std.proofs.Common.{arith, subst, sym}
+use Rattle.image_check.proofs.Common.{RebuildsFreeTree, WindowState, arith, subst, sym}
 use Rattle.raw_region.specs.Format.{current}
-use Rattle.raw_region.specs.Memory.{WindowState}
-use Rattle.best_fit.specs.Rebuilding.{RebuildsFreeTree}
 use Rattle.image_check.proofs.frame.OlderFormats.{heap-legal, heap-tags, later-heap, rebuilt-same}
 use Rattle.image_check.proofs.image_window.renewing.as_heap.Goals as goal
 

@@ -1,6 +1,5 @@
-use Rattle.std.proofs.Common.{sym, ap}
+use Rattle.image_check.proofs.Common.{AcceptedVersions, ap, sym}
 use Rattle.raw_region.specs.Format.{current}
-use Rattle.image_check.specs.declared.versions.AcceptedVersions.{AcceptedVersions}
 use Rattle.image_check.specs.Formats.{is_taken}
 use Rattle.image_check.proofs.versions.AcceptedVersions.has.Goals as goal
 

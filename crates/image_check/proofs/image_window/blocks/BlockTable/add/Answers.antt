@@ -1,12 +1,10 @@
-use Rattle.std.proofs.Common.{◌≡◌, ◌<◌, sym, ap, subst, ◌∙◌, [], ◌∷◌, ◌++◌, nat_eq}
+use Rattle.image_check.proofs.Common.{AreBelow, Block, BlockMap, [], ap, nat_eq, subst, sym, ◌++◌, ◌<◌, ◌∙◌, ◌∷◌, ◌≡◌}
 use Rattle.indexmap.specs.IndexMap.{spare}
 use Rattle.indexmap.proofs.CallerLemmas.{insert_entry-new}
-use Rattle.image_check.specs.declared.owners.Block.{Block}
-use Rattle.image_check.specs.Owners.{BlockMap}
-use Rattle.image_check.specs.Rows.{AreBelow, AreSortedBlocks}
+use Rattle.image_check.specs.Rows.{AreSortedBlocks}
 use Rattle.image_check.proofs.block_collection.ByNumber.{below-new, ok-then, order-push}
+use Rattle.image_check.proofs.image_window.blocks.BlockTable.add.Goals.{else-stretch-len, then-stretch-len}
 use Rattle.image_check.proofs.image_window.blocks.BlockTable.add.Goals as goal
-use Rattle.image_check.proofs.image_window.blocks.BlockTable.add.Goals.{then-stretch-len, else-stretch-len}
 
 -- the entries with the block behind them
 added : (c : goal.After-insert)

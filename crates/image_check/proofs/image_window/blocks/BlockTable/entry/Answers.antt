@@ -1,9 +1,6 @@
-use Rattle.std.proofs.Common.{sym, ap, ◌∙◌}
-use Rattle.std.specs.Prelude.{Some}
+use Rattle.image_check.proofs.Common.{Block, BlockMap, Some, ap, block_at, sym, ◌∙◌}
 use Rattle.std.specs.Option.{option_map}
 use Rattle.std.specs.Map.Iter.{deref_pair}
-use Rattle.image_check.specs.declared.owners.Block.{Block}
-use Rattle.image_check.specs.Owners.{BlockMap, block_at}
 use Rattle.image_check.proofs.block_collection.ByNumber.{entry-found}
 use Rattle.image_check.proofs.image_window.blocks.BlockTable.entry.Goals as goal
 

@@ -1,8 +1,6 @@
-use Rattle.std.proofs.Common.{◌^◌, sym, ap, subst, ◌∙◌, arith}
-use Rattle.std.specs.Prelude.{IfSome, nat_eq, position, slice_get}
+use Rattle.image_check.proofs.Common.{BlockMap, IsRow, ap, arith, block_at, nat_eq, slice_get, subst, sym, ◌^◌, ◌∙◌}
+use Rattle.std.specs.Prelude.{IfSome, position}
 use Rattle.std.specs.Map.{keys_of}
-use Rattle.image_check.specs.Owners.{BlockMap, block_at}
-use Rattle.image_check.specs.Rows.{IsRow}
 use Rattle.image_check.proofs.block_collection.ByNumber.{bound-absent, key-row, position-row}
 use Rattle.image_check.proofs.image_window.blocks.BlockTable.number_of.Goals as goal
 

@@ -1,9 +1,5 @@
-use Rattle.std.proofs.Common.{sym, ap, subst, ◌∙◌, nat_eq}
-use Rattle.std.specs.Map.{set_value}
+use Rattle.image_check.proofs.Common.{Block, BlockMap, IsRow, ap, nat_eq, set_value, subst, sym, ◌∙◌}
 use Rattle.indexmap.specs.IndexMap.{set_value_at}
-use Rattle.image_check.specs.declared.owners.Block.{Block}
-use Rattle.image_check.specs.Owners.{BlockMap}
-use Rattle.image_check.specs.Rows.{IsRow}
 use Rattle.image_check.proofs.block_collection.ByNumber.{order-put, put-row}
 use Rattle.image_check.proofs.image_window.blocks.BlockTable.put.Goals as goal
 

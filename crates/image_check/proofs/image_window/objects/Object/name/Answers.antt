@@ -1,7 +1,4 @@
-use Rattle.std.proofs.Common.{◌+◌, sym, ap, ◌∙◌}
-use Rattle.raw_region.specs.Memory.{bytes_of, part}
-use Rattle.raw_region.proofs.Laws.{read-part}
-use Rattle.seg_index.specs.Keys.{name_len_at}
+use Rattle.image_check.proofs.Common.{ap, bytes_of, name_len_at, part, read-part, sym, ◌+◌, ◌∙◌}
 use Rattle.image_check.proofs.image_window.objects.Object.name.Goals as goal
 
 pub returns-clause-name : goal.returns-clause-name

@@ -1,4 +1,4 @@
-use Rattle.std.proofs.Common.{arith, sym, ◌∙◌}
+use Rattle.image_check.proofs.Common.{arith, sym, ◌∙◌}
 use Rattle.image_check.proofs.containers.MapPairs.{place-lies}
 use Rattle.image_check.proofs.image_window.pairs.CheckedPairTree.is_pair.Goals as goal
 

@@ -1,6 +1,4 @@
-use Rattle.std.proofs.Common.{arith}
-use Rattle.image_check.specs.FreeLaws.{is_place-PayloadBounds}
-use Rattle.image_check.specs.MapLaws.{is_pair-IsPairNode}
+use Rattle.image_check.proofs.Common.{arith, is_pair-IsPairNode, is_place-PayloadBounds}
 use Rattle.image_check.proofs.containers.MapPairs.{left-kept, pair-lies}
 use Rattle.image_check.proofs.image_window.pairs.CheckedPairTreeNodes.left.Goals as goal
 

@@ -1,4 +1,4 @@
-use Rattle.std.proofs.Common.{arith}
+use Rattle.image_check.proofs.Common.{arith}
 use Rattle.image_check.proofs.containers.MapPairs.{pair-lies, parts-before}
 use Rattle.image_check.proofs.image_window.pairs.CheckedPairTreeNodes.precedes.Goals as goal
 

@@ -1,4 +1,4 @@
-use Rattle.std.proofs.Common.{arith, ap, nat_eq, ◌/◌, ◌%◌}
+use Rattle.image_check.proofs.Common.{ap, arith, nat_eq, ◌%◌, ◌/◌}
 use Rattle.image_check.specs.MapNodes.{pair_cells}
 use Rattle.image_check.proofs.containers.MapPairs.{pair-lies}
 use Rattle.image_check.proofs.image_window.pairs.CheckedPairTreeNodes.red.Goals as goal

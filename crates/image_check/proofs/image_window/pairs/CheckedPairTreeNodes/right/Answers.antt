@@ -1,7 +1,5 @@
-use Rattle.std.proofs.Common.{arith}
-use Rattle.image_check.specs.FreeLaws.{is_place-PayloadBounds}
-use Rattle.image_check.specs.MapLaws.{is_pair-IsPairNode}
-use Rattle.image_check.proofs.containers.MapPairs.{right-kept, pair-lies}
+use Rattle.image_check.proofs.Common.{arith, is_pair-IsPairNode, is_place-PayloadBounds}
+use Rattle.image_check.proofs.containers.MapPairs.{pair-lies, right-kept}
 use Rattle.image_check.proofs.image_window.pairs.CheckedPairTreeNodes.right.Goals as goal
 
 pub child-requires-clause-size : goal.child-requires-clause-size

@@ -1,5 +1,4 @@
-use Rattle.std.proofs.Common.{arith}
-use Rattle.image_check.specs.FreeLaws.{is_place-PayloadBounds}
+use Rattle.image_check.proofs.Common.{arith, is_place-PayloadBounds}
 use Rattle.image_check.proofs.image_window.places.PayloadTree.len_at.Goals as goal
 
 pub overflow_sub-node : goal.overflow_sub-node

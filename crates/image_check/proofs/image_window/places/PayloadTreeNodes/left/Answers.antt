@@ -1,5 +1,4 @@
-use Rattle.std.proofs.Common.{arith}
-use Rattle.image_check.specs.FreeLaws.{is_place-PayloadBounds}
+use Rattle.image_check.proofs.Common.{arith, is_place-PayloadBounds}
 use Rattle.image_check.proofs.free_tree.Places.{left-is}
 use Rattle.image_check.proofs.image_window.places.PayloadTreeNodes.left.Goals as goal
 

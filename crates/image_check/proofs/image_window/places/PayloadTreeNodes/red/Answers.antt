@@ -1,6 +1,5 @@
-use Rattle.std.proofs.Common.{arith, ap, nat_eq, ◌/◌, ◌%◌}
+use Rattle.image_check.proofs.Common.{ap, arith, is_place-PayloadBounds, nat_eq, ◌%◌, ◌/◌}
 use Rattle.image_check.specs.FreeNodes.{place_cells}
-use Rattle.image_check.specs.FreeLaws.{is_place-PayloadBounds}
 use Rattle.image_check.proofs.image_window.places.PayloadTreeNodes.red.Goals as goal
 
 pub overflow_sub-node : goal.overflow_sub-node

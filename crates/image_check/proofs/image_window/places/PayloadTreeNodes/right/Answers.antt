@@ -1,5 +1,4 @@
-use Rattle.std.proofs.Common.{arith, length}
-use Rattle.image_check.specs.FreeLaws.{is_place-PayloadBounds, small_size}
+use Rattle.image_check.proofs.Common.{arith, is_place-PayloadBounds, length, small_size}
 use Rattle.image_check.proofs.free_tree.Places.{right-is}
 use Rattle.image_check.proofs.image_window.places.PayloadTreeNodes.right.Goals as goal
 

@@ -99,7 +99,7 @@ pub fn examine_window(
     let format = window.version();
     let mut counter = VisitCounter::new(mem::replace(steps, Steps::new()));
     match pass_all(format, alloc, &window, &mut counter) {
-        Ok(_) => {
+        Ok(_owners) => {
             *steps = counter.into_steps();
             Ok(window.into_region())
         }

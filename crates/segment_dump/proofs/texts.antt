@@ -2,7 +2,7 @@
 pub mod OneReading
 pub mod Words
 pub mod QuotedTexts
-pub mod Kinds
+pub mod KindWords
 pub mod Pieces
 pub mod Parts
 pub mod Objects

@@ -18,7 +18,7 @@ use Rattle.segment_lang.specs.Words.{byte_of_digits, digit_of, is_word, is_blank
 use Rattle.segment_lang.specs.Tokens.{bare_at, behind_word, ends_word, text_at, up_to_blank, word_at}
 use Rattle.segment_dump.proofs.texts.Words.{decimal-some, AreBare, IsWhole, bool-near, decimal-bare, in-range}
 use Rattle.segment_dump.proofs.texts.Words.{value-bare}
-use Rattle.segment_dump.proofs.{texts.AllElements.all-tested, texts.Kinds.kind-bare, texts.Kinds.kind-long}
+use Rattle.segment_dump.proofs.{texts.AllElements.all-tested, texts.KindWords.kind-bare, texts.KindWords.kind-long}
 use Rattle.segment_dump.proofs.{texts.Options.none-some}
 
 -- ---- a bare word

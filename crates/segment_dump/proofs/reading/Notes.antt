@@ -11,7 +11,7 @@ use Rattle.segment_dump.proofs.Common.{head_line, item_text, items_text, length_
 use Rattle.segment_dump.proofs.Common.{piece_of, pieces_in, pieces_text, text_lines}
 use Rattle.segment_dump.specs.Capacities.{CapacityHolder, capacity_words, holder_text}
 use Rattle.segment_dump.specs.Laws.{CapacitiesAreLeftOut, DumpsHaveNoNotes, IsNote, NotesAreCut, NotesAreLeftOut}
-use Rattle.segment_dump.proofs.{building.Objects.class-no_end, texts.Kinds.kind-word, texts.Words.decimal-word}
+use Rattle.segment_dump.proofs.{building.Objects.class-no_end, texts.KindWords.kind-word, texts.Words.decimal-word}
 use Rattle.segment_dump.proofs.texts.Elements.{no_end-both, word-no_end, no_end-test}
 use Rattle.segment_dump.proofs.reading.NoteLines.{cut-notes, ends-behind, ends-last, kept}
 

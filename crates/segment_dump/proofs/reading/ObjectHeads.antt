@@ -12,7 +12,7 @@ use Rattle.segment_dump.proofs.Common.{IsWordOf, ReadsEnd, ReadsWord, any_word, 
 use Rattle.seg_types.specs.Texts.{class_text}
 use Rattle.segment_lang.specs.declared.words.Word.{Word as Held}
 use Rattle.segment_dump.specs.{Builders.ReadsClass, Builders.StartsNamed, Lines.bare}
-use Rattle.segment_dump.proofs.{texts.Options.never-ok, texts.Options.ok-same, texts.Kinds.kind-named}
+use Rattle.segment_dump.proofs.{texts.Options.never-ok, texts.Options.ok-same, texts.KindWords.kind-named}
 use Rattle.segment_dump.proofs.{texts.Words.bare-test}
 use Rattle.segment_dump.proofs.reading.NextWords.{bare-long, blank-next, decimal-number, kind-next, name-next}
 use Rattle.segment_dump.proofs.reading.NextWords.{number-next}

@@ -9,7 +9,7 @@ use Rattle.std.specs.Borrow.{Bor}
 use Rattle.seg_types.specs.Texts.{item_text}
 use Rattle.segment_dump.proofs.{texts.OneReading.heads, texts.OneReading.tails, texts.OneReading.words-read}
 use Rattle.segment_dump.proofs.{texts.Words.decimal-word}
-use Rattle.segment_dump.proofs.texts.Kinds.{kind-named, kind-word}
+use Rattle.segment_dump.proofs.texts.KindWords.{kind-named, kind-word}
 use Rattle.segment_dump.proofs.texts.QuotedTexts.{IsName, bare, item-is, item-opens, name-is, quoted}
 
 -- ---- where nothing is found

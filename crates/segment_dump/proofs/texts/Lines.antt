@@ -10,7 +10,7 @@ use Rattle.segment_dump.proofs.Common.{length_text, piece_lead, piece_line, piec
 use Rattle.seg_types.specs.{declared.kinds.ScalarKind.TheVariants.Bool as BoolKind, Texts.item_text}
 use Rattle.segment_dump.proofs.texts.Elements.{blanks-no_end, lead-no_end, no_end-both, pair_front, piece_front}
 use Rattle.segment_dump.proofs.texts.Elements.{quoted-no_end, word-no_end}
-use Rattle.segment_dump.proofs.{texts.Kinds.kind-word, texts.Words.decimal-word, texts.Words.value-word}
+use Rattle.segment_dump.proofs.{texts.KindWords.kind-word, texts.Words.decimal-word, texts.Words.value-word}
 
 -- ---- how long
 

@@ -9,7 +9,7 @@ use Rattle.segment_dump.proofs.Common.{IsBuildableContent}
 use Rattle.segment_dump.proofs.{Common.IsNameIn, Common.IsTypedPair, texts.QuotedTexts.Any}
 use Rattle.segment_dump.proofs.{texts.QuotedTexts.names-read}
 use Rattle.segment_dump.proofs.{texts.Pieces.texts-read, texts.Words.decimal-word, texts.Words.values-read}
-use Rattle.segment_dump.proofs.{texts.Kinds.kinds-read}
+use Rattle.segment_dump.proofs.{texts.KindWords.kinds-read}
 use Rattle.segment_dump.proofs.texts.OneReading.{Breaks, IsRow, Stops, heads, row-reads, tails, words-read}
 
 -- ---- what a text begins with

@@ -1,5 +1,8 @@
 use Rattle.image_check.proofs.Common.{err_from_is_err_and, format_in}
 use Rattle.image_check.proofs.opening.InMemory.{examines-bytes, format_in-few, unplaced-bytes}
+use Rattle.image_check.proofs.Common.{IfErr, List, error_for, subst, true, ℕ, ◌≡◌}
+use Rattle.image_check.specs.Opening.{is_late}
+use Rattle.image_check.specs.Passes.{CountsTiles}
 use Rattle.image_check.proofs.examining_bytes.examine_bytes.Goals as goal
 
 pub returns-in_err-window-clause-examination : goal.returns-in_err-window-clause-examination
@@ -22,3 +25,9 @@ returns-clause-examination c =
     c.in_ok-window.window c.in_ok-window.ensures.placement c.examine_window.result
     (c.examine_window.ensures.examination (format_in c.args.versions c.args.image.now)
     c.in_ok-window.ensures.placement.front)
+
+pub returns-clause-visits_on_error : goal.returns-clause-visits_on_error
+returns-clause-visits_on_error c =
+    subst (λ (b : List ℕ). IfErr c.examine_window.result (λ refused.
+    is_late (error_for refused.cause) ≡ true → CountsTiles b c.args.steps.now c.examine_window.new.steps))
+    c.in_ok-window.ensures.placement.bytes c.examine_window.ensures.visits_on_error

@@ -3,6 +3,9 @@ use Rattle.raw_region.specs.Format.{current}
 use Rattle.image_check.specs.Opening.{Opens}
 use Rattle.image_check.proofs.reading.FrontAlone.{opened-reads, opened-roomy}
 use Rattle.image_check.proofs.opening.Refusals.{opens, unread-opens}
+use Rattle.image_check.proofs.Common.{IfErr, List, true, ℕ, ◌≡◌}
+use Rattle.image_check.specs.Opening.{is_late}
+use Rattle.image_check.specs.Passes.{CountsTiles}
 use Rattle.image_check.proofs.image_open.open.Goals as goal
 
 pub returns-in-Err-clause-opening : goal.returns-in-Err-clause-opening
@@ -38,3 +41,10 @@ returns-in-Ok-clause-exclusive g c =
     opened-roomy current c.in-Ok.window c.args.mode c.open_window.result (g.S.Source.history c.args.reader.now)
     (g.S.Source.history c.read_image.new.reader)
     (c.open_window.ensures.opening current c.in-Ok.ensures.reading.front)
+
+pub returns-in-Ok-clause-visits_on_error : goal.returns-in-Ok-clause-visits_on_error
+unfolding current
+returns-in-Ok-clause-visits_on_error g c =
+    subst (λ (b : List ℕ). IfErr c.open_window.result (λ refused.
+    is_late refused.cause ≡ true → CountsTiles b c.args.steps.now c.open_window.new.steps))
+    c.in-Ok.ensures.reading.bytes c.open_window.ensures.visits_on_error

@@ -3,6 +3,9 @@ use Rattle.image_check.proofs.Common.{sym}
 use Rattle.image_check.proofs.reading.FrontAlone.{opened-reads, opened-roomy}
 use Rattle.image_check.proofs.opening.AnyFormat.{opens-any, unread-any}
 use Rattle.image_check.proofs.reading.Formats.{format_of-few}
+use Rattle.image_check.proofs.Common.{IfErr, List, true, ℕ, ◌≡◌}
+use Rattle.image_check.specs.Opening.{is_late}
+use Rattle.image_check.specs.Passes.{CountsTiles}
 use Rattle.image_check.proofs.opening_any.open_any.Goals as goal
 
 pub returns-in-Err-clause-opening : goal.returns-in-Err-clause-opening
@@ -36,3 +39,9 @@ returns-in-Ok-clause-exclusive g c =
     opened-roomy (format_of given.bytes) c.in-Ok.window c.args.mode c.open_window.result
     (g.S.Source.history c.args.reader.now) (g.S.Source.history c.read_image.new.reader)
     (c.open_window.ensures.opening (format_of given.bytes) c.in-Ok.ensures.reading.front)
+
+pub returns-in-Ok-clause-visits_on_error : goal.returns-in-Ok-clause-visits_on_error
+returns-in-Ok-clause-visits_on_error g c =
+    subst (λ (b : List ℕ). IfErr c.open_window.result (λ refused.
+    is_late refused.cause ≡ true → CountsTiles b c.args.steps.now c.open_window.new.steps))
+    c.in-Ok.ensures.reading.bytes c.open_window.ensures.visits_on_error

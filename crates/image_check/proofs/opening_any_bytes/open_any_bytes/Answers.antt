@@ -1,6 +1,9 @@
 use Rattle.image_check.proofs.Common.{Err, OpenRefused, OpensAny, as_given, format_of, opened_as, subst, sym}
 use Rattle.image_check.proofs.opening.AnyFormat.{opens-any, unplaced-any}
 use Rattle.image_check.proofs.reading.Formats.{format_of-few}
+use Rattle.image_check.proofs.Common.{IfErr, List, true, ℕ, ◌≡◌}
+use Rattle.image_check.specs.Opening.{is_late}
+use Rattle.image_check.specs.Passes.{CountsTiles}
 use Rattle.image_check.proofs.opening_any_bytes.open_any_bytes.Goals as goal
 
 pub returns-in-Err-clause-opening : goal.returns-in-Err-clause-opening
@@ -19,3 +22,9 @@ returns-in-Ok-clause-opening c =
     opens-any (as_given c.args.image.now) c.args.region c.args.base c.in-Ok.window c.in-Ok.ensures.placement c.args.mode
     c.open_window.result
     (c.open_window.ensures.opening (format_of c.args.image.now) c.in-Ok.ensures.placement.front)
+
+pub returns-in-Ok-clause-visits_on_error : goal.returns-in-Ok-clause-visits_on_error
+returns-in-Ok-clause-visits_on_error c =
+    subst (λ (b : List ℕ). IfErr c.open_window.result (λ refused.
+    is_late refused.cause ≡ true → CountsTiles b c.args.steps.now c.open_window.new.steps))
+    c.in-Ok.ensures.placement.bytes c.open_window.ensures.visits_on_error

@@ -1,3 +1,3 @@
 -- The pairs between two bounds: what is read of a map says them (`Reads`).
-pub mod Reads
+pub mod RangeReads
 pub mod Bounds

@@ -8,7 +8,7 @@ use Rattle.segment_manager.specs.State.{AnswersWith}
 use Rattle.segment_manager.specs.containers.Walks.{pairs_at_kinds}
 use Rattle.segment_views.specs.Ranged.{is_up_to, pair_or_none, range_of}
 use Rattle.segment_views.proofs.ranges.Bounds.{admitted}
-use Rattle.segment_views.proofs.ranges.Reads.{admitted-then, reads-within}
+use Rattle.segment_views.proofs.ranges.RangeReads.{admitted-then, reads-within}
 use Rattle.segment_views.proofs.ranges.first_between.Goals as goal
 
 pub returns-in_err-pair : goal.returns-in_err-pair

@@ -10,7 +10,7 @@ use Rattle.segment_manager.specs.State.{AnswersWith}
 use Rattle.segment_manager.specs.containers.Walks.{first_of, pairs_at_kinds}
 use Rattle.segment_views.specs.Ranged.{pair_or_none, range_of}
 use Rattle.segment_views.proofs.ranges.Bounds.{above-ranged, all-ranged, from-ranged}
-use Rattle.segment_views.proofs.ranges.Reads.{reads-told}
+use Rattle.segment_views.proofs.ranges.RangeReads.{reads-told}
 use Rattle.segment_views.proofs.ranges.first_from.Goals as goal
 
 pub returns-in-Included : goal.returns-in-Included

@@ -3,7 +3,7 @@ use Rattle.std.proofs.Common.{subst}
 use Rattle.seg_types.specs.Names.{ByHandle}
 use Rattle.segment_manager.specs.containers.Maps.{pair_from, pair_result, answer_of_map}
 use Rattle.segment_manager.specs.State.{AnswersWith}
-use Rattle.segment_views.proofs.ranges.Reads.{reads-least}
+use Rattle.segment_views.proofs.ranges.RangeReads.{reads-least}
 use Rattle.segment_views.proofs.ranges.first_of_all.Goals as goal
 
 pub returns : goal.returns

@@ -7,7 +7,7 @@ use Rattle.segment_manager.specs.State.{AnswersWith}
 use Rattle.segment_manager.specs.containers.Walks.{pairs_at_kinds}
 use Rattle.segment_views.specs.Ranged.{is_from, last_between, pair_or_none}
 use Rattle.segment_views.proofs.ranges.Bounds.{admitted}
-use Rattle.segment_views.proofs.ranges.Reads.{admitted-then, reads-within-back}
+use Rattle.segment_views.proofs.ranges.RangeReads.{admitted-then, reads-within-back}
 use Rattle.segment_views.proofs.ranges.last_between.Goals as goal
 
 pub returns-in_err-pair : goal.returns-in_err-pair

@@ -8,7 +8,7 @@ use Rattle.segment_manager.specs.State.{AnswersWith}
 use Rattle.segment_manager.specs.containers.Walks.{pairs_at_kinds}
 use Rattle.segment_views.specs.Ranged.{last_between, pair_or_none}
 use Rattle.segment_views.proofs.ranges.Bounds.{below-ranged, end-ranged, up_to-ranged}
-use Rattle.segment_views.proofs.ranges.Reads.{reads-told}
+use Rattle.segment_views.proofs.ranges.RangeReads.{reads-told}
 use Rattle.segment_views.proofs.ranges.last_up_to.Goals as goal
 
 pub returns-in-Included : goal.returns-in-Included

@@ -1,7 +1,7 @@
 -- There are no more pairs than the map has.
 use Rattle.std.specs.Range.Bound.{bound_map}
 use Rattle.seg_types.specs.Names.{ByHandle}
-use Rattle.segment_views.proofs.ranges.Reads.{all-few}
+use Rattle.segment_views.proofs.ranges.RangeReads.{all-few}
 use Rattle.segment_views.proofs.ranges.MapItems.new.Goals as goal
 
 pub invariant_of-result : goal.invariant_of-result

@@ -16,8 +16,10 @@ fn fill<D: Disk>(disk: &mut D, mut writer: D::Writer, segment: &Segment) -> Resu
 {
     let saved = save(segment, &mut writer);
     let lasting = disk.sync_and_close(writer);
-    saved?;
-    lasting
+    match saved {
+        Ok(()) => lasting,
+        Err(fault) => Err(fault),
+    }
 }
 
 /// Makes or empties a file, writes the image of a segment to it and closes it.

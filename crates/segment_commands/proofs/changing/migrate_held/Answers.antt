@@ -1,4 +1,5 @@
 use Rattle.std.proofs.Common.{inr}
+use Rattle.std.proofs.lemmas.Result.{err_from_is_err_and}
 use Rattle.segment_commands.proofs.changing.Outcome.{written_whole, same_fault}
 use Rattle.segment_commands.proofs.changing.migrate_held.Goals as goal
 
@@ -14,7 +15,9 @@ returns g c = inr (inr (record {
 }))
 
 pub returns-in_err-write_and_flush : goal.returns-in_err-write_and_flush
-returns-in_err-write_and_flush g c = inr (inr (record {
+returns-in_err-write_and_flush g c =
+    let from = c.from_residual-in_err-write_and_flush in let p = err_from_is_err_and from.result from.ensures.1 in
+    rw (p.1, p.2) (inr (inr (record {
   segment = c.in_ok-segment.segment;
   read = c.open_any_segment.new.disk;
   opens_file = c.in_ok-segment.ensures;
@@ -22,4 +25,4 @@ returns-in_err-write_and_flush g c = inr (inr (record {
       c.in_ok-segment.segment.cut.bytes c.in_ok-write_image.ensures;
   tells = c.in_err-write_and_flush.ensures;
   answer = λ fault e. same_fault _ fault e;
-}))
+})))

@@ -1,4 +1,5 @@
 use Rattle.std.proofs.Common.{inl, inr, Ok}
+use Rattle.std.proofs.lemmas.Result.{err_from_is_err_and}
 use Rattle.segment_manager.specs.declared.modes.Mode.TheVariants.{Write}
 use Rattle.image_check.specs.declared.versions.AcceptedVersions.TheVariants.{Current}
 use Rattle.segment_commands.specs.Opening.{OpensWith}
@@ -21,7 +22,9 @@ returns g c = inr (inr (record {
 }))
 
 pub returns-in_err-tell_and_write : goal.returns-in_err-tell_and_write
-returns-in_err-tell_and_write g c = inr (inr (record {
+returns-in_err-tell_and_write g c =
+    let from = c.from_residual-in_err-tell_and_write in let p = err_from_is_err_and from.result from.ensures.1 in
+    rw (p.1, p.2) (inr (inr (record {
   segment = c.in_ok-segment.segment;
   read = c.open_segment.new.disk;
   opens = rw c.more_for.ensures at c.in_ok-segment.ensures;
@@ -31,12 +34,13 @@ returns-in_err-tell_and_write g c = inr (inr (record {
       g.O.Sink.history g.O.Output.flushes c.args.out.now c.tell_and_write.new.out c.resize_segment.new.segment
       c.in_err-tell_and_write.field-0 _ c.in_err-tell_and_write.ensures;
   answer = λ fault e. same_fault _ fault e;
-}))
+})))
 
 pub returns-in_err-resize_segment : goal.returns-in_err-resize_segment
 returns-in_err-resize_segment g c =
-    let opens : OpensWith g.D.Disk.step c.args.disk.now c.open_segment.new.disk c.args.path.now Current Write
-    (more_by c.args.how) (Ok c.in_ok-segment.segment) =
+    let from = c.from_residual-in_err-resize_segment in let p = err_from_is_err_and from.result from.ensures.1 in
+    rw (p.1, p.2) (let opens : OpensWith g.D.Disk.step c.args.disk.now c.open_segment.new.disk c.args.path.now
+    Current Write (more_by c.args.how) (Ok c.in_ok-segment.segment) =
     rw c.more_for.ensures at c.in_ok-segment.ensures in
     inr (inl (record {
       segment = c.in_ok-segment.segment;
@@ -47,4 +51,4 @@ returns-in_err-resize_segment g c =
       refused_by = c.in_err-resize_segment.ensures.refused;
       silent = search;
       refused = search;
-    }))
+    })))

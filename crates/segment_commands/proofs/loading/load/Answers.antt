@@ -1,4 +1,5 @@
 use Rattle.std.proofs.Common.{rules, inl, inr, refl}
+use Rattle.std.proofs.lemmas.Result.{err_from_is_err_and}
 use Rattle.segment_commands.proofs.changing.Outcome.{written_whole}
 use Rattle.segment_commands.proofs.loading.Loads.{unmade}
 use Rattle.segment_commands.proofs.loading.load.Goals as goal
@@ -33,11 +34,13 @@ returns-clause-success g c = record {
 }
 
 pub returns-in_err-segment-clause-success : goal.returns-in_err-segment-clause-success
-returns-in_err-segment-clause-success g c = record {
+returns-in_err-segment-clause-success g c =
+    let from = c.from_residual in let p = err_from_is_err_and from.result from.ensures.1 in
+    rw (p.1, p.2) (record {
   loads = λ text r f. inr (inl (
     c.in_err-segment.field-0,
     unmade c.args.size (g.S.Source.history c.args.script.now) (g.S.Source.history c.load_dump.new.script)
         c.in_err-segment.field-0 text c.in_err-segment.ensures r f,
     refl,
   ));
-}
+})

@@ -12,8 +12,8 @@ returns-then-eq g c =
 pub returns-in-Ok : goal.returns-in-Ok
 returns-in-Ok g c =
     let is_not : c.args.how ≢ New = search rules in
-    made_over g.D.Disk.step c.args.disk.now c.compare.new.self c.make_image.new.disk c.args.path.now
-    c.args.segment.now.cut.bytes c.args.how is_not c.make_image.result c.in-Ok.ensures c.make_image.ensures
+    made_over g.D.Disk.step c.args.disk.now c.compare.new.self c.make_image-in-Ok.new.disk c.args.path.now
+    c.args.segment.now.cut.bytes c.args.how is_not c.make_image-in-Ok.result c.in-Ok.ensures c.make_image-in-Ok.ensures
 
 pub returns-in-Err : goal.returns-in-Err
 returns-in-Err g c =

@@ -13,8 +13,9 @@ append_to-requires c = omega (
 
 pub bounds-self-inside-self-inside : goal.bounds-self-inside-self-inside
 bounds-self-inside-self-inside c =
-    row-slot c.self.inside.len c.self.inside.lengths c.self.inside.bytes c.self.view_is c.self.invariant.1
-    (length c.args.text.now) c.self.invariant.0 c.self.told c.requires
+    let slot = row-slot c.self.inside.len c.self.inside.lengths c.self.inside.bytes c.self.view_is c.self.invariant.1
+    (length c.args.text.now) c.self.invariant.0 c.self.told c.requires in
+    omega (arith, slot, c.self.told)
 
 pub invariant_of-self : goal.invariant_of-self
 invariant_of-self c =

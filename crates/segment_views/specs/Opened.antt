@@ -8,7 +8,6 @@ use Rattle.seg_types.specs.Kinds.{same_kind}
 use Rattle.seg_types.specs.Names.{Key}
 use Rattle.segment_manager.specs.declared.objects.object_ref.Object.{Object as Located}
 use Rattle.segment_manager.specs.Directory.{Directory, kind_of, object_at}
-use Rattle.segment_manager.specs.{State.IsSegment, State.SegmentState, objects.Located.IsObject}
 
 -- the handle of the object of a key, an object of a kind, or why there is none
 abbrev pub opened_at : Directory → Key → Kind → Result ℕ Refusal
@@ -21,8 +20,3 @@ opened_at d key kind = elim (object_at d key) [
 abbrev pub handle_of : {V : Type 0} → (V → Located) → Result V Refusal → Result ℕ Refusal
 handle_of object (Ok v) = Ok ((object v).handle)
 handle_of object (Err why) = Err why
-
--- an object of the segment is this one, and the bytes are a segment's
-pub record IsOpen (o : Located) (s : SegmentState) : Type 0 where
-  pub object : IsObject o s
-  pub segment : IsSegment s.cut.bytes

@@ -64,10 +64,10 @@ elements-end old now h kind count text rest room counter e i = record {
 -- nothing is there yet
 first-part : {X Y : Type 0} (way : FillCourse X Y) (all : List Y) (v : Value) (need : ℕ) → way.items [] ≡ []
     → v ≡ way.value [] all → need ≡ way.need all → HasFirstElements way all 0 v (flat_map way.line all) need
-first-part way all v need none e f = record {
+first-part way all v need i e f = record {
   front = [];
   back = all;
-  all_are = ap (λ l. l ++ all) (sym none);
+  all_are = ap (λ l. l ++ all) (sym i);
   many = refl;
   value_is = e;
   text_is = refl;
@@ -75,10 +75,10 @@ first-part way all v need none e f = record {
 }
 
 at-front : (s : SegmentState) (text : List ℕ) (p : FillState) (h : ℕ) (c : ValueContent) → c ≡ p.content → (v : Value)
-    {need : ℕ} → IsPartialValue c 0 v (content_text c) need
+    (need : ℕ) → IsPartialValue c 0 v (content_text c) need
     → StandsFilling s p.site p.done (head_of p h) v (need + p.more) → text ≡ content_text c ++ p.after
     → FillsAt s text p h 0
-at-front s text p h c e v {need} part st t = record {
+at-front s text p h c e v need part st t = record {
   value = v;
   left = content_text c;
   need = need;
@@ -92,12 +92,12 @@ begun-by : (c : ValueContent) (p : FillState) (kind : Kind) → c ≡ p.content 
     → StandsFilling s p.site p.done (head_of p h) (bare (first_content (kind_of_content c) (count_of_content c)))
     (content_need c + p.more) → text ≡ content_text c ++ p.after → FillsAt s text p h 0
 begun-by (Scalars k zs) p kind e q n v s text h st t =
-    at-front s text p h (Scalars k zs) e (Numbers k (replicate (length zs) (pos 0)))
+    at-front s text p h (Scalars k zs) e (Numbers k (replicate (length zs) (pos 0))) _
     (first-part (array_course k) zs (Numbers k (replicate (length zs) (pos 0))) (content_need (Scalars k zs)) refl refl
     refl) st t
 begun-by (Vector k zs) p kind e q n v s text h st t = absurd (v (subst IsVectorKind q tt))
 begun-by (String bs) p kind e q n v s text h st t = absurd (n (sym q))
-begun-by (Map k w ps) p kind e q n v s text h st t = at-front s text p h (Map k w ps) e (Pairs k w [])
+begun-by (Map k w ps) p kind e q n v s text h st t = at-front s text p h (Map k w ps) e (Pairs k w []) _
     (first-part (map_course k w) ps (Pairs k w []) (content_need (Map k w ps)) refl refl (omega arith)) st t
 begun-by (Strings ts) p kind e q n v s text h st t = absurd (v (subst IsVectorKind q tt))
 
@@ -136,7 +136,7 @@ reserved-for c p e first each n more stored long needs rest part s new text h ca
     st.stands.denotes.directory stored long f rest in
     let u = led st.stands st.mode _ moved done in (
       u.given_is,
-      at-front new text p h c e u.holds.value (part u.holds.value u.holds.table)
+      at-front new text p h c e u.holds.value more (part u.holds.value u.holds.table)
           (stands-filling u.stands u.mode u.holds.filling) t,
     )
 

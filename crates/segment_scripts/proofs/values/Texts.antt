@@ -44,15 +44,15 @@ parts-taken (n ∷ ns) bs e =
     omega (arith, length-take-le n bs fits, length-drop n bs)
 
 -- what a row has, and a place for the length of one more
-module _ {len : ℕ} {lengths bs : List ℕ} {row : List (List ℕ)} (is : parts (take len lengths) bs ≡ row)
+module _ (len : ℕ) (lengths bs : List ℕ) {row : List (List ℕ)} (is : parts (take len lengths) bs ≡ row)
     (fits : total (take len lengths) ≡ length bs) where
   -- the bytes taken by a row are those before and the new text's
   pub row-taken : texts_taken row ≡ length (take len lengths) + length bs
   row-taken = ap texts_taken (sym is) ∙ parts-taken (take len lengths) bs fits
 
   -- a text that fits a row has a slot in it
-  pub row-slot : {n : ℕ} → len ≤ 4097 → length lengths ≡ 4097 → texts_taken row + n ≤ 4096 → len < length lengths
-  row-slot within many few =
+  pub row-slot : (n : ℕ) → len ≤ 4097 → length lengths ≡ 4097 → texts_taken row + n ≤ 4096 → len < length lengths
+  row-slot n within many few =
       omega (arith, few, many, row-taken, length-take-le len lengths (omega (arith, within, many)))
 
 pub taken-more : (ts : List (List ℕ)) (t : List ℕ) → texts_taken (ts ++ t ∷ []) ≡ texts_taken ts + 1 + length t

@@ -1,46 +1,40 @@
--- The object of a view stays, in bytes that are a segment's.
-use Rattle.std.proofs.Common.{◌≡◌, true, List, Option, ℕ, ℤ}
+-- The object of a view stays.
+use Rattle.std.proofs.Common.{◌≡◌, subst, true, List, Option, ℕ, ℤ}
 use Rattle.seg_types.specs.declared.refusals.Refusal.{Refusal}
 use Rattle.seg_types.specs.declared.kinds.{Kind.Kind, ScalarKind.ScalarKind}
 use Rattle.seg_types.specs.Names.{Key}
 use Rattle.seg_types.specs.Commands.{Command}
 use Rattle.segment_manager.specs.declared.objects.object_ref.Object.{Object}
 use Rattle.segment_manager.specs.Answers.{Answer}
+use Rattle.segment_manager.specs.objects.Located.{IsObject}
 use Rattle.segment_manager.specs.Staying.{is_elementwise}
-use Rattle.segment_manager.specs.State.{TakesStepOfKind, SegmentState}
+use Rattle.segment_manager.specs.State.{IsSegment, TakesStepOfKind, SegmentState}
 use Rattle.segment_manager.proofs.Laws.{extends-stay, leads_on-stay, objects_stay, writes-stay}
 use Rattle.segment_manager.specs.containers.{Ranges.ExtendsVector, Ranges.WritesRange, TextLists.LeadsOnOfKind}
-use Rattle.segment_views.specs.Opened.{IsOpen}
 
-module _ {old new : SegmentState} {o : Object} {key : Key} where
-  -- behind a call that is a step of its kind
-  pub stays_of_kind : {kind : Kind} {c : Command} {answer : Answer} → is_elementwise c ≡ true
-      → TakesStepOfKind old new key kind c answer → IsOpen o old → IsOpen o new
-  stays_of_kind {kind} {c} {answer} w m is = record {
-    object = objects_stay.of_kind old new key kind c answer is.segment w m o is.object;
-    segment = (_, m.denotes is.segment.0 is.segment.1);
-  }
+-- behind a call that is a step of its kind
+pub stays_of_kind : (old new : SegmentState) (o : Object) (key : Key) (kind : Kind) (c : Command) (answer : Answer)
+    (b : List ℕ) → b ≡ old.cut.bytes → IsSegment b → is_elementwise c ≡ true
+    → TakesStepOfKind old new key kind c answer → IsObject o old → IsObject o new
+stays_of_kind old new o key kind c answer b e g w m is =
+    objects_stay.of_kind old new key kind c answer (subst IsSegment e g) w m o is
 
-  -- behind one that answers less than its command
-  pub stays_led : {kind : Kind} {c : Command} {why : Option Refusal} → is_elementwise c ≡ true
-      → LeadsOnOfKind old new key kind c why → IsOpen o old → IsOpen o new
-  stays_led {kind} {c} {why} w m is = record {
-    object = leads_on-stay old new key kind c why is.segment w m o is.object;
-    segment = (_, m.denotes is.segment.0 is.segment.1);
-  }
+-- and behind one that answers less than its command
+pub stays_led : (old new : SegmentState) (o : Object) (key : Key) (kind : Kind) (c : Command) (why : Option Refusal)
+    (b : List ℕ) → b ≡ old.cut.bytes → IsSegment b → is_elementwise c ≡ true
+    → LeadsOnOfKind old new key kind c why → IsObject o old → IsObject o new
+stays_led old new o key kind c why b e g w m is = leads_on-stay old new key kind c why (subst IsSegment e g) w m o is
 
-  -- and behind one on a range of elements
-  pub stays_extended : {k : ScalarKind} {more : List ℤ} {answer : Answer} → ExtendsVector old new key k more answer
-      → IsOpen o old → IsOpen o new
-  stays_extended {k} {more} {answer} m is = record {
-    object = extends-stay old new key k more answer is.segment m o is.object;
-    segment = (_, m.denotes is.segment.0 is.segment.1);
-  }
+-- and behind one on a range of elements
+pub stays_extended : (old new : SegmentState) (o : Object) (key : Key) (k : ScalarKind) (more : List ℤ)
+    (answer : Answer) (b : List ℕ) → b ≡ old.cut.bytes → IsSegment b → ExtendsVector old new key k more answer
+    → IsObject o old → IsObject o new
+stays_extended old new o key k more answer b e g m is =
+    extends-stay old new key k more answer (subst IsSegment e g) m o is
 
-  -- the object of a view stays if a range of it is written
-  pub stays_written : {k : ScalarKind} {first : ℕ} {zs : List ℤ} {answer : Answer}
-      → WritesRange old new key k first zs answer → IsOpen o old → IsOpen o new
-  stays_written {k} {first} {zs} {answer} m is = record {
-    object = writes-stay old new key k first zs answer is.segment m o is.object;
-    segment = (_, m.denotes is.segment.0 is.segment.1);
-  }
+-- the object of a view stays if a range of it is written
+pub stays_written : (old new : SegmentState) (o : Object) (key : Key) (k : ScalarKind) (first : ℕ) (zs : List ℤ)
+    (answer : Answer) (b : List ℕ) → b ≡ old.cut.bytes → IsSegment b → WritesRange old new key k first zs answer
+    → IsObject o old → IsObject o new
+stays_written old new o key k first zs answer b e g m is =
+    writes-stay old new key k first zs answer (subst IsSegment e g) m o is

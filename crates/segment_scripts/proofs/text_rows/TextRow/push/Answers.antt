@@ -5,15 +5,22 @@ use Rattle.segment_scripts.proofs.values.Texts.{parts-more, row-slot, row-taken,
 use Rattle.segment_scripts.proofs.text_rows.TextRow.push.Goals as goal
 
 pub append_to-requires : goal.append_to-requires
-append_to-requires c = omega (arith, c.requires, row-taken c.self.view_is c.self.invariant.1)
+append_to-requires c = omega (
+  arith,
+  c.requires,
+  row-taken c.self.inside.len c.self.inside.lengths c.self.inside.bytes c.self.view_is c.self.invariant.1,
+)
 
 pub bounds-self-inside-self-inside : goal.bounds-self-inside-self-inside
 bounds-self-inside-self-inside c =
-    row-slot c.self.view_is c.self.invariant.1 c.self.invariant.0 c.self.told c.requires
+    let slot = row-slot c.self.inside.len c.self.inside.lengths c.self.inside.bytes c.self.view_is c.self.invariant.1
+    (length c.args.text.now) c.self.invariant.0 c.self.told c.requires in
+    omega (arith, slot, c.self.told)
 
 pub invariant_of-self : goal.invariant_of-self
 invariant_of-self c =
-    let slot = row-slot c.self.view_is c.self.invariant.1 c.self.invariant.0 c.self.told c.requires in
+    let slot = row-slot c.self.inside.len c.self.inside.lengths c.self.inside.bytes c.self.view_is c.self.invariant.1
+    (length c.args.text.now) c.self.invariant.0 c.self.told c.requires in
     let m = c.len.result - c.len-before.result in
     let more : total (take (c.self.inside.len + 1) (set c.self.inside.lengths c.self.inside.len m))
     ≡ total (take c.self.inside.len c.self.inside.lengths) + m =
@@ -25,7 +32,8 @@ invariant_of-self c =
 
 pub returns : goal.returns
 returns c =
-    let slot = row-slot c.self.view_is c.self.invariant.1 c.self.invariant.0 c.self.told c.requires in
+    let slot = row-slot c.self.inside.len c.self.inside.lengths c.self.inside.bytes c.self.view_is c.self.invariant.1
+    (length c.args.text.now) c.self.invariant.0 c.self.told c.requires in
     let grown : length c.append_to.new.text ≡ length c.self.inside.bytes + length c.args.text.now =
     ap length c.append_to.ensures ∙ length-append c.self.inside.bytes c.args.text.now in
     let m : c.len.result - c.len-before.result ≡ length c.args.text.now =

@@ -3,4 +3,8 @@ use Rattle.segment_views.proofs.elements.SameObject.{stays_written}
 use Rattle.segment_views.proofs.arrays.View+Row+T+Array.copy_from.Goals as goal
 
 pub invariant_of-self : goal.invariant_of-self
-invariant_of-self g c = record { here = stays_written c.write_range.ensures.step c.args.self.now.here }
+invariant_of-self g c = record {
+  here = stays_written c.args.self.now.segment.now c.write_range.new.self c.args.self.now.object _ _ _ _ _
+      c.as_bytes.result.now c.as_bytes.ensures.bytes c.as_bytes.ensures.denotation c.write_range.ensures.step
+      c.args.self.now.here;
+}

@@ -11,6 +11,6 @@ returns g c =
       asked = c.path_status.ensures;
       segment = c.in_ok-segment.segment;
       made = c.in_ok-segment.ensures;
-      writes = record { written = w.output; asked = w.asked; fate = w.fate; accepted = w.acceptance };
+      writes = record { written = w.written; asked = w.asked; fate = w.fate; accepted = w.accepted };
       answer = λ fault e. absurd (cc);
     }))

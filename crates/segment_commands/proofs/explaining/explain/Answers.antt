@@ -1,4 +1,4 @@
-use Rattle.std.proofs.Common.{inl, inr, Ok, Err, refl, subst}
+use Rattle.std.proofs.Common.{ap, inl, inr, Ok, Err, refl, subst}
 use Rattle.std.proofs.lemmas.Result.{err_from_is_err_and}
 use Rattle.segment_cli.specs.declared.faults.SessionFault.TheVariants.{WriteFault}
 use Rattle.segment_file.specs.declared.file_errors.OpenFault.{OpenFault}
@@ -13,7 +13,7 @@ returns-in_ok-tell_verdict-in-Err-Image g c = inr (inl (record {
       (Err u)) c.in-Err-Image.field-0-is c.in-Err-Image.ensures;
   said = Ok tt;
   tells = c.in_ok-tell_verdict-in-Err-Image.ensures;
-  answer = refl;
+  answer = ap Err c.from.ensures;
 }))
 
 pub returns-in_err-tell_verdict-in-Err-Image : goal.returns-in_err-tell_verdict-in-Err-Image

@@ -18,11 +18,11 @@ pub returns-in_err-write_and_flush : goal.returns-in_err-write_and_flush
 returns-in_err-write_and_flush g c =
     let from = c.from_residual-in_err-write_and_flush in let p = err_from_is_err_and from.result from.ensures.1 in
     rw (p.1, p.2) (inr (inr (record {
-  segment = c.in_ok-segment.segment;
-  read = c.open_any_segment.new.disk;
-  opens_file = c.in_ok-segment.ensures;
-  writes = written_whole g.D.Disk.step c.open_any_segment.new.disk c.write_image.new.disk _ c.args.path.now
-      c.in_ok-segment.segment.cut.bytes c.in_ok-write_image.ensures;
-  tells = c.in_err-write_and_flush.ensures;
-  answer = λ fault e. same_fault _ fault e;
-})))
+      segment = c.in_ok-segment.segment;
+      read = c.open_any_segment.new.disk;
+      opens_file = c.in_ok-segment.ensures;
+      writes = written_whole g.D.Disk.step c.open_any_segment.new.disk c.write_image.new.disk _ c.args.path.now
+          c.in_ok-segment.segment.cut.bytes c.in_ok-write_image.ensures;
+      tells = c.in_err-write_and_flush.ensures;
+      answer = λ fault e. same_fault _ fault e;
+    })))

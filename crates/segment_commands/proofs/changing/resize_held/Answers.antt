@@ -25,16 +25,16 @@ pub returns-in_err-tell_and_write : goal.returns-in_err-tell_and_write
 returns-in_err-tell_and_write g c =
     let from = c.from_residual-in_err-tell_and_write in let p = err_from_is_err_and from.result from.ensures.1 in
     rw (p.1, p.2) (inr (inr (record {
-  segment = c.in_ok-segment.segment;
-  read = c.open_segment.new.disk;
-  opens = rw c.more_for.ensures at c.in_ok-segment.ensures;
-  resized = c.resize_segment.new.segment;
-  becomes = c.in_ok-resize_segment.ensures.changes;
-  goes = not_resized g.D.Disk.step c.open_segment.new.disk c.tell_and_write.new.disk c.args.path.now c.args.making
-      g.O.Sink.history g.O.Output.flushes c.args.out.now c.tell_and_write.new.out c.resize_segment.new.segment
-      c.in_err-tell_and_write.field-0 _ c.in_err-tell_and_write.ensures;
-  answer = λ fault e. same_fault _ fault e;
-})))
+      segment = c.in_ok-segment.segment;
+      read = c.open_segment.new.disk;
+      opens = rw c.more_for.ensures at c.in_ok-segment.ensures;
+      resized = c.resize_segment.new.segment;
+      becomes = c.in_ok-resize_segment.ensures.changes;
+      goes = not_resized g.D.Disk.step c.open_segment.new.disk c.tell_and_write.new.disk c.args.path.now c.args.making
+          g.O.Sink.history g.O.Output.flushes c.args.out.now c.tell_and_write.new.out c.resize_segment.new.segment
+          c.in_err-tell_and_write.field-0 _ c.in_err-tell_and_write.ensures;
+      answer = λ fault e. same_fault _ fault e;
+    })))
 
 pub returns-in_err-resize_segment : goal.returns-in_err-resize_segment
 returns-in_err-resize_segment g c =

@@ -21,10 +21,10 @@ returns-in_err-tell_verdict-in-Err-Image g c =
     let from = c.from_residual-in_err-tell_verdict-in-Err-Image in
     let p = err_from_is_err_and from.result from.ensures.1 in
     rw (p.1, p.2) (inr (inl (record {
-  verdict = c.in-Err-Image.verdict;
-  why = subst (λ (u : OpenFault). ExaminesFile g.D.Disk.step c.args.disk.now c.examine_file.new.disk c.args.path.now
-      (Err u)) c.in-Err-Image.field-0-is c.in-Err-Image.ensures;
-  said = Err (Session WriteFault);
-  tells = c.in_err-tell_verdict-in-Err-Image.ensures;
-  answer = refl;
-})))
+      verdict = c.in-Err-Image.verdict;
+      why = subst (λ (u : OpenFault). ExaminesFile g.D.Disk.step c.args.disk.now c.examine_file.new.disk c.args.path.now
+          (Err u)) c.in-Err-Image.field-0-is c.in-Err-Image.ensures;
+      said = Err (Session WriteFault);
+      tells = c.in_err-tell_verdict-in-Err-Image.ensures;
+      answer = refl;
+    })))

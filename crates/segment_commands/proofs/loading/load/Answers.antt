@@ -37,10 +37,10 @@ pub returns-in_err-segment-clause-success : goal.returns-in_err-segment-clause-s
 returns-in_err-segment-clause-success g c =
     let from = c.from_residual in let p = err_from_is_err_and from.result from.ensures.1 in
     rw (p.1, p.2) (record {
-  loads = λ text r f. inr (inl (
-    c.in_err-segment.field-0,
-    unmade c.args.size (g.S.Source.history c.args.script.now) (g.S.Source.history c.load_dump.new.script)
-        c.in_err-segment.field-0 text c.in_err-segment.ensures r f,
-    refl,
-  ));
-})
+      loads = λ text r f. inr (inl (
+        c.in_err-segment.field-0,
+        unmade c.args.size (g.S.Source.history c.args.script.now) (g.S.Source.history c.load_dump.new.script)
+            c.in_err-segment.field-0 text c.in_err-segment.ensures r f,
+        refl,
+      ));
+    })

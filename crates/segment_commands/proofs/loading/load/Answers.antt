@@ -1,6 +1,6 @@
 use Rattle.std.proofs.Common.{rules, inl, inr, refl}
 use Rattle.std.proofs.lemmas.Result.{err_from_is_err_and}
-use Rattle.segment_commands.proofs.changing.Outcome.{written_whole}
+use Rattle.segment_commands.proofs.changing.Outcome.{not_written, same_fault, written_whole}
 use Rattle.segment_commands.proofs.loading.Loads.{unmade}
 use Rattle.segment_commands.proofs.loading.load.Goals as goal
 
@@ -38,9 +38,41 @@ returns-in_err-segment-clause-success g c =
     let from = c.from_residual in let p = err_from_is_err_and from.result from.ensures.1 in
     rw (p.1, p.2) (record {
       loads = λ text r f. inr (inl (
-        c.in_err-segment.field-0,
+        c.in_err-segment.field-0.0,
         unmade c.args.size (g.S.Source.history c.args.script.now) (g.S.Source.history c.load_dump.new.script)
-            c.in_err-segment.field-0 text c.in_err-segment.ensures r f,
+            c.in_err-segment.field-0.0 text c.in_err-segment.ensures r f,
         refl,
       ));
+    })
+
+pub returns-in_err-write_image-clause-effect : goal.returns-in_err-write_image-clause-effect
+returns-in_err-write_image-clause-effect g c =
+    let from = c.from_residual-in_err-write_image in let p = err_from_is_err_and from.result from.ensures.1 in
+    rw (p.1, p.2) (inr (inr (record {
+      found = c.path_status.result;
+      free = search rules;
+      looked = c.path_status.new.self;
+      asked = c.path_status.ensures;
+      segment = c.in_ok-segment.segment;
+      made = c.in_ok-segment.ensures;
+      writes = not_written g.D.Disk.step c.path_status.new.self c.write_image.new.disk _ c.args.path.now
+          c.in_ok-segment.segment.cut.bytes c.in_err-write_image.field-0.0 _ c.in_err-write_image.ensures;
+      answer = λ fault e. same_fault _ fault e;
+    })))
+
+pub returns-in_err-write_image-clause-success : goal.returns-in_err-write_image-clause-success
+returns-in_err-write_image-clause-success g c =
+    let from = c.from_residual-in_err-write_image in let p = err_from_is_err_and from.result from.ensures.1 in
+    rw (p.1, p.2) (record {
+      loads = λ text r f. inr (inr (record {
+        found = c.path_status.result;
+        free = search rules;
+        looked = c.path_status.new.self;
+        asked = c.path_status.ensures;
+        segment = c.in_ok-segment.segment;
+        made = c.in_ok-segment.ensures;
+        writes = not_written g.D.Disk.step c.path_status.new.self c.write_image.new.disk _ c.args.path.now
+            c.in_ok-segment.segment.cut.bytes c.in_err-write_image.field-0.0 _ c.in_err-write_image.ensures;
+        answer = λ fault e. same_fault _ fault e;
+      }));
     })

@@ -32,7 +32,7 @@ returns-in_err-tell_and_write g c =
       becomes = c.in_ok-resize_segment.ensures.changes;
       goes = not_resized g.D.Disk.step c.open_segment.new.disk c.tell_and_write.new.disk c.args.path.now c.args.making
           g.O.Sink.history g.O.Output.flushes c.args.out.now c.tell_and_write.new.out c.resize_segment.new.segment
-          c.in_err-tell_and_write.field-0 _ c.in_err-tell_and_write.ensures;
+          c.in_err-tell_and_write.field-0.0 _ c.in_err-tell_and_write.ensures;
       answer = λ fault e. same_fault _ fault e;
     })))
 
@@ -45,9 +45,9 @@ returns-in_err-resize_segment g c =
     inr (inl (record {
       segment = c.in_ok-segment.segment;
       opens = opens;
-      error = c.in_err-resize_segment.field-0;
+      error = c.in_err-resize_segment.field-0.0;
       roomy = roomy_by g.D.Disk.step c.args.disk.now c.open_segment.new.disk c.args.path.now c.in_ok-segment.segment
-          c.args.how c.in_err-resize_segment.field-0 opens c.in_err-resize_segment.ensures.refused;
+          c.args.how c.in_err-resize_segment.field-0.0 opens c.in_err-resize_segment.ensures.refused;
       refused_by = c.in_err-resize_segment.ensures.refused;
       silent = search;
       refused = search;

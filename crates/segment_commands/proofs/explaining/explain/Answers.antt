@@ -7,14 +7,15 @@ use Rattle.segment_commands.specs.Faults.{Session}
 use Rattle.segment_commands.proofs.explaining.explain.Goals as goal
 
 pub returns-in_ok-tell_verdict-in-Err-Image : goal.returns-in_ok-tell_verdict-in-Err-Image
-returns-in_ok-tell_verdict-in-Err-Image g c = inr (inl (record {
-  verdict = c.in-Err-Image.verdict;
-  why = subst (λ (u : OpenFault). ExaminesFile g.D.Disk.step c.args.disk.now c.examine_file.new.disk c.args.path.now
-      (Err u)) c.in-Err-Image.field-0-is c.in-Err-Image.ensures;
-  said = Ok tt;
-  tells = c.in_ok-tell_verdict-in-Err-Image.ensures;
-  answer = ap Err c.from.ensures;
-}))
+returns-in_ok-tell_verdict-in-Err-Image g c =
+    rw c.from.ensures (inr (inl (record {
+      verdict = c.in-Err-Image.verdict;
+      why = subst (λ (u : OpenFault). ExaminesFile g.D.Disk.step c.args.disk.now c.examine_file.new.disk c.args.path.now
+          (Err u)) c.in-Err-Image.field-0-is c.in-Err-Image.ensures;
+      said = Ok tt;
+      tells = c.in_ok-tell_verdict-in-Err-Image.ensures;
+      answer = refl;
+    })))
 
 pub returns-in_err-tell_verdict-in-Err-Image : goal.returns-in_err-tell_verdict-in-Err-Image
 returns-in_err-tell_verdict-in-Err-Image g c =

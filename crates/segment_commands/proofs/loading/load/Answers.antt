@@ -1,6 +1,6 @@
 use Rattle.std.proofs.Common.{rules, inl, inr, refl}
 use Rattle.std.proofs.lemmas.Result.{err_from_is_err_and}
-use Rattle.segment_commands.proofs.changing.Outcome.{written_whole, not_written, same_fault}
+use Rattle.segment_commands.proofs.changing.Outcome.{not_written, same_fault, written_whole}
 use Rattle.segment_commands.proofs.loading.Loads.{unmade}
 use Rattle.segment_commands.proofs.loading.load.Goals as goal
 
@@ -56,7 +56,7 @@ returns-in_err-write_image-clause-effect g c =
       segment = c.in_ok-segment.segment;
       made = c.in_ok-segment.ensures;
       writes = not_written g.D.Disk.step c.path_status.new.self c.write_image.new.disk _ c.args.path.now
-          c.in_ok-segment.segment.cut.bytes _ _ c.in_err-write_image.ensures;
+          c.in_ok-segment.segment.cut.bytes c.in_err-write_image.field-0.0 _ c.in_err-write_image.ensures;
       answer = λ fault e. same_fault _ fault e;
     })))
 
@@ -72,7 +72,7 @@ returns-in_err-write_image-clause-success g c =
         segment = c.in_ok-segment.segment;
         made = c.in_ok-segment.ensures;
         writes = not_written g.D.Disk.step c.path_status.new.self c.write_image.new.disk _ c.args.path.now
-            c.in_ok-segment.segment.cut.bytes _ _ c.in_err-write_image.ensures;
+            c.in_ok-segment.segment.cut.bytes c.in_err-write_image.field-0.0 _ c.in_err-write_image.ensures;
         answer = λ fault e. same_fault _ fault e;
       }));
     })

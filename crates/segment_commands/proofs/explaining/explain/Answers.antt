@@ -1,4 +1,4 @@
-use Rattle.std.proofs.Common.{ap, inl, inr, Ok, Err, refl, subst}
+use Rattle.std.proofs.Common.{inl, inr, Ok, Err, refl, subst}
 use Rattle.std.proofs.lemmas.Result.{err_from_is_err_and}
 use Rattle.segment_cli.specs.declared.faults.SessionFault.TheVariants.{WriteFault}
 use Rattle.segment_file.specs.declared.file_errors.OpenFault.{OpenFault}

@@ -13,6 +13,7 @@ module _ {A B D : Type 0} (step : D → Event → D → Type 0) (old new : D) (h
       → WritesImage {E = B} step old new how path image (Ok tt)
   written_whole w = record { written = w.written; asked = w.asked; fate = w.fate; accepted = w.accepted }
 
+  -- an image that was not written whole is so whatever the error is
   pub not_written : (a : A) (b : B) → WritesImage {E = A} step old new how path image (Err a)
       → WritesImage {E = B} step old new how path image (Err b)
   not_written a b w = record { written = w.written; asked = w.asked; fate = w.fate; accepted = w.accepted }

@@ -34,7 +34,8 @@ use std::marker::Model;
 #[derive(Drop)]
 pub struct Heap {
     pub(crate) gaps: GapTree,
-    /// Where to begin to look for a handle. Neither the bytes nor what is answered depend on it.
+    /// Where to begin to look for a handle. Neither the bytes nor what is answered depend on it. Its room came with the
+    /// window's region.
     pub(crate) points: BlockHints,
 }
 
@@ -59,13 +60,9 @@ impl Heap {
         ensures { FormatsHeap current window result }
     {
         let mut window = window;
-        let points = BlockHints::none();
         block_tags::lay(&mut window);
         plant_first(&mut window);
-        Heap {
-            gaps: GapTree { window },
-            points,
-        }
+        Heap::adopt_without_hints(window)
     }
 
     /// Returns the heap that the bytes of a window already are: good tags, and at the word at 24 a good tree of the
@@ -74,9 +71,9 @@ impl Heap {
         requires { IsHeap current window.bytes }
         ensures { result ≡ window }
     {
-        let points = tile_walk::way_points(&window);
-        let gaps = GapTree { window };
-        Heap { gaps, points }
+        let mut heap = Heap::adopt_without_hints(window);
+        tile_walk::note_blocks(&heap.gaps.window, &mut heap.points);
+        heap
     }
 
     /// Makes a heap as `adopt` does, without hints, which `insert_hint` notes. It reads no tile.
@@ -84,10 +81,10 @@ impl Heap {
         requires { IsHeap current window.bytes }
         ensures { result ≡ window }
     {
-        Heap {
-            gaps: GapTree { window },
-            points: BlockHints::none(),
-        }
+        let mut window = window;
+        let points = BlockHints::none_in(window.take_notes());
+        let gaps = GapTree { window };
+        Heap { gaps, points }
     }
 
     /// Notes the handle of a block in use, from which blocks after it are looked for. No byte changes, and no tile is
@@ -99,15 +96,14 @@ impl Heap {
         self.points.insert(handle);
     }
 
-    /// Returns the heap's window, with the bytes that it has now.
+    /// Returns the heap's window, with the bytes that it has now. The room for hints goes with it.
     pub fn into_window(self) -> Window
         ensures window { result ≡ self }
         ensures heap { IsHeap current result.bytes }
     {
-        let Heap {
-            gaps: GapTree { window },
-            ..
-        } = self;
+        let Heap { gaps, points } = self;
+        let GapTree { mut window } = gaps;
+        window.keep_notes(points.into_notes());
         window
     }
 

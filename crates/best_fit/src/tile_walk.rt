@@ -28,12 +28,11 @@ pub fn is_live(window: &Window, points: &BlockHints, handle: u64) -> bool
     false
 }
 
-/// Returns the first block in use of each piece of a heap's window.
-pub fn way_points(window: &Window) -> BlockHints
-    requires { IsHeap current window.now.bytes }
-    ensures { LeadToBlocks result window.now.bytes }
+/// Notes the first block in use of each piece of a heap's window, and reads all tiles.
+pub fn note_blocks(window: &Window, points: &mut BlockHints)
+    requires { IsHintedHeap window.now.bytes points.old }
+    ensures { LeadToBlocks points.new window.now.bytes }
 {
-    let mut points = BlockHints::none();
     let mut ahead = first(window);
     'tiles: while let Some(tile) = ahead {
         if tile.use_of.is_some() {
@@ -41,7 +40,6 @@ pub fn way_points(window: &Window) -> BlockHints
         }
         ahead = next(window, tile.offset);
     }
-    points
 }
 
 /// Returns the number of blocks in use.

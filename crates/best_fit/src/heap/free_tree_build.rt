@@ -12,7 +12,6 @@ ghost use Rattle.best_fit.specs.Rebuilding.{IsNextGap, RebuildsFreeTree};
 
 use crate::heap::Heap;
 use crate::heap::nodes::{FREE_TREE_ROOT, GapTree, RIGHT_LINK, set_link};
-use crate::tile_walk;
 use block_tags::{TAG_LEN, first, next};
 use link_tree::insert;
 use offset_link::load;
@@ -21,7 +20,7 @@ use raw_region::{Window, bytes_are_octets};
 impl Heap {
     /// Makes the heap of a window that has blocks and gaps, and no tree of the gaps. It writes the tree into the gaps,
     /// and the link to it into the word at 24. The window has a legal size and good tags, and no gap is red. What the
-    /// word at 24 and the links of the gaps held is lost, and all else stays.
+    /// word at 24 and the links of the gaps held is lost, and all else stays. It has no hints, which `insert_hint` notes.
     pub fn rebuild(window: Window) -> Heap
         requires size { IsTrue (is_legal_size (length window.bytes)) }
         requires tags { IsTrue (has_tags 0 (bytes_of window.bytes) (length window.bytes)) }
@@ -32,8 +31,8 @@ impl Heap {
         clear_gaps(&mut gaps.window);
         plant_gaps(&mut gaps);
         hold_window(&gaps.window);
-        let points = tile_walk::way_points(&gaps.window);
-        Heap { gaps, points }
+        let GapTree { window } = gaps;
+        Heap::adopt_without_hints(window)
     }
 }
 

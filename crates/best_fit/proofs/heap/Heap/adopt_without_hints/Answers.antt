@@ -1,6 +1,11 @@
+-- Without hints there is nothing that leads to no block.
+use Rattle.best_fit.proofs.Common.{WindowState, IsHeap, current, subst, sym}
 use Rattle.best_fit.proofs.tile_walk.Hints.{none-lead}
 use Rattle.best_fit.proofs.heap.Heap.adopt_without_hints.Goals as goal
 
 pub invariant_of-result : goal.invariant_of-result
 invariant_of-result c =
-    record { heap = c.requires; points = none-lead c.none.result c.args.window.bytes c.none.ensures }
+    record {
+      heap = subst (λ (v : WindowState). IsHeap current v.bytes) (sym c.take_notes.ensures.unchanged) c.requires;
+      points = none-lead c.none_in-points.result c.take_notes.new.window.bytes c.none_in-points.ensures;
+    }

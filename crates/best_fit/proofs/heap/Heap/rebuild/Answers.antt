@@ -1,5 +1,6 @@
 -- An empty tree is written, and then one of all gaps.
-use Rattle.best_fit.proofs.Common.{length, bytes_of}
+use Rattle.best_fit.proofs.Common.{length, bytes_of, subst, sym, current, WindowState}
+use Rattle.best_fit.specs.Rebuilding.{RebuildsFreeTree}
 use Rattle.best_fit.proofs.free_tree.Rebuild.{rebuilt, rebuilt_heap}
 use Rattle.best_fit.proofs.free_tree.EmptyTree.{tagged_says, tagged_too}
 use Rattle.best_fit.proofs.heap.Heap.rebuild.Goals as goal
@@ -8,28 +9,18 @@ pub clear_gaps-requires-clause-tags : goal.clear_gaps-requires-clause-tags
 clear_gaps-requires-clause-tags c = let w = c.args.window in
     tagged_too (bytes_of w.bytes) (length w.bytes) c.requires.tags
 
-pub way_points-points-requires : goal.way_points-points-requires
-way_points-points-requires c =
+pub adopt_without_hints-requires : goal.adopt_without_hints-requires
+adopt_without_hints-requires c =
     let w = c.args.window in
     rebuilt_heap w c.clear_gaps.new.window c.plant_gaps.new.gaps.window
     (tagged_says w c.requires.size (tagged_too (bytes_of w.bytes) (length w.bytes) c.requires.tags))
     c.clear_gaps.ensures.frame c.plant_gaps.ensures.frame c.plant_gaps.ensures.tree
 
-pub invariant_of-result : goal.invariant_of-result
-invariant_of-result c =
-    let w = c.args.window in
-    record {
-      heap =
-          rebuilt_heap w c.clear_gaps.new.window c.plant_gaps.new.gaps.window
-          (tagged_says w c.requires.size (tagged_too (bytes_of w.bytes) (length w.bytes) c.requires.tags))
-          c.clear_gaps.ensures.frame c.plant_gaps.ensures.frame c.plant_gaps.ensures.tree;
-      points = c.way_points-points.ensures;
-    }
-
 pub returns : goal.returns
 returns c =
     let w = c.args.window in
-    rebuilt w c.clear_gaps.new.window c.plant_gaps.new.gaps.window
+    subst (λ (v : WindowState). RebuildsFreeTree current w v) (sym c.adopt_without_hints.ensures)
+    (rebuilt w c.clear_gaps.new.window c.plant_gaps.new.gaps.window
     (tagged_says w c.requires.size (tagged_too (bytes_of w.bytes) (length w.bytes) c.requires.tags))
     c.clear_gaps.ensures.frame c.plant_gaps.ensures.frame c.plant_gaps.ensures.tree
-    c.hold_window.ensures c.hold_window-2.ensures
+    c.hold_window.ensures c.hold_window-2.ensures)

@@ -1,7 +1,7 @@
 -- Each block that was passed may be noted.
 use Rattle.best_fit.proofs.Common.{List, length, Tile, LeadToBlocks}
 use Rattle.best_fit.proofs.tile_walk.Walk.{Left, to_go}
-use Rattle.best_fit.proofs.tile_walk.way_points.Given as goal
+use Rattle.best_fit.proofs.tile_walk.note_blocks.Given as goal
 
 abbrev pub invariant-tiles : goal.invariant-tiles
 invariant-tiles l = Left l.window l.ahead (λ (ts : List Tile). Unit {0}) × LeadToBlocks l.points l.window.bytes

@@ -1,18 +1,18 @@
 -- Each turn of the walk passes one tile.
 use Rattle.best_fit.proofs.Common.{sym, subst, ◌∙◌, ◌+◌, List, arith, Tile, BlockHints, LeadToBlocks}
 use Rattle.best_fit.proofs.tile_walk.Walk.{left_start, left_next, left_goes_on, left_nearer, window_tiled}
-use Rattle.best_fit.proofs.tile_walk.Hints.{none-lead, noted-lead, used_is_live}
-use Rattle.best_fit.proofs.tile_walk.way_points.Goals.{then-is_some, else-is_some}
-use Rattle.best_fit.proofs.tile_walk.way_points.Goals as goal
+use Rattle.best_fit.proofs.tile_walk.Hints.{noted-lead, used_is_live}
+use Rattle.best_fit.proofs.tile_walk.note_blocks.Goals.{then-is_some, else-is_some}
+use Rattle.best_fit.proofs.tile_walk.note_blocks.Goals as goal
 
 pub first-ahead-requires : goal.first-ahead-requires
-first-ahead-requires c = window_tiled c.args.window.now c.requires
+first-ahead-requires c = window_tiled c.args.window.now c.requires.heap
 
 pub tiles-init : goal.tiles-init
 tiles-init c =
     let w = c.args.window.now in (
-      left_start w (λ (ts : List Tile). Unit {0}) c.requires c.first-ahead.result c.first-ahead.ensures tt,
-      none-lead c.none-points.result w.bytes c.none-points.ensures,
+      left_start w (λ (ts : List Tile). Unit {0}) c.requires.heap c.first-ahead.result c.first-ahead.ensures tt,
+      c.requires.points,
     )
 
 pub overflow_add-tile : goal.overflow_add-tile

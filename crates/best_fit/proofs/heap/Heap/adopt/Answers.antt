@@ -1,0 +1,5 @@
+-- The hints that were noted lead to blocks.
+use Rattle.best_fit.proofs.heap.Heap.adopt.Goals as goal
+
+pub invariant_of-heap : goal.invariant_of-heap
+invariant_of-heap c = record { heap = c.heap.invariant.heap; points = c.note_blocks.ensures }

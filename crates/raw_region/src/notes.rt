@@ -1,0 +1,118 @@
+//! Numbers that are noted about memory, in room of their own beside it.
+ghost use Rattle.std.specs.Prelude.{◌≡◌, ℕ, [], length, slice_index, slice_set};
+
+use std::alloc::Global;
+use std::marker::Model;
+
+/// At most so many numbers are noted about one memory.
+const MAX_NOTES: u64 = 4096;
+
+/// One number is for so many bytes.
+const NOTED_LEN: u64 = 2048;
+
+/// Numbers that whoever has memory keeps beside it: one for 2048 bytes, and at most 4096. Their room comes with the
+/// memory, and no call here asks for more. Without room there are none.
+#[derive(Drop)]
+pub struct Notes {
+    numbers: Option<Vec<u32>>,
+}
+
+impl Model for Notes {
+    ghost use Rattle.std.specs.Prelude.{List, ℕ};
+    ghost use Rattle.raw_region.specs.Notes.{numbers_in};
+
+    ghost Value = { List ℕ };
+
+    ghost view = { λ n. numbers_in n.numbers };
+}
+
+impl Notes {
+    /// Makes notes without room.
+    pub(crate) fn none() -> Notes
+        ensures { result ≡ [] }
+    {
+        Notes { numbers: None }
+    }
+
+    /// Makes notes with room for those of `capacity` bytes, or without room if the allocator has it not, or if one
+    /// number would be all.
+    pub(crate) fn about(alloc: Global, capacity: u64) -> Notes {
+        let others = (capacity / NOTED_LEN).min(MAX_NOTES - 1);
+        if others == 0 {
+            return Notes { numbers: None };
+        }
+        match Vec::with_capacity(alloc, others as usize + 1) {
+            Ok(numbers) => Notes {
+                numbers: Some(numbers),
+            },
+            Err(_) => Notes { numbers: None },
+        }
+    }
+
+    /// Returns notes in the same room, each 0.
+    pub(crate) fn into_zeros(self) -> Notes
+        ensures { (i : ℕ) → slice_index result i ≡ 0 }
+    {
+        let Notes { numbers } = self;
+        match numbers {
+            Some(room) => Notes {
+                numbers: Some(filled(room)),
+            },
+            None => Notes { numbers: None },
+        }
+    }
+
+    /// Tells whether there is no room.
+    pub(crate) fn has_no_room(&self) -> bool {
+        self.numbers.is_none()
+    }
+
+    /// Returns how many there are.
+    pub fn len(&self) -> usize
+        ensures { result ≡ length self.now }
+    {
+        match &self.numbers {
+            Some(numbers) => numbers.len(),
+            None => 0,
+        }
+    }
+
+    /// Returns the number at `at`, or 0 if there are not so many.
+    pub fn get(&self, at: usize) -> u32
+        ensures { result ≡ slice_index self.now at }
+    {
+        match &self.numbers {
+            Some(numbers) => number_at(numbers.as_slice(), at),
+            None => 0,
+        }
+    }
+
+    /// Notes a number at `at`, if there are so many.
+    pub fn set(&mut self, at: usize, number: u32)
+        ensures { self.new ≡ slice_set self.old at number }
+    {
+        if let Some(numbers) = &mut self.numbers
+            && at < numbers.len()
+        {
+            numbers[at] = number;
+        }
+    }
+}
+
+/// Returns as many zeros as there is room for, so that no memory is asked for.
+fn filled(room: Vec<u32>) -> Vec<u32>
+    ensures { (i : ℕ) → slice_index result.items i ≡ 0 }
+{
+    let mut zeros = room;
+    let count = zeros.capacity();
+    zeros.clear();
+    let _ = zeros.resize(count, 0);
+    zeros
+}
+
+/// Returns the number at `at`, or 0 if there are not so many.
+fn number_at(numbers: &[u32], at: usize) -> u32
+    ensures { result ≡ slice_index numbers.now at }
+{
+    if at < numbers.len() { numbers[at] } else { 0 }
+}

@@ -71,11 +71,12 @@ impl BlockHints {
     pub(crate) fn nearest(&self, handle: u64) -> Option<u64>
         ensures { IfSome result (λ h. IsHinted self.now h × (h ≤ handle)) }
     {
+        let handles = self.handles.as_slice();
         let behind = place(self.piece, handle)
             .saturating_add(1)
-            .min(self.handles.len());
+            .min(handles.len());
         'pieces: for piece in (0..behind).rev() {
-            let known = self.handles.get(piece) as u64;
+            let known = handles[piece] as u64;
             if known != 0 && known <= handle && place(self.piece, known) == piece {
                 return Some(known);
             }

@@ -67,24 +67,28 @@ impl Notes {
         self.numbers.is_none()
     }
 
+    /// Returns all numbers.
+    pub fn as_slice(&self) -> &[u32]
+        ensures { result.now ≡ self.now }
+    {
+        match &self.numbers {
+            Some(numbers) => numbers.as_slice(),
+            None => &[],
+        }
+    }
+
     /// Returns how many there are.
     pub fn len(&self) -> usize
         ensures { result ≡ length self.now }
     {
-        match &self.numbers {
-            Some(numbers) => numbers.len(),
-            None => 0,
-        }
+        self.as_slice().len()
     }
 
     /// Returns the number at `at`, or 0 if there are not so many.
     pub fn get(&self, at: usize) -> u32
         ensures { result ≡ slice_index self.now at }
     {
-        match &self.numbers {
-            Some(numbers) => number_at(numbers.as_slice(), at),
-            None => 0,
-        }
+        number_at(self.as_slice(), at)
     }
 
     /// Notes a number at `at`, if there are so many.

@@ -20,7 +20,8 @@ use raw_region::{Window, bytes_are_octets};
 impl Heap {
     /// Makes the heap of a window that has blocks and gaps, and no tree of the gaps. It writes the tree into the gaps,
     /// and the link to it into the word at 24. The window has a legal size and good tags, and no gap is red. What the
-    /// word at 24 and the links of the gaps held is lost, and all else stays. It has no hints, which `insert_hint` notes.
+    /// word at 24 and the links of the gaps held is lost, and all else stays. There are no hints yet, which
+    /// `insert_hint` notes.
     pub fn rebuild(window: Window) -> Heap
         requires size { IsTrue (is_legal_size (length window.bytes)) }
         requires tags { IsTrue (has_tags 0 (bytes_of window.bytes) (length window.bytes)) }

@@ -37,7 +37,7 @@ pub use Rattle.seg_vector.specs.TextLists.{StoresFirstTexts, StoresArrayUpTo, St
 pub use Rattle.seg_vector.specs.TextParts.{FreesBlocks, AreHeldElements, IsHeldElement, SameElement, AreEvenLinks}
 pub use Rattle.seg_vector.specs.TextParts.{AdoptsOk, ReservesArray, taken, widened, IsArrayReserved, IsPutAsked}
 pub use Rattle.seg_vector.specs.TextParts.{PreparesPut, room_of, RefusesPut, PutsInto, SetsStorage, SwapsBlocks}
-pub use Rattle.seg_vector.specs.TextParts.{SameElements, IsServed, TakesStorage, PlacesTextOk}
+pub use Rattle.seg_vector.specs.TextParts.{SameElements, SetsWords, IsServed, TakesStorage, PlacesTextOk}
 pub use Rattle.seg_vector.specs.TextsCalls.{AreDistinct, placed_text, placed_texts, text_blocks, with_text}
 pub use Rattle.seg_vector.specs.TextsCalls.{requested_texts}
 pub use Rattle.seg_vector.specs.TextsCalls.{ReleasesTexts, IsHeldText, IsTextElement, RefusesFirstBlock, InsertsTextOk}

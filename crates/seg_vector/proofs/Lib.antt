@@ -12,3 +12,4 @@ pub use texts.Calls.*
 pub use texts.Growth.*
 pub use texts.Puts.*
 pub use texts.LayOut.*
+pub use texts.Making.*

@@ -4,3 +4,4 @@ pub mod Calls
 pub mod Growth
 pub mod Puts
 pub mod LayOut
+pub mod Making

@@ -50,6 +50,11 @@ GetsByte c p i result = (bytes : List ℕ) (t : BackingArray) → IsText c.bytes
 abbrev pub StartsText : WindowState → WindowState → Place → Type 0
 StartsText old new p = ReplacesText old new p no_backing [] no_backing
 
+-- a text with just so many places, whatever stood there
+abbrev pub MakesText : WindowState → WindowState → Place → List ℕ → Result (Unit {0}) Refusal → Type 0
+MakesText old new p bytes result = MatchResult result (λ u. GrowsTextOk old new p no_backing (length bytes) bytes)
+    (LacksSpace old new 1 (length bytes) no_backing)
+
 abbrev pub SetsByte : WindowState → WindowState → Place → ℕ → ℕ → Result (Unit {0}) Refusal → Type 0
 SetsByte old new p i x result =
     (bytes : List ℕ) (t : BackingArray) → IsText old.bytes p bytes t

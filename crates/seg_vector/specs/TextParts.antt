@@ -149,6 +149,13 @@ pub record SetsStorage (old new : WindowState) (p : Place) (g n : ℕ) : Type 0 
   pub len_word : word_at (bytes_of new.bytes) (place_at p + 8) ≡ word_at (bytes_of old.bytes) (place_at p + 8)
   pub capacity : word_at (bytes_of new.bytes) (place_at p + 16) ≡ n
 
+-- all three words at a place: the link, and the length and the capacity, which are equal
+pub record SetsWords (old new : WindowState) (p : Place) (storage : Option ℕ) (n : ℕ) : Type 0 where
+  pub change : ChangesBytes current old new (place_at p) 24
+  pub link : link_at (bytes_of new.bytes) (place_at p) ≡ storage
+  pub len_word : word_at (bytes_of new.bytes) (place_at p + 8) ≡ n
+  pub capacity : word_at (bytes_of new.bytes) (place_at p + 16) ≡ n
+
 -- An array was asked for, and other blocks were taken into use since; the vector is as it was.
 pub record IsArrayReserved (now : WindowState) (p : Place) (g n : ℕ) : Type 0 where
   pub first : WindowState

@@ -258,3 +258,10 @@ AssignsTexts old new p (bytes ∷ more) result =
     (ps : List OwnedText) (t : BackingArray) → IsTexts old.bytes p ps t
     → MatchResult result (λ u. AssignsTextsOk old new p ps t (bytes ∷ more))
     (UndoesRequests old new (requested_texts (live_of old.bytes) (bytes ∷ more)))
+
+-- a vector of texts with just so many places, whatever stood there
+abbrev pub MakesTexts : WindowState → WindowState → Place → List (List ℕ) → Result (Unit {0}) Refusal → Type 0
+MakesTexts old new p [] result = (result ≡ Ok tt) × InitsTexts old new p
+MakesTexts old new p (bytes ∷ more) result = MatchResult result
+    (λ u. AssignsTextsOk old new p [] no_backing (bytes ∷ more))
+    (UndoesRequests old new (requested_texts (live_of old.bytes) (bytes ∷ more)))

@@ -1,18 +1,31 @@
 //! The storage of a container at a place: it has none at the beginning, gets more of it, has it cut, and gives it back.
-ghost use Rattle.std.specs.Prelude.{◌≡◌, ℕ, ◌+◌, ◌*◌, ◌%◌, ◌<◌, ◌≤◌, IsTrue, []};
+ghost use Rattle.std.specs.Prelude.{◌≡◌, ℕ, ◌+◌, ◌*◌, ◌%◌, ◌<◌, ◌≤◌, IfSome, IsTrue, []};
 ghost use Rattle.raw_region.specs.Format.{current};
 ghost use Rattle.best_fit.specs.{Heap.ChangesBytes, Heap.IsHeap, Heap.has_room, Heap.live_of, Table.no_backing};
 ghost use Rattle.seg_vector.specs.{Elements.ShrinksStorage, Elements.FreesStorage};
 ghost use Rattle.seg_vector.specs.{Vector.capacity_for_more as places_for_more};
 ghost use Rattle.seg_vector.specs.{Vector.capacity_for_one as places_for_one};
 ghost use Rattle.seg_vector.specs.Containers.{ReservesStorage, GrowsForOne, IsStanding, IsContainer, len_at, place_at};
-ghost use Rattle.seg_vector.specs.TextParts.{SetsStorage};
+ghost use Rattle.seg_vector.specs.TextParts.{SetsStorage, SetsWords};
 
 use crate::places::{CAPACITY, LEN_OFFSET, capacity_of, len_of, link_of};
 use best_fit::{Heap, NoSpace, Place};
 use block_tags::MAX_SEGMENT_LEN;
 use raw_region::Steps;
 use seg_types::Refusal;
+
+/// Writes the three words of a container: the link to its storage, and as many elements and as many places.
+pub fn set_words(heap: &mut Heap, place: Place, storage: Option<u64>, count: u64)
+    requires heap { IsHeap current heap.old.bytes }
+    requires aligned { place.at % 8 ≡ 0 }
+    requires room { IsTrue (has_room (live_of heap.old.bytes) place.handle (place.at + 24)) }
+    requires even { IfSome storage (λ target. target % 16 ≡ 0) }
+    ensures { SetsWords heap.old heap.new place storage count }
+{
+    heap.set_link(place.handle, place.at, storage);
+    heap.set_word(place.handle, place.at + LEN_OFFSET, count);
+    heap.set_word(place.handle, place.at + CAPACITY, count);
+}
 
 /// Makes the three words at a place those of a container without a place, whatever they were. Storage that they led to
 /// is not given back.
@@ -23,9 +36,7 @@ pub fn init_container(heap: &mut Heap, place: Place)
     ensures changes { ChangesBytes current heap.old heap.new (place_at place) 24 }
     ensures container { (each : ℕ) → IsContainer heap.new.bytes place each 0 no_backing [] }
 {
-    heap.set_link(place.handle, place.at, None);
-    heap.set_word(place.handle, place.at + LEN_OFFSET, 0);
-    heap.set_word(place.handle, place.at + CAPACITY, 0);
+    set_words(heap, place, None, 0);
 }
 
 /// Gives the storage of the container at a place back. It has no element and no place then.

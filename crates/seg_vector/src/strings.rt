@@ -5,10 +5,11 @@ ghost use Rattle.best_fit.specs.Heap.{ChangesBytes, IsHeap, has_room, live_of};
 ghost use Rattle.seg_vector.specs.{Containers.place_at, Vector.capacity_for_text as places_for_text};
 ghost use Rattle.seg_vector.specs.TextCalls.{AppendsText, AssignsText, ClearsText, CountsBytePlaces, CountsBytes};
 ghost use Rattle.seg_vector.specs.TextCalls.{GetsByte, IsSomeText, ReadsText, ReleasesText, ReservesBytes};
-ghost use Rattle.seg_vector.specs.TextCalls.{ReservesNoBytes, SetsByte, ShrinksText, StartsText};
+ghost use Rattle.seg_vector.specs.TextCalls.{MakesText, ReservesNoBytes, SetsByte, ShrinksText, StartsText};
 
-use crate::container_capacity::{self, free_storage, init_container, shrink_storage};
+use crate::container_capacity::{self, free_storage, init_container, set_words, shrink_storage};
 use crate::elements::{WritePos, elements, extend, put_at, truncate};
+use crate::owning::place_text;
 use crate::places::{capacity_of, len_of};
 use best_fit::{Heap, Place};
 use block_tags::MAX_SEGMENT_LEN;
@@ -46,6 +47,22 @@ impl SegString {
     {
         init_container(heap, place);
         SegString { place }
+    }
+
+    /// Makes a text of bytes of the 24 bytes at a place, a multiple of 8 in a block in use, with just so many places.
+    ///
+    /// # Errors
+    ///
+    /// `NoSpace` if no gap is long enough for them. Nothing changes.
+    pub fn with_bytes(heap: &mut Heap, place: Place, bytes: &[u8]) -> Result<(), Refusal>
+        requires heap { IsHeap current heap.old.bytes }
+        requires aligned { place.at % 8 ≡ 0 }
+        requires room { IsTrue (has_room (live_of heap.old.bytes) place.handle (place.at + 24)) }
+        ensures { MakesText heap.old heap.new place bytes.now result }
+    {
+        let storage = place_text(heap, bytes)?;
+        set_words(heap, place, storage, bytes.len() as u64);
+        Ok(())
     }
 
     /// Returns the number of bytes.

@@ -3,13 +3,13 @@ ghost use Rattle.std.specs.Prelude.{◌≡◌, ◌+◌, ◌%◌, None, IsTrue, l
 ghost use Rattle.raw_region.specs.Format.{current};
 ghost use Rattle.best_fit.specs.Heap.{ChangesBytes, IsHeap, has_room, live_of};
 ghost use Rattle.seg_vector.specs.TextsCalls.{GetsText, InsertsText, IsTextsContainer, PopsText, PushesText};
-ghost use Rattle.seg_vector.specs.TextsCalls.{ReleasesTexts};
 ghost use Rattle.seg_vector.specs.TextsCalls.{AssignsTexts, ClearsTexts, ReadsTextsCapacity, ReadsTextsLen, ErasesText};
 ghost use Rattle.seg_vector.specs.TextsCalls.{ReservesNoTexts, ReservesTexts, SetsText, ShrinksTexts, InitsTexts};
-ghost use Rattle.seg_vector.specs.{TextsCalls.UnchangedIfFirstRefused, TextsCalls.new_array, Containers.place_at};
+ghost use Rattle.seg_vector.specs.TextsCalls.{MakesTexts, ReleasesTexts, UnchangedIfFirstRefused, new_array};
+ghost use Rattle.seg_vector.specs.{Containers.place_at};
 
 use crate::container_capacity::{
-    capacity_for_one, free_storage, init_container, set_storage, shrink_storage,
+    capacity_for_one, free_storage, init_container, set_words, shrink_storage,
 };
 use crate::owning::{place_text, release_text, release_texts, store_array};
 use crate::places::{ELEMENT_LEN, LEN_OFFSET, capacity_of, len_of, link_of};
@@ -40,6 +40,28 @@ impl SegTexts {
     {
         init_container(heap, place);
         SegTexts { place }
+    }
+
+    /// Makes a vector of texts of the 24 bytes at a place, a multiple of 8 in a block in use, with just so many places.
+    ///
+    /// # Errors
+    ///
+    /// `NoSpace` if the array or a text has no gap that is long enough: the same blocks are in use as before, with the
+    /// same bytes.
+    pub fn with_texts(heap: &mut Heap, place: Place, texts: &[&[u8]]) -> Result<(), Refusal>
+        requires heap { IsHeap current heap.old.bytes }
+        requires aligned { place.at % 8 ≡ 0 }
+        requires room { IsTrue (has_room (live_of heap.old.bytes) place.handle (place.at + 24)) }
+        ensures { MakesTexts heap.old heap.new place (map (λ text. text.now) texts.now) result }
+    {
+        let n = texts.len() as u64;
+        if n == 0 {
+            SegTexts::new(heap, place);
+            return Ok(());
+        }
+        let storage = store_array(heap, texts)?;
+        set_words(heap, place, Some(storage), n);
+        Ok(())
     }
 
     /// Returns the number of texts.
@@ -227,9 +249,7 @@ impl SegTexts {
         }
         let array = store_array(heap, texts)?;
         self.release(heap);
-        let n = texts.len() as u64;
-        set_storage(heap, self.place, array, n);
-        heap.set_word(self.place.handle, self.place.at + LEN_OFFSET, n);
+        set_words(heap, self.place, Some(array), texts.len() as u64);
         Ok(())
     }
 

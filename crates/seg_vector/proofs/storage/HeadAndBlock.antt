@@ -95,6 +95,7 @@ head-kept {a} {b} {p} {from} {n} {gone} {come} w x d = record {
   big = w.big;
 }
 
+-- and where bytes of it change
 pub head-changed : {a b : WindowState} {p : Place} {from n : ℕ} → IsHead a p → ChangesBytes current a b from n
     → IsHead b p
 head-changed {a} {b} {p} {from} {n} w c = record {

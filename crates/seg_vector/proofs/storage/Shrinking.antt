@@ -9,7 +9,7 @@ use Rattle.seg_vector.proofs.Common.{ChangesBytes, Deallocates, extent_at, has_r
 use Rattle.seg_vector.proofs.Common.{ShrinksInPlace, BackingArray, no_backing, same_role, serves, changed-live}
 use Rattle.seg_vector.proofs.Common.{laid-heap, read-same, shorter-IsShorter, spread-refl, exchange-released}
 use Rattle.seg_vector.proofs.Common.{exchange-resized, Role, Storage, Place, FreesStorageOk, ShrinksStorageOk}
-use Rattle.seg_vector.proofs.Common.{IsContainer, place_at, [], nil_from_length, KeepsGaps}
+use Rattle.seg_vector.proofs.Common.{IsContainer, place_at, [], nil_from_length, KeepsGaps, SetsWords}
 use Rattle.seg_vector.proofs.storage.HeadAndBlock.{AreHeadWords, IsRun, beside-head, head-gaps, head-wider, none-some}
 use Rattle.seg_vector.proofs.storage.HeadAndBlock.{room-head}
 use Rattle.seg_vector.proofs.storage.HeadAndBlock.{run-headed, run-stands, run-swapped, same-some, stands-run, table}
@@ -21,32 +21,19 @@ use Rattle.best_fit.specs.Table.{shrunk_backing}
 -- ---- a container without a place
 
 -- a container whose three words are written is empty and stands
-pub started : {old s1 s2 new : WindowState} (p : Place) (each : ℕ) → p.at % 8 ≡ 0
-    → IsTrue (has_room (live_of old.bytes) p.handle (p.at + 24)) → ChangesBytes current old new (place_at p) 24
-    → link_at (bytes_of s1.bytes) (p.handle + p.at) ≡ None → ChangesBytes current s1 s2 (p.handle + (p.at + 8)) 8
-    → word_at (bytes_of s2.bytes) (p.handle + (p.at + 8)) ≡ 0 → ChangesBytes current s2 new (p.handle + (p.at + 16)) 8
-    → word_at (bytes_of new.bytes) (p.handle + (p.at + 16)) ≡ 0 → IsContainer new.bytes p each 0 no_backing []
-started {old} {s1} {s2} {new} p each a r c link c2 len c3 cap =
-    let m1 = bytes_of s1.bytes in let m2 = bytes_of s2.bytes in let m3 = bytes_of new.bytes in
-    let at = place_at p in let one : p.handle + (p.at + 8) ≡ at + 8 = omega arith in
-    let two : p.handle + (p.at + 16) ≡ at + 16 = omega arith in
-    record {
-      heap = laid-heap _ _ c.live;
-      words = record {
-        link = SameBytesExcept-link m2 m3 _ 8 at c3.rest (inl (omega arith))
-            ∙ SameBytesExcept-link m1 m2 _ 8 at c2.rest (inl (omega arith)) ∙ link;
-        len_word = SameBytesExcept-word m2 m3 _ 8 (at + 8) c3.rest (inl (omega arith))
-            ∙ subst (λ k. word_at m2 k ≡ 0) one len;
-        capacity = subst (λ k. word_at m3 k ≡ 0) two cap;
-        storage = refl;
-      };
-      aligned = a;
-      room = subst (λ l. IsTrue (has_room l p.handle (p.at + 24))) (sym (changed-live _ old new _ 24 c)) r;
-      table = refl;
-      fits = omega arith;
-      long = omega arith;
-      own = tt;
-    }
+pub started : {old new : WindowState} (p : Place) (each : ℕ) → p.at % 8 ≡ 0
+    → IsTrue (has_room (live_of old.bytes) p.handle (p.at + 24)) → SetsWords old new p None 0
+    → IsContainer new.bytes p each 0 no_backing []
+started {old} {new} p each a r w = record {
+  heap = laid-heap _ _ w.change.live;
+  words = record { link = w.link; len_word = w.len_word; capacity = w.capacity; storage = refl };
+  aligned = a;
+  room = subst (λ l. IsTrue (has_room l p.handle (p.at + 24))) (sym (changed-live _ old new _ 24 w.change)) r;
+  table = refl;
+  fits = omega arith;
+  long = omega arith;
+  own = tt;
+}
 
 -- ---- the storage is given back
 

@@ -317,13 +317,15 @@ shrunk {old} {new} {ps} {t} s f =
 
 -- ---- what is asked for
 
-empty-placed : (l : LiveSet) (bytes : List ℕ) → length bytes ≡ 0
+-- an empty text is placed without a block
+pub empty-placed : (l : LiveSet) (bytes : List ℕ) → length bytes ≡ 0
     → placed_text l bytes ≡ Some (record { bytes = bytes; extent = None })
 empty-placed l bytes e = ap (λ b. if b then Some (let q : OwnedText = record { bytes = bytes; extent = None } in q) else
     option_map (λ (x : Extent). let q : OwnedText = record { bytes = bytes; extent = Some x } in q)
     (place l (length bytes) Storage)) (eq-eqb (length bytes) 0 e)
 
-some-placed : (l : LiveSet) (bytes : List ℕ) → 0 < length bytes → placed_text l bytes ≡ option_map (λ (x : Extent).
+-- another text takes a block
+pub some-placed : (l : LiveSet) (bytes : List ℕ) → 0 < length bytes → placed_text l bytes ≡ option_map (λ (x : Extent).
     let q : OwnedText = record { bytes = bytes; extent = Some x } in q) (place l (length bytes) Storage)
 some-placed l bytes f = ap (λ b. if b then Some (let q : OwnedText = record { bytes = bytes; extent = None } in q) else
     option_map (λ (x : Extent). let q : OwnedText = record { bytes = bytes; extent = Some x } in q)

@@ -12,9 +12,8 @@ use W.{BackingArray, no_backing, StoresFirstTexts, StoresArrayUpTo, StoresArrayO
 use W.{IsServed}
 use W.{SwapsBlocks, LacksFit, PlacesTextOk, AreHeldElements, AreDistinct, placed_text, placed_texts, text_blocks}
 use W.{with_text, requested_texts, new_array, AssignsTextsOk, AssignsTexts, IsTexts, ReplacesTexts, ReleasesTexts}
-use W.{AreTextLinks, IsOwnedText, OwnedText, Place, place_at, [], SetsStorage, all-same-but, drop-map, drop-cons}
-use Rattle.seg_vector.proofs.storage.HeadAndBlock.{AreHeadWords, IsHead, block-written, changed-both, head-exchanged}
-use Rattle.seg_vector.proofs.storage.HeadAndBlock.{len-written}
+use W.{AreTextLinks, IsOwnedText, OwnedText, Place, place_at, [], SetsWords, all-same-but, drop-map, drop-cons}
+use Rattle.seg_vector.proofs.storage.HeadAndBlock.{AreHeadWords, IsHead, block-written, head-exchanged}
 use Rattle.seg_vector.proofs.storage.HeadAndBlock.{run-none, run-swapped, same-some, serves-full, table, all-as}
 use Rattle.seg_vector.proofs.storage.HeadAndBlock.{came-found}
 use Rattle.seg_vector.proofs.storage.HeadAndBlock.{came-others, all-kept, none-of-none}
@@ -203,6 +202,7 @@ found-big c array n {y} heap room found =
 
 -- ---- what is asked for
 
+-- an array with a place takes a block
 pub new-array : (l : LiveSet) (n : ℕ) → 0 < n → new_array l n ≡ option_map (λ (x : Extent). table n (Some x))
     (place l (16 * n) Storage)
 new-array l n f = ap (λ b. if b then Some no_backing else option_map (λ (x : Extent). table n (Some x))
@@ -390,7 +390,8 @@ across : (xs ys : List Extent) → AreDistinct (xs ++ ys) → AllByRecursion (λ
 across [] ys d = tt
 across (x ∷ xs) ys d = ((all-split (λ (z : Extent). handle x ≢ handle z) xs ys d.0).1, across xs ys d.1)
 
-all-beside : {a b : WindowState} {p : Place} {gone come : List Extent} (xs : List Extent) → IsHeap current a.bytes
+-- blocks that are not gone stay
+pub all-beside : {a b : WindowState} {p : Place} {gone come : List Extent} (xs : List Extent) → IsHeap current a.bytes
     → IsHead a p
     → ExchangesBlocks current a b (place_at p) 24 gone come → AllByRecursion (IsFound (live_of a.bytes).extents) xs
     → IsNone p.handle xs → AllByRecursion (λ (x : Extent). IsNone (handle x) gone) xs
@@ -431,24 +432,22 @@ beside-own {old} {now} {p} {ps} {t} {come} s x =
 -- ---- the vector afterwards
 
 -- the array is adopted in place of the old one
-pub assigned : {old now rel led new : WindowState} {p : Place} {ps : List OwnedText} {t : BackingArray} {g : ℕ} (n : ℕ)
+pub assigned : {old now rel new : WindowState} {p : Place} {ps : List OwnedText} {t : BackingArray} {g : ℕ} (n : ℕ)
     {more : List (List ℕ)} → IsTexts old.bytes p ps t → (w : StoresArrayOk old now more g) → n ≡ length more → 0 < n
-    → ReleasesTexts now rel p → SetsStorage rel led p g n → ChangesBytes current led new (p.handle + (p.at + 8)) 8
-    → word_at (bytes_of new.bytes) (p.handle + (p.at + 8)) ≡ n → AssignsTextsOk old new p ps t more
-assigned {old} {now} {rel} {led} {new} {p} {ps} {t} n {more} s w e some released q d word =
+    → ReleasesTexts now rel p → SetsWords rel new p (Some g) n → AssignsTextsOk old new p ps t more
+assigned {old} {now} {rel} {new} {p} {ps} {t} n {more} s w e some released q =
     let at = place_at p in let own = own_blocks ps t in let y = w.block in let qs = w.texts in
     let come : List Extent = y ∷ text_blocks qs in
     let u = table n (Some y) in let x = released ps t (texts-still s w.change) in let b = beside-own s w.change in
-    let c = changed-both at 24 q.change d (omega arith) (omega arith) (omega arith) (omega arith) in
-    let e2 = head-exchanged p x.texts.heap x.texts.room c in
+    let e2 = head-exchanged p x.texts.heap x.texts.room q.change in
     let e12 = exchange-next _ now rel new at 24 own [] [] [] [] (spread-refl []) x.change e2 in
     let all = exchange-next _ old now new at 24 own _ own come [] (last-first come own) b.change e12 in
     let stay = all-beside come b.heap b.head e12 b.found b.none b.others in
     let serves_all = place-serves (live_of old.bytes) (16 * n) Storage y
     (subst (λ k. place (live_of old.bytes) (16 * k) Storage ≡ Some y) (sym e) w.fit) in
     let big = serves-full y (16 * n) serves_all in let long : n ≡ length qs = e ∙ sym w.long in
-    let words : AreHeadWords (bytes_of new.bytes) at n u = len-written n (omega arith) d.rest word
-    (record { link = q.link ∙ ap (λ k. Some k) w.at; len_word = refl; capacity = q.capacity }) in
+    let words : AreHeadWords (bytes_of new.bytes) at n u = record
+    { link = q.link ∙ ap (λ k. Some k) w.at; len_word = q.len_word; capacity = q.capacity } in
     let links = links-moved (bytes_of now.bytes) (bytes_of new.bytes) (handle y) (handle y) qs w.links
     (λ j f. element-in (handle y + 16 * j) stay.0 (omega arith) (omega (arith, f, long, big))) in
     let owned = owned-same (bytes_of now.bytes) (bytes_of new.bytes) qs stay.1 w.served w.owned in

@@ -1,17 +1,16 @@
--- A vector of numbers or a text as the value of a new object: it is made without an element, and then with its elements
--- in storage for just so many.
+-- A vector of numbers or a text as the value of a new object, with its elements in storage for just so many.
 use Rattle.segment_manager.proofs.Common as common
 use common.{◌≡◌, refl, sym, ap, subst, ◌∙◌, ℕ, ℤ, Bool, Some, None, Ok, Err, Result, List, [], length, map, IsTrue}
 use common.{MatchResult, option_to_list, length-map, current, WindowState, bytes_of, ExchangesBlocks, ChangesBytes}
-use common.{live_of, BackingArray}
+use common.{live_of, BackingArray, IsHeap}
 use common.{no_backing, keeps-refl, laid-heap, ScalarKind, Refusal, NoSpace, Content, Place, IsContainer, place_at}
-use common.{AssignsText, GrowsTextOk, grown_backing, Assigns, GrowsVectorOk, LacksSpace, Contents, flat_map}
+use common.{grown_backing, Assigns, GrowsVectorOk, LacksSpace, Contents, flat_map}
 use common.{are_bytes, contents_of, has_values, Value, Elements, Bytes, count_of, kind_of, value_extents, value_len}
 use common.{MakesValueOk, MakesValueErr, MakesValue, Plan, bare, perform, with_storage, with_value}
 use Rattle.segment_manager.proofs.containers.Contained.{contents-good, value-said}
 use Rattle.segment_manager.proofs.objects.MadeValues.{storage-met, storage-none, stored}
 use Rattle.segment_manager.proofs.objects.WholeNumbers.{IsOfKind, whole-spelled, whole-values}
-use Rattle.seg_vector.specs.{TextCalls.StartsText, VectorCalls.InitsVector}
+use Rattle.seg_vector.specs.{TextCalls.MakesText, VectorCalls.InitsVector}
 use Rattle.seg_types.specs.Commands as asked
 
 abbrev contents : ℕ → ℕ → List ℕ → BackingArray → Contents
@@ -109,14 +108,16 @@ module _ {T : Type 0} (k : ScalarKind) (w : T → ℤ) (size : ℕ) (test : T �
 
 -- ---- a text
 
+-- a heap of which no byte was written yet
+pub unwritten : (c : WindowState) (from n : ℕ) → IsHeap current c.bytes → ChangesBytes current c c from n
+unwritten c from n heap =
+    record { place = record { before = refl; after = refl }; live = heap; rest = record { at = λ k f. refl } }
+
 -- a new string with its bytes
-pub string-made : (old mid new : WindowState) (p q : Place) (bs : List ℕ) (r : Result (Unit {0}) Refusal)
-    → IsTrue (are_bytes bs) → q ≡ p → ChangesBytes current old mid (place_at p) 24 → StartsText old mid p
-    → AssignsText mid new q bs r → MakesValue (asked.Bytes bs) old new p r
-string-made old mid new p q bs r small e change begun a =
-    made r (subst (λ (x : Place). AssignsText mid new x bs r) e a [] no_backing begun.text)
-  where
-    made : (r : Result (Unit {0}) Refusal) → MatchResult r (λ u. GrowsTextOk mid new p no_backing (length bs) bs)
-        (LacksSpace mid new 1 (length bs) no_backing) → MakesValue (asked.Bytes bs) old new p r
-    made (Ok u) g = stored-value (bytes-content bs) old mid new p change g.table g.grown g.now.change g.now.text small
-    made (Err why) g = unstored-value (bytes-content bs) old mid new p change why g.same g.none g.refusal
+pub string-made : (old new : WindowState) (p : Place) (bs : List ℕ) (r : Result (Unit {0}) Refusal)
+    → IsHeap current old.bytes → IsTrue (are_bytes bs) → MakesText old new p bs r
+    → MakesValue (asked.Bytes bs) old new p r
+string-made old new p bs (Ok u) heap small g = stored-value (bytes-content bs) old old new p
+    (unwritten old (place_at p) 24 heap) g.table g.grown g.now.change g.now.text small
+string-made old new p bs (Err why) heap small g = unstored-value (bytes-content bs) old old new p
+    (unwritten old (place_at p) 24 heap) why g.same g.none g.refusal

@@ -1,13 +1,13 @@
--- A vector of texts as the value of a new object: it is made without a text, and then with its texts, each in a block
--- of its own.
+-- A vector of texts as the value of a new object, with its texts, each in a block of its own.
 use Rattle.seg_types.specs.Commands as asked
 use Rattle.segment_manager.proofs.Common.{◌≡◌, refl, sym, subst, ℕ, Some, Ok, Err, Result, List, [], ◌∷◌, ◌++◌, length}
 use Rattle.segment_manager.proofs.Common.{IsTrue, option_to_list, list_all, current, WindowState, LiveSet, ChangesBytes}
-use Rattle.segment_manager.proofs.Common.{live_of, BackingArray, no_backing, Refusal, Place, place_at, AssignsTextsOk}
-use Rattle.segment_manager.proofs.Common.{AssignsTexts, UndoesRequests, ReplacesTexts, requested_texts, new_array}
+use Rattle.segment_manager.proofs.Common.{live_of, BackingArray, no_backing, Refusal, Place, place_at, IsHeap}
+use Rattle.segment_manager.proofs.Common.{ReplacesTexts, new_array}
 use Rattle.segment_manager.proofs.Common.{placed_texts, text_blocks, OwnedText, are_bytes, Texts, MakesValueOk}
 use Rattle.segment_manager.proofs.{Common.MakesValue, containers.TextsHeld.good-texts}
-use Rattle.seg_vector.specs.TextsCalls.{InitsTexts}
+use Rattle.seg_vector.specs.TextsCalls.{MakesTexts}
+use Rattle.segment_manager.proofs.containers.NewContainers.{unwritten}
 use Rattle.segment_manager.proofs.containers.PlacedTexts.{texts-bytes}
 use Rattle.segment_manager.proofs.containers.TextPlans.{all-met, all-unmet, beside_array, beside_texts}
 
@@ -33,25 +33,18 @@ module _ (old mid new : WindowState) (p : Place) (change : ChangesBytes current 
         said = now.texts.words;
       }
 
-  -- it is made, and then its texts are put there
-  pub texts-made : (q : Place) (bss : List (List ℕ)) (r : Result (Unit {0}) Refusal) → IsTrue (list_all are_bytes bss)
-      → q ≡ p → InitsTexts old mid p → AssignsTexts mid new q bss r → MakesValue (asked.Strings bss) old new p r
-  texts-made q bss r small e begun a = made bss r small (subst (λ (x : Place). AssignsTexts mid new x bss r) e a)
-    where
-      made : (bss : List (List ℕ)) (r : Result (Unit {0}) Refusal) → IsTrue (list_all are_bytes bss)
-          → AssignsTexts mid new p bss r → MakesValue (asked.Strings bss) old new p r
-      made [] r small a = subst (MakesValue (asked.Strings []) old new p) (sym a.0)
-          (placed-value [] no_backing [] refl refl refl (a.1 [] no_backing begun.texts))
-      made (bs ∷ bss) (Ok u) small a =
-          let m : AssignsTextsOk mid new p [] no_backing (bs ∷ bss) =
-          a [] no_backing begun.texts in placed-value (bs ∷ bss) m.table m.texts small m.array m.placed m.now
-      made (bs ∷ bss) (Err why) small a =
-          let m : UndoesRequests mid new (requested_texts (live_of mid.bytes) (bs ∷ bss)) why =
-          a [] no_backing begun.texts in
-          record {
-            empty = mid;
-            change = change;
-            restored = record { laid = m.restored.laid; keeps = m.restored.keeps };
-            denied = λ d next. all-unmet d (live_of mid.bytes) (bs ∷ bss) (λ u qs. next (Texts qs u)) m.none;
-            refusal = m.refusal;
-          }
+-- a new vector with its texts
+pub texts-made : (old new : WindowState) (p : Place) (bss : List (List ℕ)) (r : Result (Unit {0}) Refusal)
+    → IsHeap current old.bytes → IsTrue (list_all are_bytes bss) → MakesTexts old new p bss r
+    → MakesValue (asked.Strings bss) old new p r
+texts-made old new p [] r heap small a = subst (MakesValue (asked.Strings []) old new p) (sym a.0)
+    (placed-value old old new p (unwritten old (place_at p) 24 heap) [] no_backing [] refl refl refl a.1)
+texts-made old new p (bs ∷ bss) (Ok u) heap small m = placed-value old old new p (unwritten old (place_at p) 24 heap)
+    (bs ∷ bss) m.table m.texts small m.array m.placed m.now
+texts-made old new p (bs ∷ bss) (Err why) heap small m = record {
+  empty = old;
+  change = unwritten old (place_at p) 24 heap;
+  restored = record { laid = m.restored.laid; keeps = m.restored.keeps };
+  denied = λ d next. all-unmet d (live_of old.bytes) (bs ∷ bss) (λ u qs. next (Texts qs u)) m.none;
+  refusal = m.refusal;
+}

@@ -125,7 +125,7 @@ impl ObjectInit for NewString<'_> {
     #[inline(always)]
     fn fill(&self, heap: &mut Heap, place: Place) -> Result<(), Refusal> {
         bytes_are_octets(self.bytes);
-        SegString::new(heap, place).assign(heap, self.bytes)
+        SegString::with_bytes(heap, place, self.bytes)
     }
 }
 
@@ -148,7 +148,7 @@ impl ObjectInit for NewTexts<'_> {
     #[inline(always)]
     fn fill(&self, heap: &mut Heap, place: Place) -> Result<(), Refusal> {
         judge_all(self.texts);
-        SegTexts::new(heap, place).assign(heap, self.texts)
+        SegTexts::with_texts(heap, place, self.texts)
     }
 }
 

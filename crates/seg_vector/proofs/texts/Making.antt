@@ -29,7 +29,8 @@ pub record IsMade (old mid new : WindowState) (p : Place) (come : List Extent) (
 
 pub made : {old mid new : WindowState} {p : Place} {come : List Extent} {storage : Option ℕ} {n : ℕ} (o : Option Extent)
     → IsHeap current old.bytes → IsTrue (has_room (live_of old.bytes) p.handle (p.at + 24))
-    → SwapsBlocks old mid [] come → SetsWords mid new p storage n → storage ≡ option_map handle o → IsMade old mid new p come n (table n o)
+    → SwapsBlocks old mid [] come → SetsWords mid new p storage n → storage ≡ option_map handle o
+    → IsMade old mid new p come n (table n o)
 made {old} {mid} {new} {p} {come} {n = n} o heap room x q e =
     let there = head-kept (room-head old p heap room) x tt in let still = laid-heap _ _ x.live in
     let written = head-exchanged p still (head-room there) q.change in

@@ -7,11 +7,11 @@ use Rattle.seg_types.specs.{Commands.Literal, Commands.value_of_literal, Names.K
 use Rattle.seg_types.specs.declared.kinds.Kind.TheVariants.{Map, Scalar, String, Strings, Vector}
 use Rattle.seg_map.specs.{Numbers.NumberPair, Places.item_of}
 use Rattle.segment_manager.specs.{Calls.kind_at, Directory.Directory, containers.Maps.pair_above, State.DenotesCurrent}
-use Rattle.segment_manager.specs.{State.SegmentState, Answers.Answer, Answers.TextElement, Answers.Refused}
+use Rattle.segment_manager.specs.Answers.{Answer, TextElement, Refused}
 use Rattle.segment_manager.specs.containers.Walks.{KindedPair, first_of, item_of_kinds, item_seen, pairs_at}
 use Rattle.segment_values.specs.Ranges.{range_at}
 use Rattle.segment_c.specs.{declared.keys.ObjectKey.ObjectKey, declared.values.CScalar.CScalar, Images.CopiesOut}
-use Rattle.segment_c.specs.Calls.{RefusesClosed, RefusesArgument}
+use Rattle.segment_c.specs.{Calls.ReadsHandle, declared.segment_slot.SegmentSlot.SegmentSlot}
 use Rattle.segment_c.specs.Passed.{key_of, key_wrong, scalar_in}
 
 -- the code is 0 and this holds, or it is that of the refusal
@@ -44,12 +44,9 @@ CopiesAnswer old new len code answer = ⊥
 -- and no more changes
 pub record ReadsRange {X : Type 0} (seen : X
     → ℤ) (kind : ScalarKind) (key : ObjectKey) (first : ℕ) (old new : List X) (code : ℕ)
-    (before after : Option SegmentState) : Type 0 where
-  pub stopped : RefusesArgument (key_wrong key) code before after
-  pub closed : RefusesClosed (key_wrong key) code before after
-  pub told : (s : SegmentState) → key_wrong key ≡ 0 → before ≡ Some s → (d : Directory) → DenotesCurrent s.cut.bytes d
-      → IsCoded (λ zs. map seen new ≡ zs) code (range_at d (key_of key) kind first (length old))
-  pub same : after ≡ before
+    (before after : SegmentSlot) : Type 0 where
+  pub read : ReadsHandle (key_wrong key) code before after (λ s. (d : Directory) → DenotesCurrent s.cut.bytes d
+      → IsCoded (λ zs. map seen new ≡ zs) code (range_at d (key_of key) kind first (length old)))
   pub results : 1 ≤ code → new ≡ old
 
 -- ---- the last element

@@ -3,11 +3,10 @@ ghost use Rattle.std.specs.Prelude.{◌≡◌, ◌≤◌, OnErr};
 ghost use Rattle.seg_types.specs.Commands.{Erase, Get, Insert, Pop, Push, Set};
 ghost use Rattle.seg_types.specs.{Keys.key_seen, Written.literal_seen};
 ghost use Rattle.seg_types.specs.declared.kinds.Kind.TheVariants.{Strings as StringsKind, Vector as VectorOf};
-ghost use Rattle.segment_c.specs.Calls.{PerformsCall};
+ghost use Rattle.segment_c.specs.Calls.{ChangesHandle, AsksHandle};
 ghost use Rattle.segment_c.specs.Codes.{answer_for};
 ghost use Rattle.segment_c.specs.Passed.{element_in, key_of, key_wrong, literal_in, or_else, value_wrong};
 ghost use Rattle.segment_c.specs.Reads.{vector_kind, vector_kind_at};
-ghost use Rattle.segment_c.specs.Marked.{RaisesMoves};
 ghost use Rattle.segment_manager.specs.Answers.{Done, refusal_of};
 ghost use Rattle.segment_manager.specs.Calls.{scalar_reply};
 ghost use Rattle.segment_manager.specs.State.{AnswersWith, TakesStep, TakesStepOfKind, Transitions, done_answer};
@@ -37,12 +36,10 @@ pub extern "C" fn zx_get(
     index: u64,
     value: &mut CScalar,
 ) -> u32
-    ensures call { PerformsCall (key_wrong key.now) result h.old.segment.value h.new.segment.value
+    ensures call { AsksHandle (key_wrong key.now) result h.old h.new
         (λ s t. AnswersWith s (λ d. scalar_reply s.mode d (key_of key.now) (Get (key_of key.now) index))
         (answer_for result (element_in value.new))) }
-    ensures unchanged { h.new.segment.value ≡ h.old.segment.value }
     ensures outputs_on_error { 1 ≤ result → value.new ≡ value.old }
-    ensures marks { h.new.marks ≡ h.old.marks }
 {
     let (which, segment) = passed!(enter(alloc, h, key));
     element(segment.get_any(&which, index), value, h, segment)
@@ -57,11 +54,8 @@ pub extern "C" fn zx_set(
     index: u64,
     value: &CScalar,
 ) -> u32
-    ensures call { PerformsCall (or_else (key_wrong key.now) (value_wrong value.now)) result h.old.segment.value
-        h.new.segment.value
+    ensures call { ChangesHandle (or_else (key_wrong key.now) (value_wrong value.now)) result h.old h.new
         (λ s t. TakesStep s t (Set (key_of key.now) index (literal_in value.now)) (answer_for result Done)) }
-    ensures unchanged_on_error { 1 ≤ result → h.new.segment.value ≡ h.old.segment.value }
-    ensures marks { RaisesMoves result h.old.marks h.new.marks }
 {
     let (which, new, mut segment) = passed!(enter_with(alloc, h, key, value));
     let answer = segment_values::set(&mut segment, &which, index, &new, &mut ());
@@ -76,11 +70,8 @@ pub extern "C" fn zx_push(
     key: &ObjectKey<'_>,
     value: &CScalar,
 ) -> u32
-    ensures call { PerformsCall (or_else (key_wrong key.now) (value_wrong value.now)) result h.old.segment.value
-        h.new.segment.value
+    ensures call { ChangesHandle (or_else (key_wrong key.now) (value_wrong value.now)) result h.old h.new
         (λ s t. TakesStep s t (Push (key_of key.now) (literal_in value.now)) (answer_for result Done)) }
-    ensures unchanged_on_error { 1 ≤ result → h.new.segment.value ≡ h.old.segment.value }
-    ensures marks { RaisesMoves result h.old.marks h.new.marks }
 {
     let (which, new, mut segment) = passed!(enter_with(alloc, h, key, value));
     done(push(&mut segment, &which, new), h, segment)
@@ -111,11 +102,8 @@ pub extern "C" fn zx_insert(
     index: u64,
     value: &CScalar,
 ) -> u32
-    ensures call { PerformsCall (or_else (key_wrong key.now) (value_wrong value.now)) result h.old.segment.value
-        h.new.segment.value
+    ensures call { ChangesHandle (or_else (key_wrong key.now) (value_wrong value.now)) result h.old h.new
         (λ s t. TakesStep s t (Insert (key_of key.now) index (literal_in value.now)) (answer_for result Done)) }
-    ensures unchanged_on_error { 1 ≤ result → h.new.segment.value ≡ h.old.segment.value }
-    ensures marks { RaisesMoves result h.old.marks h.new.marks }
 {
     let (which, new, mut segment) = passed!(enter_with(alloc, h, key, value));
     done(
@@ -147,10 +135,8 @@ pub extern "C" fn zx_erase(
     key: &ObjectKey<'_>,
     index: u64,
 ) -> u32
-    ensures call { PerformsCall (key_wrong key.now) result h.old.segment.value h.new.segment.value
+    ensures call { ChangesHandle (key_wrong key.now) result h.old h.new
         (λ s t. TakesStep s t (Erase (key_of key.now) index) (answer_for result Done)) }
-    ensures unchanged_on_error { 1 ≤ result → h.new.segment.value ≡ h.old.segment.value }
-    ensures marks { RaisesMoves result h.old.marks h.new.marks }
 {
     make_change(alloc, h, key, ObjectChange::Erase(index))
 }
@@ -163,12 +149,10 @@ pub extern "C" fn zx_pop(
     key: &ObjectKey<'_>,
     value: &mut CScalar,
 ) -> u32
-    ensures call { PerformsCall (key_wrong key.now) result h.old.segment.value h.new.segment.value
+    ensures call { ChangesHandle (key_wrong key.now) result h.old h.new
         (λ s t. Transitions s t (answer_for result (element_in value.new)) (λ d.
         step_of_kind s.mode d (key_of key.now) (VectorOf (vector_kind_at d (key_of key.now))) (Pop (key_of key.now)))) }
-    ensures unchanged_on_error { 1 ≤ result → h.new.segment.value ≡ h.old.segment.value }
     ensures outputs_on_error { 1 ≤ result → value.new ≡ value.old }
-    ensures marks { RaisesMoves result h.old.marks h.new.marks }
 {
     let (which, mut segment) = passed!(enter(alloc, h, key));
     h.marks.raise();
@@ -224,11 +208,9 @@ fn element_kind(kind: Kind) -> ScalarKind
 /// Takes the last text out of the vector of strings of a key. It is read before by `zx_read_text`.
 #[unsafe(no_mangle)]
 pub extern "C" fn zx_pop_text(alloc: Global, h: &mut SegmentSlot, key: &ObjectKey<'_>) -> u32
-    ensures call { PerformsCall (key_wrong key.now) result h.old.segment.value h.new.segment.value
+    ensures call { ChangesHandle (key_wrong key.now) result h.old h.new
         (λ s t. LeadsOnOfKind s t (key_of key.now) StringsKind (Pop (key_of key.now))
         (refusal_of (answer_for result Done))) }
-    ensures unchanged_on_error { 1 ≤ result → h.new.segment.value ≡ h.old.segment.value }
-    ensures marks { RaisesMoves result h.old.marks h.new.marks }
 {
     make_change(alloc, h, key, ObjectChange::PopText)
 }

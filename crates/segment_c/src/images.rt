@@ -7,7 +7,7 @@ ghost use Rattle.image_check.specs.Classes.{number_of};
 ghost use Rattle.raw_region.specs.Memory.{zeros};
 ghost use Rattle.raw_region.specs.Regions.{IsCapacity};
 ghost use Rattle.seg_types.specs.Commands.{Free, Size};
-ghost use Rattle.segment_c.specs.Calls.{RefusesArgument, HoldsSegment, PerformsCall};
+ghost use Rattle.segment_c.specs.Calls.{RefusesArgument, HoldsSegment, AsksHandle};
 ghost use Rattle.segment_c.specs.Codes.{answer_for};
 ghost use Rattle.segment_c.specs.Images.{CopiesOut, mode_code, mode_of, mode_wrong};
 ghost use Rattle.segment_c.specs.Marked.{PlacesSegment, placed};
@@ -63,11 +63,9 @@ pub extern "C" fn zx_close(alloc: Global, h: &mut SegmentSlot)
 /// Returns the number of bytes in the segment.
 #[unsafe(no_mangle)]
 pub extern "C" fn zx_size(alloc: Global, h: &mut SegmentSlot, size: &mut u64) -> u32
-    ensures call { PerformsCall 0 result h.old.segment.value h.new.segment.value (λ s t.
+    ensures call { AsksHandle 0 result h.old h.new (λ s t.
         AnswersQuery s Size (answer_for result (Number size.new))) }
-    ensures unchanged { h.new.segment.value ≡ h.old.segment.value }
     ensures unchanged_on_error { 1 ≤ result → size.new ≡ size.old }
-    ensures marks { h.new.marks ≡ h.old.marks }
 {
     let segment = passed!(take(alloc, h));
     *size = segment.size();
@@ -77,11 +75,9 @@ pub extern "C" fn zx_size(alloc: Global, h: &mut SegmentSlot, size: &mut u64) ->
 /// Returns the bytes of all gaps, their tags included.
 #[unsafe(no_mangle)]
 pub extern "C" fn zx_free_bytes(alloc: Global, h: &mut SegmentSlot, free_bytes: &mut u64) -> u32
-    ensures call { PerformsCall 0 result h.old.segment.value h.new.segment.value (λ s t.
+    ensures call { AsksHandle 0 result h.old h.new (λ s t.
         AnswersQuery s Free (answer_for result (Number free_bytes.new))) }
-    ensures unchanged { h.new.segment.value ≡ h.old.segment.value }
     ensures unchanged_on_error { 1 ≤ result → free_bytes.new ≡ free_bytes.old }
-    ensures marks { h.new.marks ≡ h.old.marks }
 {
     let segment = passed!(take(alloc, h));
     *free_bytes = segment.free();
@@ -91,11 +87,9 @@ pub extern "C" fn zx_free_bytes(alloc: Global, h: &mut SegmentSlot, free_bytes: 
 /// Returns how the segment is open.
 #[unsafe(no_mangle)]
 pub extern "C" fn zx_mode(alloc: Global, h: &mut SegmentSlot, mode: &mut u32) -> u32
-    ensures call { PerformsCall 0 result h.old.segment.value h.new.segment.value (λ s t. (result ≡ 0)
+    ensures call { AsksHandle 0 result h.old h.new (λ s t. (result ≡ 0)
         × (mode.new ≡ mode_code s.mode)) }
-    ensures unchanged { h.new.segment.value ≡ h.old.segment.value }
     ensures unchanged_on_error { 1 ≤ result → mode.new ≡ mode.old }
-    ensures marks { h.new.marks ≡ h.old.marks }
 {
     let segment = passed!(take(alloc, h));
     *mode = code_of_mode(segment.mode());
@@ -105,11 +99,9 @@ pub extern "C" fn zx_mode(alloc: Global, h: &mut SegmentSlot, mode: &mut u32) ->
 /// Returns the number of bytes of the region after the segment.
 #[unsafe(no_mangle)]
 pub extern "C" fn zx_region_left(alloc: Global, h: &mut SegmentSlot, left: &mut u64) -> u32
-    ensures call { PerformsCall 0 result h.old.segment.value h.new.segment.value (λ s t. (result ≡ 0)
+    ensures call { AsksHandle 0 result h.old h.new (λ s t. (result ≡ 0)
         × (left.new ≡ room_behind s.cut)) }
-    ensures unchanged { h.new.segment.value ≡ h.old.segment.value }
     ensures unchanged_on_error { 1 ≤ result → left.new ≡ left.old }
-    ensures marks { h.new.marks ≡ h.old.marks }
 {
     let segment = passed!(take(alloc, h));
     *left = segment.region_left();

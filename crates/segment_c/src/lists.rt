@@ -5,7 +5,7 @@ ghost use Rattle.best_fit.specs.Extents.{spans};
 ghost use Rattle.seg_types.specs.Commands.{NumNamed, NumUnique};
 ghost use Rattle.seg_types.specs.Keys.{key_seen};
 ghost use Rattle.seg_types.specs.Kinds.{class_code};
-ghost use Rattle.segment_c.specs.Calls.{PerformsCall, PerformsRead};
+ghost use Rattle.segment_c.specs.Calls.{AsksHandle, ReadsHandle};
 ghost use Rattle.segment_c.specs.Codes.{answer_for};
 ghost use Rattle.segment_c.specs.Lists.{IsInfo, WritesInfo, TellsAlone, TellsBlock, WritesInfoOf, use_code};
 ghost use Rattle.segment_c.specs.Passed.{key_of, key_wrong};
@@ -170,10 +170,9 @@ pub extern "C" fn zx_tell(
     info: &mut Info,
     name: &mut [u8],
 ) -> u32
-    ensures read { PerformsRead (key_wrong key.now) result h.old.segment.value h.new.segment.value
+    ensures read { ReadsHandle (key_wrong key.now) result h.old h.new
         (λ s. WritesInfoOf s (λ d. object_at d (key_of key.now)) 6 info.new name.old name.new result) }
     ensures outputs_on_error { 1 ≤ result → (info.new ≡ info.old) × (name.new ≡ name.old) }
-    ensures marks { h.new.marks ≡ h.old.marks }
 {
     let (which, segment) = passed!(enter(alloc, h, key));
     put(tell_key(&segment, &which, info, name), h, segment)
@@ -188,10 +187,9 @@ pub extern "C" fn zx_named_at(
     info: &mut Info,
     name: &mut [u8],
 ) -> u32
-    ensures read { PerformsRead 0 result h.old.segment.value h.new.segment.value
+    ensures read { ReadsHandle 0 result h.old h.new
         (λ s. WritesInfoOf s (λ d. slice_get (named_objects d) index) 8 info.new name.old name.new result) }
     ensures outputs_on_error { 1 ≤ result → (info.new ≡ info.old) × (name.new ≡ name.old) }
-    ensures marks { h.new.marks ≡ h.old.marks }
 {
     let segment = passed!(take(alloc, h));
     put(tell_named(&segment, index, info, name), h, segment)
@@ -206,10 +204,9 @@ pub extern "C" fn zx_named_from(
     text: &[u8],
     index: &mut u64,
 ) -> u32
-    ensures read { PerformsRead 0 result h.old.segment.value h.new.segment.value
+    ensures read { ReadsHandle 0 result h.old h.new
         (λ s. (result ≡ 0) × IsFirstFrom s text.now index.new) }
     ensures outputs_on_error { 1 ≤ result → index.new ≡ index.old }
-    ensures marks { h.new.marks ≡ h.old.marks }
 {
     let segment = passed!(take(alloc, h));
     *index = segment.named_place(text);
@@ -224,11 +221,10 @@ pub extern "C" fn zx_unique_at(
     index: u64,
     info: &mut Info,
 ) -> u32
-    ensures read { PerformsRead 0 result h.old.segment.value h.new.segment.value
+    ensures read { ReadsHandle 0 result h.old h.new
         (λ s. (d : Directory) → DenotesCurrent s.cut.bytes d
         → TellsAlone info.new result (slice_get (unique_objects d) index)) }
     ensures outputs_on_error { 1 ≤ result → info.new ≡ info.old }
-    ensures marks { h.new.marks ≡ h.old.marks }
 {
     let segment = passed!(take(alloc, h));
     put(tell_unique(&segment, index, info), h, segment)
@@ -242,11 +238,10 @@ pub extern "C" fn zx_tile_at(
     index: u64,
     block: &mut CBlock,
 ) -> u32
-    ensures read { PerformsRead 0 result h.old.segment.value h.new.segment.value
+    ensures read { ReadsHandle 0 result h.old h.new
         (λ s. (d : Directory) → DenotesCurrent s.cut.bytes d
         → TellsBlock block.new result (slice_get (spans (live d)) index)) }
     ensures outputs_on_error { 1 ≤ result → block.new ≡ block.old }
-    ensures marks { h.new.marks ≡ h.old.marks }
 {
     let segment = passed!(take(alloc, h));
     put(tell_tile(&segment, index, block), h, segment)
@@ -255,11 +250,9 @@ pub extern "C" fn zx_tile_at(
 /// Returns the number of objects with names.
 #[unsafe(no_mangle)]
 pub extern "C" fn zx_num_named(alloc: Global, h: &mut SegmentSlot, count: &mut u64) -> u32
-    ensures call { PerformsCall 0 result h.old.segment.value h.new.segment.value (λ s t.
+    ensures call { AsksHandle 0 result h.old h.new (λ s t.
         AnswersQuery s NumNamed (answer_for result (Number count.new))) }
-    ensures unchanged { h.new.segment.value ≡ h.old.segment.value }
     ensures outputs_on_error { 1 ≤ result → count.new ≡ count.old }
-    ensures marks { h.new.marks ≡ h.old.marks }
 {
     let segment = passed!(take(alloc, h));
     *count = segment.num_named();
@@ -269,11 +262,9 @@ pub extern "C" fn zx_num_named(alloc: Global, h: &mut SegmentSlot, count: &mut u
 /// Returns the number of kinds with a unique object.
 #[unsafe(no_mangle)]
 pub extern "C" fn zx_num_unique(alloc: Global, h: &mut SegmentSlot, count: &mut u64) -> u32
-    ensures call { PerformsCall 0 result h.old.segment.value h.new.segment.value (λ s t.
+    ensures call { AsksHandle 0 result h.old h.new (λ s t.
         AnswersQuery s NumUnique (answer_for result (Number count.new))) }
-    ensures unchanged { h.new.segment.value ≡ h.old.segment.value }
     ensures outputs_on_error { 1 ≤ result → count.new ≡ count.old }
-    ensures marks { h.new.marks ≡ h.old.marks }
 {
     let segment = passed!(take(alloc, h));
     *count = segment.num_unique();

@@ -2,11 +2,10 @@
 ghost use Rattle.std.specs.Prelude.{◌≡◌, ◌≤◌, Some};
 ghost use Rattle.seg_types.specs.Commands.{Lookup, Put, Remove};
 ghost use Rattle.seg_types.specs.{Keys.key_seen, Written.literal_seen};
-ghost use Rattle.segment_c.specs.Calls.{ReachesSegment, PerformsCall, PerformsRead};
+ghost use Rattle.segment_c.specs.Calls.{ReachesSegment, ChangesHandle, AsksHandle, ReadsHandle};
 ghost use Rattle.segment_c.specs.Codes.{answer_for};
 ghost use Rattle.segment_c.specs.Passed.{element_in, key_of, key_wrong, literal_in, or_else, value_wrong};
 ghost use Rattle.segment_c.specs.Reads.{TellsPair, TellsPairOf, first_at, next_at};
-ghost use Rattle.segment_c.specs.Marked.{RaisesMoves};
 ghost use Rattle.segment_manager.specs.Answers.{Truth};
 ghost use Rattle.segment_manager.specs.Directory.{Directory};
 ghost use Rattle.segment_manager.specs.Keeping.{UnchangedWhere};
@@ -32,13 +31,10 @@ pub extern "C" fn zx_map_get(
     at: &CScalar,
     value: &mut CScalar,
 ) -> u32
-    ensures call { PerformsCall (or_else (key_wrong key.now) (value_wrong at.now)) result h.old.segment.value
-        h.new.segment.value
+    ensures call { AsksHandle (or_else (key_wrong key.now) (value_wrong at.now)) result h.old h.new
         (λ s t. AnswersQuery s (Lookup (key_of key.now) (literal_in at.now))
         (answer_for result (element_in value.new))) }
-    ensures unchanged { h.new.segment.value ≡ h.old.segment.value }
     ensures outputs_on_error { 1 ≤ result → value.new ≡ value.old }
-    ensures marks { h.new.marks ≡ h.old.marks }
 {
     let (which, wanted, segment) = passed!(enter_with(alloc, h, key, at));
     let answer = segment_values::look_up(&segment, &which, &wanted);
@@ -55,13 +51,11 @@ pub extern "C" fn zx_map_put(
     value: &CScalar,
     is_new: &mut bool,
 ) -> u32
-    ensures call { PerformsCall (or_else (key_wrong key.now) (or_else (value_wrong at.now) (value_wrong value.now)))
-        result h.old.segment.value h.new.segment.value
+    ensures call { ChangesHandle (or_else (key_wrong key.now) (or_else (value_wrong at.now) (value_wrong value.now)))
+        result h.old h.new
         (λ s t. TakesStep s t (Put (key_of key.now) (literal_in at.now) (literal_in value.now))
         (answer_for result (Truth is_new.new))) }
-    ensures unchanged_on_error { 1 ≤ result → h.new.segment.value ≡ h.old.segment.value }
     ensures outputs_on_error { 1 ≤ result → is_new.new ≡ is_new.old }
-    ensures marks { RaisesMoves result h.old.marks h.new.marks }
 {
     let (which, new_key, new_value, mut segment) = passed!(enter_pair(alloc, h, key, at, value));
     let answer = segment_values::put_pair(&mut segment, &which, &new_key, &new_value);
@@ -77,15 +71,12 @@ pub extern "C" fn zx_map_erase(
     at: &CScalar,
     was_there: &mut bool,
 ) -> u32
-    ensures call { PerformsCall (or_else (key_wrong key.now) (value_wrong at.now)) result h.old.segment.value
-        h.new.segment.value
+    ensures call { ChangesHandle (or_else (key_wrong key.now) (value_wrong at.now)) result h.old h.new
         (λ s t. TakesStep s t (Remove (key_of key.now) (literal_in at.now)) (answer_for result (Truth was_there.new))) }
     ensures absent { ReachesSegment (or_else (key_wrong key.now) (value_wrong at.now)) result h.old.segment.value
         h.new.segment.value
         (λ s t. UnchangedWhere s t (LacksLiteral (key_of key.now) (literal_in at.now))) }
-    ensures unchanged_on_error { 1 ≤ result → h.new.segment.value ≡ h.old.segment.value }
     ensures outputs_on_error { 1 ≤ result → was_there.new ≡ was_there.old }
-    ensures marks { RaisesMoves result h.old.marks h.new.marks }
 {
     let (which, gone, mut segment) = passed!(enter_with(alloc, h, key, at));
     let answer = segment_values::erase_pair(&mut segment, &which, &gone);
@@ -101,11 +92,10 @@ pub extern "C" fn zx_map_first(
     at: &mut CScalar,
     value: &mut CScalar,
 ) -> u32
-    ensures read { PerformsRead (key_wrong key.now) result h.old.segment.value h.new.segment.value
+    ensures read { ReadsHandle (key_wrong key.now) result h.old h.new
         (λ s. (d : Directory) → DenotesCurrent s.cut.bytes d
         → TellsPair at.new value.new result (first_at d (key_of key.now))) }
     ensures outputs_on_error { 1 ≤ result → (at.new ≡ at.old) × (value.new ≡ value.old) }
-    ensures marks { h.new.marks ≡ h.old.marks }
 {
     let (which, segment) = passed!(enter(alloc, h, key));
     put(first(&segment, &which, at, value), h, segment)
@@ -136,12 +126,10 @@ pub extern "C" fn zx_map_next(
     at: &mut CScalar,
     value: &mut CScalar,
 ) -> u32
-    ensures read { PerformsRead (or_else (key_wrong key.now) (value_wrong after.now)) result h.old.segment.value
-        h.new.segment.value
+    ensures read { ReadsHandle (or_else (key_wrong key.now) (value_wrong after.now)) result h.old h.new
         (λ s. (d : Directory) → DenotesCurrent s.cut.bytes d
         → TellsPair at.new value.new result (next_at d (key_of key.now) (literal_in after.now))) }
     ensures outputs_on_error { 1 ≤ result → (at.new ≡ at.old) × (value.new ≡ value.old) }
-    ensures marks { h.new.marks ≡ h.old.marks }
 {
     let (which, below, segment) = passed!(enter_with(alloc, h, key, after));
     put(next(&segment, &which, below, at, value), h, segment)

@@ -1,22 +1,19 @@
 //! Objects made, found and destroyed.
 ghost use Rattle.std.specs.Prelude.{◌≡◌, ◌≤◌, ◌≢◌, MatchResult, OnErr, Some, map, replicate, ℕ};
-ghost use Rattle.seg_types.specs.Commands.{Bytes, Construct, Elements, Find, FindOrConstruct, NoPairs, Numbers};
-ghost use Rattle.seg_types.specs.Commands.{Strings};
+ghost use Rattle.seg_types.specs.Commands.{Bytes, Construct, Find, NoPairs, Numbers, Strings};
 ghost use Rattle.seg_types.specs.Keys.{key_seen};
 ghost use Rattle.seg_types.specs.Names.{NoKey};
 ghost use Rattle.seg_types.specs.Values.{kind_of_scalar, value_of_scalar};
 ghost use Rattle.seg_types.specs.declared.kinds.Kind.TheVariants.{Map as MapOf, Scalar as ScalarOf};
 ghost use Rattle.seg_types.specs.declared.kinds.Kind.TheVariants.{String as StringKind, Strings as StringsKind};
-ghost use Rattle.seg_types.specs.declared.kinds.Kind.TheVariants.{Vector as VectorOf};
-ghost use Rattle.segment_c.specs.Calls.{ReachesSegment, RefusesClosed, RefusesArgument, UnchangedOnCode, PerformsCall};
-ghost use Rattle.segment_c.specs.Codes.{answer_for};
+ghost use Rattle.segment_c.specs.Calls.{AsksHandle, ChangesHandle, MakesInHandle, ReachesSegment};
+ghost use Rattle.segment_c.specs.{Codes.answer_for, Making.FindsOrMakesObject};
 ghost use Rattle.segment_c.specs.Destroying.{destroy_command};
 ghost use Rattle.segment_c.specs.Passed.{count_wrong, entry_of, entry_wrong, key_of, key_wrong, kind_in, kind_wrong};
-ghost use Rattle.segment_c.specs.Passed.{new_of, new_wrong, object_kind_in, or_else, row_of, row_wrong, scalar_in};
+ghost use Rattle.segment_c.specs.Passed.{new_of, new_wrong, object_kind_in, or_else, scalar_in};
 ghost use Rattle.segment_c.specs.Passed.{scalar_kind_in, scalar_kind_of, scalar_kind_wrong, value_wrong, whole_in};
-ghost use Rattle.segment_c.specs.Marked.{RaisesMoves};
 ghost use Rattle.segment_manager.specs.Answers.{Found, Made, Truth};
-ghost use Rattle.segment_manager.specs.Keeping.{IsBoundKey, UnchangedWhere, LacksKey};
+ghost use Rattle.segment_manager.specs.Keeping.{UnchangedWhere, LacksKey};
 ghost use Rattle.segment_manager.specs.State.{AnswersQuery, TakesStep, truth_answer};
 
 use crate::calls::{enter, enter_entry, enter_new, passed};
@@ -78,14 +75,11 @@ pub extern "C" fn zx_construct(
     value: &CScalar,
     handle: &mut u64,
 ) -> u32
-    ensures call { PerformsCall (or_else (value_wrong value.now)
-        (or_else (count_wrong count) (new_wrong key.now (ScalarOf (kind_in value.now))))) result h.old.segment.value
-        h.new.segment.value
+    ensures call { MakesInHandle (or_else (value_wrong value.now)
+        (or_else (count_wrong count) (new_wrong key.now (ScalarOf (kind_in value.now))))) result h.old h.new
         (λ s t. TakesStep s t (Construct (new_of key.now (ScalarOf (kind_in value.now)))
         (Numbers (kind_in value.now) (replicate count (whole_in value.now)))) (answer_for result (Made handle.new))) }
-    ensures refused { UnchangedOnCode result h.old.segment.value h.new.segment.value }
     ensures outputs_on_error { 1 ≤ result → handle.new ≡ handle.old }
-    ensures marks { RaisesMoves result h.old.marks h.new.marks }
 {
     let new = passed!(scalars(value, count));
     let (which, mut segment) = passed!(enter_new(alloc, h, key, Kind::Scalar(new.kind())));
@@ -104,20 +98,13 @@ pub extern "C" fn zx_find_or_construct(
     handle: &mut u64,
     count_found: &mut u32,
 ) -> u32
-    ensures call { PerformsCall (or_else (value_wrong value.now)
+    ensures call { MakesInHandle (or_else (value_wrong value.now)
         (or_else (count_wrong count) (entry_wrong key.now (ScalarOf (kind_in value.now))))) result
-        h.old.segment.value h.new.segment.value
-        (λ s t. TakesStep s t (FindOrConstruct (entry_of key.now (ScalarOf (kind_in value.now)))
-        (Numbers (kind_in value.now) (replicate count (whole_in value.now))))
+        h.old h.new
+        (λ s t. FindsOrMakesObject s t (entry_of key.now (ScalarOf (kind_in value.now)))
+        (Numbers (kind_in value.now) (replicate count (whole_in value.now)))
         (answer_for result (Found handle.new count_found.new))) }
-    ensures search { ReachesSegment
-        (or_else (value_wrong value.now)
-        (or_else (count_wrong count) (entry_wrong key.now (ScalarOf (kind_in value.now))))) result
-        h.old.segment.value h.new.segment.value
-        (λ s t. UnchangedWhere s t (IsBoundKey (entry_of key.now (ScalarOf (kind_in value.now))))) }
-    ensures refused { UnchangedOnCode result h.old.segment.value h.new.segment.value }
     ensures outputs_on_error { 1 ≤ result → (handle.new ≡ handle.old) × (count_found.new ≡ count_found.old) }
-    ensures marks { RaisesMoves result h.old.marks h.new.marks }
 {
     let new = passed!(scalars(value, count));
     let (which, mut segment) = passed!(enter_entry(alloc, h, key, Kind::Scalar(new.kind())));
@@ -134,12 +121,10 @@ pub extern "C" fn zx_construct_string(
     text: &[u8],
     handle: &mut u64,
 ) -> u32
-    ensures call { PerformsCall (new_wrong key.now (StringKind)) result h.old.segment.value h.new.segment.value
+    ensures call { MakesInHandle (new_wrong key.now (StringKind)) result h.old h.new
         (λ s t. TakesStep s t (Construct (new_of key.now (StringKind)) (Bytes text.now))
         (answer_for result (Made handle.new))) }
-    ensures refused { UnchangedOnCode result h.old.segment.value h.new.segment.value }
     ensures outputs_on_error { 1 ≤ result → handle.new ≡ handle.old }
-    ensures marks { RaisesMoves result h.old.marks h.new.marks }
 {
     let (which, mut segment) = passed!(enter_new(alloc, h, key, Kind::String));
     made(segment.construct_string(&which, text), handle, h, segment)
@@ -155,14 +140,10 @@ pub extern "C" fn zx_find_or_construct_string(
     handle: &mut u64,
     count_found: &mut u32,
 ) -> u32
-    ensures call { PerformsCall (entry_wrong key.now (StringKind)) result h.old.segment.value h.new.segment.value
-        (λ s t. TakesStep s t (FindOrConstruct (entry_of key.now (StringKind)) (Bytes text.now))
+    ensures call { MakesInHandle (entry_wrong key.now (StringKind)) result h.old h.new
+        (λ s t. FindsOrMakesObject s t (entry_of key.now (StringKind)) (Bytes text.now)
         (answer_for result (Found handle.new count_found.new))) }
-    ensures search { ReachesSegment (entry_wrong key.now (StringKind)) result h.old.segment.value h.new.segment.value
-        (λ s t. UnchangedWhere s t (IsBoundKey (entry_of key.now (StringKind)))) }
-    ensures refused { UnchangedOnCode result h.old.segment.value h.new.segment.value }
     ensures outputs_on_error { 1 ≤ result → (handle.new ≡ handle.old) × (count_found.new ≡ count_found.old) }
-    ensures marks { RaisesMoves result h.old.marks h.new.marks }
 {
     let (which, mut segment) = passed!(enter_entry(alloc, h, key, Kind::String));
     let answer = segment.find_or_construct_string(&which, text);
@@ -178,12 +159,10 @@ pub extern "C" fn zx_construct_strings(
     texts: &[&[u8]],
     handle: &mut u64,
 ) -> u32
-    ensures call { PerformsCall (new_wrong key.now (StringsKind)) result h.old.segment.value h.new.segment.value
+    ensures call { MakesInHandle (new_wrong key.now (StringsKind)) result h.old h.new
         (λ s t. TakesStep s t (Construct (new_of key.now (StringsKind))
         (Strings (map (λ text. text.now) texts.now))) (answer_for result (Made handle.new))) }
-    ensures refused { UnchangedOnCode result h.old.segment.value h.new.segment.value }
     ensures outputs_on_error { 1 ≤ result → handle.new ≡ handle.old }
-    ensures marks { RaisesMoves result h.old.marks h.new.marks }
 {
     let (which, mut segment) = passed!(enter_new(alloc, h, key, Kind::Strings));
     made(segment.construct_texts(&which, texts), handle, h, segment)
@@ -199,14 +178,10 @@ pub extern "C" fn zx_find_or_construct_strings(
     handle: &mut u64,
     count_found: &mut u32,
 ) -> u32
-    ensures call { PerformsCall (entry_wrong key.now (StringsKind)) result h.old.segment.value h.new.segment.value
-        (λ s t. TakesStep s t (FindOrConstruct (entry_of key.now (StringsKind))
-        (Strings (map (λ text. text.now) texts.now))) (answer_for result (Found handle.new count_found.new))) }
-    ensures search { ReachesSegment (entry_wrong key.now (StringsKind)) result h.old.segment.value h.new.segment.value
-        (λ s t. UnchangedWhere s t (IsBoundKey (entry_of key.now (StringsKind)))) }
-    ensures refused { UnchangedOnCode result h.old.segment.value h.new.segment.value }
+    ensures call { MakesInHandle (entry_wrong key.now (StringsKind)) result h.old h.new
+        (λ s t. FindsOrMakesObject s t (entry_of key.now (StringsKind))
+        (Strings (map (λ text. text.now) texts.now)) (answer_for result (Found handle.new count_found.new))) }
     ensures outputs_on_error { 1 ≤ result → (handle.new ≡ handle.old) × (count_found.new ≡ count_found.old) }
-    ensures marks { RaisesMoves result h.old.marks h.new.marks }
 {
     let (which, mut segment) = passed!(enter_entry(alloc, h, key, Kind::Strings));
     let answer = segment.find_or_construct_texts(&which, texts);
@@ -223,15 +198,12 @@ pub extern "C" fn zx_construct_map(
     values: u32,
     handle: &mut u64,
 ) -> u32
-    ensures call { PerformsCall (or_else (scalar_kind_wrong keys)
+    ensures call { MakesInHandle (or_else (scalar_kind_wrong keys)
         (or_else (scalar_kind_wrong values)
-        (new_wrong key.now (MapOf (scalar_kind_in keys) (scalar_kind_in values))))) result h.old.segment.value
-        h.new.segment.value
+        (new_wrong key.now (MapOf (scalar_kind_in keys) (scalar_kind_in values))))) result h.old h.new
         (λ s t. TakesStep s t (Construct (new_of key.now (MapOf (scalar_kind_in keys) (scalar_kind_in values)))
         (NoPairs (scalar_kind_in keys) (scalar_kind_in values))) (answer_for result (Made handle.new))) }
-    ensures refused { UnchangedOnCode result h.old.segment.value h.new.segment.value }
     ensures outputs_on_error { 1 ≤ result → handle.new ≡ handle.old }
-    ensures marks { RaisesMoves result h.old.marks h.new.marks }
 {
     let (of_keys, of_values) = passed!(map_kinds(keys, values));
     let (which, mut segment) = passed!(enter_new(alloc, h, key, Kind::Map(of_keys, of_values)));
@@ -250,24 +222,14 @@ pub extern "C" fn zx_find_or_construct_map(
     handle: &mut u64,
     count_found: &mut u32,
 ) -> u32
-    ensures call { PerformsCall (or_else (scalar_kind_wrong keys)
+    ensures call { MakesInHandle (or_else (scalar_kind_wrong keys)
         (or_else (scalar_kind_wrong values)
-        (entry_wrong key.now (MapOf (scalar_kind_in keys) (scalar_kind_in values))))) result h.old.segment.value
-        h.new.segment.value
-        (λ s t. TakesStep s t (FindOrConstruct
+        (entry_wrong key.now (MapOf (scalar_kind_in keys) (scalar_kind_in values))))) result h.old h.new
+        (λ s t. FindsOrMakesObject s t
         (entry_of key.now (MapOf (scalar_kind_in keys) (scalar_kind_in values)))
-        (NoPairs (scalar_kind_in keys) (scalar_kind_in values)))
+        (NoPairs (scalar_kind_in keys) (scalar_kind_in values))
         (answer_for result (Found handle.new count_found.new))) }
-    ensures search { ReachesSegment
-        (or_else (scalar_kind_wrong keys)
-        (or_else (scalar_kind_wrong values)
-        (entry_wrong key.now (MapOf (scalar_kind_in keys) (scalar_kind_in values))))) result h.old.segment.value
-        h.new.segment.value
-        (λ s t. UnchangedWhere s t (IsBoundKey
-        (entry_of key.now (MapOf (scalar_kind_in keys) (scalar_kind_in values))))) }
-    ensures refused { UnchangedOnCode result h.old.segment.value h.new.segment.value }
     ensures outputs_on_error { 1 ≤ result → (handle.new ≡ handle.old) × (count_found.new ≡ count_found.old) }
-    ensures marks { RaisesMoves result h.old.marks h.new.marks }
 {
     let (of_keys, of_values) = passed!(map_kinds(keys, values));
     let (which, mut segment) = passed!(enter_entry(alloc, h, key, Kind::Map(of_keys, of_values)));
@@ -285,17 +247,10 @@ pub extern "C" fn zx_find(
     handle: &mut u64,
     count: &mut u32,
 ) -> u32
-    ensures stop { RefusesArgument (or_else (key_wrong key.now) (kind_wrong kind)) result h.old.segment.value
-        h.new.segment.value }
-    ensures closed { RefusesClosed (or_else (key_wrong key.now) (kind_wrong kind)) result h.old.segment.value
-        h.new.segment.value }
-    ensures call { ReachesSegment (or_else (key_wrong key.now) (kind_wrong kind)) result h.old.segment.value
-        h.new.segment.value
+    ensures call { AsksHandle (or_else (key_wrong key.now) (kind_wrong kind)) result h.old h.new
         (λ s t. AnswersQuery s (Find (key_of key.now) (object_kind_in kind))
         (answer_for result (Found handle.new count.new))) }
-    ensures unchanged { h.new.segment.value ≡ h.old.segment.value }
     ensures outputs_on_error { 1 ≤ result → (handle.new ≡ handle.old) × (count.new ≡ count.old) }
-    ensures marks { h.new.marks ≡ h.old.marks }
 {
     let which = passed!(key.key());
     let of_kind = passed!(object_kind(kind));
@@ -313,13 +268,11 @@ pub extern "C" fn zx_destroy(
     key: &ObjectKey<'_>,
     was_there: &mut bool,
 ) -> u32
-    ensures call { PerformsCall (key_wrong key.now) result h.old.segment.value h.new.segment.value
+    ensures call { ChangesHandle (key_wrong key.now) result h.old h.new
         (λ s t. TakesStep s t (destroy_command (key_of key.now)) (answer_for result (Truth was_there.new))) }
     ensures absent { ReachesSegment (key_wrong key.now) result h.old.segment.value h.new.segment.value (λ s t.
         UnchangedWhere s t (LacksKey (key_of key.now))) }
-    ensures unchanged_on_error { 1 ≤ result → h.new.segment.value ≡ h.old.segment.value }
     ensures outputs_on_error { 1 ≤ result → was_there.new ≡ was_there.old }
-    ensures marks { RaisesMoves result h.old.marks h.new.marks }
 {
     let (which, mut segment) = passed!(enter(alloc, h, key));
     truth(destroy(&mut segment, &which), was_there, h, segment)

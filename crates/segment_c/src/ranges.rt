@@ -4,11 +4,10 @@ ghost use Rattle.seg_types.specs.declared.kinds.ScalarKind.TheVariants.{Bool as 
 ghost use Rattle.seg_types.specs.declared.kinds.ScalarKind.TheVariants.{I64 as I64Kind, U8 as U8Kind, U64 as U64Kind};
 ghost use Rattle.seg_types.specs.Keys.{key_seen};
 ghost use Rattle.seg_types.specs.Kinds.{truth_number};
-ghost use Rattle.segment_c.specs.Calls.{PerformsCall};
+ghost use Rattle.segment_c.specs.Calls.{ChangesHandle};
 ghost use Rattle.segment_c.specs.Codes.{answer_for};
 ghost use Rattle.segment_c.specs.Passed.{key_of, key_wrong, numbers_of, or_else, row_of, row_wrong, scalar_kind_in};
 ghost use Rattle.segment_c.specs.Reads.{IsCoded, ReadsRange};
-ghost use Rattle.segment_c.specs.Marked.{RaisesMoves};
 ghost use Rattle.segment_manager.specs.Answers.{Done};
 ghost use Rattle.segment_manager.specs.Directory.{Directory};
 ghost use Rattle.segment_manager.specs.State.{DenotesCurrent, done_answer};
@@ -44,9 +43,7 @@ fn read_range<T: Scalar>(
     first: u64,
     row: &mut [T],
 ) -> u32
-    ensures read { ReadsRange T.whole T.kind key.now first row.old row.new result h.old.segment.value
-        h.new.segment.value }
-    ensures marks { h.new.marks ≡ h.old.marks }
+    ensures { ReadsRange T.whole T.kind key.now first row.old row.new result h.old h.new }
 {
     let (which, segment) = passed!(enter(alloc, h, key));
     put(read_row(&segment, &which, first, row), h, segment)
@@ -61,9 +58,7 @@ pub extern "C" fn zx_read_bools(
     first: u64,
     row: &mut [bool],
 ) -> u32
-    ensures read { ReadsRange truth_number BoolKind key.now first row.old row.new result h.old.segment.value
-        h.new.segment.value }
-    ensures marks { h.new.marks ≡ h.old.marks }
+    ensures { ReadsRange truth_number BoolKind key.now first row.old row.new result h.old h.new }
 {
     read_range::<bool>(alloc, h, key, first, row)
 }
@@ -77,8 +72,7 @@ pub extern "C" fn zx_read_u8s(
     first: u64,
     row: &mut [u8],
 ) -> u32
-    ensures read { ReadsRange pos U8Kind key.now first row.old row.new result h.old.segment.value h.new.segment.value }
-    ensures marks { h.new.marks ≡ h.old.marks }
+    ensures { ReadsRange pos U8Kind key.now first row.old row.new result h.old h.new }
 {
     read_range::<u8>(alloc, h, key, first, row)
 }
@@ -93,9 +87,7 @@ pub extern "C" fn zx_read_i32s(
     first: u64,
     row: &mut [i32],
 ) -> u32
-    ensures read { ReadsRange (λ x. x) I32Kind key.now first row.old row.new result h.old.segment.value
-        h.new.segment.value }
-    ensures marks { h.new.marks ≡ h.old.marks }
+    ensures { ReadsRange (λ x. x) I32Kind key.now first row.old row.new result h.old h.new }
 {
     read_range::<i32>(alloc, h, key, first, row)
 }
@@ -110,9 +102,7 @@ pub extern "C" fn zx_read_i64s(
     first: u64,
     row: &mut [i64],
 ) -> u32
-    ensures read { ReadsRange (λ x. x) I64Kind key.now first row.old row.new result h.old.segment.value
-        h.new.segment.value }
-    ensures marks { h.new.marks ≡ h.old.marks }
+    ensures { ReadsRange (λ x. x) I64Kind key.now first row.old row.new result h.old h.new }
 {
     read_range::<i64>(alloc, h, key, first, row)
 }
@@ -127,8 +117,7 @@ pub extern "C" fn zx_read_u64s(
     first: u64,
     row: &mut [u64],
 ) -> u32
-    ensures read { ReadsRange pos U64Kind key.now first row.old row.new result h.old.segment.value h.new.segment.value }
-    ensures marks { h.new.marks ≡ h.old.marks }
+    ensures { ReadsRange pos U64Kind key.now first row.old row.new result h.old h.new }
 {
     read_range::<u64>(alloc, h, key, first, row)
 }
@@ -157,12 +146,9 @@ pub extern "C" fn zx_write_elements(
     first: u64,
     values: &CScalars<'_>,
 ) -> u32
-    ensures call { PerformsCall (or_else (key_wrong key.now) (row_wrong values.now)) result h.old.segment.value
-        h.new.segment.value
+    ensures call { ChangesHandle (or_else (key_wrong key.now) (row_wrong values.now)) result h.old h.new
         (λ s t. WritesRange s t (key_of key.now) (scalar_kind_in values.now.kind) first (row_of values.now)
         (answer_for result Done)) }
-    ensures unchanged_on_error { 1 ≤ result → h.new.segment.value ≡ h.old.segment.value }
-    ensures marks { RaisesMoves result h.old.marks h.new.marks }
 {
     let (which, kind, mut segment) = passed!(enter_row(alloc, h, key, values));
     let answer = write_row(&mut segment, &which, first, kind, values);

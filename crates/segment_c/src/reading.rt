@@ -3,7 +3,7 @@ ghost use Rattle.std.specs.Prelude.{◌≡◌, ◌≢◌, ◌≤◌};
 ghost use Rattle.seg_types.specs.declared.kinds.Kind.TheVariants.{Strings as StringsKind};
 ghost use Rattle.seg_types.specs.Commands.{Get};
 ghost use Rattle.seg_types.specs.Keys.{key_seen};
-ghost use Rattle.segment_c.specs.Calls.{PerformsRead};
+ghost use Rattle.segment_c.specs.Calls.{ReadsHandle};
 ghost use Rattle.segment_c.specs.Passed.{key_of, key_wrong};
 ghost use Rattle.segment_c.specs.Reads.{AreSizes, Copies, CopiesAnswer, IsCoded, CopiesBytes};
 ghost use Rattle.segment_manager.specs.containers.Contents.{bytes_at, sizes_at};
@@ -30,11 +30,10 @@ pub extern "C" fn zx_measure(
     len: &mut u64,
     places: &mut u64,
 ) -> u32
-    ensures read { PerformsRead (key_wrong key.now) result h.old.segment.value h.new.segment.value
+    ensures read { ReadsHandle (key_wrong key.now) result h.old h.new
         (λ s. (d : Directory) → DenotesCurrent s.cut.bytes d
         → IsCoded (AreSizes len.new places.new) result (sizes_at d (key_of key.now))) }
     ensures outputs_on_error { 1 ≤ result → (len.new ≡ len.old) × (places.new ≡ places.old) }
-    ensures marks { h.new.marks ≡ h.old.marks }
 {
     let (which, segment) = passed!(enter(alloc, h, key));
     put(measure(&segment, &which, len, places), h, segment)
@@ -66,12 +65,11 @@ pub extern "C" fn zx_read_string(
     text: &mut [u8],
     len: &mut u64,
 ) -> u32
-    ensures read { PerformsRead (key_wrong key.now) result h.old.segment.value h.new.segment.value
+    ensures read { ReadsHandle (key_wrong key.now) result h.old h.new
         (λ s. (d : Directory) → DenotesCurrent s.cut.bytes d
         → Copies text.old text.new len.new result (bytes_at d (key_of key.now))) }
     ensures outputs_on_error { 1 ≤ result → text.new ≡ text.old }
     ensures length { 1 ≤ result → result ≢ 24 → len.new ≡ len.old }
-    ensures marks { h.new.marks ≡ h.old.marks }
 {
     let (which, segment) = passed!(enter(alloc, h, key));
     put(read_string(&segment, &which, text, len), h, segment)
@@ -101,13 +99,12 @@ pub extern "C" fn zx_read_text(
     text: &mut [u8],
     len: &mut u64,
 ) -> u32
-    ensures read { PerformsRead (key_wrong key.now) result h.old.segment.value h.new.segment.value
+    ensures read { ReadsHandle (key_wrong key.now) result h.old h.new
         (λ s. (d : Directory) → DenotesCurrent s.cut.bytes d
         → CopiesAnswer text.old text.new len.new result
         (step_of_kind s.mode d (key_of key.now) StringsKind (Get (key_of key.now) index)).0) }
     ensures outputs_on_error { 1 ≤ result → text.new ≡ text.old }
     ensures length { 1 ≤ result → result ≢ 24 → len.new ≡ len.old }
-    ensures marks { h.new.marks ≡ h.old.marks }
 {
     let (which, segment) = passed!(enter(alloc, h, key));
     put(read_text(&segment, &which, index, text, len), h, segment)

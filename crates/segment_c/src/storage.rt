@@ -2,10 +2,9 @@
 ghost use Rattle.std.specs.Prelude.{◌≡◌, ◌≤◌};
 ghost use Rattle.seg_types.specs.Commands.{AllDeallocated, Clear, Reserve, ReserveNamed, ReserveUnique, Sanity, Shrink};
 ghost use Rattle.seg_types.specs.Commands.{ShrinkIndexes, ZeroFree};
-ghost use Rattle.segment_c.specs.Calls.{ReachesSegment, UnchangedOnCode, PerformsCall};
+ghost use Rattle.segment_c.specs.Calls.{ReachesSegment, ChangesHandle, MakesInHandle, AsksHandle};
 ghost use Rattle.segment_c.specs.Codes.{answer_for};
 ghost use Rattle.segment_c.specs.Passed.{key_of, key_wrong};
-ghost use Rattle.segment_c.specs.Marked.{RaisesMoves};
 ghost use Rattle.segment_manager.specs.Answers.{Done, Truth};
 ghost use Rattle.segment_manager.specs.Calls.{HasZeroGaps};
 ghost use Rattle.segment_manager.specs.Keeping.{HasPlaces, UnchangedWhere};
@@ -26,12 +25,10 @@ pub extern "C" fn zx_reserve(
     key: &ObjectKey<'_>,
     places: u64,
 ) -> u32
-    ensures call { PerformsCall (key_wrong key.now) result h.old.segment.value h.new.segment.value
+    ensures call { ChangesHandle (key_wrong key.now) result h.old h.new
         (λ s t. TakesStep s t (Reserve (key_of key.now) places) (answer_for result Done)) }
     ensures noop { ReachesSegment (key_wrong key.now) result h.old.segment.value h.new.segment.value (λ s t.
         UnchangedWhere s t (HasPlaces (key_of key.now) places)) }
-    ensures unchanged_on_error { 1 ≤ result → h.new.segment.value ≡ h.old.segment.value }
-    ensures marks { RaisesMoves result h.old.marks h.new.marks }
 {
     let (which, mut segment) = passed!(enter(alloc, h, key));
     done(segment.reserve(&which, places), h, segment)
@@ -40,10 +37,8 @@ pub extern "C" fn zx_reserve(
 /// Gives back the places of the vector or string of a key that have no element.
 #[unsafe(no_mangle)]
 pub extern "C" fn zx_trim(alloc: Global, h: &mut SegmentSlot, key: &ObjectKey<'_>) -> u32
-    ensures call { PerformsCall (key_wrong key.now) result h.old.segment.value h.new.segment.value
+    ensures call { ChangesHandle (key_wrong key.now) result h.old h.new
         (λ s t. TakesStep s t (Shrink (key_of key.now)) (answer_for result Done)) }
-    ensures unchanged_on_error { 1 ≤ result → h.new.segment.value ≡ h.old.segment.value }
-    ensures marks { RaisesMoves result h.old.marks h.new.marks }
 {
     make_change(alloc, h, key, ObjectChange::Trim)
 }
@@ -51,10 +46,8 @@ pub extern "C" fn zx_trim(alloc: Global, h: &mut SegmentSlot, key: &ObjectKey<'_
 /// Takes all elements out of the vector or string of a key.
 #[unsafe(no_mangle)]
 pub extern "C" fn zx_clear(alloc: Global, h: &mut SegmentSlot, key: &ObjectKey<'_>) -> u32
-    ensures call { PerformsCall (key_wrong key.now) result h.old.segment.value h.new.segment.value
+    ensures call { ChangesHandle (key_wrong key.now) result h.old h.new
         (λ s t. TakesStep s t (Clear (key_of key.now)) (answer_for result Done)) }
-    ensures unchanged_on_error { 1 ≤ result → h.new.segment.value ≡ h.old.segment.value }
-    ensures marks { RaisesMoves result h.old.marks h.new.marks }
 {
     make_change(alloc, h, key, ObjectChange::Clear)
 }
@@ -62,12 +55,10 @@ pub extern "C" fn zx_clear(alloc: Global, h: &mut SegmentSlot, key: &ObjectKey<'
 /// Makes room in the index of names.
 #[unsafe(no_mangle)]
 pub extern "C" fn zx_reserve_named(alloc: Global, h: &mut SegmentSlot, places: u64) -> u32
-    ensures call { PerformsCall 0 result h.old.segment.value h.new.segment.value
+    ensures call { MakesInHandle 0 result h.old h.new
         (λ s t. TakesStep s t (ReserveNamed places) (answer_for result Done)) }
     ensures noop { ReachesSegment 0 result h.old.segment.value h.new.segment.value (λ s t.
         UnchangedWhere s t (λ d. places ≤ d.named.capacity)) }
-    ensures refused { UnchangedOnCode result h.old.segment.value h.new.segment.value }
-    ensures marks { RaisesMoves result h.old.marks h.new.marks }
 {
     let mut segment = passed!(take(alloc, h));
     done(segment.reserve_named(places), h, segment)
@@ -76,12 +67,10 @@ pub extern "C" fn zx_reserve_named(alloc: Global, h: &mut SegmentSlot, places: u
 /// Makes room in the index of unique kinds.
 #[unsafe(no_mangle)]
 pub extern "C" fn zx_reserve_unique(alloc: Global, h: &mut SegmentSlot, places: u64) -> u32
-    ensures call { PerformsCall 0 result h.old.segment.value h.new.segment.value
+    ensures call { MakesInHandle 0 result h.old h.new
         (λ s t. TakesStep s t (ReserveUnique places) (answer_for result Done)) }
     ensures noop { ReachesSegment 0 result h.old.segment.value h.new.segment.value (λ s t.
         UnchangedWhere s t (λ d. places ≤ d.unique.capacity)) }
-    ensures refused { UnchangedOnCode result h.old.segment.value h.new.segment.value }
-    ensures marks { RaisesMoves result h.old.marks h.new.marks }
 {
     let mut segment = passed!(take(alloc, h));
     done(segment.reserve_unique(places), h, segment)
@@ -90,10 +79,8 @@ pub extern "C" fn zx_reserve_unique(alloc: Global, h: &mut SegmentSlot, places: 
 /// Gives back the room of the indexes that no entry uses.
 #[unsafe(no_mangle)]
 pub extern "C" fn zx_shrink_indexes(alloc: Global, h: &mut SegmentSlot) -> u32
-    ensures call { PerformsCall 0 result h.old.segment.value h.new.segment.value
+    ensures call { ChangesHandle 0 result h.old h.new
         (λ s t. TakesStep s t ShrinkIndexes (answer_for result Done)) }
-    ensures unchanged_on_error { 1 ≤ result → h.new.segment.value ≡ h.old.segment.value }
-    ensures marks { RaisesMoves result h.old.marks h.new.marks }
 {
     let mut segment = passed!(take(alloc, h));
     done(segment.shrink_indexes(), h, segment)
@@ -102,12 +89,10 @@ pub extern "C" fn zx_shrink_indexes(alloc: Global, h: &mut SegmentSlot) -> u32
 /// Makes the free bytes 0 that are no part of a tag.
 #[unsafe(no_mangle)]
 pub extern "C" fn zx_zero_free(alloc: Global, h: &mut SegmentSlot) -> u32
-    ensures call { PerformsCall 0 result h.old.segment.value h.new.segment.value
+    ensures call { ChangesHandle 0 result h.old h.new
         (λ s t. TakesStep s t ZeroFree (answer_for result Done)) }
     ensures zeros { ReachesSegment 0 result h.old.segment.value h.new.segment.value (λ s t. result ≡ 0
         → HasZeroGaps t) }
-    ensures unchanged_on_error { 1 ≤ result → h.new.segment.value ≡ h.old.segment.value }
-    ensures marks { RaisesMoves result h.old.marks h.new.marks }
 {
     let mut segment = passed!(take(alloc, h));
     done(segment.zero_free(), h, segment)
@@ -116,11 +101,9 @@ pub extern "C" fn zx_zero_free(alloc: Global, h: &mut SegmentSlot) -> u32
 /// Tells whether the segment is whole, as each segment is.
 #[unsafe(no_mangle)]
 pub extern "C" fn zx_sanity(alloc: Global, h: &mut SegmentSlot, is_whole: &mut bool) -> u32
-    ensures call { PerformsCall 0 result h.old.segment.value h.new.segment.value
+    ensures call { AsksHandle 0 result h.old h.new
         (λ s t. AnswersQuery s Sanity (answer_for result (Truth is_whole.new))) }
-    ensures unchanged { h.new.segment.value ≡ h.old.segment.value }
     ensures outputs_on_error { 1 ≤ result → is_whole.new ≡ is_whole.old }
-    ensures marks { h.new.marks ≡ h.old.marks }
 {
     let segment = passed!(take(alloc, h));
     *is_whole = segment.sanity();
@@ -130,11 +113,9 @@ pub extern "C" fn zx_sanity(alloc: Global, h: &mut SegmentSlot, is_whole: &mut b
 /// Tells whether no block is in use, index blocks included.
 #[unsafe(no_mangle)]
 pub extern "C" fn zx_all_deallocated(alloc: Global, h: &mut SegmentSlot, is_empty: &mut bool) -> u32
-    ensures call { PerformsCall 0 result h.old.segment.value h.new.segment.value
+    ensures call { AsksHandle 0 result h.old h.new
         (λ s t. AnswersQuery s AllDeallocated (answer_for result (Truth is_empty.new))) }
-    ensures unchanged { h.new.segment.value ≡ h.old.segment.value }
     ensures outputs_on_error { 1 ≤ result → is_empty.new ≡ is_empty.old }
-    ensures marks { h.new.marks ≡ h.old.marks }
 {
     let segment = passed!(take(alloc, h));
     *is_empty = segment.all_deallocated();

@@ -1,11 +1,10 @@
 //! Strings, and vectors of strings.
-ghost use Rattle.std.specs.Prelude.{◌≡◌, ◌≤◌, ◌∷◌, [], map};
+ghost use Rattle.std.specs.Prelude.{◌∷◌, [], map};
 ghost use Rattle.seg_types.specs.declared.kinds.Kind.TheVariants.{String as StringKind, Strings as StringsKind};
 ghost use Rattle.seg_types.specs.Commands.{Append, Assign, Insert, Push, Quoted, Set};
-ghost use Rattle.segment_c.specs.Calls.{UnchangedOnCode, PerformsCall};
+ghost use Rattle.segment_c.specs.Calls.{ChangesHandle, MakesInHandle};
 ghost use Rattle.segment_c.specs.Codes.{answer_for};
 ghost use Rattle.segment_c.specs.Passed.{key_of, key_wrong};
-ghost use Rattle.segment_c.specs.Marked.{RaisesMoves};
 ghost use Rattle.segment_manager.specs.Answers.{Done};
 ghost use Rattle.segment_manager.specs.State.{TakesStepOfKind};
 
@@ -22,11 +21,9 @@ pub extern "C" fn zx_assign_string(
     key: &ObjectKey<'_>,
     text: &[u8],
 ) -> u32
-    ensures call { PerformsCall (key_wrong key.now) result h.old.segment.value h.new.segment.value
+    ensures call { ChangesHandle (key_wrong key.now) result h.old h.new
         (λ s t. TakesStepOfKind s t (key_of key.now) StringKind (Assign (key_of key.now) (Quoted text.now ∷ []))
         (answer_for result Done)) }
-    ensures unchanged_on_error { 1 ≤ result → h.new.segment.value ≡ h.old.segment.value }
-    ensures marks { RaisesMoves result h.old.marks h.new.marks }
 {
     make_change(alloc, h, key, ObjectChange::AssignText(text))
 }
@@ -39,11 +36,9 @@ pub extern "C" fn zx_append(
     key: &ObjectKey<'_>,
     text: &[u8],
 ) -> u32
-    ensures call { PerformsCall (key_wrong key.now) result h.old.segment.value h.new.segment.value
+    ensures call { ChangesHandle (key_wrong key.now) result h.old h.new
         (λ s t. TakesStepOfKind s t (key_of key.now) StringKind (Append (key_of key.now) text.now)
         (answer_for result Done)) }
-    ensures unchanged_on_error { 1 ≤ result → h.new.segment.value ≡ h.old.segment.value }
-    ensures marks { RaisesMoves result h.old.marks h.new.marks }
 {
     make_change(alloc, h, key, ObjectChange::Append(text))
 }
@@ -57,11 +52,9 @@ pub extern "C" fn zx_set_text(
     index: u64,
     text: &[u8],
 ) -> u32
-    ensures call { PerformsCall (key_wrong key.now) result h.old.segment.value h.new.segment.value
+    ensures call { ChangesHandle (key_wrong key.now) result h.old h.new
         (λ s t. TakesStepOfKind s t (key_of key.now) StringsKind (Set (key_of key.now) index (Quoted text.now))
         (answer_for result Done)) }
-    ensures unchanged_on_error { 1 ≤ result → h.new.segment.value ≡ h.old.segment.value }
-    ensures marks { RaisesMoves result h.old.marks h.new.marks }
 {
     make_change(alloc, h, key, ObjectChange::SetText(index, text))
 }
@@ -74,11 +67,9 @@ pub extern "C" fn zx_push_text(
     key: &ObjectKey<'_>,
     text: &[u8],
 ) -> u32
-    ensures call { PerformsCall (key_wrong key.now) result h.old.segment.value h.new.segment.value
+    ensures call { MakesInHandle (key_wrong key.now) result h.old h.new
         (λ s t. TakesStepOfKind s t (key_of key.now) StringsKind (Push (key_of key.now) (Quoted text.now))
         (answer_for result Done)) }
-    ensures refused { UnchangedOnCode result h.old.segment.value h.new.segment.value }
-    ensures marks { RaisesMoves result h.old.marks h.new.marks }
 {
     make_change(alloc, h, key, ObjectChange::PushText(text))
 }
@@ -92,11 +83,9 @@ pub extern "C" fn zx_insert_text(
     index: u64,
     text: &[u8],
 ) -> u32
-    ensures call { PerformsCall (key_wrong key.now) result h.old.segment.value h.new.segment.value
+    ensures call { MakesInHandle (key_wrong key.now) result h.old h.new
         (λ s t. TakesStepOfKind s t (key_of key.now) StringsKind (Insert (key_of key.now) index (Quoted text.now))
         (answer_for result Done)) }
-    ensures refused { UnchangedOnCode result h.old.segment.value h.new.segment.value }
-    ensures marks { RaisesMoves result h.old.marks h.new.marks }
 {
     make_change(alloc, h, key, ObjectChange::InsertText(index, text))
 }
@@ -109,11 +98,9 @@ pub extern "C" fn zx_assign_texts(
     key: &ObjectKey<'_>,
     texts: &[&[u8]],
 ) -> u32
-    ensures call { PerformsCall (key_wrong key.now) result h.old.segment.value h.new.segment.value
+    ensures call { MakesInHandle (key_wrong key.now) result h.old h.new
         (λ s t. TakesStepOfKind s t (key_of key.now) StringsKind
         (Assign (key_of key.now) (map Quoted (map (λ text. text.now) texts.now))) (answer_for result Done)) }
-    ensures refused { UnchangedOnCode result h.old.segment.value h.new.segment.value }
-    ensures marks { RaisesMoves result h.old.marks h.new.marks }
 {
     make_change(alloc, h, key, ObjectChange::AssignTexts(texts))
 }

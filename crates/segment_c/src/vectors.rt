@@ -3,15 +3,13 @@ ghost use Rattle.std.specs.Prelude.{◌≡◌, ◌≤◌, ℕ, MatchResult, OnEr
 ghost use Rattle.seg_types.specs.Commands.{Assign, Construct, ConstructIt, Elements, FindOrConstruct, literal_of};
 ghost use Rattle.seg_types.specs.Keys.{index_key_seen, key_seen, new_key_seen};
 ghost use Rattle.seg_types.specs.declared.kinds.Kind.TheVariants.{Scalar as ScalarOf, Vector as VectorOf};
-ghost use Rattle.segment_c.specs.Calls.{ReachesSegment, UnchangedOnCode, PerformsCall};
-ghost use Rattle.segment_c.specs.Codes.{answer_for};
+ghost use Rattle.segment_c.specs.Calls.{ChangesHandle, MakesInHandle};
+ghost use Rattle.segment_c.specs.{Codes.answer_for, Making.FindsOrMakesObject};
 ghost use Rattle.segment_c.specs.Passed.{count_wrong, entry_of, entry_wrong, key_of, key_wrong, many_of, new_of};
 ghost use Rattle.segment_c.specs.Passed.{new_wrong, numbers_of, or_else, row_count, row_of, row_wrong, scalar_kind_in};
-ghost use Rattle.segment_c.specs.Marked.{RaisesMoves};
 ghost use Rattle.segment_manager.specs.Answers.{Done, Found, Made};
 ghost use Rattle.segment_manager.specs.containers.Ranges.{ExtendsVector};
 ghost use Rattle.segment_manager.specs.objects.Found.{found_object_answer};
-ghost use Rattle.segment_manager.specs.Keeping.{IsBoundKey, UnchangedWhere};
 ghost use Rattle.segment_manager.specs.objects.NewObjects.{IsOfKind};
 ghost use Rattle.segment_manager.specs.State.{TakesStep, TakesStepOfKind, UnchangedIfRefused as KeepsOld, done_answer};
 ghost use Rattle.segment_manager.specs.State.{handle_answer};
@@ -53,7 +51,6 @@ fn find_or_construct_row(
         (FindOrConstruct (index_key_seen key.now) (Elements kind (numbers_of row.now kind)))
         (found_object_answer result) }
     ensures refused { KeepsOld segment.old segment.new result }
-    ensures search { UnchangedWhere segment.old segment.new (IsBoundKey (index_key_seen key.now)) }
 {
     on_slice!(row, kind, slice => segment.find_or_construct_vec(key, slice))
 }
@@ -95,13 +92,11 @@ pub extern "C" fn zx_construct_vector(
     values: &CScalars<'_>,
     handle: &mut u64,
 ) -> u32
-    ensures call { PerformsCall (or_else (row_wrong values.now)
-        (new_wrong key.now (VectorOf (scalar_kind_in values.now.kind)))) result h.old.segment.value h.new.segment.value
+    ensures call { MakesInHandle (or_else (row_wrong values.now)
+        (new_wrong key.now (VectorOf (scalar_kind_in values.now.kind)))) result h.old h.new
         (λ s t. TakesStep s t (Construct (new_of key.now (VectorOf (scalar_kind_in values.now.kind)))
         (Elements (scalar_kind_in values.now.kind) (row_of values.now))) (answer_for result (Made handle.new))) }
-    ensures refused { UnchangedOnCode result h.old.segment.value h.new.segment.value }
     ensures outputs_on_error { 1 ≤ result → handle.new ≡ handle.old }
-    ensures marks { RaisesMoves result h.old.marks h.new.marks }
 {
     let kind = passed!(values.scalar_kind());
     let (which, mut segment) = passed!(enter_new(alloc, h, key, Kind::Vector(kind)));
@@ -119,19 +114,12 @@ pub extern "C" fn zx_find_or_construct_vector(
     handle: &mut u64,
     count_found: &mut u32,
 ) -> u32
-    ensures call { PerformsCall (or_else (row_wrong values.now)
-        (entry_wrong key.now (VectorOf (scalar_kind_in values.now.kind)))) result h.old.segment.value
-        h.new.segment.value
-        (λ s t. TakesStep s t (FindOrConstruct (entry_of key.now (VectorOf (scalar_kind_in values.now.kind)))
-        (Elements (scalar_kind_in values.now.kind) (row_of values.now)))
+    ensures call { MakesInHandle (or_else (row_wrong values.now)
+        (entry_wrong key.now (VectorOf (scalar_kind_in values.now.kind)))) result h.old h.new
+        (λ s t. FindsOrMakesObject s t (entry_of key.now (VectorOf (scalar_kind_in values.now.kind)))
+        (Elements (scalar_kind_in values.now.kind) (row_of values.now))
         (answer_for result (Found handle.new count_found.new))) }
-    ensures search { ReachesSegment
-        (or_else (row_wrong values.now) (entry_wrong key.now (VectorOf (scalar_kind_in values.now.kind)))) result
-        h.old.segment.value h.new.segment.value
-        (λ s t. UnchangedWhere s t (IsBoundKey (entry_of key.now (VectorOf (scalar_kind_in values.now.kind))))) }
-    ensures refused { UnchangedOnCode result h.old.segment.value h.new.segment.value }
     ensures outputs_on_error { 1 ≤ result → (handle.new ≡ handle.old) × (count_found.new ≡ count_found.old) }
-    ensures marks { RaisesMoves result h.old.marks h.new.marks }
 {
     let kind = passed!(values.scalar_kind());
     let (which, mut segment) = passed!(enter_entry(alloc, h, key, Kind::Vector(kind)));
@@ -147,13 +135,10 @@ pub extern "C" fn zx_assign(
     key: &ObjectKey<'_>,
     values: &CScalars<'_>,
 ) -> u32
-    ensures call { PerformsCall (or_else (key_wrong key.now) (row_wrong values.now)) result h.old.segment.value
-        h.new.segment.value
+    ensures call { ChangesHandle (or_else (key_wrong key.now) (row_wrong values.now)) result h.old h.new
         (λ s t. TakesStepOfKind s t (key_of key.now) (VectorOf (scalar_kind_in values.now.kind))
         (Assign (key_of key.now) (map (literal_of (scalar_kind_in values.now.kind)) (row_of values.now)))
         (answer_for result Done)) }
-    ensures unchanged_on_error { 1 ≤ result → h.new.segment.value ≡ h.old.segment.value }
-    ensures marks { RaisesMoves result h.old.marks h.new.marks }
 {
     let (which, kind, mut segment) = passed!(enter_row(alloc, h, key, values));
     done(assign_row(&mut segment, &which, kind, values), h, segment)
@@ -167,12 +152,9 @@ pub extern "C" fn zx_extend(
     key: &ObjectKey<'_>,
     values: &CScalars<'_>,
 ) -> u32
-    ensures call { PerformsCall (or_else (key_wrong key.now) (row_wrong values.now)) result h.old.segment.value
-        h.new.segment.value
+    ensures call { ChangesHandle (or_else (key_wrong key.now) (row_wrong values.now)) result h.old h.new
         (λ s t. ExtendsVector s t (key_of key.now) (scalar_kind_in values.now.kind) (row_of values.now)
         (answer_for result Done)) }
-    ensures unchanged_on_error { 1 ≤ result → h.new.segment.value ≡ h.old.segment.value }
-    ensures marks { RaisesMoves result h.old.marks h.new.marks }
 {
     let (which, kind, mut segment) = passed!(enter_row(alloc, h, key, values));
     done(extend_row(&mut segment, &which, kind, values), h, segment)
@@ -221,15 +203,13 @@ pub extern "C" fn zx_construct_array(
     values: &CScalars<'_>,
     handle: &mut u64,
 ) -> u32
-    ensures call { PerformsCall (or_else (row_wrong values.now)
+    ensures call { MakesInHandle (or_else (row_wrong values.now)
         (or_else (count_wrong (row_count values.now))
-        (new_wrong key.now (ScalarOf (scalar_kind_in values.now.kind))))) result h.old.segment.value h.new.segment.value
+        (new_wrong key.now (ScalarOf (scalar_kind_in values.now.kind))))) result h.old h.new
         (λ s t. TakesStep s t (ConstructIt (new_of key.now (ScalarOf (scalar_kind_in values.now.kind)))
         (scalar_kind_in values.now.kind) (row_count values.now) (row_of values.now))
         (answer_for result (Made handle.new))) }
-    ensures refused { UnchangedOnCode result h.old.segment.value h.new.segment.value }
     ensures outputs_on_error { 1 ≤ result → handle.new ≡ handle.old }
-    ensures marks { RaisesMoves result h.old.marks h.new.marks }
 {
     let kind = passed!(array_kind(values));
     let (which, mut segment) = passed!(enter_new(alloc, h, key, Kind::Scalar(kind)));

@@ -2,7 +2,7 @@
 ghost use denote.RawPtr.{block_ptr};
 ghost use Rattle.std.specs.Prelude.{◌≡◌, ◌≤◌};
 ghost use Rattle.seg_types.specs.Keys.{key_seen};
-ghost use Rattle.segment_c.specs.Calls.{HoldsSegment, PerformsRead};
+ghost use Rattle.segment_c.specs.Calls.{HoldsSegment, PerformsRead, ReadsHandle};
 ghost use Rattle.segment_c.specs.Marked.{LendsRange};
 ghost use Rattle.segment_c.specs.Passed.{key_of, key_wrong};
 ghost use Rattle.segment_c.specs.Reads.{IsCoded};
@@ -45,13 +45,12 @@ pub extern "C" fn zx_view(
     key: &ObjectKey<'_>,
     view: &mut CView,
 ) -> u32
-    ensures read { PerformsRead (key_wrong key.now) result h.old.segment.value h.new.segment.value
+    ensures read { ReadsHandle (key_wrong key.now) result h.old h.new
         (λ s. (d : Directory) → DenotesCurrent s.cut.bytes d
         → IsCoded (IsView view.new) result (run_at d (key_of key.now))) }
     ensures bytes { result ≡ 0 → HoldsSegment h.old.segment.value (λ s. HasView s (key_of key.now) view.new) }
     ensures current { result ≡ 0 → view.new.changes ≡ h.old.marks.changes }
     ensures outputs_on_error { 1 ≤ result → view.new ≡ view.old }
-    ensures marks { h.new.marks ≡ h.old.marks }
 {
     let (which, segment) = passed!(enter(alloc, h, key));
     put(

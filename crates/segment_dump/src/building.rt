@@ -1,23 +1,22 @@
 //! Objects made of the lines of a dump. Nothing here is believed: the segment that comes out is compared with the whole
 //! text.
-ghost use Rattle.std.specs.Prelude.{◌≡◌, ◌≤◌, ◌↔◌, ⊤, [], length, option_map, IfOk, IsTrue, Some, None, if◌then◌else◌};
+ghost use Rattle.std.specs.Prelude.{◌≡◌, ⊤, length, option_map, IfOk, Some, None, if◌then◌else◌};
 ghost use Rattle.raw_region.specs.Format.{current};
-ghost use Rattle.seg_types.specs.Commands.{Construct, Elements};
+ghost use Rattle.seg_types.specs.Commands.{Construct};
 ghost use Rattle.seg_types.specs.Keys.{name_seen};
 ghost use Rattle.seg_types.specs.Names.{is_name};
 ghost use Rattle.segment_lang.specs.Seen.{bytes_said};
 ghost use Rattle.seg_types.specs.declared.kinds.Kind.{Kind as AnyKind};
 ghost use Rattle.seg_types.specs.declared.kinds.Kind.TheVariants.{Scalar as ScalarOf, Vector as VectorOf};
 ghost use Rattle.segment_manager.specs.State.{IsSegment, TakesStep, handle_answer};
-ghost use Rattle.segment_manager.specs.containers.Filled.{ConstructsObject, equal_numbers};
 ghost use Rattle.segment_dump.specs.Builders.{BuildsAllObjects, BuildsObject, IsCountOf, AcceptsEnd, HasObjectAt};
 ghost use Rattle.segment_dump.specs.Builders.{ReadsClass};
 ghost use Rattle.segment_dump.specs.Builders.{ReadsKindAndCount, StartsNamed, StartsNext, StartsUnder, first_content};
 
 use crate::faults::{DumpFault, SyntaxError};
 use crate::filling::fill;
-use crate::tokens::{Lines, Words};
-use seg_types::{Class, Handle, Kind, MAX_ARRAY_LEN, Name, Refusal, Scalar, ScalarKind, by_kind};
+use crate::tokens::{Lines, Words, is_same};
+use seg_types::{Class, Handle, Kind, MAX_ARRAY_LEN, Name, Refusal, ScalarKind, by_kind};
 use segment_lang::{LineBuffer, Word, numbers_are_decimals, texts_are_spelled};
 use segment_manager::unchecked::object_here;
 use segment_manager::{AnonymousInstance, ConstructKey, Segment, UniqueInstance};
@@ -119,11 +118,11 @@ fn next_class(words: &mut Words<'_>) -> Result<Class, SyntaxError>
 {
     let at = words.at();
     let word = words.next_bare()?;
-    if is_word(word, b"named") {
+    if is_same(word, b"named") {
         Ok(Class::Named)
-    } else if is_word(word, b"unique") {
+    } else if is_same(word, b"unique") {
         Ok(Class::Unique)
-    } else if is_word(word, b"anonymous") {
+    } else if is_same(word, b"anonymous") {
         Ok(Class::Anonymous)
     } else {
         Err(SyntaxError {
@@ -131,13 +130,6 @@ fn next_class(words: &mut Words<'_>) -> Result<Class, SyntaxError>
             cause: DumpFault::BadSyntax,
         })
     }
-}
-
-/// Tells whether a word is this one.
-fn is_word(word: &[u8], other: &[u8]) -> bool
-    ensures { IsTrue result ↔ (word.now ≡ other.now) }
-{
-    word == other
 }
 
 /// Returns the error that something is wrong at a place.
@@ -243,12 +235,11 @@ fn construct_scalars<D: ConstructKey>(
     kind: ScalarKind,
     count: u64,
 ) -> Result<Handle, Refusal>
-    requires fit { (kind : AnyKind) → D.suits under.now kind }
-    requires segment { IsSegment segment.old.cut.bytes }
+    requires { (kind : AnyKind) → D.suits under.now kind }
     ensures step { IsCountOf (ScalarOf kind) count
         → TakesStep segment.old segment.new
         (Construct (D.key under.now (ScalarOf kind)) (first_content (ScalarOf kind) count)) (handle_answer result) }
-    ensures in_place { IfOk result (HasObjectAt segment.new) }
+    ensures count { IfOk result (λ handle. IsCountOf (ScalarOf kind) count) }
 {
     if count < 1 || count > MAX_ARRAY_LEN {
         return Err(Refusal::OutOfRange);
@@ -256,7 +247,7 @@ fn construct_scalars<D: ConstructKey>(
     let count = count as u32;
     macro_rules! construct {
         ($type:ty, $kind:ident) => {
-            make_numbers(segment, under, count, <$type>::default())
+            segment.construct(under, count, <$type>::default())
         };
     }
     by_kind!(kind, construct)
@@ -268,48 +259,14 @@ fn construct_vector<D: ConstructKey>(
     under: &D,
     kind: ScalarKind,
 ) -> Result<Handle, Refusal>
-    requires fit { (kind : AnyKind) → D.suits under.now kind }
-    requires segment { IsSegment segment.old.cut.bytes }
-    ensures step { TakesStep segment.old segment.new
+    requires { (kind : AnyKind) → D.suits under.now kind }
+    ensures { TakesStep segment.old segment.new
         (Construct (D.key under.now (VectorOf kind)) (first_content (VectorOf kind) 0)) (handle_answer result) }
-    ensures in_place { IfOk result (HasObjectAt segment.new) }
 {
     macro_rules! construct {
         ($type:ty, $kind:ident) => {
-            make_vector::<$type, D>(segment, under)
+            segment.construct_vec::<$type, D>(under, &[])
         };
     }
     by_kind!(kind, construct)
-}
-
-/// Makes as many times a number.
-fn make_numbers<T: Scalar, D: ConstructKey>(
-    segment: &mut Segment,
-    under: &D,
-    count: u32,
-    value: T,
-) -> Result<Handle, Refusal>
-    requires kind { D.suits under.now (ScalarOf T.kind) }
-    requires non_empty { 1 ≤ count }
-    requires max_count { count ≤ 1048576 }
-    requires segment { IsSegment segment.old.cut.bytes }
-    ensures step { ConstructsObject segment.old segment.new (D.key under.now (ScalarOf T.kind))
-        (equal_numbers T.kind count (T.whole value)) result }
-    ensures in_place { IfOk result (HasObjectAt segment.new) }
-{
-    segment.construct(under, count, value)
-}
-
-/// Makes a vector without elements.
-fn make_vector<T: Scalar, D: ConstructKey>(
-    segment: &mut Segment,
-    under: &D,
-) -> Result<Handle, Refusal>
-    requires kind { D.suits under.now (VectorOf T.kind) }
-    requires segment { IsSegment segment.old.cut.bytes }
-    ensures step { ConstructsObject segment.old segment.new (D.key under.now (VectorOf T.kind)) (Elements T.kind [])
-        result }
-    ensures in_place { IfOk result (HasObjectAt segment.new) }
-{
-    segment.construct_vec::<T, D>(under, &[])
 }

@@ -4,6 +4,7 @@ ghost use Rattle.std.specs.Prelude.{slice_get, None, Some, OnErr};
 ghost use Rattle.std.specs.Bool.{OnTrue};
 ghost use Rattle.segment_dump.specs.Comparing.{IsComparing, IsOther, compared, taken};
 
+use crate::tokens::is_same;
 use raw_region::{DeviceFault, Sink};
 use std::marker::Model;
 
@@ -111,14 +112,7 @@ fn goes_on(text: &[u8], at: usize, bytes: &[u8]) -> bool
         return false;
     }
     let (front, _) = behind.split_at(bytes.len());
-    are_same(front, bytes)
-}
-
-/// Tells whether two slices have the same bytes.
-fn are_same(some: &[u8], other: &[u8]) -> bool
-    ensures { OnTrue result (some.now ≡ other.now) }
-{
-    some == other
+    is_same(front, bytes)
 }
 
 /// Returns how many bytes two slices have in common, from the first on.

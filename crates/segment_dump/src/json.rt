@@ -173,10 +173,7 @@ fn opening(kind: Kind) -> &'static [u8]
 {
     match kind {
         Kind::String => b"",
-        Kind::Scalar(_) => b"[",
-        Kind::Vector(_) => b"[",
-        Kind::Map(_, _) => b"[",
-        Kind::Strings => b"[",
+        _ => b"[",
     }
 }
 
@@ -186,9 +183,6 @@ fn closing(kind: Kind) -> &'static [u8]
 {
     match kind {
         Kind::String => b"}\n",
-        Kind::Scalar(_) => b"]}\n",
-        Kind::Vector(_) => b"]}\n",
-        Kind::Map(_, _) => b"]}\n",
-        Kind::Strings => b"]}\n",
+        _ => b"]}\n",
     }
 }

@@ -62,10 +62,7 @@ fn body_len(kind: Kind, count: u64) -> u64
 {
     match kind {
         Kind::Scalar(kind) => kind.size() * count,
-        Kind::String => CONTAINER_LEN,
-        Kind::Vector(_) => CONTAINER_LEN,
-        Kind::Map(_, _) => CONTAINER_LEN,
-        Kind::Strings => CONTAINER_LEN,
+        _ => CONTAINER_LEN,
     }
 }
 

@@ -193,10 +193,7 @@ impl<'a> Words<'a> {
         ensures { ReadsWord number self.old self.new result }
     {
         let misfit = self.misfit(DumpFault::BadCount);
-        match number_of(self.next_bare()?) {
-            Some(number) => Ok(number),
-            None => Err(misfit),
-        }
+        number_of(self.next_bare()?).ok_or(misfit)
     }
 
     /// Returns the next word, a kind.
@@ -204,10 +201,7 @@ impl<'a> Words<'a> {
         ensures { ReadsWord (kind_of_word (whole_language current)) self.old self.new result }
     {
         let misfit = self.misfit(DumpFault::UnknownKind);
-        match kind_of_word(self.next_word()?) {
-            Some(kind) => Ok(kind),
-            None => Err(misfit),
-        }
+        kind_of_word(self.next_word()?).ok_or(misfit)
     }
 
     /// Returns the next word, a value of a kind.
@@ -215,10 +209,7 @@ impl<'a> Words<'a> {
         ensures { ReadsWord (value_word kind) self.old self.new result }
     {
         let misfit = self.misfit(DumpFault::BadValue);
-        match scalar_of(kind, self.next_word()?) {
-            Some(value) => Ok(value),
-            None => Err(misfit),
-        }
+        scalar_of(kind, self.next_word()?).ok_or(misfit)
     }
 }
 
@@ -257,7 +248,7 @@ fn line_len(text: &[u8]) -> Option<usize>
 }
 
 /// Tells whether two slices have the same bytes.
-fn is_same(some: &[u8], other: &[u8]) -> bool
+pub fn is_same(some: &[u8], other: &[u8]) -> bool
     ensures { IsTrue result ↔ (some.now ≡ other.now) }
 {
     some == other

@@ -32,3 +32,10 @@ begun_here {old} key c (Ok h) g m = record {
   object = made-here key c h g m;
 }
 begun_here key c (Err why) g m = tt
+
+-- so it is where the step is that of a count, which has an object only if it may be one
+pub counted_here : {old new : SegmentState} {C : Type 0} (key : Key) (c : Content) (called : Result ℕ Refusal)
+    → IsSegment old.cut.bytes → IfOk called (λ h. C)
+    → (C → TakesStep old new (Construct key c) (handle_answer called)) → IfOk called (HasObjectAt new)
+counted_here key c (Ok h) g count m = begun_here key c (Ok h) g (m count)
+counted_here key c (Err why) g count m = tt

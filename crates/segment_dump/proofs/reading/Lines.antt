@@ -4,7 +4,7 @@ use Rattle.segment_dump.proofs.Common.{take, drop, cond, not, nat_lt, Option, So
 use Rattle.segment_dump.proofs.Common.{ap, ◌∙◌, arith, append_assoc, position, length-append, take-append_seam}
 use Rattle.segment_dump.proofs.Common.{nat_tests, number, next_word, Word, Bare, Text, number_of, ReadsLine, ReadsThis}
 use Rattle.segment_dump.proofs.Common.{ReadsWord, any_word, bare_word, HasNoEnd, ended, lt-ltb}
-use Rattle.std.specs.List.{position_or_len}
+use Rattle.std.specs.{List.position_or_len, Option.ok_or}
 use Rattle.std.proofs.Math.Seq.{drop-append_seam}
 use Rattle.segment_dump.proofs.texts.Options.{never-ok, none-some, ok-same, same_Some}
 
@@ -42,6 +42,17 @@ module _ {E : Type 0} (text rest : List ℕ) where
         absurd (none-some x (sym e ∙ ap value same ∙ g));
   }
 
+  -- what the word stands for is read, if it stands for anything
+  pub read-word : {X : Type 0} (value : Word → Option X) (w : Word) (o : Option X) (e : E) (result : Result X E)
+      → ReadsWord {E = E} any_word text rest (Ok w) → o ≡ value w → result ≡ ok_or o e
+      → ReadsWord value text rest result
+  read-word value w o e result h q is = record {
+    reads = λ v a x f g.
+        let r = h.reads v a v f refl in
+        let same : w ≡ v = ok-same {E = E} w v r.0 in
+        (is ∙ ap (λ p. ok_or p e) (q ∙ ap value same ∙ g), r.1);
+  }
+
   -- ---- a number
 
   -- no word: no number is read
@@ -58,22 +69,14 @@ module _ {E : Type 0} (text rest : List ℕ) where
       (q ∙ ap number_of same ∙ g, r.1)
   number-in bytes o (Text v) a x h q f g = absurd (none-some x g)
 
-  -- the word of a number: the number is read
-  pub this-number : (bytes : List ℕ) (n : ℕ) (o : Option ℕ) → ReadsWord {E = E} bare_word text rest (Ok bytes)
-      → o ≡ number_of bytes → o ≡ Some n → ReadsWord {E = E} number text rest (Ok n)
-  this-number bytes n o h q e = record {
+  -- the number of a word is read, if it is the word of one
+  pub read-number : (bytes : List ℕ) (o : Option ℕ) (e : E) (result : Result ℕ E)
+      → ReadsWord {E = E} bare_word text rest (Ok bytes) → o ≡ number_of bytes → result ≡ ok_or o e
+      → ReadsWord number text rest result
+  read-number bytes o e result h q is = record {
     reads = λ w a x f g.
         let r = number-in bytes o w a x h q f g in
-        (ap Ok (same_Some n x (sym e ∙ r.0)), r.1);
-  }
-
-  -- another word: no number is read
-  pub other-number : (bytes : List ℕ) (o : Option ℕ) (result : Result ℕ E)
-      → ReadsWord {E = E} bare_word text rest (Ok bytes) → o ≡ number_of bytes → o ≡ None
-      → ReadsWord number text rest result
-  other-number bytes o result h q e = record {
-    reads = λ w a x f g. absurd
-        (none-some x (sym e ∙ (number-in bytes o w a x h q f g).0));
+        (is ∙ ap (λ p. ok_or p e) r.0, r.1);
   }
 
   -- ---- this word

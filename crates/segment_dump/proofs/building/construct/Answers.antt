@@ -1,4 +1,4 @@
-use Rattle.segment_dump.proofs.building.Presence.{begun_here}
+use Rattle.segment_dump.proofs.building.Presence.{begun_here, counted_here}
 use Rattle.segment_dump.proofs.building.construct.Goals as goal
 
 pub returns-in-String-clause-in_place : goal.returns-in-String-clause-in_place
@@ -12,3 +12,12 @@ returns-in-Strings-clause-in_place g c =
 pub returns-in-Map-clause-in_place : goal.returns-in-Map-clause-in_place
 returns-in-Map-clause-in_place g c =
     begun_here _ _ c.construct_map_of.result c.requires.segment c.construct_map_of.ensures.step
+
+pub returns-in-Scalar-clause-in_place : goal.returns-in-Scalar-clause-in_place
+returns-in-Scalar-clause-in_place g c =
+    counted_here _ _ c.construct_scalars.result c.requires.segment c.construct_scalars.ensures.count
+    c.construct_scalars.ensures.step
+
+pub returns-in-Vector-clause-in_place : goal.returns-in-Vector-clause-in_place
+returns-in-Vector-clause-in_place g c =
+    begun_here _ _ c.construct_vector.result c.requires.segment c.construct_vector.ensures

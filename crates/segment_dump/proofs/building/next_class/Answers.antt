@@ -6,19 +6,19 @@ pub returns-in_err-word : goal.returns-in_err-word
 returns-in_err-word c = class-unread c.args.words.now c.next_bare.new.self _ c.from_residual.result
     c.in_err-word.ensures
 
-pub returns-then-is_word : goal.returns-then-is_word
-returns-then-is_word c = class-is c.args.words.now c.next_bare.new.self c.in_ok-word.word.now Named
-    (c.if-is_word.ensures.0 refl) c.in_ok-word.ensures
+pub returns-then-is_same : goal.returns-then-is_same
+returns-then-is_same c = class-is c.args.words.now c.next_bare.new.self c.in_ok-word.word.now Named
+    (c.if-is_same.ensures.0 refl) c.in_ok-word.ensures
 
-pub returns-then-is_word-2 : goal.returns-then-is_word-2
-returns-then-is_word-2 c = class-is c.args.words.now c.next_bare.new.self c.in_ok-word.word.now Unique
-    (c.if-is_word-2.ensures.0 refl) c.in_ok-word.ensures
+pub returns-then-is_same-2 : goal.returns-then-is_same-2
+returns-then-is_same-2 c = class-is c.args.words.now c.next_bare.new.self c.in_ok-word.word.now Unique
+    (c.if-is_same-2.ensures.0 refl) c.in_ok-word.ensures
 
-pub returns-then-is_word-3 : goal.returns-then-is_word-3
-returns-then-is_word-3 c = class-is c.args.words.now c.next_bare.new.self c.in_ok-word.word.now Anonymous
-    (c.if-is_word-3.ensures.0 refl) c.in_ok-word.ensures
+pub returns-then-is_same-3 : goal.returns-then-is_same-3
+returns-then-is_same-3 c = class-is c.args.words.now c.next_bare.new.self c.in_ok-word.word.now Anonymous
+    (c.if-is_same-3.ensures.0 refl) c.in_ok-word.ensures
 
-pub returns-else-is_word-3 : goal.returns-else-is_word-3
-returns-else-is_word-3 c = class-none c.args.words.now c.next_bare.new.self c.in_ok-word.word.now _ (λ e.
-    false≢true (c.if-is_word.ensures.1 e)) (λ e. false≢true (c.if-is_word-2.ensures.1 e)) (λ e.
-    false≢true (c.if-is_word-3.ensures.1 e)) c.in_ok-word.ensures
+pub returns-else-is_same-3 : goal.returns-else-is_same-3
+returns-else-is_same-3 c = class-none c.args.words.now c.next_bare.new.self c.in_ok-word.word.now _ (λ e.
+    false≢true (c.if-is_same.ensures.1 e)) (λ e. false≢true (c.if-is_same-2.ensures.1 e)) (λ e.
+    false≢true (c.if-is_same-3.ensures.1 e)) c.in_ok-word.ensures

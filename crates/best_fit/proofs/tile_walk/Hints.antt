@@ -1,7 +1,7 @@
 -- Way-points lead to blocks in use, and a walk may begin at one.
-use Rattle.best_fit.proofs.Common.{◌≡◌, ◌≢◌, refl, sym, ap, subst, ◌∙◌, ℕ, zero, suc, ◌+◌, ◌-◌, ◌<◌, ◌≤◌, ◌⊎◌, inl}
-use Rattle.best_fit.proofs.Common.{inr, Bool, true, false, ◌||◌, List, [], ◌∷◌, ◌++◌, length, append_assoc, replicate}
-use Rattle.best_fit.proofs.Common.{slice_index, arith, ◌==◌, IsTrue, Option, Some, None, is_some, IfSome, list_any}
+use Rattle.best_fit.proofs.Common.{◌≡◌, ◌≢◌, refl, sym, ap, subst, ◌∙◌, ℕ, ◌+◌, ◌-◌, ◌<◌, ◌≤◌, ◌⊎◌, inl}
+use Rattle.best_fit.proofs.Common.{inr, Bool, true, false, ◌||◌, List, [], ◌∷◌, ◌++◌, length, append_assoc}
+use Rattle.best_fit.proofs.Common.{arith, ◌==◌, IsTrue, Option, Some, None, is_some, IfSome, list_any}
 use Rattle.best_fit.proofs.Common.{both_ways, cases_eq, eq-eqb, ne_eqb, or_left, or_right, WindowState, Role, Tile}
 use Rattle.best_fit.proofs.Common.{current}
 use Rattle.best_fit.proofs.Common.{next_in, tile_in, EncodesTiles, next_stands_behind, tiles_are_read_off, BlockHints}
@@ -21,15 +21,6 @@ use Rattle.best_fit.proofs.tile_walk.Walk.{Left, Next, StillNames, live_extents,
 use Rattle.best_fit.proofs.tags.Writes.{Block, laid-heap, live_block, read_block}
 
 -- ---- what is noted
-
-zeros-none : (n i : ℕ) → slice_index (replicate n 0) i ≡ 0
-zeros-none zero i = refl
-zeros-none (suc n) zero = refl
-zeros-none (suc n) (suc i) = zeros-none n i
-
--- hints that are all empty have no block
-pub none-noted : (n i h : ℕ) → 0 < h → slice_index (replicate n 0) i ≡ h → ⊥
-none-noted n i h pos e = let z = zeros-none n i in omega arith
 
 -- empty hints lead to blocks, as there is none
 pub none-lead : (p : BlockHints) (b : List ℕ) → AreNone p → LeadToBlocks p b

@@ -1,5 +1,5 @@
 -- The window is as it was, with room for notes beside it.
-use Rattle.best_fit.proofs.Common.{WindowState, IsHeap, current, subst, sym, ◌∙◌}
+use Rattle.best_fit.proofs.Common.{WindowState, IsHeap, current, subst, sym}
 use Rattle.best_fit.proofs.heap.Heap.into_window.Goals as goal
 
 pub returns-clause-heap : goal.returns-clause-heap

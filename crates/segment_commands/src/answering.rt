@@ -44,13 +44,9 @@ pub(crate) fn run_script<S: Source, O: LineOutput>(
 {
     let served = serve(segment, script, out, &mut Flushing, until);
     let flushed = out.flush();
-    match served {
-        Ok(end) => match flushed {
-            Ok(()) => Ok(end),
-            Err(_) => Err(SessionFault::WriteFault),
-        },
-        Err(fault) => Err(fault),
-    }
+    let end = served?;
+    flushed?;
+    Ok(end)
 }
 
 /// Runs a script on a segment that is open, and gives out all answers. Then it writes the image to a file, in mode

@@ -8,7 +8,7 @@ ghost use Rattle.segment_commands.specs.Resizing.{RunsResize, TellsAndWrites, Te
 ghost use Rattle.segment_commands.specs.{Resizing.size_line, Telling.WritesAndFlushes};
 
 use crate::command_faults::CommandFault;
-use crate::opening::{open_any_segment, open_segment};
+use crate::opening::open_segment;
 use crate::running::making_for;
 use crate::telling::write_and_flush;
 use grow_shrink::{GrowError, shrink_to_fit};
@@ -99,7 +99,9 @@ fn resize_held<D: Disk, O: Output>(
     ensures { RunsResize D.step disk.old disk.new path.now making O.history O.flushes out.old out.new
         (more_by how) (refusal_by how) (next_by how) result }
 {
-    let mut segment = open_segment(alloc, disk, path, Mode::Write, more_for(how))?;
+    let current = AcceptedVersions::Current;
+    let more = more_for(how);
+    let mut segment = open_segment(alloc, disk, path, current, Mode::Write, more)?;
     resize_segment(&mut segment, how)?;
     Ok(tell_and_write(disk, path, making, hold, &segment, out)?)
 }
@@ -116,7 +118,7 @@ fn migrate_held<D: Disk, O: Output>(
     requires { (O.history out.old).failures < 2 ^ 64 - 1 }
     ensures { RunsMigrate D.step disk.old disk.new path.now making O.history O.flushes out.old out.new result }
 {
-    let segment = open_any_segment(alloc, disk, path, AcceptedVersions::All, Mode::Write, 0)?;
+    let segment = open_segment(alloc, disk, path, AcceptedVersions::All, Mode::Write, 0)?;
     write_image(disk, path, making, hold, &segment)?;
     Ok(write_and_flush(out, b"ok\n")?)
 }

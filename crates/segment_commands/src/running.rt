@@ -8,6 +8,7 @@ use crate::answering::answer_and_save;
 use crate::command_faults::CommandFault;
 use crate::creating::new_segment;
 use crate::opening::open_segment;
+use image_check::AcceptedVersions;
 use raw_region::Source;
 use segment_answers::LineOutput;
 use segment_cli::{ProgramFault, SessionFault};
@@ -101,7 +102,7 @@ fn run_opened<D: Disk, S: Source, O: LineOutput>(
     ensures { RunsOpened D.step disk.old disk.new path.now mode how until (S.history script.old) (S.history script.new)
         O.history (IsFlushed O.history O.flushes out.new) out.old out.new result }
 {
-    let mut segment = open_segment(alloc, disk, path, mode, 0)?;
+    let mut segment = open_segment(alloc, disk, path, AcceptedVersions::Current, mode, 0)?;
     answer_and_save(disk, path, how, hold, &mut segment, until, script, out)
 }
 

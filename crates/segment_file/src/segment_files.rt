@@ -256,9 +256,6 @@ impl<H: Drop> SegmentFile<H> {
         ensures shrinking { ShrinksFile self.old.segment self.new.segment result }
         ensures path { self.new.path ≡ self.old.path }
     {
-        match shrink_to_fit(&mut self.segment) {
-            Ok(()) => Ok(()),
-            Err(why) => Err(FileError::Growth(why)),
-        }
+        Ok(shrink_to_fit(&mut self.segment)?)
     }
 }

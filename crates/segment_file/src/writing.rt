@@ -16,10 +16,8 @@ fn fill<D: Disk>(disk: &mut D, mut writer: D::Writer, segment: &Segment) -> Resu
 {
     let saved = save(segment, &mut writer);
     let lasting = disk.sync_and_close(writer);
-    match saved {
-        Ok(()) => lasting,
-        Err(fault) => Err(fault),
-    }
+    saved?;
+    lasting
 }
 
 /// Makes or empties a file, writes the image of a segment to it and closes it.
@@ -60,9 +58,7 @@ fn replace_image<D: Disk>(
 ) -> Result<(), DeviceFault>
     ensures { MakesImage D.step disk.old disk.new Replacement path.now segment.now.cut.bytes result }
 {
-    let Ok(writer) = disk.create(path, CreateMode::Replacement, hold) else {
-        return Err(DeviceFault);
-    };
+    let writer = disk.create(path, CreateMode::Replacement, hold)?;
     match fill(disk, writer, segment) {
         Ok(()) => put_in_place(disk, path, hold),
         Err(fault) => {

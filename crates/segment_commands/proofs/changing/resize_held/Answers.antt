@@ -15,7 +15,7 @@ returns g c = inr (inr (record {
   opens = rw c.more_for-more.ensures at c.in_ok-segment.ensures;
   resized = c.resize_segment.new.segment;
   becomes = c.in_ok-resize_segment.ensures.changes;
-  goes = resized g.D.Disk.step c.open_segment.new.disk c.tell_and_write.new.disk c.args.path.now c.args.making
+  goes = resized g.D.Disk.step c.open_segment.new.disk c.tell_and_write.new.disk c.args.path.now _
       g.O.Sink.history g.O.Output.flushes c.args.out.now c.tell_and_write.new.out c.resize_segment.new.segment
       c.in_ok-tell_and_write.ensures;
   answer = λ fault e. absurd (cc);
@@ -30,7 +30,7 @@ returns-in_err-tell_and_write g c =
       opens = rw c.more_for-more.ensures at c.in_ok-segment.ensures;
       resized = c.resize_segment.new.segment;
       becomes = c.in_ok-resize_segment.ensures.changes;
-      goes = not_resized g.D.Disk.step c.open_segment.new.disk c.tell_and_write.new.disk c.args.path.now c.args.making
+      goes = not_resized g.D.Disk.step c.open_segment.new.disk c.tell_and_write.new.disk c.args.path.now _
           g.O.Sink.history g.O.Output.flushes c.args.out.now c.tell_and_write.new.out c.resize_segment.new.segment
           c.in_err-tell_and_write.field-0.0 _ c.in_err-tell_and_write.ensures;
       answer = λ fault e. same_fault _ fault e;

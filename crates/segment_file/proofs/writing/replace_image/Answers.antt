@@ -9,4 +9,5 @@ returns-in-Ok-fill g c = placed g.D.Disk.step c.args.disk.now c.create.new.self 
 pub returns-in-Err : goal.returns-in-Err
 returns-in-Err g c = dropped g.D.Disk.step c.args.disk.now c.create.new.self c.discard_replacement.new.self
     c.args.path.now c.args.segment.now.cut.bytes
-    c.in_ok-writer.ensures.request c.fill.new.disk c.in-Err.fault c.in-Err.fault c.in-Err.ensures c.discard_replacement.ensures
+    c.in_ok-writer.ensures.request c.fill.new.disk c.in-Err.fault c.in-Err.fault c.in-Err.ensures
+    c.discard_replacement.ensures

@@ -205,10 +205,7 @@ impl<'a, R: Files<File = File> + AllocGlobal + Clock> Disk for HostDisk<'a, R> {
         Ok(())
     }
 
-    fn create_new(
-        &mut self,
-        path: &str,
-    ) -> Result<(StdOutput<SparseFile>, HostLock), DeviceFault> {
+    fn create_new(&mut self, path: &str) -> Result<(StdOutput<SparseFile>, HostLock), DeviceFault> {
         let mut hold = HostLock::new(None);
         let made = self.made(path, &mut hold);
         let writer = self.writer_of(made, path, SaveMode::InPlace)?;

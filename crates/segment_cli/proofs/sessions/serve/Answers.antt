@@ -9,4 +9,4 @@ pub returns-in_err-run_until-clause-service : goal.returns-in_err-run_until-clau
 returns-in_err-run_until-clause-service g c =
     let p = err_from_is_err_and c.from_residual.result c.from_residual.ensures.1 in
     rw (p.1, p.2)
-        (record { stop = c.in_err-run_until.field-0.0; why = refl; left = c.in_err-run_until.ensures.remainder })
+    (record { stop = c.in_err-run_until.field-0.0; why = refl; left = c.in_err-run_until.ensures.remainder })

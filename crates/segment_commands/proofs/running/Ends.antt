@@ -1,6 +1,6 @@
 -- How a run ends, from what its steps answered.
-use Rattle.std.proofs.Common.{◌≡◌, ◌≢◌, ◌⊎◌, ◌<◌, ℕ, Bool, true, false, inl, inr, List, [], ◌∷◌, length, Result, Ok, Err, refl}
-use Rattle.std.proofs.Common.{sym, ap, subst, ◌∙◌, arith}
+use Rattle.std.proofs.Common.{◌≡◌, ◌≢◌, ◌⊎◌, ◌<◌, ℕ, Bool, true, false, inl, inr, List, [], ◌∷◌, length, Ok, Err, refl}
+use Rattle.std.proofs.Common.{Result, sym, ap, subst, ◌∙◌, arith}
 use Rattle.std.proofs.lemmas.Bool.{false≢true}
 use Rattle.raw_region.specs.Device.{ReadDelta, WriteDelta}
 use Rattle.raw_region.specs.Format.{current}

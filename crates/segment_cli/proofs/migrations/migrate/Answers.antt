@@ -20,4 +20,5 @@ pub returns-in_err-save-clause-migration : goal.returns-in_err-save-clause-migra
 returns-in_err-save-clause-migration g c =
     let from = c.from_residual-in_err-save in let p = err_from_is_err_and from.result from.ensures.1 in
     rw (p.1, p.2) (unmigrated _ _ _ _ _ c.in_ok-segment.segment c.in_ok-segment.ensures.opening
-    c.save.ensures.acceptance (front_added _ _ _ c.in_err-save.ensures.output.err) (one_failed _ _ c.in_err-save.ensures.output.counted))
+    c.save.ensures.acceptance (front_added _ _ _ c.in_err-save.ensures.output.err)
+    (one_failed _ _ c.in_err-save.ensures.output.counted))

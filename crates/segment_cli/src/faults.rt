@@ -4,10 +4,11 @@ ghost use Rattle.image_check.specs.declared.errors.MemoryFault.TheVariants.{Byte
 ghost use Rattle.segment_cli.specs.Beginning.{created_fault, opened_fault, run_fault};
 ghost use Rattle.segment_cli.specs.declared.faults.ProgramFault.TheVariants.{Growth, Session};
 ghost use Rattle.segment_cli.specs.declared.faults.SessionFault.TheVariants.{OutOfMemory as NoMemory};
+ghost use Rattle.segment_cli.specs.declared.faults.SessionFault.TheVariants.{WriteFault as NotWritten};
 
 use grow_shrink::GrowError;
 use image_check::{ImageClass, MemoryFault, OpenError, OpenRefused};
-use raw_region::OutOfMemory;
+use raw_region::{DeviceFault, OutOfMemory};
 use segment_manager::{CreateError, CreateRefused};
 use segment_scripts::RunFault;
 use thiserror::Error;
@@ -78,6 +79,15 @@ impl From<OutOfMemory> for SessionFault {
 
     fn from(refusal: OutOfMemory) -> SessionFault {
         SessionFault::OutOfMemory(MemoryFault::Bytes(refusal))
+    }
+}
+
+impl From<DeviceFault> for SessionFault {
+    ghost from_gives = { λ _ fault. fault ≡ NotWritten };
+
+    /// Says that a writer failed: no call tells a failed read this way.
+    fn from(_fault: DeviceFault) -> SessionFault {
+        SessionFault::WriteFault
     }
 }
 

@@ -38,8 +38,5 @@ pub fn migrate<I: Source, W: Sink>(
     ensures saved_history { AppendsBytes (W.history image_out.old).bytes (W.history image_out.new).bytes }
 {
     let segment = open_any(alloc, image, region, base, Mode::Write, &mut Steps::new())?;
-    match save(&segment, image_out) {
-        Ok(()) => Ok(()),
-        Err(_) => Err(SessionFault::WriteFault),
-    }
+    Ok(save(&segment, image_out)?)
 }

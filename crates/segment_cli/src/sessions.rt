@@ -69,10 +69,7 @@ pub fn serve<S: Source, O: Sink, F: RunObserver<O>>(
     ensures output_history { (at : MachineState) → IsMachineAt segment.old at
         → AppendsBytes (O.history out.old).bytes (O.history out.new).bytes }
 {
-    match run_until(segment, script, out, follower, until) {
-        Ok(end) => Ok(end),
-        Err(fault) => Err(SessionFault::from(fault)),
-    }
+    Ok(run_until(segment, script, out, follower, until)?)
 }
 
 /// Writes the image of a segment that is open in mode `Write`, and otherwise nothing. The image is one that a check
@@ -142,8 +139,5 @@ pub fn session<I: Source, S: Source, O: Sink, W: Sink>(
 {
     let mut segment = begin(alloc, start, mode, image, region, base)?;
     serve(&mut segment, script, out, &mut NoObserver, Until::End)?;
-    match save_segment(&segment, image_out) {
-        Ok(()) => Ok(()),
-        Err(_) => Err(SessionFault::WriteFault),
-    }
+    Ok(save_segment(&segment, image_out)?)
 }

@@ -2,8 +2,7 @@
 use Rattle.std.specs.Prelude.{◌≡◌, ℕ, Bool, List, Result}
 use Rattle.raw_region.specs.Device.{WriterHistory}
 use Rattle.grow_shrink.specs.Resized.{growth_refusal, grown, room_of, shrink_refusal, shrunk}
-use Rattle.segment_disk.specs.declared.presence.CreateMode.{CreateMode}
-use Rattle.segment_disk.specs.Events.{Event}
+use Rattle.segment_disk.specs.Events.{CreateMode, Event}
 use Rattle.segment_invocation.specs.declared.invocations.FileChange.{FileChange}
 use Rattle.segment_invocation.specs.declared.invocations.FileChange.TheVariants.{Grow, Shrink, Migrate}
 use Rattle.segment_commands.specs.declared.command_faults.CommandFault.{CommandFault}

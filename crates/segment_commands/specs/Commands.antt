@@ -13,8 +13,7 @@ use Rattle.segment_commands.specs.declared.command_faults.CommandFault.{CommandF
 use Rattle.segment_commands.specs.Faults.{Exists, Session, region_refused}
 use Rattle.segment_disk.specs.declared.presence.Presence.{Presence}
 use Rattle.segment_disk.specs.declared.presence.Presence.TheVariants.{There}
-use Rattle.segment_disk.specs.declared.presence.CreateMode.TheVariants.{New}
-use Rattle.segment_disk.specs.Events.{Event, Looked, After}
+use Rattle.segment_disk.specs.Events.{New, Event, Looked, After}
 use Rattle.segment_file.specs.Files.{WritesImage}
 use Rattle.segment_commands.specs.Opening.{OpensFile, VerifiesFile}
 use Rattle.segment_commands.specs.Telling.{WritesAndFlushes}

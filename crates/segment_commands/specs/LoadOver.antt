@@ -7,8 +7,7 @@ use Rattle.segment_commands.specs.declared.command_faults.CommandFault.{CommandF
 use Rattle.segment_commands.specs.Faults.{Session}
 use Rattle.segment_disk.specs.declared.presence.Presence.{Presence}
 use Rattle.segment_disk.specs.declared.presence.Presence.TheVariants.{There}
-use Rattle.segment_disk.specs.declared.presence.CreateMode.TheVariants.{Replacement}
-use Rattle.segment_disk.specs.Events.{Event, Looked}
+use Rattle.segment_disk.specs.Events.{Replacement, Event, Looked}
 use Rattle.segment_file.specs.Files.{WritesImage}
 use Rattle.segment_commands.specs.Holding.{HoldsLock}
 use Rattle.segment_commands.specs.Loading.{RunsLoad, LoadsDump}

@@ -24,8 +24,7 @@ use Rattle.segment_commands.specs.declared.command_faults.CommandFault.TheVarian
 use Rattle.segment_commands.specs.Faults.{Exists, IsNoMemory, Session}
 use Rattle.segment_disk.specs.declared.presence.Presence.{Presence}
 use Rattle.segment_disk.specs.declared.presence.Presence.TheVariants.{There}
-use Rattle.segment_disk.specs.declared.presence.CreateMode.TheVariants.{New}
-use Rattle.segment_disk.specs.Events.{Event, Looked, After}
+use Rattle.segment_disk.specs.Events.{New, Event, Looked, After}
 use Rattle.segment_file.specs.Files.{WritesImage}
 
 -- ---- a text that is read whole

@@ -8,8 +8,7 @@ use Rattle.segment_cli.specs.declared.faults.SessionFault.{SessionFault}
 use Rattle.segment_cli.specs.declared.faults.SessionFault.TheVariants.{WriteFault}
 use Rattle.segment_commands.specs.declared.command_faults.CommandFault.{CommandFault}
 use Rattle.segment_commands.specs.Faults.{Session}
-use Rattle.segment_disk.specs.declared.presence.CreateMode.{CreateMode}
-use Rattle.segment_disk.specs.Events.{Event}
+use Rattle.segment_disk.specs.Events.{CreateMode, Event}
 use Rattle.segment_file.specs.Files.{WritesImage}
 use Rattle.segment_commands.specs.Opening.{OpensWith}
 use Rattle.segment_commands.specs.Telling.{WritesAndFlushes}

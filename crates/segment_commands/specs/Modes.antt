@@ -5,20 +5,12 @@ use Rattle.segment_manager.specs.declared.modes.Mode.TheVariants.{Write, ReadOnl
 use Rattle.segment_invocation.specs.declared.invocations.ModeName.{ModeName}
 use Rattle.segment_invocation.specs.declared.invocations.ModeName.TheVariants.{CreateOnly, OpenOnly, OpenOrCreate}
 use Rattle.segment_invocation.specs.declared.invocations.ModeName.TheVariants.{OpenReadOnly, OpenCopyOnWrite}
-use Rattle.segment_invocation.specs.declared.invocations.SaveMode.{SaveMode}
-use Rattle.segment_invocation.specs.declared.invocations.SaveMode.TheVariants.{InPlace, Replacing}
+use Rattle.segment_disk.specs.declared.presence.SaveMode.{SaveMode}
 use Rattle.segment_commands.specs.declared.command_faults.CommandFault.{CommandFault}
 use Rattle.segment_commands.specs.Faults.{UsageFault}
-use Rattle.segment_disk.specs.declared.presence.CreateMode.{CreateMode}
-use Rattle.segment_disk.specs.declared.presence.CreateMode.TheVariants.{Truncate, Replacement}
-use Rattle.segment_disk.specs.Events.{Event}
+use Rattle.segment_disk.specs.Events.{Event, create_mode_of}
 use Rattle.segment_scripts.specs.declared.ends.Until.{Until}
 use Rattle.segment_commands.specs.Running.{RunsFile, RunsNewFile, RunsAnyFile}
-
--- how the file of a segment that is saved comes to take its image, where it is there
-abbrev pub create_mode_of : SaveMode → CreateMode
-create_mode_of InPlace = Truncate
-create_mode_of Replacing = Replacement
 
 module _ {D O : Type 0} (step : D → Event → D
     → Type 0) (old new : D) (path : List ℕ) (until : Until) (script script' : ReaderHistory) (history : O

@@ -16,8 +16,7 @@ use Rattle.segment_commands.specs.declared.command_faults.CommandFault.{CommandF
 use Rattle.segment_commands.specs.Faults.{GrowthFault, Session}
 use Rattle.segment_commands.specs.declared.changing.Resize.{Resize}
 use Rattle.segment_commands.specs.declared.changing.Resize.TheVariants.{Grow, Shrink}
-use Rattle.segment_disk.specs.declared.presence.CreateMode.{CreateMode}
-use Rattle.segment_disk.specs.Events.{Event}
+use Rattle.segment_disk.specs.Events.{CreateMode, Event}
 use Rattle.segment_file.specs.Files.{WritesImage}
 use Rattle.segment_commands.specs.Opening.{OpensWith}
 use Rattle.image_check.specs.declared.versions.AcceptedVersions.TheVariants.{Current}

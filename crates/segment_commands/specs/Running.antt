@@ -24,8 +24,7 @@ use Rattle.segment_commands.specs.declared.command_faults.CommandFault.TheVarian
 use Rattle.segment_commands.specs.Faults.{Exists, Session}
 use Rattle.segment_cli.specs.Serving.{ServesOk, ServesErr}
 use Rattle.segment_cli.specs.Session.{StartsFrom, RunsSession}
-use Rattle.segment_disk.specs.declared.presence.CreateMode.{CreateMode}
-use Rattle.segment_disk.specs.declared.presence.CreateMode.TheVariants.{New, Replacement}
+use Rattle.segment_disk.specs.Events.{CreateMode, New, Replacement}
 use Rattle.segment_disk.specs.declared.presence.Presence.{Presence}
 use Rattle.segment_disk.specs.declared.presence.Presence.TheVariants.{Absent, There}
 use Rattle.segment_disk.specs.Events.{Event, Looked, After}

@@ -1,17 +1,13 @@
-//! The running of a script on a segment, whose image is saved after it.
-ghost use Rattle.std.specs.Prelude.{◌^◌, ◌-◌, ◌<◌, ℕ, Ok};
-ghost use Rattle.raw_region.specs.Device.{ReadDelta, read_delta, write_delta};
-ghost use Rattle.segment_manager.specs.declared.modes.Mode.{Mode as OpenMode};
-ghost use Rattle.segment_cli.specs.{declared.faults.Start.Start, Beginning.BeginsSession};
+//! The running of a script on a segment, whose answers are given out.
+ghost use Rattle.std.specs.Prelude.{◌^◌, ◌-◌, ◌<◌};
+ghost use Rattle.raw_region.specs.Device.{read_delta, write_delta};
 ghost use Rattle.segment_disk.specs.Events.{IsFlushed};
-ghost use Rattle.segment_commands.specs.Running.{EndsRun, RunsScript};
+ghost use Rattle.segment_commands.specs.Running.{RunsScript};
 
 use raw_region::Source;
 use segment_answers::LineOutput;
 use segment_cli::{SessionFault, serve};
-use segment_disk::{CreateMode, Disk};
-use segment_file::write_image;
-use segment_manager::{Mode, Segment};
+use segment_manager::Segment;
 use segment_scripts::{End, RunObserver, Until};
 
 /// Lets answers go out before more of a script is read, and tells the output where an answer begins. An output that
@@ -44,53 +40,7 @@ pub(crate) fn run_script<S: Source, O: LineOutput>(
 {
     let served = serve(segment, script, out, &mut Flushing, until);
     let flushed = out.flush();
-    match served {
-        Ok(end) => match flushed {
-            Ok(()) => Ok(end),
-            Err(_) => Err(SessionFault::WriteFault),
-        },
-        Err(fault) => Err(fault),
-    }
-}
-
-/// Runs a script on a segment that is open, and gives out all answers. Then it writes the image to a file, in mode
-/// `Write`, unless the run ended at a refusal.
-pub(crate) fn answer_and_save<D: Disk, S: Source, O: LineOutput>(
-    disk: &mut D,
-    path: &str,
-    how: CreateMode,
-    hold: &mut D::Hold,
-    segment: &mut Segment,
-    until: Until,
-    script: &mut S,
-    out: &mut O,
-) -> Result<End, SessionFault>
-    requires script { (S.history script.old).failures < 2 ^ 64 - 1 }
-    requires out { (O.history out.old).failures < 2 ^ 64 - 1 }
-    ensures { (start : Start) (mode : OpenMode) (capacity : ℕ) (image : ReadDelta)
-        → BeginsSession start mode 0 capacity image (Ok segment.old)
-        → EndsRun D.step disk.old disk.new how path.now
-        (record {
-          start = start;
-          mode = mode;
-          capacity = capacity;
-          image = image;
-          until = until;
-          script = read_delta (S.history script.old) (S.history script.new);
-          out = write_delta (O.history out.old) (O.history out.new);
-        })
-        (IsFlushed O.history O.flushes out.new) result }
-{
-    match run_script(segment, until, script, out)? {
-        End::Refused => Ok(End::Refused),
-        End::Whole => {
-            if segment.mode() != Mode::Write {
-                return Ok(End::Whole);
-            }
-            match write_image(disk, path, how, hold, segment) {
-                Ok(()) => Ok(End::Whole),
-                Err(_) => Err(SessionFault::WriteFault),
-            }
-        }
-    }
+    let end = served?;
+    flushed?;
+    Ok(end)
 }

@@ -3,20 +3,19 @@ ghost use Rattle.std.specs.Prelude.{◌≡◌, ◌^◌, ◌-◌, ◌<◌, OnOk};
 ghost use Rattle.grow_shrink.specs.Resized.{IsRefusedBy};
 ghost use Rattle.segment_manager.specs.blocks.Resized.{Resizes};
 ghost use Rattle.segment_commands.specs.{Changing.Changes, Holding.HoldsLock, Migrating.RunsMigrate};
-ghost use Rattle.segment_commands.specs.{Modes.create_mode_of};
+ghost use Rattle.segment_disk.specs.Events.{create_mode_of};
 ghost use Rattle.segment_commands.specs.Resizing.{RunsResize, TellsAndWrites, TellsSize, more_by, next_by, refusal_by};
 ghost use Rattle.segment_commands.specs.{Resizing.size_line, Telling.WritesAndFlushes};
 
 use crate::command_faults::CommandFault;
-use crate::opening::{open_any_segment, open_segment};
-use crate::running::making_for;
+use crate::opening::open_segment;
 use crate::telling::write_and_flush;
 use grow_shrink::{GrowError, shrink_to_fit};
 use image_check::AcceptedVersions;
 use raw_region::DeviceFault;
-use segment_disk::{CreateMode, Disk, Output};
+use segment_disk::{Disk, Output, SaveMode};
 use segment_file::write_image;
-use segment_invocation::{FileChange, SaveMode};
+use segment_invocation::FileChange;
 use segment_lang::put_number_line;
 use segment_manager::{Mode, Segment};
 use std::alloc::Global;
@@ -51,17 +50,17 @@ fn tell_size<O: Output>(segment: &Segment, out: &mut O) -> Result<(), DeviceFaul
 fn tell_and_write<D: Disk, O: Output>(
     disk: &mut D,
     path: &str,
-    making: CreateMode,
+    saving: SaveMode,
     hold: &mut D::Hold,
     segment: &Segment,
     out: &mut O,
 ) -> Result<(), DeviceFault>
     requires { (O.history out.old).failures < 2 ^ 64 - 1 }
-    ensures { TellsAndWrites D.step disk.old disk.new path.now making O.history O.flushes out.old out.new
-        segment.now result }
+    ensures { TellsAndWrites D.step disk.old disk.new path.now (create_mode_of saving)
+        O.history O.flushes out.old out.new segment.now result }
 {
     tell_size(segment, out)?;
-    write_image(disk, path, making, hold, segment)
+    write_image(disk, path, saving, hold, segment)
 }
 
 /// Makes a segment larger or smaller.
@@ -91,17 +90,19 @@ fn resize_held<D: Disk, O: Output>(
     disk: &mut D,
     path: &str,
     how: Resize,
-    making: CreateMode,
+    saving: SaveMode,
     hold: &mut D::Hold,
     out: &mut O,
 ) -> Result<(), CommandFault>
     requires { (O.history out.old).failures < 2 ^ 64 - 1 }
-    ensures { RunsResize D.step disk.old disk.new path.now making O.history O.flushes out.old out.new
+    ensures { RunsResize D.step disk.old disk.new path.now (create_mode_of saving) O.history O.flushes out.old out.new
         (more_by how) (refusal_by how) (next_by how) result }
 {
-    let mut segment = open_segment(alloc, disk, path, Mode::Write, more_for(how))?;
+    let current = AcceptedVersions::Current;
+    let more = more_for(how);
+    let mut segment = open_segment(alloc, disk, path, current, Mode::Write, more)?;
     resize_segment(&mut segment, how)?;
-    Ok(tell_and_write(disk, path, making, hold, &segment, out)?)
+    Ok(tell_and_write(disk, path, saving, hold, &segment, out)?)
 }
 
 /// Writes the segment in a file by the current format, with the right to write the file, and then says `ok`.
@@ -109,15 +110,16 @@ fn migrate_held<D: Disk, O: Output>(
     alloc: Global,
     disk: &mut D,
     path: &str,
-    making: CreateMode,
+    saving: SaveMode,
     hold: &mut D::Hold,
     out: &mut O,
 ) -> Result<(), CommandFault>
     requires { (O.history out.old).failures < 2 ^ 64 - 1 }
-    ensures { RunsMigrate D.step disk.old disk.new path.now making O.history O.flushes out.old out.new result }
+    ensures { RunsMigrate D.step disk.old disk.new path.now (create_mode_of saving)
+        O.history O.flushes out.old out.new result }
 {
-    let segment = open_any_segment(alloc, disk, path, AcceptedVersions::All, Mode::Write, 0)?;
-    write_image(disk, path, making, hold, &segment)?;
+    let segment = open_segment(alloc, disk, path, AcceptedVersions::All, Mode::Write, 0)?;
+    write_image(disk, path, saving, hold, &segment)?;
     Ok(write_and_flush(out, b"ok\n")?)
 }
 
@@ -127,19 +129,20 @@ fn change_held<D: Disk, O: Output>(
     disk: &mut D,
     path: &str,
     change: FileChange,
-    making: CreateMode,
+    saving: SaveMode,
     hold: &mut D::Hold,
     out: &mut O,
 ) -> Result<(), CommandFault>
     requires { (O.history out.old).failures < 2 ^ 64 - 1 }
-    ensures { Changes D.step disk.old disk.new path.now making O.history O.flushes out.old out.new result change }
+    ensures { Changes D.step disk.old disk.new path.now (create_mode_of saving)
+        O.history O.flushes out.old out.new result change }
 {
     match change {
         FileChange::Grow(extra) => {
-            resize_held(alloc, disk, path, Resize::Grow(extra), making, hold, out)
+            resize_held(alloc, disk, path, Resize::Grow(extra), saving, hold, out)
         }
-        FileChange::Shrink => resize_held(alloc, disk, path, Resize::Shrink, making, hold, out),
-        FileChange::Migrate => migrate_held(alloc, disk, path, making, hold, out),
+        FileChange::Shrink => resize_held(alloc, disk, path, Resize::Shrink, saving, hold, out),
+        FileChange::Migrate => migrate_held(alloc, disk, path, saving, hold, out),
     }
 }
 
@@ -165,9 +168,8 @@ pub fn change<D: Disk, O: Output>(
         (λ held done. Changes D.step held done path.now (create_mode_of saving) O.history O.flushes out.old out.new
         result change) result }
 {
-    let making = making_for(saving);
     let mut hold = disk.lock(path)?;
-    let answer = change_held(alloc, disk, path, change, making, &mut hold, out);
+    let answer = change_held(alloc, disk, path, change, saving, &mut hold, out);
     disk.unlock(hold);
     answer
 }

@@ -4,7 +4,7 @@ ghost use Rattle.raw_region.specs.Device.{Writes};
 ghost use Rattle.segment_commands.specs.Checking.{ChecksAll, TellsFit, reason_lines, status_in, unfit_lines};
 ghost use Rattle.segment_commands.specs.Commands.{RunsCheck};
 
-use crate::command_faults::{CommandFault, WRITE_FAULT};
+use crate::command_faults::CommandFault;
 use crate::opening::verify_segment;
 use crate::reports::put_trouble;
 use crate::telling::write_and_flush;
@@ -134,13 +134,9 @@ pub fn check_all<D: Disk, O: Output, E: Sink, F: Fn(&D) -> Option<FileProblem>>(
     'files: for file in files {
         let found = verify_segment(alloc, disk, file);
         said = put_unfit(file, found, trouble_of(&*disk), said, err);
-        let Ok(()) = tell_fit(file, found, is_quiet, out) else {
-            return Err(WRITE_FAULT);
-        };
+        tell_fit(file, found, is_quiet, out)?;
         worst = worst.max(status_in(found));
     }
-    match Output::flush(out) {
-        Ok(()) => Ok(worst),
-        Err(_) => Err(WRITE_FAULT),
-    }
+    Output::flush(out)?;
+    Ok(worst)
 }

@@ -6,8 +6,8 @@ use block_tags::is_legal_size;
 use grow_shrink::region_for;
 use raw_region::std_io::StdSource;
 use segment_cli::{ProgramFault, SessionFault, Start, begin};
-use segment_disk::{CreateMode, Disk, Presence};
-use segment_file::write_image;
+use segment_disk::{Disk, Presence};
+use segment_file::write_new;
 use segment_manager::{Mode, Segment};
 use std::alloc::Global;
 use std::io;
@@ -43,6 +43,6 @@ pub fn create<D: Disk>(
         return Err(CommandFault::Program(ProgramFault::Exists));
     }
     let segment = new_segment(alloc, size)?;
-    let mut hold = D::hold_none();
-    Ok(write_image(disk, path, CreateMode::New, &mut hold, &segment)?)
+    write_new(disk, path, &segment)?;
+    Ok(())
 }

@@ -1,6 +1,5 @@
 //! The opening of the segment in a file, or the check of its image alone, as a session answers it.
 ghost use Rattle.std.specs.Prelude.{◌≡◌};
-ghost use Rattle.image_check.specs.declared.versions.AcceptedVersions.TheVariants.{Current};
 ghost use Rattle.segment_commands.specs.Opening.{OpensWith, VerifiesFile, session_fault};
 
 use image_check::AcceptedVersions;
@@ -22,7 +21,7 @@ pub(crate) fn session_fault(error: FileError) -> SessionFault
 }
 
 /// Returns the segment in a file, of any of these versions, with room for so many bytes more. The file is closed.
-pub(crate) fn open_any_segment<D: Disk>(
+pub(crate) fn open_segment<D: Disk>(
     alloc: Global,
     disk: &mut D,
     path: &str,
@@ -36,19 +35,6 @@ pub(crate) fn open_any_segment<D: Disk>(
         Ok(segment) => Ok(segment),
         Err(error) => Err(session_fault(error)),
     }
-}
-
-/// Opens the segment in a file of the current format, and closes the file.
-pub(crate) fn open_segment<D: Disk>(
-    alloc: Global,
-    disk: &mut D,
-    path: &str,
-    mode: Mode,
-    more: u64,
-) -> Result<Segment, SessionFault>
-    ensures { OpensWith D.step disk.old disk.new path.now Current mode more result }
-{
-    open_any_segment(alloc, disk, path, AcceptedVersions::Current, mode, more)
 }
 
 /// Tells whether the image in a file has a segment, as a session answers it. None is made, and the file is closed.

@@ -7,6 +7,7 @@ ghost use Rattle.segment_commands.specs.Reporting.{RunsReport, WritesTextOf, tex
 
 use crate::command_faults::CommandFault;
 use crate::opening::open_segment;
+use image_check::AcceptedVersions;
 use raw_region::DeviceFault;
 use segment_disk::{Disk, Output};
 use segment_invocation::Report;
@@ -54,7 +55,8 @@ pub fn tell_segment<D: Disk, O: Output>(
     requires { (O.history out.old).failures < 2 ^ 64 - 1 }
     ensures { RunsReport D.step disk.old disk.new path.now O.history O.flushes out.old out.new (text_of what) result }
 {
-    let segment = open_segment(alloc, disk, path, Mode::ReadOnly, 0)?;
+    let current = AcceptedVersions::Current;
+    let segment = open_segment(alloc, disk, path, current, Mode::ReadOnly, 0)?;
     Ok(tell_report(out, &segment, what)?)
 }
 
@@ -90,6 +92,7 @@ pub fn names<D: Disk, O: Output>(
     ensures { RunsReport D.step disk.old disk.new path.now O.history O.flushes out.old out.new
         (names_text prefix.now most) result }
 {
-    let segment = open_segment(alloc, disk, path, Mode::ReadOnly, 0)?;
+    let current = AcceptedVersions::Current;
+    let segment = open_segment(alloc, disk, path, current, Mode::ReadOnly, 0)?;
     Ok(tell_names(out, &segment, prefix.as_bytes(), most)?)
 }

@@ -1,31 +1,24 @@
 //! The command that runs a script on the segment in a file.
-ghost use Rattle.std.specs.Prelude.{◌≡◌, ◌+◌, ◌^◌, ◌-◌, ◌<◌, true, false};
-ghost use Rattle.segment_disk.specs.Events.{IsFlushed};
-ghost use Rattle.segment_commands.specs.{Modes.RunsInMode, Modes.create_mode_of, Running.as_program};
+ghost use Rattle.std.specs.Prelude.{◌≡◌, ◌≢◌, ◌+◌, ◌^◌, ◌-◌, ◌<◌, true, false};
+ghost use Rattle.segment_manager.specs.declared.modes.Mode.TheVariants.{Write};
+ghost use Rattle.segment_disk.specs.Events.{CreateMode, IsFlushed, create_mode_of};
+ghost use Rattle.segment_commands.specs.{Modes.RunsInMode, Running.as_program};
 ghost use Rattle.segment_commands.specs.Running.{MakesRun, RunsAnyFile, RunsFile, RunsHeld, RunsNewFile, RunsOpened};
 
-use crate::answering::answer_and_save;
+use crate::answering::run_script;
 use crate::command_faults::CommandFault;
 use crate::creating::new_segment;
 use crate::opening::open_segment;
+use image_check::AcceptedVersions;
 use raw_region::Source;
 use segment_answers::LineOutput;
 use segment_cli::{ProgramFault, SessionFault};
-use segment_disk::{CreateMode, Disk, Presence};
-use segment_invocation::{ModeName, SaveMode};
+use segment_disk::{Disk, Presence, SaveMode};
+use segment_file::{write_image, write_new};
+use segment_invocation::ModeName;
 use segment_manager::Mode;
 use segment_scripts::{End, Until};
 use std::alloc::Global;
-
-/// Returns how a file that is there comes to take the image that is saved.
-pub(crate) fn making_for(saving: SaveMode) -> CreateMode
-    ensures { result ≡ create_mode_of saving }
-{
-    match saving {
-        SaveMode::InPlace => CreateMode::Truncate,
-        SaveMode::Replacing => CreateMode::Replacement,
-    }
-}
 
 /// Runs a script on the segment in a file, which is opened or made as the mode says, and gives out its answers.
 /// `create_only` and `open_or_create` need a size for a segment that is made; the other modes ignore it. When all
@@ -55,13 +48,12 @@ pub fn run<D: Disk, S: Source, O: LineOutput>(
     ensures { RunsInMode D.step disk.old disk.new path.now until (S.history script.old) (S.history script.new)
         O.history (IsFlushed O.history O.flushes out.new) out.old out.new result mode size saving }
 {
-    let how = making_for(saving);
     let mode = match (mode, size) {
         (ModeName::CreateOnly, Some(size)) => {
             return run_in_new_file(alloc, disk, path, size, until, script, out);
         }
         (ModeName::OpenOrCreate, Some(size)) => {
-            return run_on_file_or_new(alloc, disk, path, size, how, until, script, out);
+            return run_on_file_or_new(alloc, disk, path, size, saving, until, script, out);
         }
         (ModeName::CreateOnly | ModeName::OpenOrCreate, None) => {
             return Err(CommandFault::Program(ProgramFault::Usage));
@@ -70,7 +62,7 @@ pub fn run<D: Disk, S: Source, O: LineOutput>(
         (ModeName::OpenReadOnly, _) => Mode::ReadOnly,
         (ModeName::OpenCopyOnWrite, _) => Mode::CopyOnWrite,
     };
-    run_on_file(alloc, disk, path, mode, how, until, script, out)
+    run_on_file(alloc, disk, path, mode, saving, until, script, out)
 }
 
 /// Tells whether a script can be read at all. A closed standard input can't, and a file that is opened then would take
@@ -83,14 +75,12 @@ fn can_be_read<S: Source>(script: &mut S) -> bool
     script.read(&mut []).is_ok()
 }
 
-/// Runs a script on the segment in a file, which is opened in a mode, gives out its answers, and saves it in mode
-/// `Write`.
+/// Runs a script on the segment in a file, gives out its answers, and saves it, unless the run ended at a refusal.
 fn run_opened<D: Disk, S: Source, O: LineOutput>(
     alloc: Global,
     disk: &mut D,
     path: &str,
-    mode: Mode,
-    how: CreateMode,
+    saving: SaveMode,
     hold: &mut D::Hold,
     until: Until,
     script: &mut S,
@@ -98,11 +88,37 @@ fn run_opened<D: Disk, S: Source, O: LineOutput>(
 ) -> Result<End, SessionFault>
     requires script { (S.history script.old).failures < 2 ^ 64 - 1 }
     requires out { (O.history out.old).failures < 2 ^ 64 - 1 }
-    ensures { RunsOpened D.step disk.old disk.new path.now mode how until (S.history script.old) (S.history script.new)
-        O.history (IsFlushed O.history O.flushes out.new) out.old out.new result }
+    ensures { RunsOpened D.step disk.old disk.new path.now Write (create_mode_of saving) until (S.history script.old)
+        (S.history script.new) O.history (IsFlushed O.history O.flushes out.new) out.old out.new result }
 {
-    let mut segment = open_segment(alloc, disk, path, mode, 0)?;
-    answer_and_save(disk, path, how, hold, &mut segment, until, script, out)
+    let mut segment = open_segment(alloc, disk, path, AcceptedVersions::Current, Mode::Write, 0)?;
+    match run_script(&mut segment, until, script, out)? {
+        End::Refused => Ok(End::Refused),
+        End::Whole => {
+            write_image(disk, path, saving, hold, &segment)?;
+            Ok(End::Whole)
+        }
+    }
+}
+
+/// Runs a script on the segment in a file, which is opened in a mode that saves nothing, and gives out its answers.
+fn run_free<D: Disk, S: Source, O: LineOutput>(
+    alloc: Global,
+    disk: &mut D,
+    path: &str,
+    mode: Mode,
+    until: Until,
+    script: &mut S,
+    out: &mut O,
+) -> Result<End, SessionFault>
+    requires mode { mode ≢ Write }
+    requires script { (S.history script.old).failures < 2 ^ 64 - 1 }
+    requires out { (O.history out.old).failures < 2 ^ 64 - 1 }
+    ensures { (how : CreateMode) → RunsOpened D.step disk.old disk.new path.now mode how until (S.history script.old)
+        (S.history script.new) O.history (IsFlushed O.history O.flushes out.new) out.old out.new result }
+{
+    let mut segment = open_segment(alloc, disk, path, AcceptedVersions::Current, mode, 0)?;
+    run_script(&mut segment, until, script, out)
 }
 
 /// Runs a script on the segment in a file in mode `Write`, under the lock of the file.
@@ -110,19 +126,18 @@ fn run_held<D: Disk, S: Source, O: LineOutput>(
     alloc: Global,
     disk: &mut D,
     path: &str,
-    how: CreateMode,
+    saving: SaveMode,
     until: Until,
     script: &mut S,
     out: &mut O,
 ) -> Result<(), CommandFault>
     requires script { (S.history script.old).failures < 2 ^ 64 - 1 }
     requires out { (O.history out.old).failures < 2 ^ 64 - 1 }
-    ensures { RunsHeld D.step disk.old disk.new path.now how until (S.history script.old) (S.history script.new)
-        O.history (IsFlushed O.history O.flushes out.new) out.old out.new result }
+    ensures { RunsHeld D.step disk.old disk.new path.now (create_mode_of saving) until (S.history script.old)
+        (S.history script.new) O.history (IsFlushed O.history O.flushes out.new) out.old out.new result }
 {
     let mut hold = disk.lock(path)?;
-    let mode = Mode::Write;
-    let answer = run_opened(alloc, disk, path, mode, how, &mut hold, until, script, out);
+    let answer = run_opened(alloc, disk, path, saving, &mut hold, until, script, out);
     disk.unlock(hold);
     answered(answer)
 }
@@ -134,24 +149,23 @@ fn run_on_file<D: Disk, S: Source, O: LineOutput>(
     disk: &mut D,
     path: &str,
     mode: Mode,
-    how: CreateMode,
+    saving: SaveMode,
     until: Until,
     script: &mut S,
     out: &mut O,
 ) -> Result<(), CommandFault>
     requires script { (S.history script.old).failures < 2 ^ 64 - 1 }
     requires out { (O.history out.old).failures < 2 ^ 64 - 1 }
-    ensures { RunsFile D.step disk.old disk.new path.now how until (S.history script.old) (S.history script.new)
-        O.history (IsFlushed O.history O.flushes out.new) out.old out.new result mode }
+    ensures { RunsFile D.step disk.old disk.new path.now (create_mode_of saving) until (S.history script.old)
+        (S.history script.new) O.history (IsFlushed O.history O.flushes out.new) out.old out.new result mode }
 {
     if !can_be_read(script) {
         return Err(CommandFault::from(SessionFault::ReadFault));
     }
     if mode == Mode::Write {
-        run_held(alloc, disk, path, how, until, script, out)
+        run_held(alloc, disk, path, saving, until, script, out)
     } else {
-        let mut none = D::hold_none();
-        answered(run_opened(alloc, disk, path, mode, how, &mut none, until, script, out))
+        answered(run_free(alloc, disk, path, mode, until, script, out))
     }
 }
 
@@ -171,9 +185,13 @@ fn run_made<D: Disk, S: Source, O: LineOutput>(
         O.history (IsFlushed O.history O.flushes out.new) out.old out.new result }
 {
     let mut segment = new_segment(alloc, size)?;
-    let mut hold = D::hold_none();
-    let how = CreateMode::New;
-    answer_and_save(disk, path, how, &mut hold, &mut segment, until, script, out)
+    match run_script(&mut segment, until, script, out)? {
+        End::Refused => Ok(End::Refused),
+        End::Whole => {
+            write_new(disk, path, &segment)?;
+            Ok(End::Whole)
+        }
+    }
 }
 
 /// Runs a script on an empty segment of `size` bytes, in a file that must not be there.
@@ -203,20 +221,20 @@ fn run_on_file_or_new<D: Disk, S: Source, O: LineOutput>(
     disk: &mut D,
     path: &str,
     size: u64,
-    how: CreateMode,
+    saving: SaveMode,
     until: Until,
     script: &mut S,
     out: &mut O,
 ) -> Result<(), CommandFault>
     requires script { (S.history script.old).failures < 2 ^ 64 - 1 }
     requires out { (O.history out.old).failures < 2 ^ 64 - 1 }
-    ensures { RunsAnyFile D.step disk.old disk.new path.now size how until (S.history script.old) (S.history script.new)
-        O.history (IsFlushed O.history O.flushes out.new) out.old out.new result }
+    ensures { RunsAnyFile D.step disk.old disk.new path.now size (create_mode_of saving) until (S.history script.old)
+        (S.history script.new) O.history (IsFlushed O.history O.flushes out.new) out.old out.new result }
 {
     if disk.path_status(path) == Presence::Absent {
         return answered(run_made(alloc, disk, path, size, until, script, out));
     }
-    run_on_file(alloc, disk, path, Mode::Write, how, until, script, out)
+    run_on_file(alloc, disk, path, Mode::Write, saving, until, script, out)
 }
 
 /// Returns what a run answered, as the program answers it.

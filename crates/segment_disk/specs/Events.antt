@@ -2,7 +2,21 @@
 use Rattle.std.specs.Prelude.{◌≡◌, ℕ, Bool, false, List, [], ◌∷◌, Option}
 use Rattle.raw_region.specs.Device.{ReaderHistory, ReadDelta, WriterHistory, WriteDelta}
 use Rattle.segment_disk.specs.declared.presence.Presence.{Presence}
-use Rattle.segment_disk.specs.declared.presence.CreateMode.{CreateMode}
+use Rattle.segment_disk.specs.declared.presence.SaveMode.{SaveMode}
+use Rattle.segment_disk.specs.declared.presence.SaveMode.TheVariants.{InPlace, Replacing}
+
+-- How a file comes to be open for writing with no byte in it: it is made, and must not be there; it is emptied, or made
+-- if nothing is there; or it is made beside the file of this path, which stays as it is until the new one is put in its
+-- place.
+pub data CreateMode : Type 0 where
+  New : CreateMode
+  Truncate : CreateMode
+  Replacement : CreateMode
+
+-- that of a file that is held
+abbrev pub create_mode_of : SaveMode → CreateMode
+create_mode_of InPlace = Truncate
+create_mode_of Replacing = Replacement
 
 -- one question with its answer; paths are texts
 pub data Event : Type 0 where
@@ -17,8 +31,7 @@ pub data Event : Type 0 where
   -- the file that was opened last was closed, which had given this
   Read : ReadDelta → Event
   -- the file of this path was compared with the one that the right to write was given for last; it is that one, as far
-  -- as
-  -- that is known, or another has taken its name
+  -- as that is known, or another has taken its name
   Compared : List ℕ → Bool → Event
   -- a file was to be made or emptied for writing, or made beside the one of this path, and was or was not
   Made : CreateMode → List ℕ → Bool → Event

@@ -2,11 +2,11 @@
 use Rattle.std.specs.Prelude.{◌==◌, ◌-◌, ℕ, Bool, true, List, Option, Some, None, length, slice_get, if◌then◌else◌}
 use Rattle.std_io.specs.declared.io.kind.ErrorKind.{ErrorKind}
 use Rattle.std_io.specs.declared.io.kind.ErrorKind.TheVariants.{AlreadyExists, NotFound, PermissionDenied, IsADirectory}
-use Rattle.segment_disk.specs.declared.presence.CreateMode.{CreateMode}
-use Rattle.segment_disk.specs.declared.presence.CreateMode.TheVariants.{New, Truncate, Replacement}
 use Rattle.segment_disk.specs.declared.presence.FileProblem.{FileProblem}
 use Rattle.segment_disk.specs.declared.presence.FileProblem.TheVariants.{Missing, NoParentFolder, Unnamed, Folder}
 use Rattle.segment_disk.specs.declared.presence.FileProblem.TheVariants.{Denied, Exists}
+use Rattle.segment_disk.specs.declared.presence.SaveMode.{SaveMode}
+use Rattle.segment_disk.specs.declared.presence.SaveMode.TheVariants.{InPlace, Replacing}
 
 -- of a file that was to be opened
 abbrev pub problem_of : ErrorKind → Option FileProblem
@@ -30,7 +30,6 @@ problem_where unnamed (Some Missing) = if unnamed then Some Unnamed else Some No
 problem_where unnamed (Some Folder) = if unnamed then Some Unnamed else Some Folder
 problem_where unnamed trouble = trouble
 
-abbrev pub creation_problem : ErrorKind → List ℕ → CreateMode → Option FileProblem
-creation_problem kind path Replacement = problem_of kind
-creation_problem kind path New = problem_where (names_none path) (problem_of kind)
-creation_problem kind path Truncate = problem_where (names_none path) (problem_of kind)
+abbrev pub creation_problem : ErrorKind → List ℕ → SaveMode → Option FileProblem
+creation_problem kind path Replacing = problem_of kind
+creation_problem kind path InPlace = problem_where (names_none path) (problem_of kind)

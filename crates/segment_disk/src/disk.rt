@@ -3,9 +3,10 @@
 ghost use Rattle.std.specs.Prelude.{◌≡◌, Bool, IfOk, MatchResult, None, Some, is_ok};
 ghost use Rattle.raw_region.specs.Device.{read_delta, write_delta};
 ghost use Rattle.segment_disk.specs.Events.{Event, Looked, Held, Released, Opened as WasOpened, Read, Compared, Made};
-ghost use Rattle.segment_disk.specs.Events.{Wrote, Placed, Discarded, nothing_given, nothing_taken};
+ghost use Rattle.segment_disk.specs.Events.{New, Wrote, Placed, Discarded, create_mode_of, nothing_given};
+ghost use Rattle.segment_disk.specs.Events.{nothing_taken};
 
-use crate::presence::{AlreadyLocked, CreateMode, Presence};
+use crate::presence::{AlreadyLocked, Presence, SaveMode};
 use raw_region::{DeviceFault, Sink, Source};
 
 /// A file that was opened for reading.
@@ -25,7 +26,8 @@ pub trait Disk {
 
     type Writer: Sink;
 
-    /// The right to write a file. What was not given back is given back if it is dropped, if the disk can do so.
+    /// The right to write a file: of one that is there, from `lock`, or of one that was made, from `create_new`. What
+    /// was not given back is given back if it is dropped, if the disk can do so.
     type Hold: Drop;
 
     /// Tells what is there under a path.
@@ -41,10 +43,6 @@ pub trait Disk {
     /// Gives the right to write a file back.
     fn unlock(&mut self, hold: Self::Hold)
         ensures { step self.old Released self.new };
-
-    /// Returns what is passed in place of the right to write a file that is not there yet. The file that is made with
-    /// it is held by it.
-    fn hold_none() -> Self::Hold;
 
     /// Opens a file for reading.
     fn open(&mut self, path: &str) -> Result<OpenedFile<Self::Reader>, DeviceFault>
@@ -62,16 +60,22 @@ pub trait Disk {
     fn compare(&mut self, path: &str, hold: &Self::Hold) -> Result<(), DeviceFault>
         ensures { step self.old (Compared path.now (is_ok result)) self.new };
 
-    /// Makes a file, or empties it, and opens it for writing. One that is made beside another is put in its place or
-    /// discarded when it is closed. Where another file has taken the name of the one that is held, that one is neither
-    /// emptied nor replaced, and the answer is an error. A file that is made under the path is held from then on.
+    /// Makes a file that is not there, opens it for writing, and takes the right to write it.
+    fn create_new(&mut self, path: &str) -> Result<(Self::Writer, Self::Hold), DeviceFault>
+        ensures request { step self.old (Made New path.now (is_ok result)) self.new }
+        ensures fresh { IfOk result (λ made. Self.Writer.history made.0 ≡ nothing_taken) };
+
+    /// Empties a file, or makes one beside it, and opens it for writing. One that is made beside another is put in its
+    /// place or discarded when it is closed. Where another file has taken the name of the one that is held, that one is
+    /// neither emptied nor replaced, and the answer is an error. Where nothing is there, a file is made that is held
+    /// from then on.
     fn create(
         &mut self,
         path: &str,
-        how: CreateMode,
+        how: SaveMode,
         hold: &mut Self::Hold,
     ) -> Result<Self::Writer, DeviceFault>
-        ensures request { step self.old (Made how path.now (is_ok result)) self.new }
+        ensures request { step self.old (Made (create_mode_of how) path.now (is_ok result)) self.new }
         ensures fresh { IfOk result (λ writer. Self.Writer.history writer ≡ nothing_taken) };
 
     /// Closes a file that was open for writing. Ok says that all that it took lasts.

@@ -2,7 +2,7 @@
 ghost use Rattle.std.specs.Prelude.{◌≡◌};
 ghost use Rattle.segment_disk.specs.FileProblems.{creation_problem, names_none, problem_of};
 
-use crate::presence::{CreateMode, FileProblem};
+use crate::presence::{FileProblem, SaveMode};
 use std::io::ErrorKind;
 
 /// Returns what an error says of a file that was to be opened.
@@ -29,11 +29,11 @@ fn names_none(path: &str) -> bool
 }
 
 /// Returns what an error says of a file that was to be made.
-pub(crate) fn creation_problem(kind: ErrorKind, path: &str, how: CreateMode) -> Option<FileProblem>
+pub(crate) fn creation_problem(kind: ErrorKind, path: &str, how: SaveMode) -> Option<FileProblem>
     ensures { result ≡ creation_problem kind path.now how }
 {
     let trouble = problem_of(kind);
-    if how == CreateMode::Replacement {
+    if how == SaveMode::Replacing {
         return trouble;
     }
     match trouble {

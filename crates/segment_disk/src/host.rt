@@ -1,10 +1,11 @@
 //! The files of the system as a `Disk`.
-ghost use Rattle.std.specs.Prelude.{⊤};
+ghost use Rattle.std.specs.Prelude.{◌≡◌, ⊤, IfOk};
+ghost use Rattle.segment_disk.specs.Events.{nothing_taken};
 
 use crate::disk::{Disk, OpenedFile};
 use crate::file_problems::{creation_problem, problem_of};
 use crate::locks::{Identity, PAUSE, lock, lock_made, open_to_write, sync_file};
-use crate::presence::{AlreadyLocked, CreateMode, FileProblem, Presence};
+use crate::presence::{AlreadyLocked, FileProblem, Presence, SaveMode};
 use crate::replacement_file::ReplacementFile;
 use crate::sparse::{SparseFile, longest_file};
 use crate::std_output::StdOutput;
@@ -39,6 +40,10 @@ pub struct HostLock {
 }
 
 impl HostLock {
+    fn new(lock: Option<File>) -> HostLock {
+        HostLock { lock, beside: None }
+    }
+
     /// Returns the file that is locked, if one is.
     fn identity(&self) -> Option<Identity> {
         self.lock.as_ref().and_then(Identity::of)
@@ -68,12 +73,11 @@ impl<'a, R: Files> HostDisk<'a, R> {
 }
 
 impl<'a, R: Files<File = File> + AllocGlobal + Clock> HostDisk<'a, R> {
-    /// Makes a file, as it is wanted.
-    fn file_for(&mut self, path: &str, how: CreateMode, hold: &mut HostLock) -> io::Result<File> {
+    /// Empties a file, or makes one beside it.
+    fn file_for(&self, path: &str, how: SaveMode, hold: &mut HostLock) -> io::Result<File> {
         match how {
-            CreateMode::New => self.made(path, hold),
-            CreateMode::Truncate => self.emptied(path, hold),
-            CreateMode::Replacement => {
+            SaveMode::InPlace => self.emptied(path, hold),
+            SaveMode::Replacing => {
                 let (file, beside) = ReplacementFile::make(self.files, path, hold.identity())?;
                 hold.beside = Some(beside);
                 Ok(file)
@@ -103,6 +107,28 @@ impl<'a, R: Files<File = File> + AllocGlobal + Clock> HostDisk<'a, R> {
             Ok(_) => Err(io::Error::from(ErrorKind::AlreadyExists)),
             Err(error) if error.kind() == ErrorKind::NotFound => self.made(path, hold),
             Err(error) => Err(error),
+        }
+    }
+
+    /// Returns a writer of a file that was made or emptied, or keeps why it was not.
+    fn writer_of(
+        &mut self,
+        made: io::Result<File>,
+        path: &str,
+        how: SaveMode,
+    ) -> Result<StdOutput<SparseFile>, DeviceFault>
+        ensures { IfOk result (λ writer. writer.history ≡ nothing_taken) }
+    {
+        match made {
+            Ok(file) => {
+                self.trouble = None;
+                let longest = longest_file(self.files);
+                Ok(StdOutput::new(SparseFile::new(file, longest)))
+            }
+            Err(error) => {
+                self.trouble = creation_problem(error.kind(), path, how);
+                Err(DeviceFault)
+            }
         }
     }
 
@@ -149,18 +175,10 @@ impl<'a, R: Files<File = File> + AllocGlobal + Clock> Disk for HostDisk<'a, R> {
             sleep(self.files, Duration::from_millis(PAUSE));
             found = lock(self.files, path);
         }
-        let lock = found?;
-        Ok(HostLock { lock, beside: None })
+        Ok(HostLock::new(found?))
     }
 
     fn unlock(&mut self, _hold: HostLock) {}
-
-    fn hold_none() -> HostLock {
-        HostLock {
-            lock: None,
-            beside: None,
-        }
-    }
 
     fn open(&mut self, path: &str) -> Result<OpenedFile<StdSource<File>>, DeviceFault> {
         match open_file(self.files, path) {
@@ -187,23 +205,21 @@ impl<'a, R: Files<File = File> + AllocGlobal + Clock> Disk for HostDisk<'a, R> {
         Ok(())
     }
 
+    fn create_new(&mut self, path: &str) -> Result<(StdOutput<SparseFile>, HostLock), DeviceFault> {
+        let mut hold = HostLock::new(None);
+        let made = self.made(path, &mut hold);
+        let writer = self.writer_of(made, path, SaveMode::InPlace)?;
+        Ok((writer, hold))
+    }
+
     fn create(
         &mut self,
         path: &str,
-        how: CreateMode,
+        how: SaveMode,
         hold: &mut HostLock,
     ) -> Result<StdOutput<SparseFile>, DeviceFault> {
-        match self.file_for(path, how, hold) {
-            Ok(file) => {
-                self.trouble = None;
-                let longest = longest_file(self.files);
-                Ok(StdOutput::new(SparseFile::new(file, longest)))
-            }
-            Err(error) => {
-                self.trouble = creation_problem(error.kind(), path, how);
-                Err(DeviceFault)
-            }
-        }
+        let made = self.file_for(path, how, hold);
+        self.writer_of(made, path, how)
     }
 
     fn sync_and_close(&mut self, writer: StdOutput<SparseFile>) -> Result<(), DeviceFault> {

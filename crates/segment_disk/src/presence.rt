@@ -13,15 +13,13 @@ pub enum Presence {
     Unknown,
 }
 
-/// How a file comes to be open for writing with no byte in it.
+/// How a file that is held comes to be open for writing with no byte in it, to take another image.
 #[derive(Clone, Copy, Debug, PartialEq, Eq)]
-pub enum CreateMode {
-    /// The file is made, and must not be there.
-    New,
+pub enum SaveMode {
     /// The file is emptied, or made if nothing is there.
-    Truncate,
-    /// The file is made beside the file of this path, which stays as it is until the new one is put in its place.
-    Replacement,
+    InPlace,
+    /// A file is made beside it, which stays as it is until the new one is put in its place.
+    Replacing,
 }
 
 /// Another has the right to write a file.

@@ -1,11 +1,11 @@
 -- How the file of an image is read, and how it is written.
 use Rattle.std.specs.Prelude.{◌≡◌, ◌≢◌, ◌⊎◌, ⊤, Bool, true, false, List, [], ◌∷◌, ℕ, Some, None, Result, MatchResult}
+use Rattle.std.specs.Prelude.{Ok, Err}
 use Rattle.raw_region.specs.Device.{ReadDelta, WriteDelta, IsProperPrefix}
 use Rattle.segment_manager.specs.Directory.{Directory}
 use Rattle.segment_manager.specs.State.{DenotesCurrent}
 use Rattle.image_check.specs.Saving.{IsSaved}
-use Rattle.segment_disk.specs.declared.presence.CreateMode.{CreateMode}
-use Rattle.segment_disk.specs.declared.presence.CreateMode.TheVariants.{New, Truncate, Replacement}
+use Rattle.segment_disk.specs.Events.{CreateMode, New, Truncate, Replacement}
 use Rattle.segment_disk.specs.Events.{Event, Opened, Read, Compared, Made, Wrote, Placed, Discarded, After}
 
 -- ---- a file that is read
@@ -25,9 +25,8 @@ abbrev pub all_of : List ℕ → WriteDelta
 all_of image = record { bytes = image; failed = false }
 
 -- What became of it: another file had taken its name, and it was left alone; it could not be made or emptied; it took
--- something and was closed, and all that it took lasts or
--- need not; or, made beside the old one, it took all of an image, which lasts, and was put in the place of the old one,
--- or need not have been.
+-- something and was closed, and all that it took lasts or need not; or, made beside the old one, it took all of an
+-- image, which lasts, and was put in the place of the old one, or need not have been.
 pub data WriteOutcome : Type 0 where
   Overtaken : WriteOutcome
   NotMade : WriteOutcome
@@ -101,12 +100,16 @@ pub record IsOvertaken (how : CreateMode) (written : WriteOutcome) : Type 0 wher
   pub left : written ≡ Overtaken
 
 -- why a file has not an image that lasts: another has its name, it was not made or emptied, it took not all of it, all
--- of
--- it need not last, or did not take the place of the old file
+-- of it need not last, or did not take the place of the old file
 abbrev pub IsUnwritten : CreateMode → List ℕ → WriteOutcome → Type 0
 IsUnwritten how image written =
     IsOvertaken how written ⊎ ((written ≡ NotMade)
     ⊎ (IsPartialFile image written ⊎ ((written ≡ Closed (all_of image) false) ⊎ IsUnplaced how image written)))
+
+-- an answer without the right that comes with it
+abbrev pub without_hold : {H E : Type 0} → Result H E → Result (Unit {0}) E
+without_hold (Ok hold) = Ok tt
+without_hold (Err fault) = Err fault
 
 -- a file that was open for writing took an image and was closed; Ok says that it took all of it, and that this lasts
 pub record FillsFile {D E : Type 0} (step : D → Event → D

@@ -3,8 +3,7 @@ use Rattle.std.specs.Prelude.{◌≡◌, ◌⊎◌, ◌&&◌, ⊤, ℕ, Bool, tr
 use Rattle.std.specs.Prelude.{if◌then◌else◌}
 use Rattle.std.specs.Str.{bytes_eq}
 use Rattle.raw_region.specs.Device.{WriteDelta}
-use Rattle.segment_disk.specs.declared.presence.CreateMode.{CreateMode}
-use Rattle.segment_disk.specs.declared.presence.CreateMode.TheVariants.{New, Truncate, Replacement}
+use Rattle.segment_disk.specs.Events.{CreateMode, New, Truncate, Replacement}
 use Rattle.segment_disk.specs.Events.{Event, Looked, Held, Released, Opened, Read, Compared, Made, Wrote, Placed}
 use Rattle.segment_disk.specs.Events.{Discarded}
 use Rattle.segment_file.specs.Files.{WriteOutcome, Overtaken, NotMade, Closed, Offered, IsUnwritten, whole_outcome}

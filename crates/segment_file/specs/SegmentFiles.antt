@@ -17,11 +17,9 @@ use Rattle.grow_shrink.specs.declared.larger_region.GrowOrMoveError.TheVariants.
 use Rattle.grow_shrink.specs.declared.refusals.GrowError.{GrowError}
 use Rattle.grow_shrink.specs.LargerRegion.{GrowsOrMovesErr, GrowsOrMovesOk, region_len}
 use Rattle.grow_shrink.specs.Resized.{shrink_refusal, shrunk}
-use Rattle.segment_disk.specs.declared.presence.CreateMode.{CreateMode}
-use Rattle.segment_disk.specs.declared.presence.CreateMode.TheVariants.{New, Truncate}
 use Rattle.segment_disk.specs.declared.presence.Presence.{Presence}
 use Rattle.segment_disk.specs.declared.presence.Presence.TheVariants.{Absent, There}
-use Rattle.segment_disk.specs.Events.{Event, Looked, Held, Released, After}
+use Rattle.segment_disk.specs.Events.{CreateMode, New, Truncate, Event, Looked, Held, Released, After}
 use Rattle.segment_file.specs.declared.file_errors.FileError.{FileError}
 use Rattle.segment_file.specs.declared.file_errors.FileError.TheVariants.{Exists, BadSize, OutOfMemory, WriteFault}
 use Rattle.segment_file.specs.declared.file_errors.FileError.TheVariants.{InUse, Growth}

@@ -87,10 +87,9 @@ fn examine_image<S: Source>(
 pub fn examine_file<D: Disk>(alloc: Global, disk: &mut D, path: &str) -> Result<(), OpenFault>
     ensures { ExaminesFile D.step disk.old disk.new path.now result }
 {
-    let Ok(opened) = disk.open(path) else {
+    let Ok(OpenedFile { reader, len }) = disk.open(path) else {
         return Err(OpenFault::ReadFault);
     };
-    let OpenedFile { reader, len } = opened;
     let mut reader = Headed::new(reader);
     let examined = examine_image(alloc, &mut reader, len);
     disk.close(reader.into_inner());

@@ -20,4 +20,4 @@ pub use segment_files::SegmentFile;
 pub use theorems::{
     emptying_tears, replacing_keeps_one_whole, saving_ends_whole, unplaced_leaves_the_old,
 };
-pub use writing::write_image;
+pub use writing::{write_image, write_new};

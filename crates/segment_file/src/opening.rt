@@ -156,10 +156,9 @@ pub fn open_file<D: Disk>(
 ) -> Result<Segment, FileError>
     ensures { OpensFile D.step disk.old disk.new path.now versions mode more result }
 {
-    let Ok(opened) = disk.open(path) else {
+    let Ok(OpenedFile { reader, len }) = disk.open(path) else {
         return Err(FileError::ReadFault);
     };
-    let OpenedFile { reader, len } = opened;
     let mut reader = Headed::new(reader);
     let read = open_image(alloc, versions, mode, &mut reader, len, more);
     disk.close(reader.into_inner());

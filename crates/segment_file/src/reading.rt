@@ -9,7 +9,7 @@ use crate::file_errors::FileError;
 use crate::opening::open_file;
 use crate::writing::write_image;
 use image_check::AcceptedVersions;
-use segment_disk::{CreateMode, Disk};
+use segment_disk::{Disk, SaveMode};
 use segment_manager::{Mode, Segment};
 use std::alloc::Global;
 
@@ -56,7 +56,7 @@ fn migrate_held<D: Disk>(
     ensures { Migrates D.step disk.old disk.new path.now result }
 {
     let segment = open_file(alloc, disk, path, AcceptedVersions::All, Mode::Write, 0)?;
-    Ok(write_image(disk, path, CreateMode::Truncate, hold, &segment)?)
+    Ok(write_image(disk, path, SaveMode::InPlace, hold, &segment)?)
 }
 
 /// Writes the segment in a file by the current format, whichever of the three it has.

@@ -1,19 +1,18 @@
 //! A segment with its file, which no other may write meanwhile.
 ghost use Rattle.std.specs.Prelude.{◌≡◌, MatchResult, string_bytes};
-ghost use Rattle.segment_disk.specs.declared.presence.CreateMode.TheVariants.{Replacement, Truncate};
-ghost use Rattle.segment_disk.specs.Events.{Released};
+ghost use Rattle.segment_disk.specs.Events.{Released, Replacement, Truncate};
 ghost use Rattle.segment_file.specs.SegmentFiles.{ComesHeld, CreatesSegment, GrowsFile, IsEmptySegment, IsWhyNoSegment};
 ghost use Rattle.segment_file.specs.SegmentFiles.{KeepsFile, MakesSegmentFile, OpensHeld, OpensOrCreates, SavesAs};
 ghost use Rattle.segment_file.specs.SegmentFiles.{SavesFile, ShrinksFile};
 
 use crate::file_errors::FileError;
 use crate::opening::open_file;
-use crate::writing::write_image;
+use crate::writing::{write_image, write_new};
 use block_tags::is_legal_size;
 use grow_shrink::{grow_or_move, region_for, shrink_to_fit};
 use image_check::AcceptedVersions;
 use raw_region::copy_text;
-use segment_disk::{CreateMode, Disk, Presence};
+use segment_disk::{Disk, Presence, SaveMode};
 use segment_manager::{Mode, Segment};
 use std::alloc::Global;
 
@@ -41,8 +40,7 @@ fn make_segment_file<D: Disk>(
     ensures { ComesHeld (MakesSegmentFile D.step disk.old disk.new path.now size) result }
 {
     let segment = empty_segment(alloc, size)?;
-    let mut hold = D::hold_none();
-    write_image(disk, path, CreateMode::New, &mut hold, &segment)?;
+    let hold = write_new(disk, path, &segment)?;
     Ok((segment, hold))
 }
 
@@ -177,7 +175,7 @@ impl<H: Drop> SegmentFile<H> {
         ensures path { self.new.path ≡ self.old.path }
     {
         let path = self.path.as_str();
-        let how = CreateMode::Truncate;
+        let how = SaveMode::InPlace;
         Ok(write_image(disk, path, how, &mut self.hold, &self.segment)?)
     }
 
@@ -197,7 +195,7 @@ impl<H: Drop> SegmentFile<H> {
         ensures path { self.new.path ≡ self.old.path }
     {
         let path = self.path.as_str();
-        let how = CreateMode::Replacement;
+        let how = SaveMode::Replacing;
         Ok(write_image(disk, path, how, &mut self.hold, &self.segment)?)
     }
 
@@ -215,8 +213,8 @@ impl<H: Drop> SegmentFile<H> {
         if disk.path_status(path) == Presence::There {
             return Err(FileError::Exists);
         }
-        let mut hold = D::hold_none();
-        Ok(write_image(disk, path, CreateMode::New, &mut hold, &self.segment)?)
+        write_new(disk, path, &self.segment)?;
+        Ok(())
     }
 
     /// Gives the right to write the file back. The segment is gone, and what was not saved of it is not in the file.
@@ -256,9 +254,6 @@ impl<H: Drop> SegmentFile<H> {
         ensures shrinking { ShrinksFile self.old.segment self.new.segment result }
         ensures path { self.new.path ≡ self.old.path }
     {
-        match shrink_to_fit(&mut self.segment) {
-            Ok(()) => Ok(()),
-            Err(why) => Err(FileError::Growth(why)),
-        }
+        Ok(shrink_to_fit(&mut self.segment)?)
     }
 }

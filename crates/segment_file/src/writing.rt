@@ -1,12 +1,11 @@
 //! The writing of an image to a file.
-ghost use Rattle.std.specs.Prelude.{◌≡◌, ◌≢◌, is_ok};
-ghost use Rattle.segment_disk.specs.declared.presence.CreateMode.TheVariants.{Replacement};
-ghost use Rattle.segment_disk.specs.Events.{After, nothing_taken};
-ghost use Rattle.segment_file.specs.Files.{FillsFile, MakesImage, WritesImage, place_events};
+ghost use Rattle.std.specs.Prelude.{◌≡◌, is_ok};
+ghost use Rattle.segment_disk.specs.Events.{After, New, Replacement, Truncate, create_mode_of, nothing_taken};
+ghost use Rattle.segment_file.specs.Files.{FillsFile, MakesImage, WritesImage, place_events, without_hold};
 
 use image_check::save;
 use raw_region::DeviceFault;
-use segment_disk::{CreateMode, Disk};
+use segment_disk::{Disk, SaveMode};
 use segment_manager::Segment;
 
 /// Writes the image of a segment to a file that took nothing yet, and closes it.
@@ -16,24 +15,20 @@ fn fill<D: Disk>(disk: &mut D, mut writer: D::Writer, segment: &Segment) -> Resu
 {
     let saved = save(segment, &mut writer);
     let lasting = disk.sync_and_close(writer);
-    match saved {
-        Ok(()) => lasting,
-        Err(fault) => Err(fault),
-    }
+    saved?;
+    lasting
 }
 
-/// Makes or empties a file, writes the image of a segment to it and closes it.
+/// Empties a file, writes the image of a segment to it and closes it.
 fn write_here<D: Disk>(
     disk: &mut D,
     path: &str,
-    how: CreateMode,
     hold: &mut D::Hold,
     segment: &Segment,
 ) -> Result<(), DeviceFault>
-    requires { how ≢ Replacement }
-    ensures { MakesImage D.step disk.old disk.new how path.now segment.now.cut.bytes result }
+    ensures { MakesImage D.step disk.old disk.new Truncate path.now segment.now.cut.bytes result }
 {
-    let writer = disk.create(path, how, hold)?;
+    let writer = disk.create(path, SaveMode::InPlace, hold)?;
     fill(disk, writer, segment)
 }
 
@@ -60,9 +55,7 @@ fn replace_image<D: Disk>(
 ) -> Result<(), DeviceFault>
     ensures { MakesImage D.step disk.old disk.new Replacement path.now segment.now.cut.bytes result }
 {
-    let Ok(writer) = disk.create(path, CreateMode::Replacement, hold) else {
-        return Err(DeviceFault);
-    };
+    let writer = disk.create(path, SaveMode::Replacing, hold)?;
     match fill(disk, writer, segment) {
         Ok(()) => put_in_place(disk, path, hold),
         Err(fault) => {
@@ -72,40 +65,34 @@ fn replace_image<D: Disk>(
     }
 }
 
-/// Writes the image of a segment to a file that is made, emptied or replaced for it, and is the one that the right to
-/// write was given for.
-fn make_image<D: Disk>(
-    disk: &mut D,
-    path: &str,
-    how: CreateMode,
-    hold: &mut D::Hold,
-    segment: &Segment,
-) -> Result<(), DeviceFault>
-    ensures { MakesImage D.step disk.old disk.new how path.now segment.now.cut.bytes result }
-{
-    if how == CreateMode::Replacement {
-        replace_image(disk, path, hold, segment)
-    } else {
-        write_here(disk, path, how, hold, segment)
-    }
-}
-
-/// Writes the image of a segment to a file that is made, emptied or replaced for it, with the right to write it. A
-/// check of the image accepts it. A file that is there is left alone if another has taken its name.
+/// Writes the image of a segment to the file that is held, which is emptied or replaced for it. A check of the image
+/// accepts it. The file is left alone if another has taken its name.
 pub fn write_image<D: Disk>(
     disk: &mut D,
     path: &str,
-    how: CreateMode,
+    how: SaveMode,
     hold: &mut D::Hold,
     segment: &Segment,
 ) -> Result<(), DeviceFault>
-    ensures { WritesImage D.step disk.old disk.new how path.now segment.now.cut.bytes result }
+    ensures { WritesImage D.step disk.old disk.new (create_mode_of how) path.now segment.now.cut.bytes result }
 {
-    if how == CreateMode::New {
-        return make_image(disk, path, CreateMode::New, hold, segment);
+    disk.compare(path, hold)?;
+    match how {
+        SaveMode::InPlace => write_here(disk, path, hold, segment),
+        SaveMode::Replacing => replace_image(disk, path, hold, segment),
     }
-    match disk.compare(path, hold) {
-        Ok(()) => make_image(disk, path, how, hold, segment),
-        Err(fault) => Err(fault),
-    }
+}
+
+/// Writes the image of a segment to a file that is made for it, and returns the right to write the file. A check of the
+/// image accepts it.
+pub fn write_new<D: Disk>(
+    disk: &mut D,
+    path: &str,
+    segment: &Segment,
+) -> Result<D::Hold, DeviceFault>
+    ensures { WritesImage D.step disk.old disk.new New path.now segment.now.cut.bytes (without_hold result) }
+{
+    let (writer, hold) = disk.create_new(path)?;
+    fill(disk, writer, segment)?;
+    Ok(hold)
 }

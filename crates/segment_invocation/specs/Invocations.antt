@@ -28,8 +28,8 @@ use Rattle.segment_invocation.specs.declared.invocations.ModeName.TheVariants.{O
 use Rattle.segment_invocation.specs.declared.invocations.Report.{Report}
 use Rattle.segment_invocation.specs.declared.invocations.Report.TheVariants.{Figures, Picture, Page, Dump, Capacities}
 use Rattle.segment_invocation.specs.declared.invocations.Report.TheVariants.{Json}
-use Rattle.segment_invocation.specs.declared.invocations.SaveMode.{SaveMode}
-use Rattle.segment_invocation.specs.declared.invocations.SaveMode.TheVariants.{InPlace, Replacing}
+use Rattle.segment_disk.specs.declared.presence.SaveMode.{SaveMode}
+use Rattle.segment_disk.specs.declared.presence.SaveMode.TheVariants.{InPlace, Replacing}
 use Rattle.segment_invocation.specs.declared.invocations.Script.{Script}
 use Rattle.segment_invocation.specs.declared.invocations.Script.TheVariants as script
 use Rattle.segment_invocation.specs.declared.usage.UsageError.{UsageError}

@@ -18,13 +18,13 @@ ghost use Rattle.segment_invocation.specs.declared.usage.UsageError.TheVariants.
 
 use crate::command_line::command_line;
 use crate::invocations::{
-    AnswerOptions, FileChange, FileOptions, Invocation, ModeName, Report, RunOptions, SaveMode,
-    Script,
+    AnswerOptions, FileChange, FileOptions, Invocation, ModeName, Report, RunOptions, Script,
 };
 use crate::nearest::nearest_mode;
 use crate::usage::{InvocationFault, UsageError};
 use clap::error::ErrorKind;
 use clap::{ArgMatches, Error as Misread};
+use segment_disk::SaveMode;
 use segment_lang::number_of;
 use std::alloc::{AllocError, Global};
 

@@ -4,6 +4,7 @@ ghost use Rattle.segment_invocation.specs.Invocations.{is_plain, is_plain_run, m
 ghost use Rattle.segment_invocation.specs.Invocations.{wants_size};
 
 use raw_region::{OutOfMemory, append};
+use segment_disk::SaveMode;
 use std::alloc::Global;
 
 /// The name of a mode on the command line.
@@ -42,15 +43,6 @@ impl ModeName {
     {
         matches!(self, ModeName::CreateOnly | ModeName::OpenOrCreate)
     }
-}
-
-/// How a run saves the segment of a file that is there.
-#[derive(Clone, Copy, Debug, PartialEq, Eq)]
-pub enum SaveMode {
-    /// The file is emptied, and takes the image.
-    InPlace,
-    /// `--replace`: a new file with the image takes the place of the old one.
-    Replacing,
 }
 
 /// What is told of the segment in a file.
@@ -93,7 +85,7 @@ pub struct AnswerOptions {
 /// How the file of a command that writes is taken and saved.
 #[derive(Clone, Copy, Debug, PartialEq, Eq)]
 pub struct FileOptions {
-    /// How a file that is there is saved.
+    /// How a file that is there is saved: `--replace` says by a new one, which takes the place of the old.
     pub saving: SaveMode,
     /// `--wait`: for how many seconds the right to write the file is waited for, if another has it.
     pub wait: u64,

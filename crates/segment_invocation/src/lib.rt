@@ -10,9 +10,10 @@ mod version;
 
 pub use asking::{invocation, is_verbose};
 pub use invocations::{
-    AnswerOptions, FileChange, FileOptions, Invocation, ModeName, Report, RunOptions, SaveMode,
-    Script, script_text,
+    AnswerOptions, FileChange, FileOptions, Invocation, ModeName, Report, RunOptions, Script,
+    script_text,
 };
 pub use nearest::Tip;
+pub use segment_disk::SaveMode;
 pub use usage::{InvocationFault, UsageError};
 pub use version::VERSION;

@@ -2,8 +2,7 @@
 use Rattle.std.proofs.Common.{◌≡◌, ℕ, Bool, inl, inr, List, Result, Ok, Err, refl}
 use Rattle.raw_region.specs.Device.{WriterHistory}
 use Rattle.segment_manager.specs.State.{SegmentState}
-use Rattle.segment_disk.specs.declared.presence.CreateMode.{CreateMode}
-use Rattle.segment_disk.specs.Events.{Event}
+use Rattle.segment_disk.specs.Events.{CreateMode, Event}
 use Rattle.segment_file.specs.Files.{WritesImage}
 use Rattle.segment_commands.specs.Resizing.{TellsAndWrites}
 

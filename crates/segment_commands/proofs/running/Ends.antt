@@ -1,6 +1,6 @@
 -- How a run ends, from what its steps answered.
 use Rattle.std.proofs.Common.{◌≡◌, ◌≢◌, ◌⊎◌, ◌<◌, ℕ, Bool, true, false, inl, inr, List, [], ◌∷◌, length, Ok, Err, refl}
-use Rattle.std.proofs.Common.{sym, ap, subst, ◌∙◌, arith}
+use Rattle.std.proofs.Common.{Result, sym, ap, subst, ◌∙◌, arith}
 use Rattle.std.proofs.lemmas.Bool.{false≢true}
 use Rattle.raw_region.specs.Device.{ReadDelta, WriteDelta}
 use Rattle.raw_region.specs.Format.{current}
@@ -24,15 +24,12 @@ use Rattle.segment_cli.specs.Beginning.{BeginsSession}
 use Rattle.image_check.specs.Saving.{IsSaved}
 use Rattle.segment_cli.specs.Session.{StartsFrom, Failures, SavesImage}
 use Rattle.segment_cli.proofs.Laws.{stopped_session, done_session, unsaved_session}
-use Rattle.segment_disk.specs.declared.presence.CreateMode.{CreateMode}
-use Rattle.segment_disk.specs.declared.presence.CreateMode.TheVariants.{New, Truncate, Replacement}
-use Rattle.segment_disk.specs.Events.{Event, After}
+use Rattle.segment_disk.specs.Events.{CreateMode, New, Truncate, Replacement, Event, After}
 use Rattle.segment_file.specs.Files.{WriteOutcome, Overtaken, NotMade, Closed, Offered, IsMade, IsUnwritten}
 use Rattle.segment_file.specs.Files.{WritesImage, write_events, whole_outcome, all_of}
 use Rattle.segment_commands.specs.Running.{Act, AnswersScript, IsAnsweredAct, IsAnsweredTo, IsRefusedAct}
-use Rattle.segment_commands.specs.Running.{StopsWithFault}
-use Rattle.segment_commands.specs.Running.{LosesAnswers, IsUnrefusedAct}
-use Rattle.segment_commands.specs.Running.{LeavesUnsaved, EndsRun, Ran, saving}
+use Rattle.segment_commands.specs.Running.{IsUnrefusedAct, LeavesUnsaved, LosesAnswers, StopsWithFault, EndsRun, Ran}
+use Rattle.segment_commands.specs.Running.{RunsScript, saving}
 
 -- lines leave the mode as it is
 mode_kept : (at : MachineState) (ls : List (List ℕ)) → (answer_all answer_line at ls).1.mode ≡ at.mode
@@ -211,24 +208,24 @@ module _ {D : Type 0} (step : D → Event → D
 
   module _ (old : D) (answered : AnswersScript until s s' script out Flushed Whole true) where
     -- a mode that saves nothing
-    pub unsaving : (s'.mode ≡ Write → ⊥) → EndsRun step old old how path act Flushed (Ok Whole)
-    unsaving keeps = record {
+    unsaving : (mode ≡ Write → ⊥) → EndsRun step old old how path act Flushed (Ok Whole)
+    unsaving keeps = let kept : s'.mode ≡ Write → ⊥ = λ e. keeps (sym (last_mode true answered) ∙ e) in record {
       image = [];
-      asked = asks_nothing step old mode how path (λ e. keeps (last_mode true answered ∙ e));
+      asked = asks_nothing step old mode how path keeps;
       ran = done_session start mode 0 capacity (record {
         image = image;
         script = script;
         out = out;
         saved = all_of [];
       }) s s' tt h (whole_run true answered)
-          (λ d stands. saves_nothing s'.mode d keeps) (λ e. absurd (keeps e)) refl;
+          (λ d stands. saves_nothing s'.mode d kept) (λ e. absurd (kept e)) refl;
       unrefused = unrefused true answered;
       flushed = answered.flushed;
     }
 
-    module _ (new : D) (is : s'.mode ≡ Write) where
-      writing : mode ≡ Write
-      writing = sym (last_mode true answered) ∙ is
+    module _ (new : D) (writing : mode ≡ Write) where
+      is_left : s'.mode ≡ Write
+      is_left = last_mode true answered ∙ writing
 
       done : ((d : Directory) → DenotesCurrent s'.cut.bytes d → IsSaved s'.cut.bytes d)
           → Ran act (all_of s'.cut.bytes) (Ok tt)
@@ -238,7 +235,7 @@ module _ {D : Type 0} (step : D → Event → D
         out = out;
         saved = all_of s'.cut.bytes;
       }) s s' tt h (whole_run true answered)
-          (λ d stands. subst (λ (m : Mode). SavesImage m s'.cut.bytes d) (sym is) (good d stands)) (λ e. refl) refl
+          (λ d stands. subst (λ (m : Mode). SavesImage m s'.cut.bytes d) (sym is_left) (good d stands)) (λ e. refl) refl
 
       -- the image is whole in its file
       pub saved : {E : Type 0} → WritesImage {E = E} step old new how path s'.cut.bytes (Ok tt)
@@ -266,7 +263,7 @@ module _ {D : Type 0} (step : D → Event → D
             script = script;
             out = out;
             saved = c.taken;
-          }) s s' h (whole_run true answered) is c.is_part.part c.is_part.failed))
+          }) s s' h (whole_run true answered) is_left c.is_part.part c.is_part.failed))
       unsaved_by written (inr (inr (inr (inl e)))) good =
           subst (LeavesUnsaved step old new how path act Flushed) (sym e) (inr (
             refl,
@@ -290,3 +287,10 @@ module _ {D : Type 0} (step : D → Event → D
         asked = w.asked;
         unsaved = unsaved_by w.written w.fate w.accepted;
       }))
+
+  -- a run in a mode that saves nothing ends as its script does
+  pub free_run : (mode ≡ Write → ⊥) → (old : D) → (result : Result End SessionFault)
+      → RunsScript until s s' script out Flushed result → EndsRun step old old how path act Flushed result
+  free_run keeps old (Ok Whole) answered = unsaving old answered keeps
+  free_run keeps old (Ok Refused) answered = refusing_run old answered
+  free_run keeps old (Err fault) why = stopped old fault why

@@ -4,15 +4,12 @@ use Rattle.raw_region.specs.Device.{ReaderHistory, ReadDelta, WriterHistory, rea
 use Rattle.segment_manager.specs.declared.modes.Mode.{Mode}
 use Rattle.segment_manager.specs.declared.modes.Mode.TheVariants.{Write, ReadOnly, CopyOnWrite}
 use Rattle.segment_manager.specs.State.{SegmentState}
-use Rattle.segment_cli.specs.declared.faults.Start.{Start}
 use Rattle.segment_cli.specs.declared.faults.Start.TheVariants.{Fresh, Image}
 use Rattle.segment_cli.specs.declared.faults.SessionFault.{SessionFault}
 use Rattle.segment_cli.specs.Beginning.{BeginsSession}
 use Rattle.segment_scripts.specs.declared.ends.End.{End}
 use Rattle.segment_scripts.specs.declared.ends.Until.{Until}
-use Rattle.segment_disk.specs.declared.presence.CreateMode.{CreateMode}
-use Rattle.segment_disk.specs.declared.presence.CreateMode.TheVariants.{New}
-use Rattle.segment_disk.specs.Events.{Event, After}
+use Rattle.segment_disk.specs.Events.{CreateMode, New, Event, After}
 use Rattle.image_check.specs.declared.versions.AcceptedVersions.TheVariants.{Current}
 use Rattle.segment_file.specs.declared.file_errors.FileError.{FileError}
 use Rattle.segment_file.specs.declared.file_errors.FileError.TheVariants.{ReadFault}
@@ -49,11 +46,11 @@ module _ {D O : Type 0} (step : D → Event → D
     → WriterHistory) (flushes : Bool → Type 0) (out out' : O)
     (result : Result End SessionFault) (s : SegmentState) where
   module _ (mode : Mode) (how : CreateMode)
-      (ends : (start : Start) (m : Mode) (capacity : ℕ) (image : ReadDelta)
-      → BeginsSession start m 0 capacity image (Ok s) → EndsRun step read new how path
+      (ends : (capacity : ℕ) (image : ReadDelta) → BeginsSession Image mode 0 capacity image (Ok s)
+      → EndsRun step read new how path
       (record {
-        start = start;
-        mode = m;
+        start = Image;
+        mode = mode;
         capacity = capacity;
         image = image;
         until = until;
@@ -70,7 +67,7 @@ module _ {D O : Type 0} (step : D → Event → D
       room = r.room;
       read = read;
       asked = asked;
-      ends = ends Image mode (length r.region) image
+      ends = ends (length r.region) image
           (begun image r.region mode s r.opened (read-fits Current len 0 mode image s r));
     })
 
@@ -85,11 +82,11 @@ module _ {D O : Type 0} (step : D → Event → D
     opened_run o = read_run o.read o.reads (was_read o.read s o.answer)
 
   module _ (size : ℕ)
-      (ends : (start : Start) (m : Mode) (capacity : ℕ) (image : ReadDelta)
-      → BeginsSession start m 0 capacity image (Ok s) → EndsRun step old new New path
+      (ends : (capacity : ℕ) (image : ReadDelta) → BeginsSession (Fresh size) Write 0 capacity image (Ok s)
+      → EndsRun step old new New path
       (record {
-        start = start;
-        mode = m;
+        start = Fresh size;
+        mode = Write;
         capacity = capacity;
         image = image;
         until = until;
@@ -104,7 +101,7 @@ module _ {D O : Type 0} (step : D → Event → D
         in inr (record {
           image = a.image;
           capacity = a.capacity;
-          ends = ends (Fresh size) Write a.capacity a.image a.starts;
+          ends = ends a.capacity a.image a.starts;
         })
 
 module _ {D O : Type 0} (step : D → Event → D

@@ -8,8 +8,9 @@ use Rattle.raw_region.proofs.Laws.{added}
 use Rattle.segment_manager.specs.Directory.{Directory}
 use Rattle.segment_manager.specs.State.{DenotesCurrent}
 use Rattle.image_check.specs.Saving.{IsSaved}
-use Rattle.segment_disk.specs.declared.presence.CreateMode.{CreateMode}
-use Rattle.segment_disk.specs.declared.presence.CreateMode.TheVariants.{New, Truncate, Replacement}
+use Rattle.segment_disk.specs.declared.presence.SaveMode.{SaveMode}
+use Rattle.segment_disk.specs.declared.presence.SaveMode.TheVariants.{InPlace, Replacing}
+use Rattle.segment_disk.specs.Events.{CreateMode, New, Truncate, Replacement, create_mode_of}
 use Rattle.segment_disk.specs.Events.{Event, Compared, Made, Wrote, Discarded, After, nothing_taken}
 use Rattle.segment_file.specs.Files.{WriteOutcome, Overtaken, NotMade, Closed, Offered, IsPartialWrite, IsUnwritten}
 use Rattle.segment_file.specs.Files.{FillsFile, MakesImage, WritesImage, all_of, compare_events, is_same, make_events}
@@ -82,27 +83,36 @@ module _ {D E : Type 0} (step : D → Event → D → Type 0) (old made new : D)
     accepted = λ n. absurd n;
   }
 
-  -- a new file is written in its place
-  pub written_here : (how : CreateMode) → how ≢ Replacement → step old (Made how path true) made
-      → (result : Result (Unit {0}) E) → FillsFile step made new image result
-      → MakesImage step old new how path image result
-  written_here New n asked result f =
-      record {
-        written = Closed f.taken f.lasts;
-        same = refl;
-        asked = (made, asked, (new, f.asked, refl));
-        fate = fate-new image f.taken f.lasts result f.fate;
-        accepted = λ m. f.accepted;
-      }
-  written_here Truncate n asked result f =
-      record {
-        written = Closed f.taken f.lasts;
-        same = refl;
-        asked = (made, asked, (new, f.asked, refl));
-        fate = fate-emptied image f.taken f.lasts result f.fate;
-        accepted = λ m. f.accepted;
-      }
-  written_here Replacement n asked result f = absurd (n refl)
+  -- a file is emptied, and written in its place
+  pub written_here : step old (Made Truncate path true) made → (result : Result (Unit {0}) E)
+      → FillsFile step made new image result → MakesImage step old new Truncate path image result
+  written_here asked result f = record {
+    written = Closed f.taken f.lasts;
+    same = refl;
+    asked = (made, asked, (new, f.asked, refl));
+    fate = fate-emptied image f.taken f.lasts result f.fate;
+    accepted = λ m. f.accepted;
+  }
+
+  -- a file is made, and written
+  pub written_new : step old (Made New path true) made → (result : Result (Unit {0}) E)
+      → FillsFile step made new image result → WritesImage step old new New path image result
+  written_new asked result f = record {
+    written = Closed f.taken f.lasts;
+    asked = (made, asked, (new, f.asked, refl));
+    fate = fate-new image f.taken f.lasts result f.fate;
+    accepted = λ m. f.accepted;
+  }
+
+  -- it is not made
+  pub not_made_new : (e : E) → step old (Made New path false) new
+      → WritesImage {E = E} step old new New path image (Err e)
+  not_made_new e asked = record {
+    written = NotMade;
+    asked = (new, asked, refl);
+    fate = inr (inl refl);
+    accepted = λ n. absurd n;
+  }
 
   module _ (asked : step old (Made Replacement path true) made) (filled : D) where
     -- the file took not all of the image, or need not last
@@ -143,6 +153,11 @@ module _ {D E : Type 0} (step : D → Event → D → Type 0) (old made new : D)
 
 -- ---- a file that is compared before
 
+-- one that is there is not new
+pub is_over : (how : SaveMode) → create_mode_of how ≢ New
+is_over InPlace e = cc
+is_over Replacing e = cc
+
 with_comparison : {D : Type 0} (step : D → Event → D → Type 0) (old same new : D) (path : List ℕ) (how : CreateMode)
     → how ≢ New → (b : Bool) (events : List Event)
     → step old (Compared path b) same → After step same events new
@@ -152,11 +167,6 @@ with_comparison step old same new path Truncate n b events asked rest = (same, a
 with_comparison step old same new path Replacement n b events asked rest = (same, asked, rest)
 
 module _ {D E : Type 0} (step : D → Event → D → Type 0) (old same new : D) (path image : List ℕ) where
-  -- one that is new is not
-  pub made_anew : (result : Result (Unit {0}) E) → MakesImage {E = E} step old new New path image result
-      → WritesImage {E = E} step old new New path image result
-  made_anew result m = record { written = m.written; asked = m.asked; fate = m.fate; accepted = m.accepted }
-
   -- it is the same
   pub made_over : (how : CreateMode) → how ≢ New → (result : Result (Unit {0}) E)
       → step old (Compared path true) same → MakesImage {E = E} step same new how path image result

@@ -3,8 +3,7 @@ use Rattle.std.proofs.Common.{◌≡◌, ◌⊎◌, ℕ, zero, suc, Bool, true, 
 use Rattle.std.proofs.Common.{bytes_eq, refl, sym, subst}
 use Rattle.std.proofs.lemmas.Slice.Eq.{bytes_eq-Decides}
 use Rattle.raw_region.specs.Device.{WriteDelta}
-use Rattle.segment_disk.specs.declared.presence.CreateMode.TheVariants.{New, Truncate, Replacement}
-use Rattle.segment_disk.specs.Events.{Event}
+use Rattle.segment_disk.specs.Events.{New, Truncate, Replacement, Event}
 use Rattle.segment_file.specs.Files.{WriteOutcome, Overtaken, NotMade, Closed, Offered, IsUnwritten, all_of}
 use Rattle.segment_file.specs.Files.{whole_outcome}
 use Rattle.segment_file.specs.Files.{write_events}

@@ -32,8 +32,8 @@ use Rattle.segment_invocation.specs.declared.invocations.Report.TheVariants.{Jso
 use Rattle.segment_invocation.specs.declared.invocations.ModeName.{ModeName}
 use Rattle.segment_invocation.specs.declared.invocations.ModeName.TheVariants.{CreateOnly, OpenOnly, OpenOrCreate}
 use Rattle.segment_invocation.specs.declared.invocations.ModeName.TheVariants.{OpenReadOnly, OpenCopyOnWrite}
-use Rattle.segment_invocation.specs.declared.invocations.SaveMode.{SaveMode}
-use Rattle.segment_invocation.specs.declared.invocations.SaveMode.TheVariants.{InPlace, Replacing}
+use Rattle.segment_disk.specs.declared.presence.SaveMode.{SaveMode}
+use Rattle.segment_disk.specs.declared.presence.SaveMode.TheVariants.{InPlace, Replacing}
 use Rattle.segment_invocation.proofs.command_lines.PlainWords.{IsPlain}
 use Rattle.segment_invocation.proofs.command_lines.Subcommands.{ArePlain, IsAsk, IsPlainIn, listed, loaded}
 use Rattle.segment_invocation.proofs.command_lines.Subcommands.{option_words, said}

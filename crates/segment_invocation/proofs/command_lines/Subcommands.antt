@@ -22,8 +22,8 @@ use Rattle.segment_invocation.specs.Invocations.{run_command, run_words, saving_
 use Rattle.segment_invocation.specs.declared.invocations.FileChange.TheVariants as change
 use Rattle.segment_invocation.specs.declared.invocations.Report.TheVariants.{Figures, Picture, Page, Dump, Capacities}
 use Rattle.segment_invocation.specs.declared.invocations.Report.TheVariants.{Json}
-use Rattle.segment_invocation.specs.declared.invocations.SaveMode.{SaveMode}
-use Rattle.segment_invocation.specs.declared.invocations.SaveMode.TheVariants.{InPlace, Replacing}
+use Rattle.segment_disk.specs.declared.presence.SaveMode.{SaveMode}
+use Rattle.segment_disk.specs.declared.presence.SaveMode.TheVariants.{InPlace, Replacing}
 use Rattle.segment_invocation.proofs.command_lines.PlainWords.{IsPlain, plain_step, turn-plain, walked-plain}
 
 -- a command as it is built

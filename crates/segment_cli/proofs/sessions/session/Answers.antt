@@ -26,26 +26,28 @@ returns-in_err-serve-clause-output_history g c =
     c.serve.ensures.output_history (first c.args.mode begun.from)
     (at_first c.args.mode begun.from c.in_ok-segment.segment begun.mode begun.stands)
 
-pub returns-in-Ok-clause-session : goal.returns-in-Ok-clause-session
-returns-in-Ok-clause-session g c = done_session _ _ _ _ _ c.in_ok-segment.segment c.serve.new.segment tt
-    c.in_ok-segment.ensures.start (served _ _ _ _ _ c.in_ok-serve.ensures.service) c.in-Ok.ensures.on_ok (λ writes.
-    added _ _ _ (c.in-Ok.ensures.bytes
-    writes)) (none_failed _ _ (omega (arith, c.in-Ok.ensures.failures)))
+pub returns-clause-session : goal.returns-clause-session
+returns-clause-session g c = let saved = c.in_ok-save_segment.ensures in
+    done_session _ _ _ _ _ c.in_ok-segment.segment c.serve.new.segment tt c.in_ok-segment.ensures.start
+    (served _ _ _ _ _ c.in_ok-serve.ensures.service) saved.on_ok (λ writes. added _ _ _ (saved.bytes writes))
+    (none_failed _ _ (let failures = saved.failures in omega (arith, failures)))
 
-pub returns-in-Ok-clause-output_history : goal.returns-in-Ok-clause-output_history
-returns-in-Ok-clause-output_history g c =
+pub returns-clause-output_history : goal.returns-clause-output_history
+returns-clause-output_history g c =
     let begun = c.in_ok-segment.ensures.start.answers in
     c.serve.ensures.output_history (first c.args.mode begun.from)
     (at_first c.args.mode begun.from c.in_ok-segment.segment begun.mode begun.stands)
 
-pub returns-clause-session : goal.returns-clause-session
-returns-clause-session g c =
-    unsaved_session _ _ _ _ _ c.in_ok-segment.segment c.serve.new.segment c.in_ok-segment.ensures.start
+pub returns-in_err-save_segment-clause-session : goal.returns-in_err-save_segment-clause-session
+returns-in_err-save_segment-clause-session g c =
+    let from = c.from_residual-in_err-save_segment in let p = err_from_is_err_and from.result from.ensures.1 in
+    let unsaved = c.in_err-save_segment.ensures in
+    rw (p.1, p.2) (unsaved_session _ _ _ _ _ c.in_ok-segment.segment c.serve.new.segment c.in_ok-segment.ensures.start
     (served _ _ _ _ _ c.in_ok-serve.ensures.service)
-    c.in-Err.ensures.on_error.0 c.in-Err.ensures.on_error.1 (one_failed _ _ c.in-Err.ensures.failures)
+    unsaved.on_error.0 unsaved.on_error.1 (one_failed _ _ unsaved.failures))
 
-pub returns-clause-output_history : goal.returns-clause-output_history
-returns-clause-output_history g c =
+pub returns-in_err-save_segment-clause-output_history : goal.returns-in_err-save_segment-clause-output_history
+returns-in_err-save_segment-clause-output_history g c =
     let begun = c.in_ok-segment.ensures.start.answers in
     c.serve.ensures.output_history (first c.args.mode begun.from)
     (at_first c.args.mode begun.from c.in_ok-segment.segment begun.mode begun.stands)

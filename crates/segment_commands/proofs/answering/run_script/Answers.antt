@@ -1,11 +1,13 @@
 use Rattle.std.proofs.Common.{inl, is_ok}
+use Rattle.std.proofs.lemmas.Result.{err_from_is_err_and}
 use Rattle.segment_commands.proofs.answering.run_script.Goals as goal
 
-pub returns-in-Err : goal.returns-in-Err
-returns-in-Err g c =
+pub returns-in_err-end : goal.returns-in_err-end
+returns-in_err-end g c =
+    let p = err_from_is_err_and c.from_residual.result c.from_residual.ensures.1 in
     let same = c.flush-flushed.ensures.unchanged in
-    inl (record {
-      unserved = rw same c.in-Err.ensures.service;
+    rw (p.1, p.2) (inl (record {
+      unserved = rw same c.in_err-end.ensures.service;
       ok = is_ok c.flush-flushed.result;
       flushed = record { before = c.serve-served.new.out; flush = c.flush-flushed.ensures.flush; same = same };
-    })
+    }))

@@ -12,10 +12,10 @@ pub returns : goal.returns
 returns g c = inr (inr (record {
   segment = c.in_ok-segment.segment;
   read = c.open_segment.new.disk;
-  opens = rw c.more_for.ensures at c.in_ok-segment.ensures;
+  opens = rw c.more_for-more.ensures at c.in_ok-segment.ensures;
   resized = c.resize_segment.new.segment;
   becomes = c.in_ok-resize_segment.ensures.changes;
-  goes = resized g.D.Disk.step c.open_segment.new.disk c.tell_and_write.new.disk c.args.path.now c.args.making
+  goes = resized g.D.Disk.step c.open_segment.new.disk c.tell_and_write.new.disk c.args.path.now _
       g.O.Sink.history g.O.Output.flushes c.args.out.now c.tell_and_write.new.out c.resize_segment.new.segment
       c.in_ok-tell_and_write.ensures;
   answer = λ fault e. absurd (cc);
@@ -27,10 +27,10 @@ returns-in_err-tell_and_write g c =
     rw (p.1, p.2) (inr (inr (record {
       segment = c.in_ok-segment.segment;
       read = c.open_segment.new.disk;
-      opens = rw c.more_for.ensures at c.in_ok-segment.ensures;
+      opens = rw c.more_for-more.ensures at c.in_ok-segment.ensures;
       resized = c.resize_segment.new.segment;
       becomes = c.in_ok-resize_segment.ensures.changes;
-      goes = not_resized g.D.Disk.step c.open_segment.new.disk c.tell_and_write.new.disk c.args.path.now c.args.making
+      goes = not_resized g.D.Disk.step c.open_segment.new.disk c.tell_and_write.new.disk c.args.path.now _
           g.O.Sink.history g.O.Output.flushes c.args.out.now c.tell_and_write.new.out c.resize_segment.new.segment
           c.in_err-tell_and_write.field-0.0 _ c.in_err-tell_and_write.ensures;
       answer = λ fault e. same_fault _ fault e;
@@ -41,7 +41,7 @@ returns-in_err-resize_segment g c =
     let from = c.from_residual-in_err-resize_segment in let p = err_from_is_err_and from.result from.ensures.1 in
     rw (p.1, p.2) (let opens : OpensWith g.D.Disk.step c.args.disk.now c.open_segment.new.disk c.args.path.now
     Current Write (more_by c.args.how) (Ok c.in_ok-segment.segment) =
-    rw c.more_for.ensures at c.in_ok-segment.ensures in
+    rw c.more_for-more.ensures at c.in_ok-segment.ensures in
     inr (inl (record {
       segment = c.in_ok-segment.segment;
       opens = opens;

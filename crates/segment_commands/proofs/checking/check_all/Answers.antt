@@ -1,22 +1,24 @@
 -- One more file was checked: its lines went out, or the output failed.
 use Rattle.std.proofs.Common.{ap, map, refl, Ok, ◌∙◌}
+use Rattle.std.proofs.lemmas.Result.{err_from_is_err_and}
 use Rattle.segment_commands.specs.Checking.{worse}
 use Rattle.segment_commands.proofs.checking.Files.{going_lost, going_more, none_going, paths-more, paths-rest}
 use Rattle.segment_commands.proofs.checking.Files.{unfit_heard}
 use Rattle.segment_commands.proofs.checking.check_all.Goals as goal
 
-pub returns-in_default : goal.returns-in_default
-returns-in_default g c =
+pub returns-in_err-tell_fit : goal.returns-in_err-tell_fit
+returns-in_err-tell_fit g c =
+    let from = c.from_residual-in_err-tell_fit in let p = err_from_is_err_and from.result from.ensures.1 in
     let History = g.E.Sink.history in
-    going_lost g.D.Disk.step g.O.Sink.history g.O.Output.flushes c.args.disk.now (History c.args.err.now)
+    rw (p.1, p.2) (going_lost g.D.Disk.step g.O.Sink.history g.O.Output.flushes c.args.disk.now (History c.args.err.now)
     c.args.out.now c.args.is_quiet
     c.files.disk c.verify_segment-found.new.disk (History c.files.err) (History c.put_unfit-said.new.err)
     c.files.out c.tell_fit.new.out c.files.said c.put_unfit-said.result _ c.files.worst
     c.files.invariant.going _ c.verify_segment-found.result c.trouble_of.result c.verify_segment-found.ensures
     (unfit_heard History c.files.said _ _ c.put_unfit-said.new.err c.files.err c.put_unfit-said.ensures)
-    c.in_default.ensures
+    c.in_err-tell_fit.ensures
     (map (λ file. file.now) c.args.files.now) _
-    (paths-rest (λ file. file.now) c.args.files.now c.files.file-index _ c.files-test.true)
+    (paths-rest (λ file. file.now) c.args.files.now c.files.file-index _ c.files-test.true))
 
 pub files-init : goal.files-init
 files-init g c = record {
@@ -34,7 +36,7 @@ files-preserved g c =
           c.files.out c.tell_fit.new.out c.files.said c.put_unfit-said.result _ c.files.worst
           c.files.invariant.going _ c.verify_segment-found.result c.trouble_of.result c.verify_segment-found.ensures
           (unfit_heard History c.files.said _ _ c.put_unfit-said.new.err c.files.err c.put_unfit-said.ensures)
-          c.in-Ok.ensures _ c.max-worst.result
+          c.in_ok-tell_fit.ensures _ c.max-worst.result
           (paths-more (λ file. file.now) c.args.files.now c.files.file-index _ c.files-test.true)
           (c.max-worst.ensures ∙ ap (worse c.files.worst) c.status_in.ensures);
     }

@@ -5,7 +5,7 @@ use Rattle.segment_commands.proofs.creating.create.Goals as goal
 
 pub returns : goal.returns
 returns g c =
-    let w = c.in_ok-write_image.ensures in
+    let w = c.in_ok-write_new.ensures in
     inr (inr (record {
       found = c.path_status.result;
       free = search rules;
@@ -17,9 +17,9 @@ returns g c =
       answer = λ fault e. absurd (cc);
     }))
 
-pub returns-in_err-write_image : goal.returns-in_err-write_image
-returns-in_err-write_image g c =
-    let from = c.from_residual-in_err-write_image in let p = err_from_is_err_and from.result from.ensures.1 in
+pub returns-in_err-write_new : goal.returns-in_err-write_new
+returns-in_err-write_new g c =
+    let from = c.from_residual-in_err-write_new in let p = err_from_is_err_and from.result from.ensures.1 in
     rw (p.1, p.2) (inr (inr (record {
       found = c.path_status.result;
       free = search rules;
@@ -27,7 +27,7 @@ returns-in_err-write_image g c =
       asked = c.path_status.ensures;
       segment = c.in_ok-segment.segment;
       made = c.in_ok-segment.ensures;
-      writes = not_written g.D.Disk.step c.path_status.new.self c.write_image.new.disk _ c.args.path.now
-          c.in_ok-segment.segment.cut.bytes c.in_err-write_image.field-0.0 _ c.in_err-write_image.ensures;
+      writes = not_written g.D.Disk.step c.path_status.new.self c.write_new.new.disk _ c.args.path.now
+          c.in_ok-segment.segment.cut.bytes c.in_err-write_new.field-0.0 _ c.in_err-write_new.ensures;
       answer = λ fault e. same_fault _ fault e;
     })))

@@ -12,8 +12,8 @@ returns-clause-effect g c = inr (inr (record {
   asked = c.path_status.ensures;
   segment = c.in_ok-segment.segment;
   made = c.in_ok-segment.ensures;
-  writes = written_whole g.D.Disk.step c.path_status.new.self c.write_image.new.disk _ c.args.path.now
-      c.in_ok-segment.segment.cut.bytes c.in_ok-write_image.ensures;
+  writes = written_whole g.D.Disk.step c.path_status.new.self c.write_new.new.disk _ c.args.path.now
+      c.in_ok-segment.segment.cut.bytes c.in_ok-write_new.ensures;
   answer = λ fault e. absurd (cc);
 }))
 
@@ -27,8 +27,8 @@ returns-clause-success g c = record {
         asked = c.path_status.ensures;
         segment = c.in_ok-segment.segment;
         made = c.in_ok-segment.ensures;
-        writes = written_whole g.D.Disk.step c.path_status.new.self c.write_image.new.disk _ c.args.path.now
-            c.in_ok-segment.segment.cut.bytes c.in_ok-write_image.ensures;
+        writes = written_whole g.D.Disk.step c.path_status.new.self c.write_new.new.disk _ c.args.path.now
+            c.in_ok-segment.segment.cut.bytes c.in_ok-write_new.ensures;
         answer = λ fault e. absurd (cc);
       }));
 }
@@ -45,9 +45,9 @@ returns-in_err-segment-clause-success g c =
       ));
     })
 
-pub returns-in_err-write_image-clause-effect : goal.returns-in_err-write_image-clause-effect
-returns-in_err-write_image-clause-effect g c =
-    let from = c.from_residual-in_err-write_image in let p = err_from_is_err_and from.result from.ensures.1 in
+pub returns-in_err-write_new-clause-effect : goal.returns-in_err-write_new-clause-effect
+returns-in_err-write_new-clause-effect g c =
+    let from = c.from_residual-in_err-write_new in let p = err_from_is_err_and from.result from.ensures.1 in
     rw (p.1, p.2) (inr (inr (record {
       found = c.path_status.result;
       free = search rules;
@@ -55,14 +55,14 @@ returns-in_err-write_image-clause-effect g c =
       asked = c.path_status.ensures;
       segment = c.in_ok-segment.segment;
       made = c.in_ok-segment.ensures;
-      writes = not_written g.D.Disk.step c.path_status.new.self c.write_image.new.disk _ c.args.path.now
-          c.in_ok-segment.segment.cut.bytes c.in_err-write_image.field-0.0 _ c.in_err-write_image.ensures;
+      writes = not_written g.D.Disk.step c.path_status.new.self c.write_new.new.disk _ c.args.path.now
+          c.in_ok-segment.segment.cut.bytes c.in_err-write_new.field-0.0 _ c.in_err-write_new.ensures;
       answer = λ fault e. same_fault _ fault e;
     })))
 
-pub returns-in_err-write_image-clause-success : goal.returns-in_err-write_image-clause-success
-returns-in_err-write_image-clause-success g c =
-    let from = c.from_residual-in_err-write_image in let p = err_from_is_err_and from.result from.ensures.1 in
+pub returns-in_err-write_new-clause-success : goal.returns-in_err-write_new-clause-success
+returns-in_err-write_new-clause-success g c =
+    let from = c.from_residual-in_err-write_new in let p = err_from_is_err_and from.result from.ensures.1 in
     rw (p.1, p.2) (record {
       loads = λ text r f. inr (inr (record {
         found = c.path_status.result;
@@ -71,8 +71,8 @@ returns-in_err-write_image-clause-success g c =
         asked = c.path_status.ensures;
         segment = c.in_ok-segment.segment;
         made = c.in_ok-segment.ensures;
-        writes = not_written g.D.Disk.step c.path_status.new.self c.write_image.new.disk _ c.args.path.now
-            c.in_ok-segment.segment.cut.bytes c.in_err-write_image.field-0.0 _ c.in_err-write_image.ensures;
+        writes = not_written g.D.Disk.step c.path_status.new.self c.write_new.new.disk _ c.args.path.now
+            c.in_ok-segment.segment.cut.bytes c.in_err-write_new.field-0.0 _ c.in_err-write_new.ensures;
         answer = λ fault e. same_fault _ fault e;
       }));
     })

@@ -1,13 +1,30 @@
-use Rattle.segment_disk.specs.Events.{IsFlushed}
+use Rattle.std.proofs.Common.{refl}
+use Rattle.std.proofs.lemmas.Result.{err_from_is_err_and}
+use Rattle.segment_commands.proofs.running.Ends.{refusing_run, saved, stopped, unsaved}
 use Rattle.segment_commands.proofs.running.Start.{opened_run}
 use Rattle.segment_commands.proofs.running.run_opened.Goals as goal
 
-pub returns : goal.returns
-returns g c =
-    let Script = g.S.Source in let Answers = g.O.Sink in
-    opened_run g.D.Disk.step c.args.disk.now c.open_segment.new.disk c.answer_and_save.new.disk c.args.path.now
-    c.args.until
-    (Script.history c.args.script.now) (Script.history c.answer_and_save.new.script) Answers.history
-    (IsFlushed Answers.history g.O.Output.flushes c.answer_and_save.new.out) c.args.out.now c.answer_and_save.new.out
-    c.answer_and_save.result c.in_ok-segment.segment c.args.mode c.args.how c.answer_and_save.ensures
-    c.in_ok-segment.ensures
+pub returns-in_err-run_script : goal.returns-in_err-run_script
+returns-in_err-run_script g c =
+    let from = c.from_residual-in_err-run_script in let p = err_from_is_err_and from.result from.ensures.1 in
+    rw (p.1, p.2) (opened_run _ _ _ _ _ _ _ _ _ _ _ _ _ c.in_ok-segment.segment _ _
+    (λ capacity image h. stopped _ _ _ _ _ _ _ _ _ _ _ _ c.run_script.new.segment h _
+    c.in_err-run_script.field-0.0 c.in_err-run_script.ensures) c.in_ok-segment.ensures)
+
+pub returns-in-Refused : goal.returns-in-Refused
+returns-in-Refused g c = opened_run _ _ _ _ _ _ _ _ _ _ _ _ _ c.in_ok-segment.segment _ _
+    (λ capacity image h. refusing_run _ _ _ _ _ _ _ _ _ _ _ _ c.run_script.new.segment h _
+    (rw c.in-Refused.is at c.in_ok-run_script.ensures)) c.in_ok-segment.ensures
+
+pub returns-in-Whole : goal.returns-in-Whole
+returns-in-Whole g c = opened_run _ _ _ _ _ _ _ _ _ _ _ _ _ c.in_ok-segment.segment _ _
+    (λ capacity image h. saved _ _ _ _ _ _ _ _ _ _ _ _ c.run_script.new.segment h _
+    (rw c.in-Whole.is at c.in_ok-run_script.ensures) _ refl c.in_ok-write_image.ensures) c.in_ok-segment.ensures
+
+pub returns-in_err-write_image : goal.returns-in_err-write_image
+returns-in_err-write_image g c =
+    let from = c.from_residual-in_err-write_image in let p = err_from_is_err_and from.result from.ensures.1 in
+    rw (p.1, p.2) (opened_run _ _ _ _ _ _ _ _ _ _ _ _ _ c.in_ok-segment.segment _ _
+    (λ capacity image h. unsaved _ _ _ _ _ _ _ _ _ _ _ _ c.run_script.new.segment h _
+    (rw c.in-Whole.is at c.in_ok-run_script.ensures) _ refl c.in_err-write_image.field-0.0
+    c.in_err-write_image.ensures) c.in_ok-segment.ensures)

@@ -10,13 +10,13 @@ ghost use Rattle.segment_lang.specs.Reading.{form_of};
 ghost use Rattle.segment_lang.specs.Seen.{deed_of, deed_reader_of, found_in, place_of, reader_of, with_rest};
 ghost use Rattle.segment_lang.specs.Tokens.{behind_word, is_unbroken, up_to_blank};
 
+use crate::blanks::at_end;
 use crate::buffer::LineBuffer;
 use crate::commands::Deed;
-use crate::elements::{read_append, read_assign, read_erase, read_insert, read_reserve, read_set};
-use crate::pairs::{key_and_pair, read_lookup, read_remove};
 use crate::readers::{
-    is_alone, key_and_literal, key_and_number, only_key, only_number, read_alone, read_construct,
-    read_construct_it, read_destroy, read_destroy_ptr, read_find, read_find_or_construct,
+    key_and_literal, key_and_number, key_and_pair, key_number_literal, only_key, only_number,
+    read_alone, read_append, read_assign, read_construct, read_construct_it, read_destroy,
+    read_destroy_ptr, read_find, read_find_or_construct,
 };
 use crate::words::ends_word;
 
@@ -253,16 +253,16 @@ pub fn read_deed<'a>(
         DeedForm::DestroyPtr => read_destroy_ptr(bytes),
         DeedForm::Show => only_key(bytes, scratch).map(Deed::Show),
         DeedForm::Info => only_key(bytes, scratch).map(Deed::Info),
-        DeedForm::Set => read_set(bytes, scratch),
-        DeedForm::Insert => read_insert(bytes, scratch),
-        DeedForm::Erase => read_erase(bytes, scratch),
-        DeedForm::Reserve => read_reserve(bytes, scratch),
+        DeedForm::Set => key_number_literal(bytes, scratch).map(Deed::Set),
+        DeedForm::Insert => key_number_literal(bytes, scratch).map(Deed::Insert),
+        DeedForm::Erase => key_and_number(bytes, scratch).map(Deed::Erase),
+        DeedForm::Reserve => key_and_number(bytes, scratch).map(Deed::Reserve),
         DeedForm::Shrink => only_key(bytes, scratch).map(Deed::Shrink),
         DeedForm::Clear => only_key(bytes, scratch).map(Deed::Clear),
         DeedForm::Assign => read_assign(bytes, scratch),
         DeedForm::Append => read_append(bytes, scratch),
-        DeedForm::Lookup => read_lookup(bytes, scratch),
-        DeedForm::Remove => read_remove(bytes, scratch),
+        DeedForm::Lookup => key_and_literal(bytes, scratch).map(Deed::Lookup),
+        DeedForm::Remove => key_and_literal(bytes, scratch).map(Deed::Remove),
         DeedForm::ListNames => read_alone(Deed::ListNames, bytes),
         DeedForm::ListKinds => read_alone(Deed::ListKinds, bytes),
         DeedForm::Blocks => read_alone(Deed::Blocks, bytes),
@@ -283,7 +283,7 @@ pub fn is_command(form: CommandForm, bytes: &[u8], scratch: &mut LineBuffer) -> 
     ensures { result ≡ is_some (option_and_then (reader_of form (whole_language current)) (words bytes.now)) }
 {
     match form {
-        CommandForm::Size => is_alone(bytes),
+        CommandForm::Size => at_end(bytes),
         CommandForm::Get => key_and_number(bytes, scratch).is_some(),
         CommandForm::Push => key_and_literal(bytes, scratch).is_some(),
         CommandForm::Put => key_and_pair(bytes, scratch).is_some(),

@@ -1,5 +1,5 @@
 //! Vectors that take what a caller writes, and lose elements: the kind of the object says which call it is.
-ghost use Rattle.std.specs.Prelude.{◌≡◌, MatchResult, OnErr};
+ghost use Rattle.std.specs.Prelude.{◌≡◌, OnErr};
 ghost use Rattle.seg_types.specs.declared.kinds.Kind.TheVariants.{Strings as StringsKind, Vector as VectorOf};
 ghost use Rattle.seg_types.specs.Commands.{Erase, Quoted};
 ghost use Rattle.seg_types.specs.Keys.{key_seen};
@@ -8,7 +8,7 @@ ghost use Rattle.seg_types.specs.Values.{kind_of_scalar};
 ghost use Rattle.seg_types.specs.Written.{NoText, literal_seen};
 ghost use Rattle.segment_manager.specs.objects.Located.{IsObject};
 ghost use Rattle.segment_manager.specs.State.{TakesStep, TakesStepOfKind, UnchangedIfRefused, done_answer};
-ghost use Rattle.segment_values.specs.Changes.{IsNewScalar, IsNoElement, command_at};
+ghost use Rattle.segment_values.specs.Changes.{command_at};
 
 use crate::objects::object_to_change;
 use seg_types::{Key, Kind, Refusal, ScalarKind, ScalarValue, WrittenValue, by_kind, by_value};
@@ -21,15 +21,6 @@ pub enum InsertSpot {
     End,
     /// Where so many others stand before it.
     Before(u64),
-}
-
-/// A new element of a vector.
-#[derive(Clone, Copy)]
-pub enum NewElement<'a> {
-    /// A scalar, for a vector of scalars of its kind.
-    Scalar(ScalarValue),
-    /// A text, for a vector of strings.
-    Text(&'a [u8]),
 }
 
 /// Puts what is written into the vector of a key, where the spot says.
@@ -54,37 +45,14 @@ pub fn add<L: WrittenValue>(
     ensures refused { UnchangedIfRefused segment.old segment.new result }
     ensures scalar { NoText (L.literal value.now) → OnErr result (segment.new ≡ segment.old) }
 {
-    let (object, element) = new_element(segment, key, value, room)?;
-    match element {
-        NewElement::Scalar(value) => add_scalar(segment, object, spot, value),
-        NewElement::Text(text) => add_text(segment, object, spot, text),
-    }
-}
-
-/// Returns the vector of a key, and what is written as an element of it.
-///
-/// # Errors
-///
-/// `ReadOnly` if the segment is open for reading. Otherwise `NotFound` if no object has the key, `WrongKind` if it is
-/// no vector or the value has not the form of its elements, `OutOfRange` if the value is not in their range.
-fn new_element<'a, L: WrittenValue>(
-    segment: &Segment,
-    key: &Key,
-    value: &'a L,
-    room: &'a mut L::Room,
-) -> Result<(Object, NewElement<'a>), Refusal>
-    requires { L.fits value.now }
-    ensures { MatchResult result (IsNewScalar segment.now (key_seen key.now) (L.literal value.now))
-        (IsNoElement segment.now (key_seen key.now) (L.literal value.now)) }
-{
     let object = object_to_change(segment, key)?;
     match object.kind {
         Kind::Vector(kind) => {
             let scalar = value.value_of(kind)?;
-            Ok((object, NewElement::Scalar(scalar)))
+            add_scalar(segment, object, spot, scalar)
         }
         Kind::Strings => match value.text(room) {
-            Some(text) => Ok((object, NewElement::Text(text))),
+            Some(text) => add_text(segment, object, spot, text),
             None => Err(Refusal::WrongKind),
         },
         _ => Err(Refusal::WrongKind),

@@ -1,32 +1,39 @@
-use Rattle.std.proofs.Common.{subst}
-use Rattle.seg_types.specs.Keys.{key_seen}
-use Rattle.segment_values.specs.Changes.{IsNewElement, IsTextElementFor}
+use Rattle.segment_manager.proofs.CommandLaws.{element-read, no_text-element, no_value-element, no_vector-element}
+use Rattle.segment_manager.proofs.CommandLaws.{to-change, unchangeable-element}
 use Rattle.segment_values.proofs.Exits.{exit-is}
 use Rattle.segment_values.proofs.elements.Insertion.{add-refused, scalar-added, text-added}
 use Rattle.segment_values.proofs.vectors.add.Goals as goal
 
 pub returns-in_err-object-clause-step : goal.returns-in_err-object-clause-step
 returns-in_err-object-clause-step g c =
-    rw (exit-is c.from_residual.ensures.1) (add-refused c.args.spot c.in_err-object.ensures)
+    rw (exit-is c.from_residual.ensures.1) (add-refused c.args.spot (unchangeable-element c.in_err-object.ensures _))
 
-pub returns-in-Scalar-clause-step : goal.returns-in-Scalar-clause-step
-returns-in-Scalar-clause-step g c =
-    scalar-added c.in_ok-object.ensures.0 c.args.spot
-    (subst (IsNewElement c.args.segment.now (key_seen c.args.key.now) (g.L.WrittenValue.literal c.args.value.now))
-    c.in-Scalar.is c.in_ok-object.ensures.1)
-    c.add_scalar.ensures.step
+pub returns-in_err-scalar-in-Vector-clause-step : goal.returns-in_err-scalar-in-Vector-clause-step
+returns-in_err-scalar-in-Vector-clause-step g c =
+    rw (exit-is c.from_residual-in_err-scalar-in-Vector.ensures.1)
+    (add-refused c.args.spot
+    (no_value-element c.in_ok-object.ensures c.in-Vector.is c.in_err-scalar-in-Vector.ensures))
 
-pub returns-in-Text-clause-step : goal.returns-in-Text-clause-step
-returns-in-Text-clause-step g c =
-    text-added c.in_ok-object.ensures.0 c.args.spot
-    (subst (IsNewElement c.args.segment.now (key_seen c.args.key.now) (g.L.WrittenValue.literal c.args.value.now))
-    c.in-Text.is c.in_ok-object.ensures.1)
+pub returns-in_ok-scalar-in-Vector-clause-step : goal.returns-in_ok-scalar-in-Vector-clause-step
+returns-in_ok-scalar-in-Vector-clause-step g c =
+    scalar-added c.in_ok-object.ensures.located c.args.spot
+    (element-read c.in_ok-object.ensures c.in-Vector.is c.in_ok-scalar-in-Vector.scalar
+    c.in_ok-scalar-in-Vector.ensures) c.add_scalar.ensures.step
+
+pub returns-in-Some-clause-step : goal.returns-in-Some-clause-step
+returns-in-Some-clause-step g c =
+    text-added c.in_ok-object.ensures.located c.args.spot
+    (record { of_kind = to-change c.in_ok-object.ensures c.in-Strings.is; is = c.in-Some.ensures })
     c.add_text.ensures.step
 
-pub returns-in-Text-clause-scalar : goal.returns-in-Text-clause-scalar
-returns-in-Text-clause-scalar g c none =
-    let e : IsTextElementFor c.args.segment.now (key_seen c.args.key.now) (g.L.WrittenValue.literal c.args.value.now)
-    c.in-Text.text.now =
-    subst (IsNewElement c.args.segment.now (key_seen c.args.key.now) (g.L.WrittenValue.literal c.args.value.now))
-    c.in-Text.is c.in_ok-object.ensures.1 in
-    absurd (none c.in-Text.text.now e.is)
+pub returns-in-Some-clause-scalar : goal.returns-in-Some-clause-scalar
+returns-in-Some-clause-scalar g c none = absurd (none c.in-Some.text.now c.in-Some.ensures)
+
+pub returns-in-None-clause-step : goal.returns-in-None-clause-step
+returns-in-None-clause-step g c =
+    add-refused c.args.spot (no_text-element (to-change c.in_ok-object.ensures c.in-Strings.is) c.in-None.ensures)
+
+pub returns-in_default-clause-step : goal.returns-in_default-clause-step
+returns-in_default-clause-step g c =
+    add-refused c.args.spot
+    (no_vector-element c.in_ok-object.ensures c.in_default.not-Vector c.in_default.not-Strings _)

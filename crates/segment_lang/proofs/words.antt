@@ -7,3 +7,4 @@ pub mod Readers
 pub mod FirstWords
 pub mod Lengths
 pub mod LongLines
+pub mod LineFronts

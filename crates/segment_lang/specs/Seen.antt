@@ -34,6 +34,8 @@ use Rattle.seg_types.specs.declared.refusals.LineError.{LineError}
 use Rattle.seg_types.specs.declared.refusals.LineError.TheVariants.{UnknownCommand, LineTooLong, BadSyntax}
 use Rattle.segment_lang.specs.declared.forms.CommandForm.{CommandForm}
 use Rattle.segment_lang.specs.declared.forms.CommandForm.TheVariants as form
+use Rattle.segment_lang.specs.declared.forms.ElementForm.{ElementForm}
+use Rattle.segment_lang.specs.declared.forms.ElementForm.TheVariants as element
 use Rattle.segment_lang.specs.declared.forms.DeedForm.{DeedForm}
 use Rattle.segment_lang.specs.declared.forms.DeedForm.TheVariants as deed
 
@@ -81,16 +83,16 @@ deed_of (Destroy key) = asked.Destroy (index_key_seen key)
 deed_of (DestroyPtr n) = asked.DestroyPtr n
 deed_of (Show key) = asked.Show (key_seen key)
 deed_of (Info key) = asked.Info (key_seen key)
-deed_of (Set key i value) = asked.Set (key_seen key) i (literal_of value)
-deed_of (Insert key i value) = asked.Insert (key_seen key) i (literal_of value)
-deed_of (Erase key i) = asked.Erase (key_seen key) i
-deed_of (Reserve key n) = asked.Reserve (key_seen key) n
+deed_of (Set x) = asked.Set (key_seen x.0) x.1 (literal_of x.2)
+deed_of (Insert x) = asked.Insert (key_seen x.0) x.1 (literal_of x.2)
+deed_of (Erase x) = asked.Erase (key_seen x.0) x.1
+deed_of (Reserve x) = asked.Reserve (key_seen x.0) x.1
 deed_of (Shrink key) = asked.Shrink (key_seen key)
 deed_of (Clear key) = asked.Clear (key_seen key)
 deed_of (Assign key values) = asked.Assign (key_seen key) values
 deed_of (Append key t) = asked.Append (key_seen key) t
-deed_of (Lookup key at) = asked.Lookup (key_seen key) (literal_of at)
-deed_of (Remove key at) = asked.Remove (key_seen key) (literal_of at)
+deed_of (Lookup x) = asked.Lookup (key_seen x.0) (literal_of x.1)
+deed_of (Remove x) = asked.Remove (key_seen x.0) (literal_of x.1)
 deed_of ListNames = asked.ListNames
 deed_of ListKinds = asked.ListKinds
 deed_of Blocks = asked.ListBlocks
@@ -115,6 +117,15 @@ is_wrong asked.Nothing = false
 is_wrong (asked.Asked c) = false
 is_wrong r = true
 
+-- the form of what stands behind the word of a deed on elements or pairs
+abbrev pub element_reader_of : ElementForm → Reader
+element_reader_of element.Set = with_key_number_literal asked.Set
+element_reader_of element.Insert = with_key_number_literal asked.Insert
+element_reader_of element.Erase = with_key_number asked.Erase
+element_reader_of element.Reserve = with_key_number asked.Reserve
+element_reader_of element.Lookup = with_key_literal asked.Lookup
+element_reader_of element.Remove = with_key_literal asked.Remove
+
 -- the form of what stands behind the word of a deed
 abbrev pub deed_reader_of : DeedForm → Reader
 deed_reader_of deed.Construct = making asked.Construct new_key
@@ -125,16 +136,11 @@ deed_reader_of deed.Destroy = with_key asked.Destroy name_key
 deed_reader_of deed.DestroyPtr = destroying_ptr
 deed_reader_of deed.Show = with_key asked.Show key_of
 deed_reader_of deed.Info = with_key asked.Info key_of
-deed_reader_of deed.Set = with_key_number_literal asked.Set
-deed_reader_of deed.Insert = with_key_number_literal asked.Insert
-deed_reader_of deed.Erase = with_key_number asked.Erase
-deed_reader_of deed.Reserve = with_key_number asked.Reserve
+deed_reader_of (deed.Element e) = element_reader_of e
 deed_reader_of deed.Shrink = with_key asked.Shrink key_of
 deed_reader_of deed.Clear = with_key asked.Clear key_of
 deed_reader_of deed.Assign = assigning
 deed_reader_of deed.Append = appending
-deed_reader_of deed.Lookup = with_key_literal asked.Lookup
-deed_reader_of deed.Remove = with_key_literal asked.Remove
 deed_reader_of deed.ListNames = alone asked.ListNames
 deed_reader_of deed.ListKinds = alone asked.ListKinds
 deed_reader_of deed.Blocks = alone asked.ListBlocks

@@ -7,16 +7,17 @@ ghost use Rattle.raw_region.specs.Format.{current};
 ghost use Rattle.segment_lang.specs.Words.{is_word, words};
 ghost use Rattle.segment_lang.specs.Language.{whole_language};
 ghost use Rattle.segment_lang.specs.Reading.{form_of};
-ghost use Rattle.segment_lang.specs.Seen.{deed_of, deed_reader_of, found_in, place_of, reader_of, with_rest};
+ghost use Rattle.segment_lang.specs.Seen.{deed_of, deed_reader_of, element_reader_of, found_in, place_of, reader_of};
+ghost use Rattle.segment_lang.specs.Seen.{with_rest};
 ghost use Rattle.segment_lang.specs.Tokens.{behind_word, is_unbroken, up_to_blank};
 
+use crate::blanks::at_end;
 use crate::buffer::LineBuffer;
 use crate::commands::Deed;
-use crate::elements::{read_append, read_assign, read_erase, read_insert, read_reserve, read_set};
-use crate::pairs::{key_and_pair, read_lookup, read_remove};
 use crate::readers::{
-    is_alone, key_and_literal, key_and_number, only_key, only_number, read_alone, read_construct,
-    read_construct_it, read_destroy, read_destroy_ptr, read_find, read_find_or_construct,
+    key_and_literal, key_and_number, key_and_pair, key_number_literal, only_key, only_number,
+    read_alone, read_append, read_assign, read_construct, read_construct_it, read_destroy,
+    read_destroy_ptr, read_find, read_find_or_construct,
 };
 use crate::words::ends_word;
 
@@ -56,14 +57,8 @@ pub enum DeedForm {
     Show,
     /// A key.
     Info,
-    /// A key, a number and a value.
-    Set,
-    /// A key, a number and a value.
-    Insert,
-    /// A key and a number.
-    Erase,
-    /// A key and a number.
-    Reserve,
+    /// The form of a deed on elements.
+    Element(ElementForm),
     /// A key.
     Shrink,
     /// A key.
@@ -72,10 +67,6 @@ pub enum DeedForm {
     Assign,
     /// A key and a text.
     Append,
-    /// A key and a value.
-    Lookup,
-    /// A key and a value.
-    Remove,
     /// Nothing: the word alone is the command.
     ListNames,
     /// Nothing: the word alone is the command.
@@ -102,6 +93,30 @@ pub enum DeedForm {
     AllDeallocated,
 }
 
+/// How what stands after the command word of a deed on elements or pairs is written.
+#[derive(Clone, Copy, Debug, PartialEq, Eq)]
+pub enum ElementForm {
+    /// A key, a number and a value.
+    Set,
+    /// A key, a number and a value.
+    Insert,
+    /// A key and a number.
+    Erase,
+    /// A key and a number.
+    Reserve,
+    /// A key and a value.
+    Lookup,
+    /// A key and a value.
+    Remove,
+}
+
+/// The form of a deed on elements.
+macro_rules! element {
+    ($form:ident) => {
+        CommandForm::Deed(DeedForm::Element(ElementForm::$form))
+    };
+}
+
 /// The form of a deed.
 macro_rules! deed {
     ($form:ident) => {
@@ -111,25 +126,28 @@ macro_rules! deed {
 
 /// The command words, each with its form, by the place that `place_of` gives them.
 static FORMS: [&[(&[u8], CommandForm)]; 32] = [
-    &[(b"remove", deed!(Remove))],
+    &[(b"remove", element!(Remove))],
     &[(b"clear", deed!(Clear)), (b"append", deed!(Append))],
     &[(b"push", CommandForm::Push)],
     &[],
     &[
-        (b"reserve", deed!(Reserve)),
+        (b"reserve", element!(Reserve)),
         (b"free", deed!(Free)),
         (b"reserve_named", deed!(ReserveNamed)),
         (b"reserve_unique", deed!(ReserveUnique)),
     ],
     &[],
-    &[(b"lookup", deed!(Lookup)), (b"zero_free", deed!(ZeroFree))],
+    &[
+        (b"lookup", element!(Lookup)),
+        (b"zero_free", deed!(ZeroFree)),
+    ],
     &[(b"sanity", deed!(Sanity))],
     &[(b"put", CommandForm::Put)],
     &[(b"all_deallocated", deed!(AllDeallocated))],
     &[],
     &[
-        (b"set", deed!(Set)),
-        (b"erase", deed!(Erase)),
+        (b"set", element!(Set)),
+        (b"erase", element!(Erase)),
         (b"unique", deed!(ListKinds)),
     ],
     &[],
@@ -156,7 +174,7 @@ static FORMS: [&[(&[u8], CommandForm)]; 32] = [
         (b"find", deed!(Find)),
         (b"find_or_construct", deed!(FindOrConstruct)),
     ],
-    &[(b"insert", deed!(Insert))],
+    &[(b"insert", element!(Insert))],
     &[
         (b"blocks", deed!(Blocks)),
         (b"num_named", deed!(NumNamed)),
@@ -235,6 +253,26 @@ pub fn split_form(line: &[u8]) -> Option<(CommandForm, &[u8])>
     find_form(&FORMS, line)
 }
 
+/// Returns the deed on elements or pairs that what stands after a command word of this form asks for.
+#[inline(never)]
+fn read_element<'a>(
+    form: ElementForm,
+    bytes: &'a [u8],
+    scratch: &'a mut LineBuffer,
+) -> Option<Deed<'a>>
+    ensures { option_map deed_of result
+        ≡ option_and_then (element_reader_of form (whole_language current)) (words bytes.now) }
+{
+    match form {
+        ElementForm::Set => key_number_literal(bytes, scratch).map(Deed::Set),
+        ElementForm::Insert => key_number_literal(bytes, scratch).map(Deed::Insert),
+        ElementForm::Erase => key_and_number(bytes, scratch).map(Deed::Erase),
+        ElementForm::Reserve => key_and_number(bytes, scratch).map(Deed::Reserve),
+        ElementForm::Lookup => key_and_literal(bytes, scratch).map(Deed::Lookup),
+        ElementForm::Remove => key_and_literal(bytes, scratch).map(Deed::Remove),
+    }
+}
+
 /// Returns the deed that what stands after a command word of this form asks for.
 pub fn read_deed<'a>(
     form: DeedForm,
@@ -253,16 +291,11 @@ pub fn read_deed<'a>(
         DeedForm::DestroyPtr => read_destroy_ptr(bytes),
         DeedForm::Show => only_key(bytes, scratch).map(Deed::Show),
         DeedForm::Info => only_key(bytes, scratch).map(Deed::Info),
-        DeedForm::Set => read_set(bytes, scratch),
-        DeedForm::Insert => read_insert(bytes, scratch),
-        DeedForm::Erase => read_erase(bytes, scratch),
-        DeedForm::Reserve => read_reserve(bytes, scratch),
+        DeedForm::Element(form) => read_element(form, bytes, scratch),
         DeedForm::Shrink => only_key(bytes, scratch).map(Deed::Shrink),
         DeedForm::Clear => only_key(bytes, scratch).map(Deed::Clear),
         DeedForm::Assign => read_assign(bytes, scratch),
         DeedForm::Append => read_append(bytes, scratch),
-        DeedForm::Lookup => read_lookup(bytes, scratch),
-        DeedForm::Remove => read_remove(bytes, scratch),
         DeedForm::ListNames => read_alone(Deed::ListNames, bytes),
         DeedForm::ListKinds => read_alone(Deed::ListKinds, bytes),
         DeedForm::Blocks => read_alone(Deed::Blocks, bytes),
@@ -283,7 +316,7 @@ pub fn is_command(form: CommandForm, bytes: &[u8], scratch: &mut LineBuffer) -> 
     ensures { result ≡ is_some (option_and_then (reader_of form (whole_language current)) (words bytes.now)) }
 {
     match form {
-        CommandForm::Size => is_alone(bytes),
+        CommandForm::Size => at_end(bytes),
         CommandForm::Get => key_and_number(bytes, scratch).is_some(),
         CommandForm::Push => key_and_literal(bytes, scratch).is_some(),
         CommandForm::Put => key_and_pair(bytes, scratch).is_some(),

@@ -17,10 +17,8 @@ mod values;
 
 // Commands.
 mod commands;
-mod elements;
 mod forms;
 mod line;
-mod pairs;
 mod readers;
 
 // Answers.
@@ -31,18 +29,18 @@ mod texts;
 // Laws of the definitions.
 mod theorems;
 
+pub use blanks::at_end;
 pub use buffer::{Buffer, LineBuffer};
 pub use commands::{Content, Deed, LineStart};
 pub use errors::{put_line_error, put_refusal};
-pub use forms::{CommandForm, DeedForm, read_deed};
+pub use forms::{CommandForm, DeedForm, ElementForm, read_deed};
 pub use kinds::kind_of_word;
 pub use line::{MAX_LINE_LEN, line_error, line_start, without_return};
 pub use lists::{Literals, TextLiterals};
 pub use literals::{Literal, literal_of, scalar_of};
 pub use numbers::{WholeNumber, number_of, whole_of};
-pub use pairs::key_and_pair;
 pub use pieces::{Piece, put_pieces};
-pub use readers::{is_alone, key_and_literal, key_and_number, only_key};
+pub use readers::{key_and_literal, key_and_number, key_and_pair, only_key};
 pub use seg_types::LineError;
 pub use texts::{
     digit_text, put_kind, put_name, put_number, put_number_line, put_text, put_value,

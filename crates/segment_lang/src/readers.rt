@@ -4,11 +4,11 @@ ghost use Rattle.std.specs.Prelude.{◌≡◌, ℕ, Some, None, option_and_then,
 ghost use Rattle.seg_types.specs.Commands as asked;
 ghost use Rattle.seg_types.specs.Keys.{key_seen};
 ghost use Rattle.seg_types.specs.Names.{Key as AskedKey};
-ghost use Rattle.segment_lang.specs.Reading.{finding, key_of, name_key, new_key, with_key, with_key_literal};
-ghost use Rattle.segment_lang.specs.Reading.{with_key_number, with_key_number_literal, with_number};
+ghost use Rattle.segment_lang.specs.Reading.{appending, finding, key_of, name_key, new_key, putting, with_key};
+ghost use Rattle.segment_lang.specs.Reading.{with_key_literal, with_key_number, with_key_number_literal, with_number};
 ghost use Rattle.segment_lang.specs.Tokens.{at_end, only_word};
-ghost use Rattle.segment_lang.specs.Arguments.{handle_of, making_at, making_each_at, command_of_one, command_of_three};
-ghost use Rattle.segment_lang.specs.Arguments.{command_of_two};
+ghost use Rattle.segment_lang.specs.Arguments.{assigning_at, command_of_one, command_of_three, command_of_two};
+ghost use Rattle.segment_lang.specs.Arguments.{handle_of, making_at, making_each_at};
 ghost use Rattle.segment_lang.specs.Seen.{deed_of, literal_of};
 
 use crate::blanks::at_end;
@@ -17,10 +17,11 @@ use crate::commands::Deed;
 use crate::contents::read_content;
 use crate::keys::{handle_of, index_key, index_key_for, key_of, new_key_for};
 use crate::kinds::{counted_kind, kind_of_word};
-use crate::literals::{Literal, literal_of};
+use crate::lists::read_literals;
+use crate::literals::{Literal, literal_of, quoted_of};
 use crate::numbers::number;
 use crate::values::read_values;
-use crate::words::{next_two, only_word, three_words, two_words};
+use crate::words::{next_two, next_word, only_word, three_words, two_words};
 use seg_types::{Key, Kind};
 
 /// Returns a kind with a count, a key and what an object of the kind is made with: one value, any number of them or
@@ -135,7 +136,7 @@ pub fn key_and_literal<'a>(
 }
 
 /// Returns a key, a number and a value, whatever they are read for.
-#[inline(always)]
+#[inline(never)]
 pub fn key_number_literal<'a>(
     bytes: &'a [u8],
     scratch: &'a mut LineBuffer,
@@ -151,6 +152,45 @@ pub fn key_number_literal<'a>(
     Some((key, index, value))
 }
 
+/// Returns a key and two values, of a pair that is put in.
+#[inline(never)]
+pub fn key_and_pair<'a>(
+    bytes: &'a [u8],
+    scratch: &'a mut LineBuffer,
+) -> Option<(Key<'a>, Literal<'a>, Literal<'a>)>
+    ensures { option_map (λ x. asked.Put (key_seen x.0) (literal_of x.1) (literal_of x.2)) result
+        ≡ command_of_three putting bytes.now }
+{
+    let (key, at, value) = three_words(bytes)?;
+    let key = key_of(key, scratch)?;
+    let at = literal_of(at)?;
+    let value = literal_of(value)?;
+    Some((key, at, value))
+}
+
+/// Returns a key and any number of values, of all new elements.
+#[tactic(auto, unfolding(crate::specs::Arguments::assigning_at))]
+#[inline(never)]
+pub fn read_assign<'a>(bytes: &'a [u8], scratch: &'a mut LineBuffer) -> Option<Deed<'a>>
+    ensures { option_map deed_of result ≡ assigning_at bytes.now }
+{
+    let (key, rest) = next_word(bytes)?;
+    let key = key_of(key, scratch)?;
+    let values = read_literals(rest)?;
+    Some(Deed::Assign { key, values })
+}
+
+/// Returns a key and a text, of new last bytes.
+#[inline(never)]
+pub fn read_append<'a>(bytes: &'a [u8], scratch: &'a mut LineBuffer) -> Option<Deed<'a>>
+    ensures { option_map deed_of result ≡ command_of_two appending bytes.now }
+{
+    let (key, text) = two_words(bytes)?;
+    let key = key_of(key, scratch)?;
+    let text = quoted_of(text)?;
+    Some(Deed::Append { key, text })
+}
+
 /// Returns a number, whatever it is read for.
 pub fn only_number(bytes: &[u8]) -> Option<u64>
     ensures { (f : ℕ → asked.Command) → option_map f result ≡ command_of_one (with_number f) bytes.now }
@@ -159,19 +199,9 @@ pub fn only_number(bytes: &[u8]) -> Option<u64>
     number(word)
 }
 
-/// Tells whether nothing stands after a command word.
-pub fn is_alone(bytes: &[u8]) -> bool
-    ensures { result ≡ at_end bytes.now }
-{
-    at_end(bytes)
-}
-
 /// Returns the deed, where nothing stands after its word.
 pub fn read_alone<'a>(deed: Deed<'a>, bytes: &[u8]) -> Option<Deed<'a>>
     ensures { option_map deed_of result ≡ (if at_end bytes.now then Some (deed_of deed.entry) else None) }
 {
-    if !is_alone(bytes) {
-        return None;
-    }
-    Some(deed)
+    at_end(bytes).then_some(deed)
 }

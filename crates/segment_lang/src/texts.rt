@@ -5,7 +5,6 @@ ghost use Rattle.std.specs.Prelude.{◌≡◌, ◌==◌, ◌||◌, ◌-◌, ◌^
 ghost use Rattle.std.specs.Fmt.{signed_decimal};
 ghost use Rattle.std.specs.List.{list_all};
 ghost use Rattle.raw_region.specs.Device.{Writes};
-ghost use Rattle.seg_types.specs.declared.kinds.Kind.TheVariants.{Map, Vector};
 ghost use Rattle.seg_types.specs.Values.{kind_of_scalar, value_of_scalar};
 ghost use Rattle.segment_lang.specs.Words.{is_bare_name, is_digit, is_letter};
 ghost use Rattle.segment_lang.specs.Texts.{digit_text, item_text, kind_text, name_text, quoted_text, scalar_text};
@@ -14,7 +13,7 @@ ghost use Rattle.segment_lang.specs.Pieces.{part_text};
 
 use itoa::{Buffer, write_digits};
 use raw_region::{DeviceFault, Sink, write_all};
-use seg_types::{Kind, ScalarKind, ScalarValue, is_bare_name};
+use seg_types::{Kind, ScalarValue, is_bare_name};
 
 /// Writes a number in plain decimal.
 #[inline(always)]
@@ -174,31 +173,6 @@ pub fn put_parts<S: Sink>(out: &mut S, parts: &[&[u8]]) -> Result<(), DeviceFaul
     Ok(())
 }
 
-/// Writes the kind of a vector of such elements.
-fn put_vector_kind<S: Sink>(out: &mut S, element: ScalarKind) -> Result<(), DeviceFault>
-    requires { (S.history out.old).failures < 2 ^ 64 - 1 }
-    ensures { Writes (S.history out.old) (S.history out.new) result (kind_text (Vector element)) }
-{
-    put_parts(out, &[b"vec<", element.as_str().as_bytes(), b">"])
-}
-
-/// Writes the kind of a map of such pairs.
-fn put_map_kind<S: Sink>(out: &mut S, key: ScalarKind, value: ScalarKind) -> Result<(), DeviceFault>
-    requires { (S.history out.old).failures < 2 ^ 64 - 1 }
-    ensures { Writes (S.history out.old) (S.history out.new) result (kind_text (Map key value)) }
-{
-    put_parts(
-        out,
-        &[
-            b"map<",
-            key.as_str().as_bytes(),
-            b",",
-            value.as_str().as_bytes(),
-            b">",
-        ],
-    )
-}
-
 /// Writes a kind, without blanks.
 pub fn put_kind<S: Sink>(out: &mut S, kind: Kind) -> Result<(), DeviceFault>
     requires { (S.history out.old).failures < 2 ^ 64 - 1 }
@@ -207,8 +181,17 @@ pub fn put_kind<S: Sink>(out: &mut S, kind: Kind) -> Result<(), DeviceFault>
     match kind {
         Kind::Scalar(kind) => write_all(out, kind.as_str().as_bytes()),
         Kind::String => write_all(out, b"string"),
-        Kind::Vector(element) => put_vector_kind(out, element),
-        Kind::Map(key, value) => put_map_kind(out, key, value),
+        Kind::Vector(element) => put_parts(out, &[b"vec<", element.as_str().as_bytes(), b">"]),
+        Kind::Map(key, value) => put_parts(
+            out,
+            &[
+                b"map<",
+                key.as_str().as_bytes(),
+                b",",
+                value.as_str().as_bytes(),
+                b">",
+            ],
+        ),
         Kind::Strings => write_all(out, b"vec<string>"),
     }
 }

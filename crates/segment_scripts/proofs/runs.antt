@@ -4,4 +4,3 @@ pub mod Ends
 pub mod Stops
 pub mod Lines
 pub mod LineEnds
-pub mod LineFronts

@@ -115,23 +115,13 @@ fn assign_texts(
     ensures refused { UnchangedIfRefused segment.old segment.new result }
 {
     literal_texts(values, row)?;
-    assign_read(segment, object, row)
-}
-
-/// Makes the texts of a row those of the vector of strings.
-fn assign_read(segment: &mut Segment, object: Object, row: &TextRow) -> Result<(), Refusal>
-    requires { IsObject object segment.old }
-    ensures step { TakesStepOfKind segment.old segment.new (ByHandle object.handle) StringsKind
-        (Assign (ByHandle object.handle) (map AskedQuoted row.now)) (done_answer result) }
-    ensures refused { UnchangedIfRefused segment.old segment.new result }
-{
     if FEW < row.len() {
         return assign_many(segment, object, row);
     }
     segment.texts_assign(&object, row.few().as_slice())
 }
 
-/// Makes these texts those of the vector of strings, however many they are.
+/// Makes the texts of a row those of the vector of strings, however many they are.
 #[inline(never)]
 fn assign_many(segment: &mut Segment, object: Object, row: &TextRow) -> Result<(), Refusal>
     requires { IsObject object segment.old }

@@ -18,7 +18,7 @@ use crate::replies::{done, reply, truth};
 use crate::showing::put_get_answer;
 use raw_region::{DeviceFault, Sink};
 use segment_lang::{
-    CommandForm, DeedForm, LineError, LineStart, Piece, is_alone, key_and_literal, key_and_number,
+    CommandForm, DeedForm, LineError, LineStart, Piece, at_end, key_and_literal, key_and_number,
     key_and_pair, line_start, only_key, put_number_line, put_pieces, read_deed,
 };
 use segment_manager::Segment;
@@ -79,7 +79,7 @@ fn answer_size<W: Sink>(
     ensures { Responds segment.now segment.now (W.history out.old) (W.history out.new) result
         (reading_by form.Size rest.now) }
 {
-    if !is_alone(rest) {
+    if !at_end(rest) {
         return put_wrong(LineError::BadSyntax, out);
     }
     Answered::Done.once(put_number_line(out, b"", segment.size()))

@@ -1,6 +1,7 @@
 -- Readers that want two words, three, or two and those behind them.
 use Rattle.std.proofs.Common.{◌≡◌, ℕ, Bool, true, false, cond, List, [], ◌∷◌, Option, Some, None, ap, sym, refl, ◌∙◌}
 use Rattle.std.specs.Prelude.{IsSomeAnd, MatchOption, is_some}
+use Rattle.std.specs.Bool.{then_some as holds_some}
 use Rattle.std.specs.Option.{option_map, option_and_then}
 use Rattle.segment_lang.specs.Words.{Word, words}
 use Rattle.segment_lang.specs.Tokens.{next_two, next_word, only_word, two_words, three_words}
@@ -66,6 +67,11 @@ map_made g f (Some a) (Some b) h = ap (λ b. Some (g b)) h
 pub some_of : {A B : Type 0} (f : A → B) (x : Option A) (y : Option B) → option_map f x ≡ y → is_some x ≡ is_some y
 some_of f None y h = ap is_some h
 some_of f (Some a) y h = ap is_some h
+
+-- a value is there where something holds, and a command is made of it
+pub then_made : {A B : Type 0} (g : A → B) (b : Bool) (x : A) → option_map g (holds_some b x) ≡ cond b (Some (g x)) None
+then_made g true x = refl
+then_made g false x = refl
 
 -- a value at the end is there if it is the end
 pub end_some : {A : Type 0} (a : A) (b : Bool) → is_some (cond b (Some a) None) ≡ b

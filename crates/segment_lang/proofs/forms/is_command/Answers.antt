@@ -8,7 +8,7 @@ use Rattle.segment_lang.proofs.forms.is_command.Goals as goal
 
 pub returns-in-Size : goal.returns-in-Size
 returns-in-Size c =
-    rw c.in-Size.is (c.is_alone.ensures ∙ sym (end_some asked.Size _)
+    rw c.in-Size.is (c.at_end.ensures ∙ sym (end_some asked.Size _)
     ∙ sym (ap is_some (alone_at_end asked.Size c.args.bytes.now)))
 
 pub returns-in-Get : goal.returns-in-Get

@@ -9,17 +9,17 @@ use Rattle.segment_scripts.proofs.segments.RefusedLines.{responds-wrong}
 use Rattle.segment_scripts.proofs.segments.ZeroGaps.{responds-number}
 use Rattle.segment_scripts.proofs.segments.answer_size.Goals as goal
 
-pub returns-then-not-is_alone : goal.returns-then-not-is_alone
-returns-then-not-is_alone g c =
+pub returns-then-not-at_end : goal.returns-then-not-at_end
+returns-then-not-at_end g c =
     responds-wrong c.args.segment.now BadSyntax
     (sym (ap as_reading (alone_at_end Size c.args.rest.now
-    ∙ ap (λ (b : Bool). cond b (Some Size) None) (sym c.is_alone.ensures ∙ c.if-not-is_alone.true))))
+    ∙ ap (λ (b : Bool). cond b (Some Size) None) (sym c.at_end.ensures ∙ c.if-not-at_end.true))))
     c.put_wrong.ensures.output c.put_wrong.ensures.report
 
 pub returns : goal.returns
 returns g c =
     responds-number c.args.segment.now Size refl
     (sym (ap as_reading (alone_at_end Size c.args.rest.now
-    ∙ ap (λ (b : Bool). cond b (Some Size) None) (sym c.is_alone.ensures ∙ c.if-not-is_alone.false)))) c.size.ensures
+    ∙ ap (λ (b : Bool). cond b (Some Size) None) (sym c.at_end.ensures ∙ c.if-not-at_end.false)))) c.size.ensures
     (writes-once Done c.once.ensures c.put_number_line.ensures)
     (tells-once Done c.put_number_line.result c.once.ensures)

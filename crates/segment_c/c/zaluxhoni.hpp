@@ -681,12 +681,8 @@ struct placed_spot : spot {
     placed_spot() = default;
     placed_spot(const spot &object) : spot(object) {}
 
-    /// Returns how many values are still there. It has no branch, so that a loop that changes nothing asks once.
-    std::uint64_t in_place() const noexcept {
-        const zx_segment *const raw = of->raw();
-        const bool is_current = (raw->at != nullptr) & (raw->changes == changes);
-        return count & (std::uint64_t{0} - static_cast<std::uint64_t>(is_current));
-    }
+    /// Tells whether the value of an index is still there. A segment that was closed has changed, too.
+    bool has(std::uint64_t index) const noexcept { return of->raw()->changes == changes && index < count; }
 };
 
 /// Reads a text by a call that says how much room it needs.
@@ -759,8 +755,10 @@ template <class T> struct values {
         }
     }
     static T get(const placed_spot &of, std::uint64_t index) {
-        if (index < of.in_place()) return read(of.at, index);
-        const answer told = asked(of, index);
+        if (of.has(index)) return read(of.at, index);
+        // what [] gives has no place, as the compiler knows
+        if (__builtin_constant_p(of.count) && of.count == 0) return get(static_cast<const spot &>(of), index);
+        const answer told = asked(of.of, of.handle, index);
         check_code(told.code);
         return told.value;
     }
@@ -775,7 +773,7 @@ template <class T> struct values {
         }
     }
     static void set(const placed_spot &of, std::uint64_t index, const T &value) {
-        if (index < of.in_place() && (of.of->raw()->shared || lends(of))) write(of.at, index, value);
+        if (of.has(index) && (of.of->raw()->shared || lends(of.of, of.handle))) write(of.at, index, value);
         else set(static_cast<const spot &>(of), index, value);
     }
 
@@ -811,8 +809,13 @@ template <class T> struct values {
         if constexpr (is_scalar<T>) static_cast<T *>(at)[index] = value;
         else std::memcpy(static_cast<unsigned char *>(at) + index * sizeof(T), &value, sizeof(T));
     }
+    // what is asked where the values are not known to be in place. Each takes a spot in parts, so that a loop keeps its
+    // own in registers
+
     /// Reads a value by a call. That changes nothing, so a loop need not ask again where its values are.
-    [[gnu::pure, gnu::noinline]] static answer asked(const spot &of, std::uint64_t index) noexcept {
+    [[gnu::pure, gnu::noinline, gnu::cold]] static answer asked(state *segment, std::uint64_t handle,
+                                                                std::uint64_t index) noexcept {
+        const spot of{segment, handle};
         answer told{};
         if constexpr (is_scalar<T>) {
             zx_value value{};
@@ -825,9 +828,9 @@ template <class T> struct values {
         return told;
     }
     /// Tells the library that values are written in place, if the segment may be written.
-    [[gnu::noinline]] static bool lends(const spot &of) noexcept {
+    [[gnu::noinline, gnu::cold]] static bool lends(state *segment, std::uint64_t handle) noexcept {
         zx_elements there{};
-        return of.code_of(zx_view_mut, &there) == ZX_DONE;
+        return spot{segment, handle}.code_of(zx_view_mut, &there) == ZX_DONE;
     }
 };
 

@@ -681,8 +681,15 @@ struct placed_spot : spot {
     placed_spot() = default;
     placed_spot(const spot &object) : spot(object) {}
 
-    /// Tells whether the value of an index is still there. A segment that was closed has changed, too.
-    bool has(std::uint64_t index) const noexcept { return of->raw()->changes == changes && index < count; }
+    /// Returns how many values are still there. A segment that was closed has changed, too. There is no branch, so a
+    /// loop that changes nothing asks once.
+    std::uint64_t left() const noexcept {
+        return count & (std::uint64_t{0} - static_cast<std::uint64_t>(of->raw()->changes == changes));
+    }
+    /// Tells whether the value of an index is still there: quicker for a loop that writes, which asks at each step.
+    bool has(std::uint64_t index) const noexcept {
+        return __builtin_expect(of->raw()->changes == changes, true) && __builtin_expect(index < count, true);
+    }
 };
 
 /// Reads a text by a call that says how much room it needs.
@@ -755,14 +762,11 @@ template <class T> struct values {
         }
     }
     static T get(const placed_spot &of, std::uint64_t index) {
-        if (of.has(index)) return read(of.at, index);
-        // what [] gives has no place, as the compiler knows
-        if (__builtin_constant_p(of.count) && of.count == 0) return get(static_cast<const spot &>(of), index);
-        const answer told = asked(of.of, of.handle, index);
-        check_code(told.code);
-        return told.value;
+        return __builtin_expect(index < of.left(), true) ? read(of.at, index) : away(of, index);
     }
-    static T begun(const placed_spot &of, std::uint64_t index) { return get(of, index); }
+    static T begun(const placed_spot &of, std::uint64_t index) {
+        return of.has(index) ? read(of.at, index) : away(of, index);
+    }
     static void set(const spot &of, std::uint64_t index, const T &value) {
         if constexpr (is_scalar<T>) {
             const zx_value passed = stored<T>::value(value);
@@ -812,6 +816,13 @@ template <class T> struct values {
     // what is asked where the values are not known to be in place. Each takes a spot in parts, so that a loop keeps its
     // own in registers
 
+    static T away(const placed_spot &of, std::uint64_t index) {
+        // what [] gives has no place, as the compiler knows
+        if (__builtin_constant_p(of.count) && of.count == 0) return get(static_cast<const spot &>(of), index);
+        const answer told = asked(of.of, of.handle, index);
+        check_code(told.code);
+        return told.value;
+    }
     /// Reads a value by a call. That changes nothing, so a loop need not ask again where its values are.
     [[gnu::pure, gnu::noinline, gnu::cold]] static answer asked(state *segment, std::uint64_t handle,
                                                                 std::uint64_t index) noexcept {

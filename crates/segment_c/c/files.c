@@ -492,6 +492,29 @@ static struct {
     uint64_t len; /* of the file that was mapped last, in whole pages */
 } place;
 
+static size_t page_size(void) { return (size_t)sysconf(_SC_PAGESIZE); }
+
+/* How far from an end of a mapping another page lies that is read with it. When a mapping ends, the system takes the
+   pages of each of its tables out of the processor one by one, up to 33 of a table, and under a hypervisor each of them
+   with all that the processor knows of the system itself; of more pages than that it takes out all of this process, and
+   only these. */
+enum { APART = 34 };
+
+/* On which page of a table a file begins of which each end has a table of its own: so that the pages that are read
+   with its ends lie in these, and the pages beside it too. */
+static size_t first_page(size_t entries, size_t pages) {
+    return pages % entries >= APART && pages % entries < entries - 1 ? 1 : APART + 15;
+}
+
+/* Reads what the opening reads first of a file that is mapped in its place, and a page apart from each end. They have
+   blocks in the file, as all have that is mapped for writing. */
+static void read_apart(const uint8_t *at, uint64_t len) {
+    size_t page = page_size();
+    const volatile uint8_t *first = at, *last = at + (len - 1) / page * page;
+    if ((uintptr_t)first / (page / 8 * page) == (uintptr_t)last / (page / 8 * page)) return;
+    (void)(first[0] + first[APART * page] + last[0] + (last - APART * page)[0]);
+}
+
 /* Takes the two pages away, and puts them where a second file of one length is mapped. */
 static void move_place(size_t page, uint64_t len) {
     if (place.at) {
@@ -502,19 +525,19 @@ static void move_place(size_t page, uint64_t len) {
     bool is_second = place.len == len;
     place.len = len;
     if (!is_second) return;
-    size_t table = page / 8 * page, room = len + table + 2 * page;
+    size_t table = page / 8 * page, first = first_page(page / 8, len / page) * page, room = len + table + first + page;
     uint8_t *from = mmap(NULL, room, PROT_NONE, MAP_PRIVATE | MAP_ANONYMOUS | MAP_NORESERVE, -1, 0);
     if (from == MAP_FAILED) return;
-    size_t before = table - (uintptr_t)from % table;
-    place.at = from + before + page;
-    munmap(from, before);
+    place.at = from + (table - (uintptr_t)from % table) + first;
+    uint8_t *behind = place.at + len + page;
+    munmap(from, (size_t)(place.at - page - from));
     munmap(place.at, len);
-    if (before < table) munmap(place.at + len + page, table - before);
+    if (behind < from + room) munmap(behind, (size_t)(from + room - behind));
 }
 
 /* Where a file of a length may be mapped, if nothing else is there by then; null if that does not matter. */
 static void *place_for(uint64_t len) {
-    size_t page = (size_t)sysconf(_SC_PAGESIZE);
+    size_t page = page_size();
     len = (len + page - 1) / page * page;
     pthread_mutex_lock(&guard);
     if (!place.at || place.len != len) move_place(page, len);
@@ -532,8 +555,10 @@ static zx_code map(zx_file *file, struct zx_held_file *held, const struct stat *
     if (len == 0 || len % 16 != 0) return read_segment(file, held->file, how);
     if (how == ZX_WRITE && !allot(held->file, found, len)) return fault(file);
     int protection = how == ZX_READ ? PROT_READ : PROT_READ | PROT_WRITE;
-    void *at = mmap(place_for(len), len, protection, how == ZX_WRITE ? MAP_SHARED : MAP_PRIVATE, held->file, 0);
+    void *wanted = place_for(len);
+    void *at = mmap(wanted, len, protection, how == ZX_WRITE ? MAP_SHARED : MAP_PRIVATE, held->file, 0);
     if (at == MAP_FAILED) return fault(file);
+    if (at == wanted && how == ZX_WRITE) read_apart(at, len);
     held->at = at;
     held->len = len;
     zx_code code = attach(file, held, len, how);

@@ -1,8 +1,10 @@
 // Elements where they stand, rows, and files that are mapped: on this library (compiled with OURS, over
-// zaluxhoni_files.h) and on Boost.Interprocess's managed_mapped_file (compiled without). `places FILE [CHECKER]` prints
-// a line for each: whose side, what, how many steps, and processor nanoseconds a step, the least of seven rounds. FILE
-// is made and removed. CHECKER is the program `segment`, whose check of the same file is timed beside the opening.
+// zaluxhoni_files.h, and over zaluxhoni.hpp for loops of C++) and on Boost.Interprocess's managed_mapped_file (compiled
+// without). `places FILE [CHECKER]` prints a line for each: whose side, what, how many steps, and processor
+// nanoseconds a step, the least of seven rounds. FILE is made and removed. CHECKER is the program `segment`, whose check
+// of the same file is timed beside the opening.
 #ifdef OURS
+#include "zaluxhoni.hpp"
 #include "zaluxhoni_files.h"
 #include <sys/resource.h>
 #include <sys/wait.h>
@@ -149,40 +151,50 @@ template <class T, class Values, class Read> void rows(const char *type, Values 
     delete[] to;
 }
 
-std::int64_t sum_of(const std::int64_t *at, std::uint64_t count) {
+// One body for a view and a plain array: of two inlined copies one may have a jump across a boundary of 32 bytes, which
+// takes this processor half as long again.
+[[gnu::noinline]] std::int64_t sum_of(const std::int64_t *at, std::uint64_t count) {
     std::int64_t sum = 0;
     for (std::uint64_t i = 0; i < count; i++) sum += at[i];
-    asm volatile("" : : "r"(sum) : "memory");
     return sum;
 }
-
-void add_to(std::int64_t *at, std::uint64_t count) {
+[[gnu::noinline]] void add_to(std::int64_t *at, std::uint64_t count) {
     for (std::uint64_t i = 0; i < count; i++) at[i] += 1;
-    asm volatile("" : : "r"(at) : "memory");
+}
+[[gnu::noinline]] std::int64_t sum_by_for(const zaluxhoni::vector<std::int64_t> &of) {
+    std::int64_t sum = 0;
+    for (const std::int64_t each : of) sum += each;
+    return sum;
+}
+[[gnu::noinline]] void add_by_for(const zaluxhoni::vector<std::int64_t> &of) {
+    for (auto each : of) each = each + 1;
 }
 
 void views() {
-    zx_segment s = ZX_CLOSED_HANDLE;
-    std::uint64_t handle;
-    const zx_key key = zx_name("v");
     std::vector<std::int64_t> plain(ELEMENTS, 1);
-    const zx_values all = zx_i64s(plain.data(), plain.size());
-    done(zx_create(&s, 32 * MIB), "a segment");
-    done(zx_construct_vector(&s, &key, &all, &handle), "a vector");
-    times("ours", "elements read by a view", ELEMENTS, [&] {
-        zx_elements found;
-        if (zx_view(&s, &key, &found) != ZX_DONE) return false;
-        return sum_of(static_cast<const std::int64_t *>(found.at), found.count) > 0;
-    });
-    times("plain", "elements read by a view", ELEMENTS, [&] { return sum_of(plain.data(), plain.size()) > 0; });
-    times("ours", "elements written by a view", ELEMENTS, [&] {
-        zx_elements found;
-        if (zx_view_mut(&s, &key, &found) != ZX_DONE) return false;
-        add_to(static_cast<std::int64_t *>(zx_elements_mut(&s, &found)), found.count);
-        return true;
-    });
-    times("plain", "elements written by a view", ELEMENTS, [&] { return add_to(plain.data(), plain.size()), true; });
-    zx_close(&s);
+    zaluxhoni::segment segment = zaluxhoni::segment::create(32 * MIB);
+    zaluxhoni::vector<std::int64_t> vector = segment.vector<std::int64_t>("v");
+    vector.append_range(plain);
+    const zx_key key = zx_name("v");
+    for (const char *const way : {"a view", "`for` over a vector"}) {
+        const bool is_view = way[0] == 'a';
+        const std::string read = std::string("elements read by ") + way;
+        const std::string written = std::string("elements written by ") + way;
+        times("ours", read, ELEMENTS, [&] {
+            zx_elements found;
+            if (!is_view) return sum_by_for(vector) > 0;
+            if (zx_view(segment.raw(), &key, &found) != ZX_DONE) return false;
+            return sum_of(static_cast<const std::int64_t *>(found.at), found.count) > 0;
+        });
+        times("plain", read, ELEMENTS, [&] { return sum_of(plain.data(), plain.size()) > 0; });
+        times("ours", written, ELEMENTS, [&] {
+            zx_elements found;
+            if (!is_view) return add_by_for(vector), true;
+            if (zx_view_mut(segment.raw(), &key, &found) != ZX_DONE) return false;
+            return add_to(static_cast<std::int64_t *>(zx_elements_mut(segment.raw(), &found)), found.count), true;
+        });
+        times("plain", written, ELEMENTS, [&] { return add_to(plain.data(), plain.size()), true; });
+    }
 }
 
 /// ELEMENTS calls that put something behind the last element of a vector.

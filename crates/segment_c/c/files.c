@@ -11,6 +11,7 @@
 #include <sys/file.h>
 #include <sys/mman.h>
 #include <sys/stat.h>
+#include <sys/xattr.h>
 #include <unistd.h>
 
 enum { LARGEST = 1 << 30, TRIES = 64, PAGE = 4096, PIECE = 8 * PAGE };
@@ -368,17 +369,37 @@ static zx_code find(zx_file *file, const char *path, struct zx_held_file **found
     return has_memory ? faulty(file, error == ENOENT ? ZX_FILE_MISSING : ZX_FILE_FAULT, error) : (zx_code)ZX_NO_MEMORY;
 }
 
+/* ---- the mark of a file that is to be replaced: beside it a new one may stand, if whoever saved was killed. To ask
+   for it takes a quarter of what it takes to look there */
+
+static const char MARK[] = "user.zaluxhoni";
+
+/* Marks a file. It goes without a mark if the file system has none, or the process may not write there any more. */
+static bool mark(int file) {
+    return fsetxattr(file, MARK, "1", 1, 0) == 0 || errno == ENOTSUP || errno == ENOSYS || errno == EPERM ||
+           errno == EACCES;
+}
+
+enum marked { NO, YES, UNKNOWN };
+
+static enum marked is_marked(int file) {
+    return fgetxattr(file, MARK, NULL, 0) >= 0 ? YES : errno == ENODATA ? NO : UNKNOWN;
+}
+
 /* ---- the right to write */
 
-/* Removes what one that was killed left beside the file. */
-static void remove_spare(const struct zx_held_file *held) {
+/* Removes what one that was killed left beside the file, and the mark: not of a file with several names, since it does
+   not say beside which of them. */
+static void remove_spare(const struct zx_held_file *held, bool has_one_name, enum marked marked) {
     const char *name = last_name(held->name);
     size_t before = (size_t)(name - held->name);
     char spare[PATH_MAX + 40];
     if (before >= PATH_MAX) return;
     memcpy(spare, held->name, before);
     spare_name(spare + before, name);
-    unlinkat(held->folder, spare, 0);
+    bool was_there = unlinkat(held->folder, spare, 0) == 0;
+    bool may_unmark = was_there || (errno == ENOENT && marked == YES);
+    if (may_unmark && has_one_name) fremovexattr(held->file, MARK);
 }
 
 /* Opens and locks the file of a name that was found. AGAIN if the name meanwhile leads to another one. */
@@ -394,7 +415,10 @@ static zx_code lock(zx_file *file, struct zx_held_file *held, struct stat *opene
     if (code != ZX_DONE) return code;
     if (is_refused) return faulty(file, ZX_FILE_IN_USE, EWOULDBLOCK);
     if (!leads_to(held->folder, held->name, opened)) return AGAIN;
-    if (!held->is_read) remove_spare(held);
+    if (held->is_read) return ZX_DONE;
+    // a file that is opened by its path is mapped
+    enum marked marked = held->folder == AT_FDCWD ? is_marked(held->file) : UNKNOWN;
+    if (marked != NO) remove_spare(held, opened->st_nlink == 1, marked);
     return ZX_DONE;
 }
 
@@ -492,6 +516,29 @@ static struct {
     uint64_t len; /* of the file that was mapped last, in whole pages */
 } place;
 
+static size_t page_size(void) { return (size_t)sysconf(_SC_PAGESIZE); }
+
+/* How far from an end of a mapping another page lies that is read with it. When a mapping ends, the system takes the
+   pages of each of its tables out of the processor one by one, up to 33 of a table, and under a hypervisor each of them
+   with all that the processor knows of the system itself; of more pages than that it takes out all of this process, and
+   only these. */
+enum { APART = 34 };
+
+/* On which page of a table a file begins of which each end has a table of its own: so that the pages that are read
+   with its ends lie in these, and the pages beside it too. */
+static size_t first_page(size_t entries, size_t pages) {
+    return pages % entries >= APART && pages % entries < entries - 1 ? 1 : APART + 15;
+}
+
+/* Reads what the opening reads first of a file that is mapped in its place, and a page apart from each end. They have
+   blocks in the file, as all have that is mapped for writing. */
+static void read_apart(const uint8_t *at, uint64_t len) {
+    size_t page = page_size();
+    const volatile uint8_t *first = at, *last = at + (len - 1) / page * page;
+    if ((uintptr_t)first / (page / 8 * page) == (uintptr_t)last / (page / 8 * page)) return;
+    (void)(first[0] + first[APART * page] + last[0] + (last - APART * page)[0]);
+}
+
 /* Takes the two pages away, and puts them where a second file of one length is mapped. */
 static void move_place(size_t page, uint64_t len) {
     if (place.at) {
@@ -502,19 +549,19 @@ static void move_place(size_t page, uint64_t len) {
     bool is_second = place.len == len;
     place.len = len;
     if (!is_second) return;
-    size_t table = page / 8 * page, room = len + table + 2 * page;
+    size_t table = page / 8 * page, first = first_page(page / 8, len / page) * page, room = len + table + first + page;
     uint8_t *from = mmap(NULL, room, PROT_NONE, MAP_PRIVATE | MAP_ANONYMOUS | MAP_NORESERVE, -1, 0);
     if (from == MAP_FAILED) return;
-    size_t before = table - (uintptr_t)from % table;
-    place.at = from + before + page;
-    munmap(from, before);
+    place.at = from + (table - (uintptr_t)from % table) + first;
+    uint8_t *behind = place.at + len + page;
+    munmap(from, (size_t)(place.at - page - from));
     munmap(place.at, len);
-    if (before < table) munmap(place.at + len + page, table - before);
+    if (behind < from + room) munmap(behind, (size_t)(from + room - behind));
 }
 
 /* Where a file of a length may be mapped, if nothing else is there by then; null if that does not matter. */
 static void *place_for(uint64_t len) {
-    size_t page = (size_t)sysconf(_SC_PAGESIZE);
+    size_t page = page_size();
     len = (len + page - 1) / page * page;
     pthread_mutex_lock(&guard);
     if (!place.at || place.len != len) move_place(page, len);
@@ -532,8 +579,10 @@ static zx_code map(zx_file *file, struct zx_held_file *held, const struct stat *
     if (len == 0 || len % 16 != 0) return read_segment(file, held->file, how);
     if (how == ZX_WRITE && !allot(held->file, found, len)) return fault(file);
     int protection = how == ZX_READ ? PROT_READ : PROT_READ | PROT_WRITE;
-    void *at = mmap(place_for(len), len, protection, how == ZX_WRITE ? MAP_SHARED : MAP_PRIVATE, held->file, 0);
+    void *wanted = place_for(len);
+    void *at = mmap(wanted, len, protection, how == ZX_WRITE ? MAP_SHARED : MAP_PRIVATE, held->file, 0);
     if (at == MAP_FAILED) return fault(file);
+    if (at == wanted && how == ZX_WRITE) read_apart(at, len);
     held->at = at;
     held->len = len;
     zx_code code = attach(file, held, len, how);
@@ -736,25 +785,38 @@ zx_code zx_file_open(zx_file *file, const char *path, uint32_t mode, uint64_t si
 
 /* ---- a file saved */
 
+/* Creates the file that is to replace the one that is held, which is marked first. EEXIST if another holds the name. */
+static int make_spare(const struct zx_held_file *held, const char *spare, const struct image *image,
+                      const struct stat *old) {
+    if (!mark(held->file)) return -1;
+    int made = make(held->folder, spare, image, old);
+    if (made >= 0 || errno != EEXIST) return made;
+    // one that was killed left it, unless another holds what stands there now, and the spare name with it
+    if (!leads_to(held->folder, held->name, old)) return errno = EEXIST, -1;
+    unlinkat(held->folder, spare, 0);
+    return make(held->folder, spare, image, old);
+}
+
 /* Puts a new file with the image in the place of the one that is held. */
 static zx_code replace(zx_file *file, struct zx_held_file *held, const struct image *image) {
     struct stat old;
     char spare[40];
     if (fstat(held->file, &old) != 0) return fault(file);
-    // another may hold what stands there now, and the spare name with it
+    // another may hold what stands there now
     if (!leads_to(held->folder, held->name, &old)) return faulty(file, ZX_FILE_REPLACED, ESTALE);
     spare_name(spare, held->name);
-    unlinkat(held->folder, spare, 0);
-    int made = make(held->folder, spare, image, &old);
-    if (made < 0) return fault(file);
+    int made = make_spare(held, spare, image, &old);
     zx_code code = ZX_DONE;
-    if (!leads_to(held->folder, held->name, &old))
+    if (made < 0)
+        code = errno == EEXIST ? faulty(file, ZX_FILE_REPLACED, ESTALE) : fault(file);
+    else if (!leads_to(held->folder, held->name, &old))
         code = faulty(file, ZX_FILE_REPLACED, ESTALE);
     else if (renameat(held->folder, spare, held->folder, held->name) != 0)
         code = fault(file);
     if (code != ZX_DONE) {
-        unlinkat(held->folder, spare, 0);
-        close(made);
+        bool is_left = made >= 0 && unlinkat(held->folder, spare, 0) != 0;
+        if (made >= 0) close(made);
+        if (!is_left && old.st_nlink == 1) fremovexattr(held->file, MARK);
         return code;
     }
     int before = held->file;

@@ -18,6 +18,7 @@
 #include <cerrno>
 #include <cstddef>
 #include <cstdint>
+#include <cstring>
 #include <functional>
 #include <initializer_list>
 #include <iosfwd>
@@ -671,6 +672,26 @@ struct spot {
     friend bool operator==(const spot &a, const spot &b) { return a.of == b.of && a.handle == b.handle; }
 };
 
+/// An object by its handle, and where its values were when this was made: in place until a call changes the segment.
+struct placed_spot : spot {
+    void *at = nullptr;
+    std::uint64_t count = 0;
+    std::uint64_t changes = 0;
+
+    placed_spot() = default;
+    placed_spot(const spot &object) : spot(object) {}
+
+    /// Returns how many values are still there. A segment that was closed has changed, too. There is no branch, so a
+    /// loop that changes nothing asks once.
+    std::uint64_t left() const noexcept {
+        return count & (std::uint64_t{0} - static_cast<std::uint64_t>(of->raw()->changes == changes));
+    }
+    /// Tells whether the value of an index is still there: quicker for a loop that writes, which asks at each step.
+    bool has(std::uint64_t index) const noexcept {
+        return __builtin_expect(of->raw()->changes == changes, true) && __builtin_expect(index < count, true);
+    }
+};
+
 /// Reads a text by a call that says how much room it needs.
 template <class Read> std::string text_by(Read read) {
     std::string text(256, '\0');
@@ -721,11 +742,13 @@ template <class T> std::uint64_t whole(std::uint64_t elements) {
 
 // -- how the elements of each kind of object are read and set; `begun` is the value that `+=` and its like begin with
 
-/// The values of an array or a vector, and the bytes of a string.
+/// The values of an array or a vector, and the bytes of a string. They are read and set in place where that is known,
+/// and otherwise by calls.
 template <class T> struct values {
     using index_type = std::uint64_t;
     using value_type = T;
     using passed_type = value_of<T>;
+    using target = placed_spot;
 
     static T get(const spot &of, std::uint64_t index) {
         if constexpr (is_scalar<T>) {
@@ -738,7 +761,12 @@ template <class T> struct values {
             return value;
         }
     }
-    static T begun(const spot &of, std::uint64_t index) { return get(of, index); }
+    static T get(const placed_spot &of, std::uint64_t index) {
+        return __builtin_expect(index < of.left(), true) ? read(of.at, index) : away(of, index);
+    }
+    static T begun(const placed_spot &of, std::uint64_t index) {
+        return of.has(index) ? read(of.at, index) : away(of, index);
+    }
     static void set(const spot &of, std::uint64_t index, const T &value) {
         if constexpr (is_scalar<T>) {
             const zx_value passed = stored<T>::value(value);
@@ -748,6 +776,73 @@ template <class T> struct values {
             of.ask(zx_write_elements, product(index, stored<T>::width), &passed);
         }
     }
+    static void set(const placed_spot &of, std::uint64_t index, const T &value) {
+        if (of.has(index) && (of.of->raw()->shared || lends(of.of, of.handle))) write(of.at, index, value);
+        else set(static_cast<const spot &>(of), index, value);
+    }
+
+    /// Finds where the values are. Nothing is known of an object that no view can have: its calls say why.
+    static placed_spot located(const spot &of) noexcept {
+        placed_spot found(of);
+        zx_elements there{};
+        if (of.code_of(zx_view, &there) == ZX_DONE && there.kind == stored<T>::kind &&
+            there.count % stored<T>::width == 0) {
+            found.at = const_cast<void *>(there.at);
+            found.count = there.count / stored<T>::width;
+            found.changes = there.changes;
+        }
+        return found;
+    }
+    template <class Row> static std::uint64_t size(const placed_spot &of, const Row &row) {
+        return of.at != nullptr ? of.count : row.size();
+    }
+
+  private:
+    struct answer {
+        T value;
+        zx_code code;
+    };
+
+    static T read(const void *at, std::uint64_t index) {
+        if constexpr (is_scalar<T>) return static_cast<const T *>(at)[index];
+        T value{};
+        std::memcpy(&value, static_cast<const unsigned char *>(at) + index * sizeof(T), sizeof(T));
+        return value;
+    }
+    static void write(void *at, std::uint64_t index, const T &value) {
+        if constexpr (is_scalar<T>) static_cast<T *>(at)[index] = value;
+        else std::memcpy(static_cast<unsigned char *>(at) + index * sizeof(T), &value, sizeof(T));
+    }
+    // what is asked where the values are not known to be in place. Each takes a spot in parts, so that a loop keeps its
+    // own in registers
+
+    static T away(const placed_spot &of, std::uint64_t index) {
+        // what [] gives has no place, as the compiler knows
+        if (__builtin_constant_p(of.count) && of.count == 0) return get(static_cast<const spot &>(of), index);
+        const answer told = asked(of.of, of.handle, index);
+        check_code(told.code);
+        return told.value;
+    }
+    /// Reads a value by a call. That changes nothing, so a loop need not ask again where its values are.
+    [[gnu::pure, gnu::noinline, gnu::cold]] static answer asked(state *segment, std::uint64_t handle,
+                                                                std::uint64_t index) noexcept {
+        const spot of{segment, handle};
+        answer told{};
+        if constexpr (is_scalar<T>) {
+            zx_value value{};
+            told.code = of.code_of(zx_get, index, &value);
+            if (told.code == ZX_DONE && value.kind != stored<T>::kind) told.code = ZX_WRONG_KIND;
+            if (told.code == ZX_DONE) told.value = stored<T>::from(value);
+        } else {
+            told.code = of.code_of(stored<T>::read, index, &told.value, std::size_t{1});
+        }
+        return told;
+    }
+    /// Tells the library that values are written in place, if the segment may be written.
+    [[gnu::noinline, gnu::cold]] static bool lends(state *segment, std::uint64_t handle) noexcept {
+        zx_elements there{};
+        return spot{segment, handle}.code_of(zx_view_mut, &there) == ZX_DONE;
+    }
 };
 
 /// The strings of a vector of strings.
@@ -755,7 +850,10 @@ struct lines {
     using index_type = std::uint64_t;
     using value_type = std::string;
     using passed_type = std::string_view;
+    using target = spot;
 
+    static spot located(const spot &of) noexcept { return of; }
+    template <class Row> static std::uint64_t size(const spot &, const Row &row) { return row.size(); }
     static std::string get(const spot &of, std::uint64_t index) {
         return text_by([&](std::uint8_t *text, std::size_t room, std::uint64_t *len) {
             return of.code_of(zx_read_text, index, text, room, len);
@@ -771,6 +869,7 @@ template <class K, class V> struct pairs {
     using index_type = K;
     using value_type = V;
     using passed_type = value_of<V>;
+    using target = spot;
 
     static std::optional<V> find(const spot &of, K wanted) {
         const zx_value passed = stored<K>::value(wanted);
@@ -854,7 +953,7 @@ template <class Access> class element {
     using value_type = typename Access::value_type;
     using value_of_element = value_type;
 
-    element(spot of, typename Access::index_type at) : of_(of), at_(at) {}
+    element(const typename Access::target &of, typename Access::index_type at) : of_(of), at_(at) {}
     element(const element &) = default;
 
     [[nodiscard]] value_type value() const { return Access::get(of_, at_); }
@@ -902,7 +1001,7 @@ template <class Access> class element {
         return *this;
     }
 
-    spot of_;
+    typename Access::target of_;
     typename Access::index_type at_;
 };
 
@@ -968,7 +1067,7 @@ template <class Access, class R> class iterator {
     using reference = R;
 
     iterator() = default;
-    iterator(spot of, std::uint64_t index) : of_(of), index_(index) {}
+    iterator(const typename Access::target &of, std::uint64_t index) : of_(of), index_(index) {}
 
     R operator*() const { return (*this)[0]; }
     pointer operator->() const { return pointer(Access::get(of_, index_)); }
@@ -1005,7 +1104,7 @@ template <class Access, class R> class iterator {
   private:
     std::uint64_t moved(difference_type by) const { return index_ + static_cast<std::uint64_t>(by); }
 
-    spot of_;
+    typename Access::target of_;
     std::uint64_t index_ = 0;
 };
 
@@ -1600,8 +1699,11 @@ template <class Of, class Access> class const_row : public object {
     /// Return the first and the last element. Throw `out_of_range` if there is none.
     [[nodiscard]] value_type front() const { return get(0); }
     [[nodiscard]] value_type back() const { return get(of().size() - 1); }
-    [[nodiscard]] const_iterator begin() const { return {spot(), 0}; }
-    [[nodiscard]] const_iterator end() const { return {spot(), of().size()}; }
+    [[nodiscard]] const_iterator begin() const { return {Access::located(spot()), 0}; }
+    [[nodiscard]] const_iterator end() const {
+        const auto target = Access::located(spot());
+        return {target, Access::size(target, of())};
+    }
     [[nodiscard]] const_iterator cbegin() const { return begin(); }
     [[nodiscard]] const_iterator cend() const { return end(); }
 
@@ -1621,8 +1723,11 @@ template <class Reader, class Access> class row : public Reader {
     [[nodiscard]] reference operator[](std::uint64_t index) const { return {this->spot(), index}; }
     [[nodiscard]] reference front() const { return (*this)[0]; }
     [[nodiscard]] reference back() const { return (*this)[this->size() - 1]; }
-    [[nodiscard]] iterator begin() const { return {this->spot(), 0}; }
-    [[nodiscard]] iterator end() const { return {this->spot(), this->size()}; }
+    [[nodiscard]] iterator begin() const { return {Access::located(this->spot()), 0}; }
+    [[nodiscard]] iterator end() const {
+        const auto target = Access::located(this->spot());
+        return {target, Access::size(target, *this)};
+    }
 };
 
 /// Reads the first `count` values by one call.

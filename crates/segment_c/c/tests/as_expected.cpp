@@ -4,6 +4,7 @@
 
 #include <algorithm>
 #include <atomic>
+#include <cstdio>
 #include <deque>
 #include <iostream>
 #include <limits>
@@ -534,6 +535,108 @@ void views_without_a_copy() {
 #endif
 }
 
+/// Iterators read and write elements where they are, until a call changes the segment; then they find the object anew.
+void iterators_in_place() {
+    segment s = segment::create(65536);
+    const auto v = s.vector<i64>("v");
+    v.assign({1, 2, 3});
+    const auto there = v.view();
+    for (auto each : v) each += 1;
+    IS(v == (std::vector<i64>{2, 3, 4}) && there.is_current() && there[2] == 4);
+    i64 sum = 0;
+    for (const i64 each : v) {
+        sum += each;
+        // the elements move, and something else is where they were
+        v.reserve(v.capacity() + 100);
+        s.construct<i64>(key::anonymous(), -1, 3);
+    }
+    IS(sum == 9);
+    for (auto each : v) {
+        v.push_back(0);
+        each = each * 2;
+    }
+    IS(v == (std::vector<i64>{4, 6, 8, 0, 0, 0}));
+    const auto first = v.begin();
+    const auto third = *(first + 2), beyond = first[6];
+    IS(third == 8);
+    THROWS(out_of_range, beyond.value());
+    THROWS(out_of_range, beyond = 1);
+    v.assign({7, 8});
+    THROWS(out_of_range, third.value());
+    THROWS(out_of_range, third = 1);
+    IS(first[1] == 8 && *std::as_const(s).vector<i64>("v").begin() == 7);
+    const auto last = v.end();
+    IS(last[-1] == 8 && *(last - 2) == 7 && last - first == 2);
+    throws<std::out_of_range>(__LINE__, "transaction", [&] {
+        s.transaction([&] {
+            *first = 9;
+            throw std::out_of_range("of the program's own");
+        });
+    });
+    IS(*first == 7 && v[0] == 7);
+    first[0] = INT64_MAX;
+    THROWS(out_of_range, first[0] += 1);
+    IS(first[0] == INT64_MAX);
+    s.destroy("v");
+    THROWS(not_found, i64{*first});
+    THROWS(not_found, *first = 1);
+    const auto narrow = s.vector<i32>("v");
+    narrow.assign({5, 6, 7});
+    if (narrow.handle() == v.handle()) {
+        THROWS(wrong_kind, i64{*first});
+        THROWS(wrong_kind, i64{*v.begin()});
+    }
+    const auto odd = s.vector<u8>("odd");
+    odd.assign(std::vector<u8>(sizeof(item) + 1, 0));
+    const auto items = s.vector<item>(key::by_handle(odd.handle()));
+    IS(items.begin()->article == 0);
+    THROWS(wrong_kind, items.end());
+    odd.pop_back();
+    IS(items.end() - items.begin() == 1 && items.begin()->shelf == 0);
+    const auto of_string = s.string("t");
+    of_string.assign("abc");
+    for (auto each : of_string) each = static_cast<u8>(each + 1);
+    IS(of_string == "bcd" && std::string(of_string.begin(), of_string.end()) == "bcd");
+    const auto d = s.vector<double>("d");
+    d.assign({0.5, 0.25});
+    for (auto each : d) each *= 2;
+    IS(d == (std::vector<double>{1, 0.5}));
+    s.construct_array<bool>("b", {true, false});
+    for (auto each : s.array<bool>("b")) each = !each;
+    IS(s.array<bool>("b") == (std::vector<bool>{false, true}));
+    IS(s.vector<i64>("none").begin() == s.vector<i64>("none").end());
+    const auto alone = narrow.begin();
+    s.close();
+    THROWS(closed, i32{*alone});
+    THROWS(closed, *alone = 1);
+    THROWS(closed, narrow.end());
+}
+
+/// Who may not write does not write by an iterator, and what an iterator wrote is saved.
+void iterators_and_modes() {
+    segment s = segment::create(4096);
+    s.vector<i32>("v").assign({1, 2});
+    segment only = segment::open(s.save(), zaluxhoni::mode::read);
+    const auto read = only.vector<i32>("v");
+    IS(*read.begin() == 1);
+    THROWS(read_only, *read.begin() = 5);
+    IS(only.save() == s.save());
+    segment own = segment::open(s.save(), zaluxhoni::mode::copy_on_write);
+    for (auto each : own.vector<i32>("v")) each = 5;
+    IS(own.vector<i32>("v") == (std::vector<i32>{5, 5}));
+    const std::string path = "in_place" + std::to_string(std::hash<std::thread::id>()(std::this_thread::get_id()));
+    s.save_file(path);
+    for (int round = 0; round < 2; round++) {
+        segment file = round == 0 ? segment::open_file(path) : segment::map_file(path);
+        for (auto each : file.vector<i32>("v")) each += 1;
+        if (round == 0) file.save_file();
+        for (auto each : file.vector<i32>("v")) each += 1;
+        file.close_file();
+    }
+    IS(segment::open_file(path).vector<i32>("v") == (std::vector<i32>{5, 6}));
+    std::remove(path.c_str());
+}
+
 void several_calls_as_one() {
     segment s = segment::create(8192);
     const auto v = s.vector<i64>("v");
@@ -654,7 +757,8 @@ void the_longest_segment() {
 void every_case() {
     void (*const cases[])() = {an_array_that_is_made_anew, numbers_that_do_not_fit, truths, texts_that_are_stored,
                                elements, texts, FORMATS algorithms, bulk, own_types, views_without_a_copy,
-                               several_calls_as_one, const_segments, groups, segments_that_grow};
+                               iterators_in_place, iterators_and_modes, several_calls_as_one, const_segments, groups,
+                               segments_that_grow};
     for (void (*each)() : cases) {
         try {
             each();

@@ -166,6 +166,16 @@ template <class T, class View> void call_vector(const View &ours, std::vector<T>
         same(ours == theirs && std::equal(ours.begin(), ours.end(), theirs.begin(), theirs.end()), "all");
 }
 
+/// What an iterator of some time before leads to.
+template <class T, class I> void call_iterator(const I &ours, std::vector<T> &theirs) {
+    const u64 index = below(theirs.size() + 2);
+    const std::ptrdiff_t at = static_cast<std::ptrdiff_t>(index);
+    const T value = any<T>();
+    T got{};
+    if (done(index < theirs.size(), [&] { got = ours[at]; })) same(got == T(theirs[index]), "an iterator");
+    if (below(2) == 0 && done(index < theirs.size(), [&] { ours[at] = value; })) theirs[index] = value;
+}
+
 template <class T> void beside_vector(const char *name, u64 count) {
     trying = name;
     segment s = segment::create(1024);
@@ -176,8 +186,11 @@ template <class T> void beside_vector(const char *name, u64 count) {
         else return s.vector<T>("v");
     };
     auto ours = asked();
+    auto first = ours.begin();
     for (step = 0; step < count; step++) {
-        call_vector<T>(ours, theirs);
+        if (below(8) != 0) call_vector<T>(ours, theirs);
+        if (below(4) == 0) first = ours.begin();
+        call_iterator<T>(first, theirs);
         if constexpr (std::is_arithmetic_v<T> && !std::is_same_v<T, bool>) {
             if (!theirs.empty() && below(8) == 0) {
                 const u64 index = below(theirs.size());
@@ -197,7 +210,7 @@ template <class T> void beside_vector(const char *name, u64 count) {
                     std::copy(row.begin(), row.end(), theirs.begin() + static_cast<std::ptrdiff_t>(first));
             }
         }
-        if (below(5000) == 0) reopened(s), ours = asked();
+        if (below(5000) == 0) reopened(s), ours = asked(), first = ours.begin();
     }
     same(ours == theirs, "all");
 }

@@ -17,6 +17,7 @@
 #include <sys/stat.h>
 #include <sys/syscall.h>
 #include <sys/wait.h>
+#include <sys/xattr.h>
 #include <unistd.h>
 
 static int wrong, cases;
@@ -34,8 +35,9 @@ static char room[400];
 
 /* ---- calls that fail */
 
-/* What the system lacks: files without names; giving them one by /proc; giving them one at all; locks; owners. */
-enum { HAS_ALL, NO_NAMELESS, NO_PROC, NO_NAMING, NO_LOCKS, NO_OWNERS, SYSTEMS };
+/* What the system lacks: files without names; giving them one by /proc; giving them one at all; locks; owners; marks of
+   files. */
+enum { HAS_ALL, NO_NAMELESS, NO_PROC, NO_NAMING, NO_LOCKS, NO_OWNERS, NO_MARKS, SYSTEMS };
 /* How a call fails: with an error; with another one, which a call that is asked again does not have; in part. */
 enum { AT_ONCE, INTERRUPTED, IN_PART, WAYS };
 
@@ -47,6 +49,8 @@ static mode_t wanted_rights;
 static __thread const char *absent;
 /* A file, and another whose place it takes when the next one gets its name. */
 static __thread const char *const *swapped;
+/* Whether the process is killed when the new file would take the place of the old one. */
+static bool is_killed;
 /* Whether lstat takes a pipe for a file, as where one is put in the place of the other meanwhile. */
 static bool is_blind;
 
@@ -79,10 +83,31 @@ WRAPPED(int, ftruncate, (int file, off_t len), file, len)
 WRAPPED(int, fsync, (int file), file)
 WRAPPED(int, syncfs, (int file), file)
 WRAPPED(int, fchmod, (int file, mode_t mode), file, mode)
-WRAPPED(int, renameat, (int from, const char *one, int to, const char *other), from, one, to, other)
 WRAPPED(int, unlinkat, (int folder, const char *path, int flags), folder, path, flags)
 WRAPPED(int, msync, (void *at, size_t len, int flags), at, len, flags)
 WRAPPED(int, fallocate, (int file, int mode, off_t at, off_t len), file, mode, at, len)
+
+int __real_renameat(int from, const char *one, int to, const char *other);
+int __wrap_renameat(int from, const char *one, int to, const char *other);
+int __wrap_renameat(int from, const char *one, int to, const char *other) {
+    if (is_killed) raise(SIGKILL);
+    if (way == AT_ONCE && fails("renameat", EIO)) return -1;
+    return __real_renameat(from, one, to, other);
+}
+
+#define MARKED(answer, name, parameters, ...) \
+    answer __real_##name parameters; \
+    answer __wrap_##name parameters; \
+    answer __wrap_##name parameters { \
+        if (lacks == NO_MARKS) return errno = ENOTSUP, -1; \
+        if (way == AT_ONCE && fails(#name, EIO)) return -1; \
+        return __real_##name(__VA_ARGS__); \
+    }
+
+MARKED(ssize_t, fgetxattr, (int file, const char *name, void *value, size_t room), file, name, value, room)
+MARKED(int, fsetxattr, (int file, const char *name, const void *value, size_t len, int how), file, name, value, len,
+       how)
+MARKED(int, fremovexattr, (int file, const char *name), file, name)
 
 void *__real_mmap(void *at, size_t len, int protection, int flags, int file, off_t from);
 void *__wrap_mmap(void *at, size_t len, int protection, int flags, int file, off_t from);
@@ -411,6 +436,49 @@ static void where_the_system_fails(void) {
     way = AT_ONCE;
 }
 
+/* Whether the file is marked as one beside which a new one may stand. */
+static bool is_marked(void) {
+    char mark;
+    return getxattr(the_file(), "user.zaluxhoni", &mark, 1) == 1;
+}
+
+/* Who saves is killed before the new file takes the place of the old one: who opens that for writing removes the new
+   one, in either way. With another name of the old one the mark stays, since that says nothing of names. */
+static void who_saves_is_killed(void) {
+    char other[440];
+    snprintf(other, sizeof other, "%s.other", the_file());
+    for (lacks = HAS_ALL; lacks < SYSTEMS; lacks++) {
+        for (int round = 0; round < 4; round++) {
+            zx_file file = ZX_CLOSED_FILE;
+            int status = 0, names = round < 2 ? 1 : 2;
+            uint32_t mode = ZX_OPEN_ONLY | (round % 2 ? ZX_MAPPED : 0);
+            seed(5);
+            if (names == 2) IS(link(the_file(), other), 0);
+            pid_t child = fork();
+            if (child == 0) {
+                is_killed = true;
+                save_scene(&file);
+                _exit(1);
+            }
+            IS(waitpid(child, &status, 0) == child && WIFSIGNALED(status), true);
+            IS(count_in(room), names + 1);
+            bool has_marks = lacks != NO_MARKS && is_marked();
+            // what another name leads to says nothing of what is left beside this one
+            if (names == 2) IS(zx_file_open(&file, other, mode, 0), ZX_DONE);
+            zx_file_discard(&file);
+            IS(zx_file_open(&file, the_file(), mode, 0), ZX_DONE);
+            IS(count_in(room), names);
+            IS(is_marked(), has_marks && names == 2);
+            IS(set(&file, 7), ZX_DONE);
+            IS(zx_file_close(&file), ZX_DONE);
+            IS(stands(the_file()), 7);
+            IS(count_in(room), names);
+            unlink(other);
+        }
+    }
+    lacks = HAS_ALL;
+}
+
 /* ---- what is passed */
 
 static void what_is_passed(void) {
@@ -671,6 +739,7 @@ int main(int count, char **words) {
     snprintf(room, sizeof room, "%s/files.room", words[1]);
     IS(mkdir(room, 0700), 0);
     if (count < 3) where_the_system_fails();
+    if (count < 3) who_saves_is_killed();
     if (count < 3) unlink(the_file());
     seed(5);
     what_is_passed();

@@ -7,7 +7,7 @@ name is that of a language, with its file_driver, or `program`. It checks that
 - each file that is created is whole, and nothing is beside it;
 - no two saves say the same number, and the file never has a smaller number than was said;
 - whoever is not killed goes on;
-- nothing else is in the folder after the file was opened for writing once more."""
+- nothing else is in the folder after the file was opened for writing once more, mapped or not."""
 import ctypes
 import os
 import random
@@ -176,7 +176,7 @@ class Round:
         until = time.monotonic() + WAIT
         while True:
             try:
-                zaluxhoni.open(self.path, "w").close()
+                zaluxhoni.open(self.path, "w", mapped=random.random() < 0.5).close()
                 break
             except zaluxhoni.FileInUse:
                 # a run of the program is no child of ours: it may end a moment later
@@ -198,7 +198,7 @@ def kill_maker(folder, name, command):
     for each in os.listdir(folder):
         # what was left beside one of them goes when that is opened for writing
         if each.startswith("made"):
-            zaluxhoni.open(os.path.join(folder, each), "w").close()
+            zaluxhoni.open(os.path.join(folder, each), "w", mapped=random.random() < 0.5).close()
     for each in os.listdir(folder):
         if not each.startswith("made"):
             raise Wrong(f"there is {each} beside the files")

@@ -14,6 +14,7 @@
 #include <sys/resource.h>
 #include <sys/stat.h>
 #include <sys/wait.h>
+#include <sys/xattr.h>
 #include <unistd.h>
 
 static int wrong, cases;
@@ -381,6 +382,7 @@ static void what_was_left(void) {
         seed(5);
         int left = open(spare, O_CREAT | O_RDWR, 0600);
         IS(left >= 0 && close(left) == 0, true);
+        setxattr(path, "user.zaluxhoni", "1", 1, 0);
         DONE(zx_file_open(&file, path, mode, 0));
         IS(access(spare, F_OK), mode < READ ? -1 : 0);
         DONE(zx_file_close(&file));

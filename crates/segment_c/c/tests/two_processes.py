@@ -775,6 +775,10 @@ class Beside:
             number = (number ^ byte) * 0x100000001b3 % 2**64
         with open(self.at(f".zaluxhoni-{number:016x}"), "wb") as file:
             file.write(b"left")
+        try:
+            os.setxattr(self.at(name), "user.zaluxhoni", b"1")
+        except OSError:
+            pass
 
     def left(self, *names):
         return self.left_in(".", *names)

@@ -7,6 +7,7 @@ pub mod Held
 pub mod Images
 pub mod Lending
 pub mod Lists
+pub mod Making
 pub mod Marked
 pub mod Opening
 pub mod Passed

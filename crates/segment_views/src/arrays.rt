@@ -71,6 +71,7 @@ impl<'a, T: Scalar> View<'a, Row<T, Array>> {
         ensures frame { OnOk result (ChangesRange (segment_of self.old) (segment_of self.new) (key_of self.old) T.kind
             0 (length values.now)) }
     {
+        let _ = self.segment.as_bytes();
         self.segment.write_range(&self.object, 0, values)
     }
 }

@@ -168,6 +168,7 @@ impl<'a, K: Scalar, V: Scalar> View<'a, Pairs<K, V>> {
             (literal_of V.kind (V.whole value))) (truth_answer result) }
         ensures refused { OnErr result (segment_of self.new ≡ segment_of self.old) }
     {
+        let _ = self.segment.as_bytes();
         self.segment.map_put(&self.object, key, value)
     }
 
@@ -185,6 +186,7 @@ impl<'a, K: Scalar, V: Scalar> View<'a, Pairs<K, V>> {
         ensures absent { UnchangedWhere (segment_of self.old) (segment_of self.new)
             (LacksPair (key_of self.old) (K.whole key)) }
     {
+        let _ = self.segment.as_bytes();
         self.segment.map_erase::<K, V, Object>(&self.object, key)
     }
 }

@@ -161,6 +161,7 @@ impl<'a, T: Scalar, S: Storage> View<'a, Row<T, S>> {
         ensures others { OnOk result (S.keeps (segment_of self.old) (segment_of self.new) (key_of self.old) T.kind
             index) }
     {
+        let _ = self.segment.as_bytes();
         S::set::<T>(self.segment, &self.object, index, value)
     }
 }

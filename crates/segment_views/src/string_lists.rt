@@ -77,6 +77,7 @@ impl<'a> View<'a, Texts> {
             (Set (key_of self.old) index (Quoted text.now)) (done_answer result) }
         ensures refused { OnErr result (segment_of self.new ≡ segment_of self.old) }
     {
+        let _ = self.segment.as_bytes();
         self.segment.texts_set(&self.object, index, text)
     }
 
@@ -93,6 +94,7 @@ impl<'a> View<'a, Texts> {
             (Push (key_of self.old) (Quoted text.now)) (done_answer result) }
         ensures refused { UnchangedIfRefused (segment_of self.old) (segment_of self.new) result }
     {
+        let _ = self.segment.as_bytes();
         self.segment.texts_push(&self.object, text)
     }
 
@@ -109,6 +111,7 @@ impl<'a> View<'a, Texts> {
             (Insert (key_of self.old) index (Quoted text.now)) (done_answer result) }
         ensures refused { UnchangedIfRefused (segment_of self.old) (segment_of self.new) result }
     {
+        let _ = self.segment.as_bytes();
         self.segment.texts_insert(&self.object, index, text)
     }
 
@@ -124,6 +127,7 @@ impl<'a> View<'a, Texts> {
             (Erase (key_of self.old) index) (done_answer result) }
         ensures refused { OnErr result (segment_of self.new ≡ segment_of self.old) }
     {
+        let _ = self.segment.as_bytes();
         self.segment.texts_erase(&self.object, index)
     }
 
@@ -141,6 +145,7 @@ impl<'a> View<'a, Texts> {
             (Pop (key_of self.old)) (refusal_in result) }
         ensures refused { OnErr result (segment_of self.new ≡ segment_of self.old) }
     {
+        let _ = self.segment.as_bytes();
         self.segment.texts_pop(&self.object)
     }
 }

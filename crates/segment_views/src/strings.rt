@@ -52,6 +52,7 @@ impl<'a> View<'a, StringBytes> {
             (Set (key_of self.old) index (literal_of ByteKind (pos byte))) (done_answer result) }
         ensures refused { OnErr result (segment_of self.new ≡ segment_of self.old) }
     {
+        let _ = self.segment.as_bytes();
         self.segment.string_set(&self.object, index, byte)
     }
 
@@ -67,6 +68,7 @@ impl<'a> View<'a, StringBytes> {
             (Append (key_of self.old) bytes.now) (done_answer result) }
         ensures refused { OnErr result (segment_of self.new ≡ segment_of self.old) }
     {
+        let _ = self.segment.as_bytes();
         self.segment.string_append(&self.object, bytes)
     }
 
@@ -82,6 +84,7 @@ impl<'a> View<'a, StringBytes> {
             (Assign (key_of self.old) (Quoted bytes.now ∷ [])) (done_answer result) }
         ensures refused { OnErr result (segment_of self.new ≡ segment_of self.old) }
     {
+        let _ = self.segment.as_bytes();
         self.segment.string_assign(&self.object, bytes)
     }
 }

@@ -80,6 +80,7 @@ impl<'a, T: Scalar> View<'a, Row<T, Vector>> {
             (VectorOf T.kind) (Push (key_of self.old) (literal_of T.kind (T.whole value))) (done_answer result) }
         ensures refused { OnErr result (segment_of self.new ≡ segment_of self.old) }
     {
+        let _ = self.segment.as_bytes();
         self.segment.vec_push(&self.object, value)
     }
 
@@ -95,6 +96,7 @@ impl<'a, T: Scalar> View<'a, Row<T, Vector>> {
             (VectorOf T.kind) (Pop (key_of self.old)) (answer_of (λ x. Element T.kind (T.whole x)) result) }
         ensures refused { OnErr result (segment_of self.new ≡ segment_of self.old) }
     {
+        let _ = self.segment.as_bytes();
         self.segment.vec_pop::<T, Object>(&self.object)
     }
 
@@ -112,6 +114,7 @@ impl<'a, T: Scalar> View<'a, Row<T, Vector>> {
             (done_answer result) }
         ensures refused { OnErr result (segment_of self.new ≡ segment_of self.old) }
     {
+        let _ = self.segment.as_bytes();
         self.segment.vec_insert(&self.object, index, value)
     }
 
@@ -127,6 +130,7 @@ impl<'a, T: Scalar> View<'a, Row<T, Vector>> {
             (VectorOf T.kind) (Erase (key_of self.old) index) (done_answer result) }
         ensures refused { OnErr result (segment_of self.new ≡ segment_of self.old) }
     {
+        let _ = self.segment.as_bytes();
         self.segment.vec_erase::<T, Object>(&self.object, index)
     }
 
@@ -143,6 +147,7 @@ impl<'a, T: Scalar> View<'a, Row<T, Vector>> {
             (done_answer result) }
         ensures refused { OnErr result (segment_of self.new ≡ segment_of self.old) }
     {
+        let _ = self.segment.as_bytes();
         self.segment.vec_assign(&self.object, values)
     }
 
@@ -161,6 +166,7 @@ impl<'a, T: Scalar> View<'a, Row<T, Vector>> {
             (map T.whole values.now) (done_answer result) }
         ensures refused { OnErr result (segment_of self.new ≡ segment_of self.old) }
     {
+        let _ = self.segment.as_bytes();
         self.segment.vec_extend(&self.object, values)
     }
 }

@@ -3,7 +3,7 @@ ghost use Rattle.std.specs.Prelude.{◌≡◌, IfOk};
 ghost use Rattle.std.specs.Borrow.{sem, RestsIfErr};
 ghost use Rattle.seg_types.specs.declared.kinds.Kind.{Kind as AnyKind};
 ghost use Rattle.segment_manager.specs.objects.Located.{IsLocated, IsObject};
-ghost use Rattle.segment_manager.specs.State.{AnswersWith, IsSegment};
+ghost use Rattle.segment_manager.specs.State.{AnswersWith};
 ghost use Rattle.segment_manager.specs.contracts.segment.Segment.{the_row};
 ghost use Rattle.segment_views.specs.Opened.{handle_of, opened_at};
 
@@ -28,7 +28,6 @@ pub struct View<'a, C> {
     pub(crate) object: Object,
     of: PhantomData<C>,
     ghost here: { IsObject object segment.now },
-    ghost whole: { IsSegment segment.now.cut.bytes },
 }
 
 impl<'a, C: ViewContent> View<'a, C> {
@@ -54,7 +53,6 @@ impl<'a, C: ViewContent> View<'a, C> {
         ensures segment { IfOk result (λ v. segment_of v ≡ segment.old) }
     {
         let object = locate_of_kind(segment, key, C::kind())?;
-        let _ = segment.as_bytes();
         Ok(View {
             segment,
             object,

@@ -19,10 +19,18 @@ append_to-requires c = omega (
 pub overflow_sub-self : goal.overflow_sub-self
 overflow_sub-self c =
     let whole = appended c.self.inside.bytes c.args.text.now c.append_to.new.text c.append_to.ensures
-    (omega (arith, c.requires,
-    row-taken c.self.inside.len c.self.inside.lengths c.self.inside.bytes c.self.view_is c.self.invariant.1)) in
-    omega (arith, ap length whole, length-append c.self.inside.bytes c.args.text.now, c.len.ensures,
-    c.len-before.ensures)
+    (omega (
+      arith,
+      c.requires,
+      row-taken c.self.inside.len c.self.inside.lengths c.self.inside.bytes c.self.view_is c.self.invariant.1,
+    )) in
+    omega (
+      arith,
+      ap length whole,
+      length-append c.self.inside.bytes c.args.text.now,
+      c.len.ensures,
+      c.len-before.ensures,
+    )
 
 pub bounds-self-inside-self-inside : goal.bounds-self-inside-self-inside
 bounds-self-inside-self-inside c =

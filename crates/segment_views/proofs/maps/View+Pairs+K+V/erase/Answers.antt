@@ -1,11 +1,11 @@
 -- The object stays.
 use Rattle.std.proofs.Common.{refl}
-use Rattle.segment_views.proofs.elements.SameObject.{stays_of_kind, stays_whole}
+use Rattle.segment_views.proofs.elements.SameObject.{stays_of_kind}
 use Rattle.segment_views.proofs.maps.View+Pairs+K+V.erase.Goals as goal
 
 pub invariant_of-self : goal.invariant_of-self
 invariant_of-self g c = record {
   here = stays_of_kind c.args.self.now.segment.now c.map_erase.new.self c.args.self.now.object _ _ _ _
-      c.args.self.now.whole refl c.map_erase.ensures.step c.args.self.now.here;
-  whole = stays_whole c.map_erase.ensures.step c.args.self.now.whole;
+      c.as_bytes.result.now c.as_bytes.ensures.bytes c.as_bytes.ensures.denotation refl c.map_erase.ensures.step
+      c.args.self.now.here;
 }

@@ -1,11 +1,11 @@
 -- The object stays.
 use Rattle.std.proofs.Common.{refl}
-use Rattle.segment_views.proofs.elements.SameObject.{stays_of_kind, stays_whole}
+use Rattle.segment_views.proofs.elements.SameObject.{stays_of_kind}
 use Rattle.segment_views.proofs.string_lists.View+Texts.erase.Goals as goal
 
 pub invariant_of-self : goal.invariant_of-self
 invariant_of-self c = record {
   here = stays_of_kind c.args.self.now.segment.now c.texts_erase.new.self c.args.self.now.object _ _ _ _
-      c.args.self.now.whole refl c.texts_erase.ensures.step c.args.self.now.here;
-  whole = stays_whole c.texts_erase.ensures.step c.args.self.now.whole;
+      c.as_bytes.result.now c.as_bytes.ensures.bytes c.as_bytes.ensures.denotation refl c.texts_erase.ensures.step
+      c.args.self.now.here;
 }

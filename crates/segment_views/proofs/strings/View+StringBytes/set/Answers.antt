@@ -1,11 +1,11 @@
 -- The object stays.
 use Rattle.std.proofs.Common.{refl}
-use Rattle.segment_views.proofs.elements.SameObject.{stays_of_kind, stays_whole}
+use Rattle.segment_views.proofs.elements.SameObject.{stays_of_kind}
 use Rattle.segment_views.proofs.strings.View+StringBytes.set.Goals as goal
 
 pub invariant_of-self : goal.invariant_of-self
 invariant_of-self c = record {
   here = stays_of_kind c.args.self.now.segment.now c.string_set.new.self c.args.self.now.object _ _ _ _
-      c.args.self.now.whole refl c.string_set.ensures.step c.args.self.now.here;
-  whole = stays_whole c.string_set.ensures.step c.args.self.now.whole;
+      c.as_bytes.result.now c.as_bytes.ensures.bytes c.as_bytes.ensures.denotation refl c.string_set.ensures.step
+      c.args.self.now.here;
 }

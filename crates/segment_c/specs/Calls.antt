@@ -1,7 +1,7 @@
 -- What the calls of C owe, whatever they are asked.
 use Rattle.std.specs.Prelude.{◌≡◌, ◌≢◌, ◌≤◌, ℕ, Option, Some, None, IsTrue}
 use Rattle.segment_manager.specs.State.{SegmentState}
-use Rattle.segment_c.specs.{Codes.is_answer, Marked.RaisesMoves, declared.segment_slot.SegmentSlot.SegmentSlot}
+use Rattle.segment_c.specs.Codes.{is_answer}
 
 -- the handle has a segment, of which this holds
 abbrev pub HoldsSegment : Option SegmentState → (SegmentState → Type 0) → Type 0
@@ -49,31 +49,3 @@ pub record RefusesCall (wrong code : ℕ) (old new : Option SegmentState) : Type
   pub closed : RefusesClosed wrong code old new
   pub none : wrong ≡ 0 → old ≡ None
   pub same : new ≡ old
-
--- ---- calls of a handle: what is asked of its segment, what a refusal leaves, and its marks
-
--- a call that changes the segment: where it is refused nothing changes
-pub record ChangesHandle (wrong code : ℕ) (old new : SegmentSlot) (P : SegmentState → SegmentState → Type 0) :
-    Type 0 where
-  pub call : PerformsCall wrong code old.segment.value new.segment.value P
-  pub unchanged_on_error : 1 ≤ code → new.segment.value ≡ old.segment.value
-  pub marks : RaisesMoves code old.marks new.marks
-
--- a call that asks for several blocks: where there was no space for one, bytes of gaps may differ
-pub record MakesInHandle (wrong code : ℕ) (old new : SegmentSlot) (P : SegmentState → SegmentState → Type 0) :
-    Type 0 where
-  pub call : PerformsCall wrong code old.segment.value new.segment.value P
-  pub refused : UnchangedOnCode code old.segment.value new.segment.value
-  pub marks : RaisesMoves code old.marks new.marks
-
--- a call that asks the segment, and changes nothing
-pub record AsksHandle (wrong code : ℕ) (old new : SegmentSlot) (P : SegmentState → SegmentState → Type 0) :
-    Type 0 where
-  pub call : PerformsCall wrong code old.segment.value new.segment.value P
-  pub unchanged : new.segment.value ≡ old.segment.value
-  pub marks : new.marks ≡ old.marks
-
--- a call that reads the segment, and changes nothing
-pub record ReadsHandle (wrong code : ℕ) (old new : SegmentSlot) (P : SegmentState → Type 0) : Type 0 where
-  pub read : PerformsRead wrong code old.segment.value new.segment.value P
-  pub marks : new.marks ≡ old.marks

@@ -3,6 +3,7 @@ pub mod Changing
 pub mod Codes
 pub mod Destroying
 pub mod Growing
+pub mod Handles
 pub mod Held
 pub mod Images
 pub mod Lending

@@ -11,7 +11,7 @@ use Rattle.segment_manager.specs.Answers.{Answer, TextElement, Refused}
 use Rattle.segment_manager.specs.containers.Walks.{KindedPair, first_of, item_of_kinds, item_seen, pairs_at}
 use Rattle.segment_values.specs.Ranges.{range_at}
 use Rattle.segment_c.specs.{declared.keys.ObjectKey.ObjectKey, declared.values.CScalar.CScalar, Images.CopiesOut}
-use Rattle.segment_c.specs.{Calls.ReadsHandle, declared.segment_slot.SegmentSlot.SegmentSlot}
+use Rattle.segment_c.specs.{Handles.ReadsHandle, declared.segment_slot.SegmentSlot.SegmentSlot}
 use Rattle.segment_c.specs.Passed.{key_of, key_wrong, scalar_in}
 
 -- the code is 0 and this holds, or it is that of the refusal

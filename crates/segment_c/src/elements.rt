@@ -3,7 +3,7 @@ ghost use Rattle.std.specs.Prelude.{◌≡◌, ◌≤◌, OnErr};
 ghost use Rattle.seg_types.specs.Commands.{Erase, Get, Insert, Pop, Push, Set};
 ghost use Rattle.seg_types.specs.{Keys.key_seen, Written.literal_seen};
 ghost use Rattle.seg_types.specs.declared.kinds.Kind.TheVariants.{Strings as StringsKind, Vector as VectorOf};
-ghost use Rattle.segment_c.specs.Calls.{ChangesHandle, AsksHandle};
+ghost use Rattle.segment_c.specs.Handles.{ChangesHandle, AsksHandle};
 ghost use Rattle.segment_c.specs.Codes.{answer_for};
 ghost use Rattle.segment_c.specs.Passed.{element_in, key_of, key_wrong, literal_in, or_else, value_wrong};
 ghost use Rattle.segment_c.specs.Reads.{vector_kind, vector_kind_at};

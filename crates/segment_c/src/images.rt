@@ -7,7 +7,7 @@ ghost use Rattle.image_check.specs.Classes.{number_of};
 ghost use Rattle.raw_region.specs.Memory.{zeros};
 ghost use Rattle.raw_region.specs.Regions.{IsCapacity};
 ghost use Rattle.seg_types.specs.Commands.{Free, Size};
-ghost use Rattle.segment_c.specs.Calls.{RefusesArgument, HoldsSegment, AsksHandle};
+ghost use Rattle.segment_c.specs.{Calls.RefusesArgument, Calls.HoldsSegment, Handles.AsksHandle};
 ghost use Rattle.segment_c.specs.Codes.{answer_for};
 ghost use Rattle.segment_c.specs.Images.{CopiesOut, mode_code, mode_of, mode_wrong};
 ghost use Rattle.segment_c.specs.Marked.{PlacesSegment, placed};

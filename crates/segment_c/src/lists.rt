@@ -5,7 +5,7 @@ ghost use Rattle.best_fit.specs.Extents.{spans};
 ghost use Rattle.seg_types.specs.Commands.{NumNamed, NumUnique};
 ghost use Rattle.seg_types.specs.Keys.{key_seen};
 ghost use Rattle.seg_types.specs.Kinds.{class_code};
-ghost use Rattle.segment_c.specs.Calls.{AsksHandle, ReadsHandle};
+ghost use Rattle.segment_c.specs.Handles.{AsksHandle, ReadsHandle};
 ghost use Rattle.segment_c.specs.Codes.{answer_for};
 ghost use Rattle.segment_c.specs.Lists.{IsInfo, WritesInfo, TellsAlone, TellsBlock, WritesInfoOf, use_code};
 ghost use Rattle.segment_c.specs.Passed.{key_of, key_wrong};

@@ -2,7 +2,7 @@
 ghost use Rattle.std.specs.Prelude.{◌≡◌, ◌≤◌, Some};
 ghost use Rattle.seg_types.specs.Commands.{Lookup, Put, Remove};
 ghost use Rattle.seg_types.specs.{Keys.key_seen, Written.literal_seen};
-ghost use Rattle.segment_c.specs.Calls.{ReachesSegment, ChangesHandle, AsksHandle, ReadsHandle};
+ghost use Rattle.segment_c.specs.{Calls.ReachesSegment, Handles.ChangesHandle, Handles.AsksHandle, Handles.ReadsHandle};
 ghost use Rattle.segment_c.specs.Codes.{answer_for};
 ghost use Rattle.segment_c.specs.Passed.{element_in, key_of, key_wrong, literal_in, or_else, value_wrong};
 ghost use Rattle.segment_c.specs.Reads.{TellsPair, TellsPairOf, first_at, next_at};

@@ -4,7 +4,7 @@ ghost use Rattle.seg_types.specs.declared.kinds.ScalarKind.TheVariants.{Bool as 
 ghost use Rattle.seg_types.specs.declared.kinds.ScalarKind.TheVariants.{I64 as I64Kind, U8 as U8Kind, U64 as U64Kind};
 ghost use Rattle.seg_types.specs.Keys.{key_seen};
 ghost use Rattle.seg_types.specs.Kinds.{truth_number};
-ghost use Rattle.segment_c.specs.Calls.{ChangesHandle};
+ghost use Rattle.segment_c.specs.Handles.{ChangesHandle};
 ghost use Rattle.segment_c.specs.Codes.{answer_for};
 ghost use Rattle.segment_c.specs.Passed.{key_of, key_wrong, numbers_of, or_else, row_of, row_wrong, scalar_kind_in};
 ghost use Rattle.segment_c.specs.Reads.{IsCoded, ReadsRange};

@@ -3,7 +3,7 @@ ghost use Rattle.std.specs.Prelude.{◌≡◌, ◌≢◌, ◌≤◌};
 ghost use Rattle.seg_types.specs.declared.kinds.Kind.TheVariants.{Strings as StringsKind};
 ghost use Rattle.seg_types.specs.Commands.{Get};
 ghost use Rattle.seg_types.specs.Keys.{key_seen};
-ghost use Rattle.segment_c.specs.Calls.{ReadsHandle};
+ghost use Rattle.segment_c.specs.Handles.{ReadsHandle};
 ghost use Rattle.segment_c.specs.Passed.{key_of, key_wrong};
 ghost use Rattle.segment_c.specs.Reads.{AreSizes, Copies, CopiesAnswer, IsCoded, CopiesBytes};
 ghost use Rattle.segment_manager.specs.containers.Contents.{bytes_at, sizes_at};

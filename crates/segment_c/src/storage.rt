@@ -2,7 +2,8 @@
 ghost use Rattle.std.specs.Prelude.{◌≡◌, ◌≤◌};
 ghost use Rattle.seg_types.specs.Commands.{AllDeallocated, Clear, Reserve, ReserveNamed, ReserveUnique, Sanity, Shrink};
 ghost use Rattle.seg_types.specs.Commands.{ShrinkIndexes, ZeroFree};
-ghost use Rattle.segment_c.specs.Calls.{ReachesSegment, ChangesHandle, MakesInHandle, AsksHandle};
+ghost use Rattle.segment_c.specs.Calls.{ReachesSegment};
+ghost use Rattle.segment_c.specs.Handles.{ChangesHandle, MakesInHandle, AsksHandle};
 ghost use Rattle.segment_c.specs.Codes.{answer_for};
 ghost use Rattle.segment_c.specs.Passed.{key_of, key_wrong};
 ghost use Rattle.segment_manager.specs.Answers.{Done, Truth};

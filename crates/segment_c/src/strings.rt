@@ -2,7 +2,7 @@
 ghost use Rattle.std.specs.Prelude.{◌∷◌, [], map};
 ghost use Rattle.seg_types.specs.declared.kinds.Kind.TheVariants.{String as StringKind, Strings as StringsKind};
 ghost use Rattle.seg_types.specs.Commands.{Append, Assign, Insert, Push, Quoted, Set};
-ghost use Rattle.segment_c.specs.Calls.{ChangesHandle, MakesInHandle};
+ghost use Rattle.segment_c.specs.Handles.{ChangesHandle, MakesInHandle};
 ghost use Rattle.segment_c.specs.Codes.{answer_for};
 ghost use Rattle.segment_c.specs.Passed.{key_of, key_wrong};
 ghost use Rattle.segment_manager.specs.Answers.{Done};

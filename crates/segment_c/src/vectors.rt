@@ -3,7 +3,7 @@ ghost use Rattle.std.specs.Prelude.{◌≡◌, ◌≤◌, ℕ, MatchResult, OnEr
 ghost use Rattle.seg_types.specs.Commands.{Assign, Construct, ConstructIt, Elements, FindOrConstruct, literal_of};
 ghost use Rattle.seg_types.specs.Keys.{index_key_seen, key_seen, new_key_seen};
 ghost use Rattle.seg_types.specs.declared.kinds.Kind.TheVariants.{Scalar as ScalarOf, Vector as VectorOf};
-ghost use Rattle.segment_c.specs.Calls.{ChangesHandle, MakesInHandle};
+ghost use Rattle.segment_c.specs.Handles.{ChangesHandle, MakesInHandle};
 ghost use Rattle.segment_c.specs.{Codes.answer_for, Making.FindsOrMakesObject};
 ghost use Rattle.segment_c.specs.Passed.{count_wrong, entry_of, entry_wrong, key_of, key_wrong, many_of, new_of};
 ghost use Rattle.segment_c.specs.Passed.{new_wrong, numbers_of, or_else, row_count, row_of, row_wrong, scalar_kind_in};

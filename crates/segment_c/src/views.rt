@@ -2,7 +2,7 @@
 ghost use denote.RawPtr.{block_ptr};
 ghost use Rattle.std.specs.Prelude.{◌≡◌, ◌≤◌};
 ghost use Rattle.seg_types.specs.Keys.{key_seen};
-ghost use Rattle.segment_c.specs.Calls.{HoldsSegment, PerformsRead, ReadsHandle};
+ghost use Rattle.segment_c.specs.{Calls.HoldsSegment, Calls.PerformsRead, Handles.ReadsHandle};
 ghost use Rattle.segment_c.specs.Marked.{LendsRange};
 ghost use Rattle.segment_c.specs.Passed.{key_of, key_wrong};
 ghost use Rattle.segment_c.specs.Reads.{IsCoded};

@@ -10,6 +10,7 @@ ghost use Rattle.segment_c.specs.Passed.{new_wrong, numbers_of, or_else, row_cou
 ghost use Rattle.segment_manager.specs.Answers.{Done, Found, Made};
 ghost use Rattle.segment_manager.specs.containers.Ranges.{ExtendsVector};
 ghost use Rattle.segment_manager.specs.objects.Found.{found_object_answer};
+ghost use Rattle.segment_manager.specs.Keeping.{IsBoundKey, UnchangedWhere};
 ghost use Rattle.segment_manager.specs.objects.NewObjects.{IsOfKind};
 ghost use Rattle.segment_manager.specs.State.{TakesStep, TakesStepOfKind, UnchangedIfRefused as KeepsOld, done_answer};
 ghost use Rattle.segment_manager.specs.State.{handle_answer};
@@ -51,6 +52,7 @@ fn find_or_construct_row(
         (FindOrConstruct (index_key_seen key.now) (Elements kind (numbers_of row.now kind)))
         (found_object_answer result) }
     ensures refused { KeepsOld segment.old segment.new result }
+    ensures search { UnchangedWhere segment.old segment.new (IsBoundKey (index_key_seen key.now)) }
 {
     on_slice!(row, kind, slice => segment.find_or_construct_vec(key, slice))
 }

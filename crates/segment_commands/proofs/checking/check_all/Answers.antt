@@ -8,7 +8,7 @@ use Rattle.segment_commands.proofs.checking.check_all.Goals as goal
 
 pub returns-in_err-tell_fit : goal.returns-in_err-tell_fit
 returns-in_err-tell_fit g c =
-    let from = c.from_residual-in_err-tell_fit in let p = err_from_is_err_and from.result from.ensures.1 in
+    let p = err_from_is_err_and c.from_residual.result c.from_residual.ensures.1 in
     let History = g.E.Sink.history in
     rw (p.1, p.2) (going_lost g.D.Disk.step g.O.Sink.history g.O.Output.flushes c.args.disk.now (History c.args.err.now)
     c.args.out.now c.args.is_quiet

@@ -7,24 +7,24 @@ use Rattle.segment_commands.proofs.running.run_made.Goals as goal
 pub returns-in_err-run_script : goal.returns-in_err-run_script
 returns-in_err-run_script g c =
     let from = c.from_residual-in_err-run_script in let p = err_from_is_err_and from.result from.ensures.1 in
-    rw (p.1, p.2) (made_run _ _ _ _ _ _ _ _ _ _ _ _ _ c.in_ok-segment.segment _
+    rw (p.1, p.2) (made_run _ _ c.args.disk.now _ _ _ _ _ _ _ _ _ _ c.in_ok-segment.segment _
     (λ capacity image h. stopped _ _ _ _ _ _ _ _ _ _ _ _ c.run_script.new.segment h _
     c.in_err-run_script.field-0.0 c.in_err-run_script.ensures) c.in_ok-segment.ensures)
 
 pub returns-in-Refused : goal.returns-in-Refused
-returns-in-Refused g c = made_run _ _ _ _ _ _ _ _ _ _ _ _ _ c.in_ok-segment.segment _
+returns-in-Refused g c = made_run _ _ c.args.disk.now _ _ _ _ _ _ _ _ _ _ c.in_ok-segment.segment _
     (λ capacity image h. refusing_run _ _ _ _ _ _ _ _ _ _ _ _ c.run_script.new.segment h _
     (rw c.in-Refused.is at c.in_ok-run_script.ensures)) c.in_ok-segment.ensures
 
-pub returns-in-Whole : goal.returns-in-Whole
-returns-in-Whole g c = made_run _ _ _ _ _ _ _ _ _ _ _ _ _ c.in_ok-segment.segment _
+pub returns : goal.returns
+returns g c = made_run _ _ c.args.disk.now _ _ _ _ _ _ _ _ _ _ c.in_ok-segment.segment _
     (λ capacity image h. saved _ _ _ _ _ _ _ _ _ _ _ _ c.run_script.new.segment h _
-    (rw c.in-Whole.is at c.in_ok-run_script.ensures) _ refl c.in_ok-write_new.ensures) c.in_ok-segment.ensures
+    (rw c.in-Whole.is at c.in_ok-run_script.ensures) _ refl c.in_ok-write_new-in-Whole.ensures) c.in_ok-segment.ensures
 
-pub returns-in_err-write_new : goal.returns-in_err-write_new
-returns-in_err-write_new g c =
-    let from = c.from_residual-in_err-write_new in let p = err_from_is_err_and from.result from.ensures.1 in
-    rw (p.1, p.2) (made_run _ _ _ _ _ _ _ _ _ _ _ _ _ c.in_ok-segment.segment _
+pub returns-in_err-write_new-in-Whole : goal.returns-in_err-write_new-in-Whole
+returns-in_err-write_new-in-Whole g c =
+    let from = c.from_residual-in_err-write_new-in-Whole in let p = err_from_is_err_and from.result from.ensures.1 in
+    rw (p.1, p.2) (made_run _ _ c.args.disk.now _ _ _ _ _ _ _ _ _ _ c.in_ok-segment.segment _
     (λ capacity image h. unsaved _ _ _ _ _ _ _ _ _ _ _ _ c.run_script.new.segment h _
-    (rw c.in-Whole.is at c.in_ok-run_script.ensures) _ refl c.in_err-write_new.field-0.0
-    c.in_err-write_new.ensures) c.in_ok-segment.ensures)
+    (rw c.in-Whole.is at c.in_ok-run_script.ensures) _ refl c.in_err-write_new-in-Whole.field-0.0
+    c.in_err-write_new-in-Whole.ensures) c.in_ok-segment.ensures)

@@ -16,15 +16,15 @@ returns-in-Refused g c = opened_run _ _ _ _ _ _ _ _ _ _ _ _ _ c.in_ok-segment.se
     (λ capacity image h. refusing_run _ _ _ _ _ _ _ _ _ _ _ _ c.run_script.new.segment h _
     (rw c.in-Refused.is at c.in_ok-run_script.ensures)) c.in_ok-segment.ensures
 
-pub returns-in-Whole : goal.returns-in-Whole
-returns-in-Whole g c = opened_run _ _ _ _ _ _ _ _ _ _ _ _ _ c.in_ok-segment.segment _ _
+pub returns : goal.returns
+returns g c = opened_run _ _ _ _ _ _ _ _ _ _ _ _ _ c.in_ok-segment.segment _ _
     (λ capacity image h. saved _ _ _ _ _ _ _ _ _ _ _ _ c.run_script.new.segment h _
-    (rw c.in-Whole.is at c.in_ok-run_script.ensures) _ refl c.in_ok-write_image.ensures) c.in_ok-segment.ensures
+    (rw c.in-Whole.is at c.in_ok-run_script.ensures) _ refl c.in_ok-write_image-in-Whole.ensures) c.in_ok-segment.ensures
 
-pub returns-in_err-write_image : goal.returns-in_err-write_image
-returns-in_err-write_image g c =
-    let from = c.from_residual-in_err-write_image in let p = err_from_is_err_and from.result from.ensures.1 in
+pub returns-in_err-write_image-in-Whole : goal.returns-in_err-write_image-in-Whole
+returns-in_err-write_image-in-Whole g c =
+    let from = c.from_residual-in_err-write_image-in-Whole in let p = err_from_is_err_and from.result from.ensures.1 in
     rw (p.1, p.2) (opened_run _ _ _ _ _ _ _ _ _ _ _ _ _ c.in_ok-segment.segment _ _
     (λ capacity image h. unsaved _ _ _ _ _ _ _ _ _ _ _ _ c.run_script.new.segment h _
-    (rw c.in-Whole.is at c.in_ok-run_script.ensures) _ refl c.in_err-write_image.field-0.0
-    c.in_err-write_image.ensures) c.in_ok-segment.ensures)
+    (rw c.in-Whole.is at c.in_ok-run_script.ensures) _ refl c.in_err-write_image-in-Whole.field-0.0
+    c.in_err-write_image-in-Whole.ensures) c.in_ok-segment.ensures)

@@ -186,11 +186,11 @@ template <class T> void beside_vector(const char *name, u64 count) {
         else return s.vector<T>("v");
     };
     auto ours = asked();
-    auto first = ours.begin();
+    auto before = ours.begin();
     for (step = 0; step < count; step++) {
         if (below(8) != 0) call_vector<T>(ours, theirs);
-        if (below(4) == 0) first = ours.begin();
-        call_iterator<T>(first, theirs);
+        if (below(4) == 0) before = ours.begin();
+        call_iterator<T>(before, theirs);
         if constexpr (std::is_arithmetic_v<T> && !std::is_same_v<T, bool>) {
             if (!theirs.empty() && below(8) == 0) {
                 const u64 index = below(theirs.size());
@@ -210,7 +210,7 @@ template <class T> void beside_vector(const char *name, u64 count) {
                     std::copy(row.begin(), row.end(), theirs.begin() + static_cast<std::ptrdiff_t>(first));
             }
         }
-        if (below(5000) == 0) reopened(s), ours = asked(), first = ours.begin();
+        if (below(5000) == 0) reopened(s), ours = asked(), before = ours.begin();
     }
     same(ours == theirs, "all");
 }

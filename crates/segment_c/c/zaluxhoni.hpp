@@ -761,10 +761,10 @@ template <class T> struct values {
             return value;
         }
     }
-    static T get(const placed_spot &of, std::uint64_t index) {
+    [[gnu::always_inline]] static T get(const placed_spot &of, std::uint64_t index) {
         return __builtin_expect(index < of.left(), true) ? read(of.at, index) : away(of, index);
     }
-    static T begun(const placed_spot &of, std::uint64_t index) {
+    [[gnu::always_inline]] static T begun(const placed_spot &of, std::uint64_t index) {
         return of.has(index) ? read(of.at, index) : away(of, index);
     }
     static void set(const spot &of, std::uint64_t index, const T &value) {
@@ -776,7 +776,7 @@ template <class T> struct values {
             of.ask(zx_write_elements, product(index, stored<T>::width), &passed);
         }
     }
-    static void set(const placed_spot &of, std::uint64_t index, const T &value) {
+    [[gnu::always_inline]] static void set(const placed_spot &of, std::uint64_t index, const T &value) {
         if (of.has(index) && (of.of->raw()->shared || lends(of.of, of.handle))) write(of.at, index, value);
         else set(static_cast<const spot &>(of), index, value);
     }
@@ -813,10 +813,10 @@ template <class T> struct values {
         if constexpr (is_scalar<T>) static_cast<T *>(at)[index] = value;
         else std::memcpy(static_cast<unsigned char *>(at) + index * sizeof(T), &value, sizeof(T));
     }
-    // what is asked where the values are not known to be in place. Each takes a spot in parts, so that a loop keeps its
-    // own in registers
+    // what is asked where the values are not known to be in place. What is no part of a loop takes a spot in parts, so
+    // that the loop keeps its own in registers
 
-    static T away(const placed_spot &of, std::uint64_t index) {
+    [[gnu::always_inline]] static T away(const placed_spot &of, std::uint64_t index) {
         // what [] gives has no place, as the compiler knows
         if (__builtin_constant_p(of.count) && of.count == 0) return get(static_cast<const spot &>(of), index);
         const answer told = asked(of.of, of.handle, index);

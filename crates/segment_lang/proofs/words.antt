@@ -7,4 +7,3 @@ pub mod Readers
 pub mod FirstWords
 pub mod Lengths
 pub mod LongLines
-pub mod LineFronts

@@ -93,6 +93,10 @@ text_in bytes = (unwrap_or (text_at bytes) ([], [])).0
 abbrev pub behind_text : List ℕ → Option (List ℕ)
 behind_text bytes = option_map (λ x. x.1) (text_at bytes)
 
+-- a byte that is no quote and no backslash; in a text it stands for itself
+abbrev pub is_unescaped : ℕ → Bool
+is_unescaped c = not ((c == 0x22) || (c == 0x5C))
+
 -- ---- words
 
 -- a word with no blank in front

@@ -7,34 +7,32 @@ ghost use Rattle.std.specs.List.{prefix_len};
 ghost use Rattle.raw_region.specs.Format.{current};
 ghost use Rattle.seg_types.specs.Names.{is_name};
 ghost use Rattle.segment_lang.specs.Words.{is_bare, is_plain, digit_of};
-ghost use Rattle.segment_lang.specs.Tokens.{bare_at, digits_at, ends_word, escape_at, item_at, next_two};
+ghost use Rattle.segment_lang.specs.Tokens.{bare_at, digits_at, ends_word, escape_at, item_at, next_two, is_unescaped};
 ghost use Rattle.segment_lang.specs.Tokens.{next_word, only_word, three_words, two_words, text_at, behind_quote};
 ghost use Rattle.segment_lang.specs.Tokens.{behind_text, text_in, up_to_blank};
 ghost use Rattle.segment_lang.specs.Seen.{bytes_said, word_of};
 
 use crate::blanks::{at_end, is_blank, skip_blanks};
 use crate::buffer::LineBuffer;
-use seg_types::Name;
+use seg_types::{MAX_NAME_LEN, Name};
 use std::marker::Model;
 
-/// The bytes that a text in quotes stands for. Where the line escapes one, they are read from it when they are asked
-/// for.
+/// The bytes that a text in quotes stands for. They are read from the line when they are asked for.
 #[derive(Drop)]
 pub struct Quoted<'a> {
-    // The bytes; or, if one is escaped, what stands behind the quote that opens the text, to the end of the line.
-    spelled: &'a [u8],
-    is_escaped: bool,
+    // What stands behind the quote that opens the text, to the end of the line.
+    behind: &'a [u8],
 }
 
 impl<'a> Model for Quoted<'a> {
-    ghost use Rattle.std.specs.Prelude.{◌≡◌, List, ℕ, IsSome, true, if◌then◌else◌};
+    ghost use Rattle.std.specs.Prelude.{List, ℕ, IsSome};
     ghost use Rattle.segment_lang.specs.Tokens.{text_at, text_in};
 
     ghost Value = { List ℕ };
 
-    ghost view = { λ q. if q.is_escaped then text_in q.spelled.now else q.spelled.now };
+    ghost view = { λ q. text_in q.behind.now };
 
-    ghost invariant = { λ q. q.is_escaped ≡ true → IsSome (text_at q.spelled.now) };
+    ghost invariant = { λ q. IsSome (text_at q.behind.now) };
 }
 
 impl<'a> Quoted<'a> {
@@ -46,10 +44,28 @@ impl<'a> Quoted<'a> {
         requires { length self.now ≤ 4096 }
         ensures { result.now ≡ self.now }
     {
-        if self.is_escaped {
-            return self.decoded(scratch);
+        match self.lent() {
+            Some(bytes) => bytes,
+            None => {
+                scratch.clear();
+                self.append_to(scratch);
+                scratch.as_slice()
+            }
         }
-        self.spelled
+    }
+
+    /// Returns the bytes as the line spells them, or `None` if one is escaped.
+    fn lent(&self) -> Option<&'a [u8]>
+        ensures { IfSome result (λ bytes. bytes.now ≡ self.now) }
+    {
+        let (bytes, rest) = split_unescaped(self.behind);
+        let [end, ..] = rest else {
+            return None;
+        };
+        if *end != b'"' {
+            return None;
+        }
+        Some(bytes)
     }
 
     /// Returns the name that the bytes are, or `None` if they are none. It is lent from the line, or decoded into
@@ -57,33 +73,36 @@ impl<'a> Quoted<'a> {
     pub fn to_name(&self, scratch: &'a mut LineBuffer) -> Option<Name<'a>>
         ensures { option_map name_seen result ≡ (if is_name current self.now then Some self.now else None) }
     {
-        if self.is_escaped {
-            return Name::new(self.decoded(scratch));
+        match self.lent() {
+            Some(bytes) => Name::new(bytes),
+            None => self.decode_name(scratch),
         }
-        Name::new(self.spelled)
     }
 
-    /// Returns the first 4096 of the bytes, which it puts into `scratch`, whatever it held.
-    fn decoded(&self, scratch: &'a mut LineBuffer) -> &'a [u8]
-        ensures { result.now ≡ take 4096 self.now }
+    /// Returns the name that the bytes are, decoded into `scratch`.
+    fn decode_name(&self, scratch: &'a mut LineBuffer) -> Option<Name<'a>>
+        ensures { option_map name_seen result ≡ (if is_name current self.now then Some self.now else None) }
     {
         scratch.clear();
-        self.append_to(scratch);
-        scratch.as_slice()
+        let mut rest = self.behind;
+        'items: while let Some((byte, tail)) = read_item(rest) {
+            if scratch.len() == MAX_NAME_LEN {
+                return None;
+            }
+            scratch.push(byte);
+            rest = tail;
+        }
+        Name::new(scratch.as_slice())
     }
 
-    /// Adds the bytes at the end of a text, and drops those for which there is no room.
+    /// Adds the bytes at the end of a text.
     pub fn append_to(&self, text: &mut LineBuffer)
-        requires { length text.old ≤ 4096 }
-        ensures { text.new ≡ take 4096 (text.old ++ self.now) }
+        requires { length text.old + length self.now ≤ 4096 }
+        ensures { text.new ≡ text.old ++ self.now }
     {
-        if !self.is_escaped {
-            text.extend(self.spelled);
-            return;
-        }
-        let mut rest = self.spelled;
+        let mut rest = self.behind;
         'items: while let Some((byte, tail)) = read_item(rest) {
-            text.extend(&[byte]);
+            text.push(byte);
             rest = tail;
         }
     }
@@ -203,15 +222,14 @@ fn read_item(bytes: &[u8]) -> Option<(u8, &[u8])>
     Some((*byte, rest))
 }
 
-/// Returns the bytes in front that stand for themselves in a text, and what is from the first other one on.
-fn split_plain(bytes: &[u8]) -> (&[u8], &[u8])
-    ensures front { result.0.now ≡ take_while is_plain bytes.now }
-    ensures rest { result.1.now ≡ drop (length (take_while is_plain bytes.now)) bytes.now }
-    ensures shrinking { length result.1.now ≤ length bytes.now }
+/// Returns the bytes in front of the first quote or backslash, and what is from there on.
+fn split_unescaped(bytes: &[u8]) -> (&[u8], &[u8])
+    ensures front { result.0.now ≡ take_while is_unescaped bytes.now }
+    ensures rest { result.1.now ≡ drop (length (take_while is_unescaped bytes.now)) bytes.now }
 {
     let mut rest = bytes;
     'front: while let [first, tail @ ..] = rest {
-        if !is_plain(*first) {
+        if *first == b'"' || *first == b'\\' {
             break;
         }
         rest = tail;
@@ -262,24 +280,8 @@ fn read_text(bytes: &[u8]) -> Option<(Quoted<'_>, &[u8])>
     ensures shrinking { IfSome result (λ x. length x.1.now < length bytes.now) }
     ensures fits { IfSome result (λ x. length x.0 ≤ length bytes.now) }
 {
-    let (front, behind) = split_plain(bytes);
-    if let Some(rest) = close_text(behind) {
-        return Some((
-            Quoted {
-                spelled: front,
-                is_escaped: false,
-            },
-            rest,
-        ));
-    }
     let rest = close_text(skip_items(bytes))?;
-    Some((
-        Quoted {
-            spelled: bytes,
-            is_escaped: true,
-        },
-        rest,
-    ))
+    Some((Quoted { behind: bytes }, rest))
 }
 
 /// Returns the next word, after the blanks in front of it, and what is after it. There is none at the end, and where a

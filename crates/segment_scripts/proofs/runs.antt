@@ -4,3 +4,4 @@ pub mod Ends
 pub mod Stops
 pub mod Lines
 pub mod LineEnds
+pub mod LineFronts

@@ -1,16 +1,14 @@
 -- A text item by item.
 use Rattle.std.proofs.Common.{◌≡◌, ℕ, Bool, true, false, cond, List, [], ◌∷◌, Option, Some, None, ap, subst, sym, refl}
-use Rattle.std.proofs.Common.{◌∙◌, arith, ◌==◌, ◌||◌, length, ◌≤◌, ◌+◌, ◌++◌, append_assoc, append-nil}
-use Rattle.std.proofs.Common.{drop, take}
+use Rattle.std.proofs.Common.{◌∙◌, arith, ◌==◌, ◌||◌, length, ◌≤◌, ◌+◌, ◌++◌, append_assoc, append-nil, length-append}
+use Rattle.std.proofs.Common.{drop, get_or, not}
 use Rattle.std.specs.List.{take_while}
 use Rattle.std.specs.Option.{option_map, option_and_then, unwrap_or, IsSome}
 use Rattle.std.proofs.lemmas.Bool.Decides.{nat_tests}
-use Rattle.std.proofs.lemmas.List.{take_all}
 use Rattle.std.proofs.lemmas.List.Sums.{take_while-cons}
 use Rattle.segment_lang.specs.Words.{is_plain, byte_of_digits}
 use Rattle.segment_lang.specs.Tokens.{text_at, escaped_at, high_digit_at, item_at, escape_at, digits_at, longer}
-use Rattle.segment_lang.specs.Tokens.{closed_at, quote_at, behind_quote, ends_word, behind_text, text_in}
-use Rattle.segment_lang.proofs.words.LineFronts.{kept_more}
+use Rattle.segment_lang.specs.Tokens.{closed_at, quote_at, behind_quote, ends_word, behind_text, is_unescaped, text_in}
 
 -- ---- an item in front
 
@@ -162,58 +160,64 @@ quote_at-empty (c ∷ cs) = quote_empty (c == 0x22) (ends_word cs) cs
 pub text_in-end : (bytes : List ℕ) → item_at bytes ≡ None → text_in bytes ≡ []
 text_in-end bytes h = ap bytes_in (text_at-end bytes h) ∙ quote_at-empty bytes
 
--- ---- a text that is copied byte by byte, as far as there is room
+-- ---- a text that is copied byte by byte
 
 -- a byte that is moved leaves the whole text
-pub moved_byte : (b : ℕ) (done done' left left' : List ℕ) → done' ≡ take 4096 (done ++ b ∷ []) → left ≡ b ∷ left'
-    → take 4096 (done' ++ left') ≡ take 4096 (done ++ left)
-moved_byte b done done' left left' d l = kept_more 4096 done' (done ++ b ∷ []) left' d
-    ∙ ap (take 4096) (append_assoc done (b ∷ []) left' ∙ ap (λ xs. done ++ xs) (sym l))
+pub moved_byte : (b : ℕ) (done done' left left' : List ℕ) → done' ≡ done ++ b ∷ [] → left ≡ b ∷ left' → done' ++ left'
+    ≡ done ++ left
+moved_byte b done done' left left' d l = ap (λ xs. xs ++ left') d ∙ append_assoc done (b ∷ []) left'
+    ∙ ap (λ xs. done ++ xs) (sym l)
+
+-- a byte that is moved leaves the whole length
+pub moved_room : (b : ℕ) (done done' left left' : List ℕ) → done' ≡ done ++ b ∷ [] → left ≡ b ∷ left'
+    → length done + length left ≤ 4096 → length done' + length left' ≤ 4096
+moved_room b done done' left left' d l h = omega (arith, ap length d, ap length l, length-append done (b ∷ []))
 
 -- no byte is left: the text is done
-pub last_byte : (done left all : List ℕ) → length done ≤ 4096 → left ≡ [] → take 4096 (done ++ left) ≡ take 4096 all
-    → done ≡ take 4096 all
-last_byte done left all few l h = sym (take_all 4096 done few)
-    ∙ ap (take 4096) (sym (append-nil done) ∙ sym (ap (λ xs. done ++ xs) l)) ∙ h
+pub last_byte : (done left all : List ℕ) → left ≡ [] → done ++ left ≡ all → done ≡ all
+last_byte done left all l h = sym (append-nil done) ∙ sym (ap (λ xs. done ++ xs) l) ∙ h
 
 -- ---- a text with nothing escaped
 
--- a plain byte is no backslash
-pub no_backslash : (c : ℕ) → is_plain c ≡ true → (c == 0x5C) ≡ false
-no_backslash c h = grind (arith, nat_tests)
+unescaped_byte : (q e p : Bool) (c : ℕ) (front cs : List ℕ) → (q || e) ≡ false
+    → (IsSome (text_at cs) → bytes_in (text_at cs) ≡ front)
+    → IsSome (cond q (closed_at cs) (cond e (escaped_at cs) (cond p (longer c (text_at cs)) None)))
+    → bytes_in (cond q (closed_at cs) (cond e (escaped_at cs) (cond p (longer c (text_at cs)) None))) ≡ c ∷ front
+unescaped_byte true e p c front cs u f s = cc
+unescaped_byte false true p c front cs u f s = cc
+unescaped_byte false false true c front cs u f s = let l = longer_in c (text_at cs) s in l.1 ∙ ap (λ bs. c ∷ bs) (f l.0)
+unescaped_byte false false false c front cs u f s = cc
 
--- a plain byte is an item
-pub plain_item : (e p : Bool) (c : ℕ) (cs : List ℕ) (x : Option (ℕ × List ℕ)) → e ≡ false → p ≡ true
-    → cond e x (cond p (Some (c, cs)) None) ≡ Some (c, cs)
-plain_item true p c cs x f g = cc
-plain_item false true c cs x f g = refl
-plain_item false false c cs x f g = cc
+quote_closes : (q e : Bool) (cs : List ℕ) (other : Option (List ℕ × List ℕ)) → q ≡ true
+    → bytes_in (cond q (cond e (nothing_before cs) None) other) ≡ []
+quote_closes true true cs other h = refl
+quote_closes true false cs other h = refl
+quote_closes false e cs other h = cc
 
-plain_first : (c : ℕ) (cs : List ℕ) → is_plain c ≡ true → item_at (c ∷ cs) ≡ Some (c, cs)
-unfolding item_at
-plain_first c cs h = plain_item (c == 0x5C) (is_plain c) c cs (escape_at cs) (no_backslash c h) h
+not-false : (b : Bool) → not b ≡ true → b ≡ false
+not-false true h = cc
+not-false false h = refl
 
-quote_there : (q e : Bool) (cs r : List ℕ) (other : Option (List ℕ × List ℕ))
-    → cond q (cond e (Some cs) None) None ≡ Some r → cond q (cond e (nothing_before cs) None) other ≡ nothing_before r
-quote_there true true cs r other h = let e : cs ≡ r = cc in ap nothing_before e
-quote_there true false cs r other h = cc
-quote_there false e cs r other h = cc
+unescaped_step : (u : Bool) (c : ℕ) (cs rest : List ℕ) → is_unescaped c ≡ u
+    → (drop (length (take_while is_unescaped cs)) cs ≡ 0x22 ∷ rest → IsSome (text_at cs)
+    → text_in cs ≡ take_while is_unescaped cs) → drop (length (cond u (c ∷ take_while is_unescaped cs) [])) (c ∷ cs)
+    ≡ 0x22 ∷ rest → IsSome (text_at (c ∷ cs)) → text_in (c ∷ cs) ≡ cond u (c ∷ take_while is_unescaped cs) []
+unfolding text_at
+unescaped_step true c cs rest u f d s = unescaped_byte (c == 0x22) (c == 0x5C) (is_plain c) c
+    (take_while is_unescaped cs) cs (not-false ((c == 0x22) || (c == 0x5C)) u) (f d) s
+unescaped_step false c cs rest u f d s = let q : c ≡ 0x22 = cc in
+    quote_closes (c == 0x22) (ends_word cs) cs _ (grind (arith, nat_tests))
 
-plain_step : (p : Bool) (c : ℕ) (cs r : List ℕ) → is_plain c ≡ p
-    → (behind_quote (drop (length (take_while is_plain cs)) cs) ≡ Some r
-    → text_at cs ≡ Some (take_while is_plain cs, r))
-    → behind_quote (drop (length (cond p (c ∷ take_while is_plain cs) [])) (c ∷ cs)) ≡ Some r
-    → text_at (c ∷ cs) ≡ Some (cond p (c ∷ take_while is_plain cs) [], r)
-plain_step true c cs r p f h = text_at-item (c ∷ cs) cs c (plain_first c cs p) ∙ ap (longer c) (f h)
-plain_step false c cs r p f h = text_step c cs
-    ∙ quote_there (c == 0x22) (ends_word cs) cs r (after (item_at (c ∷ cs))) h
+-- a quote stands in front of the text
+pub quote_in_front : (bytes : List ℕ) → 1 ≤ length bytes → get_or bytes 0 0 ≡ 0x22 → bytes ≡ 0x22 ∷ drop 1 bytes
+quote_in_front [] some h = absurd (omega arith)
+quote_in_front (c ∷ cs) some h = ap (λ c. c ∷ cs) h
 
--- where a quote that ends a text stands behind plain bytes, the text stands for these very bytes
-pub plain_text : (bytes r : List ℕ) → behind_quote (drop (length (take_while is_plain bytes)) bytes) ≡ Some r
-    → text_at bytes ≡ Some (take_while is_plain bytes, r)
-plain_text [] r h = cc
-plain_text (c ∷ cs) r h =
-    let front = take_while-cons is_plain c cs in
-    plain_step (is_plain c) c cs r refl (plain_text cs r)
-    (subst (λ front. behind_quote (drop (length front) (c ∷ cs)) ≡ Some r) front h)
-    ∙ ap (λ front. Some (front, r)) (sym front)
+-- where nothing is escaped up to the quote that ends a text, the text stands for the very bytes in front of the quote
+pub unescaped_text : (bytes rest : List ℕ) → drop (length (take_while is_unescaped bytes)) bytes ≡ 0x22 ∷ rest
+    → IsSome (text_at bytes) → text_in bytes ≡ take_while is_unescaped bytes
+unescaped_text [] rest d s = cc
+unescaped_text (c ∷ cs) rest d s =
+    let front = take_while-cons is_unescaped c cs in
+    unescaped_step (is_unescaped c) c cs rest refl (unescaped_text cs rest)
+    (subst (λ front. drop (length front) (c ∷ cs) ≡ 0x22 ∷ rest) front d) s ∙ sym front

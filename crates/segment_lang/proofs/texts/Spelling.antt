@@ -12,7 +12,7 @@ use Rattle.segment_lang.specs.Texts.{digit_text, item_text, quoted_text}
 use Rattle.segment_lang.specs.Tokens.{digits_at, ends_word, escape_at, item_at, longer, next_word, quote_at, text_at}
 use Rattle.segment_lang.specs.Tokens.{word_at}
 use Rattle.segment_lang.specs.Laws.{IsItem, Spells, TextsAreSpelled, PrintedTextsAreRead}
-use Rattle.segment_lang.proofs.texts.Items.{no_backslash, plain_item, text_at-end, text_at-item}
+use Rattle.segment_lang.proofs.texts.Items.{text_at-end, text_at-item}
 use Rattle.segment_lang.proofs.words.AllWords.{words_some}
 
 -- ---- an item that is read is spelled so
@@ -68,8 +68,17 @@ took (c ∷ cs) r b h = item_took (c == 0x5C) (is_plain c) c b cs r (is_byte c 0
 
 -- ---- an item that is spelled so is read
 
+no_backslash : (c : ℕ) → is_plain c ≡ true → (c == 0x5C) ≡ false
+no_backslash c h = grind (arith, nat_tests)
+
 quoted : (c : ℕ) → (c ≡ 0x22) ⊎ (c ≡ 0x5C) → ((c == 0x22) || (c == 0x5C)) ≡ true
 quoted c h = grind (arith, nat_tests)
+
+plain_item : (e p : Bool) (c : ℕ) (cs : List ℕ) (x : Option (ℕ × List ℕ)) → e ≡ false → p ≡ true
+    → cond e x (cond p (Some (c, cs)) None) ≡ Some (c, cs)
+plain_item true p c cs x f g = cc
+plain_item false true c cs x f g = refl
+plain_item false false c cs x f g = cc
 
 quoted_item : (q : Bool) (c : ℕ) (cs : List ℕ) (x : Option (ℕ × List ℕ)) → q ≡ true
     → cond q (Some (c, cs)) x ≡ Some (c, cs)

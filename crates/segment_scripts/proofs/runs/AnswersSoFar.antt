@@ -7,7 +7,7 @@ use Rattle.raw_region.specs.Answers.{AppendsProperPrefix}
 use Rattle.segment_scripts.specs.RunOutcome.{answer_all}
 use Rattle.segment_scripts.specs.RunProgress.{kept, HasAnswered, HasStopped, HasRunTo}
 use Rattle.segment_scripts.specs.Lines.{ended_lines, open_line, whole_lines}
-use Rattle.segment_lang.proofs.Laws.{at_most_or_more, kept_more}
+use Rattle.segment_scripts.proofs.runs.LineFronts.{at_most_or_more, kept_more}
 use Rattle.segment_scripts.proofs.runs.LineEnds.{BeginsWithEnd}
 use Rattle.segment_scripts.proofs.runs.Lines.{ended_lines-end, ended_lines-open, open_line-end, open_line-open}
 use Rattle.segment_scripts.proofs.runs.Lines.{ended-nil}

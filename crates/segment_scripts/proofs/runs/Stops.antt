@@ -17,7 +17,7 @@ use Rattle.segment_scripts.specs.RunProgress.{IsStoppedAtLast, LeavesLast}
 use Rattle.segment_scripts.specs.declared.ends.End.{End}
 use Rattle.segment_scripts.specs.declared.ends.End.TheVariants.{Whole, Refused}
 use Rattle.segment_scripts.specs.Stopping.{IsStoppedAt, LeavesUntil, goes_on}
-use Rattle.segment_lang.proofs.Laws.{at_most_or_more}
+use Rattle.segment_scripts.proofs.runs.LineFronts.{at_most_or_more}
 use Rattle.segment_scripts.proofs.runs.Lines.{ended_lines-end, lines-parts, last_lines, last-some, last-none}
 use Rattle.segment_scripts.proofs.runs.AnswersSoFar.{answers_one, stops_at, same_answer}
 

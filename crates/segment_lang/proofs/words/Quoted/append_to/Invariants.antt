@@ -1,4 +1,4 @@
-use Rattle.std.proofs.Common.{◌≡◌, ◌≤◌, ◌++◌, length, take}
+use Rattle.std.proofs.Common.{◌≡◌, ◌≤◌, ◌+◌, ◌++◌, length}
 use Rattle.std.specs.Option.{IsSome}
 use Rattle.segment_lang.specs.Tokens.{text_at, text_in}
 use Rattle.segment_lang.proofs.words.Quoted.append_to.Given as goal
@@ -6,8 +6,8 @@ use Rattle.segment_lang.proofs.words.Quoted.append_to.Given as goal
 abbrev pub invariant-items : goal.invariant-items
 invariant-items l = record {
   text : IsSome (text_at l.rest);
-  copied : take 4096 (l.text ++ text_in l.rest) ≡ take 4096 (l.initial.text ++ l.self);
-  room : length l.text ≤ 4096;
+  copied : l.text ++ text_in l.rest ≡ l.initial.text ++ l.self;
+  room : length l.text + length (text_in l.rest) ≤ 4096;
 }
 
 abbrev pub decreases-items : goal.decreases-items

@@ -19,7 +19,8 @@ returns-in-Refused g c = opened_run _ _ _ _ _ _ _ _ _ _ _ _ _ c.in_ok-segment.se
 pub returns : goal.returns
 returns g c = opened_run _ _ _ _ _ _ _ _ _ _ _ _ _ c.in_ok-segment.segment _ _
     (λ capacity image h. saved _ _ _ _ _ _ _ _ _ _ _ _ c.run_script.new.segment h _
-    (rw c.in-Whole.is at c.in_ok-run_script.ensures) _ refl c.in_ok-write_image-in-Whole.ensures) c.in_ok-segment.ensures
+    (rw c.in-Whole.is at c.in_ok-run_script.ensures) _ refl c.in_ok-write_image-in-Whole.ensures)
+    c.in_ok-segment.ensures
 
 pub returns-in_err-write_image-in-Whole : goal.returns-in_err-write_image-in-Whole
 returns-in_err-write_image-in-Whole g c =

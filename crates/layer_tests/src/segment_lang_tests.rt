@@ -8,9 +8,9 @@ use std::process::Abort;
 // A deed is moved as it is, so it is small.
 const _: () = prove!(size_of::<Key<'static>>() <= 24);
 
-const _: () = prove!(size_of::<Literal<'static>>() <= 32);
+const _: () = prove!(size_of::<Literal<'static>>() <= 24);
 
-const _: () = prove!(size_of::<Deed<'static>>() <= 72);
+const _: () = prove!(size_of::<Deed<'static>>() <= 64);
 
 /// Returns the whole number that a word spells.
 fn whole(word: &[u8]) -> Option<i128> {

@@ -34,8 +34,6 @@ use Rattle.seg_types.specs.declared.refusals.LineError.{LineError}
 use Rattle.seg_types.specs.declared.refusals.LineError.TheVariants.{UnknownCommand, LineTooLong, BadSyntax}
 use Rattle.segment_lang.specs.declared.forms.CommandForm.{CommandForm}
 use Rattle.segment_lang.specs.declared.forms.CommandForm.TheVariants as form
-use Rattle.segment_lang.specs.declared.forms.ElementForm.{ElementForm}
-use Rattle.segment_lang.specs.declared.forms.ElementForm.TheVariants as element
 use Rattle.segment_lang.specs.declared.forms.DeedForm.{DeedForm}
 use Rattle.segment_lang.specs.declared.forms.DeedForm.TheVariants as deed
 
@@ -117,15 +115,6 @@ is_wrong asked.Nothing = false
 is_wrong (asked.Asked c) = false
 is_wrong r = true
 
--- the form of what stands behind the word of a deed on elements or pairs
-abbrev pub element_reader_of : ElementForm → Reader
-element_reader_of element.Set = with_key_number_literal asked.Set
-element_reader_of element.Insert = with_key_number_literal asked.Insert
-element_reader_of element.Erase = with_key_number asked.Erase
-element_reader_of element.Reserve = with_key_number asked.Reserve
-element_reader_of element.Lookup = with_key_literal asked.Lookup
-element_reader_of element.Remove = with_key_literal asked.Remove
-
 -- the form of what stands behind the word of a deed
 abbrev pub deed_reader_of : DeedForm → Reader
 deed_reader_of deed.Construct = making asked.Construct new_key
@@ -136,11 +125,16 @@ deed_reader_of deed.Destroy = with_key asked.Destroy name_key
 deed_reader_of deed.DestroyPtr = destroying_ptr
 deed_reader_of deed.Show = with_key asked.Show key_of
 deed_reader_of deed.Info = with_key asked.Info key_of
-deed_reader_of (deed.Element e) = element_reader_of e
+deed_reader_of deed.Set = with_key_number_literal asked.Set
+deed_reader_of deed.Insert = with_key_number_literal asked.Insert
+deed_reader_of deed.Erase = with_key_number asked.Erase
+deed_reader_of deed.Reserve = with_key_number asked.Reserve
 deed_reader_of deed.Shrink = with_key asked.Shrink key_of
 deed_reader_of deed.Clear = with_key asked.Clear key_of
 deed_reader_of deed.Assign = assigning
 deed_reader_of deed.Append = appending
+deed_reader_of deed.Lookup = with_key_literal asked.Lookup
+deed_reader_of deed.Remove = with_key_literal asked.Remove
 deed_reader_of deed.ListNames = alone asked.ListNames
 deed_reader_of deed.ListKinds = alone asked.ListKinds
 deed_reader_of deed.Blocks = alone asked.ListBlocks

@@ -93,6 +93,15 @@ text_in bytes = (unwrap_or (text_at bytes) ([], [])).0
 abbrev pub behind_text : List ℕ → Option (List ℕ)
 behind_text bytes = option_map (λ x. x.1) (text_at bytes)
 
+-- what is behind the quote that opens a text
+abbrev pub behind_opening : List ℕ → Option (List ℕ)
+behind_opening [] = None
+behind_opening (c ∷ cs) = if c == 0x22 then Some cs else None
+
+-- the bytes that a text stands for: itself; or if the quote that opens it is in front, what stands behind this quote
+abbrev pub spelled_bytes : List ℕ → List ℕ
+spelled_bytes bytes = unwrap_or (option_map text_in (behind_opening bytes)) bytes
+
 -- ---- words
 
 -- a word with no blank in front

@@ -7,8 +7,10 @@ ghost use Rattle.raw_region.specs.Format.{current};
 ghost use Rattle.segment_lang.specs.Words.{is_word, words};
 ghost use Rattle.segment_lang.specs.Language.{whole_language};
 ghost use Rattle.segment_lang.specs.Reading.{form_of};
-ghost use Rattle.segment_lang.specs.Seen.{deed_of, deed_reader_of, element_reader_of, found_in, place_of, reader_of};
-ghost use Rattle.segment_lang.specs.Seen.{with_rest};
+ghost use Rattle.segment_lang.specs.Seen.{deed_of, deed_reader_of, found_in, place_of, reader_of, with_rest};
+ghost use Rattle.segment_lang.specs.declared.forms.DeedForm.TheVariants.{Set as SetForm, Insert as InsertForm};
+ghost use Rattle.segment_lang.specs.declared.forms.DeedForm.TheVariants.{Erase as EraseForm, Reserve as ReserveForm};
+ghost use Rattle.segment_lang.specs.declared.forms.DeedForm.TheVariants.{Lookup as LookupForm, Remove as RemoveForm};
 ghost use Rattle.segment_lang.specs.Tokens.{behind_word, is_unbroken, up_to_blank};
 
 use crate::blanks::at_end;
@@ -57,8 +59,14 @@ pub enum DeedForm {
     Show,
     /// A key.
     Info,
-    /// The form of a deed on elements.
-    Element(ElementForm),
+    /// A key, a number and a value.
+    Set,
+    /// A key, a number and a value.
+    Insert,
+    /// A key and a number.
+    Erase,
+    /// A key and a number.
+    Reserve,
     /// A key.
     Shrink,
     /// A key.
@@ -67,6 +75,10 @@ pub enum DeedForm {
     Assign,
     /// A key and a text.
     Append,
+    /// A key and a value.
+    Lookup,
+    /// A key and a value.
+    Remove,
     /// Nothing: the word alone is the command.
     ListNames,
     /// Nothing: the word alone is the command.
@@ -93,30 +105,6 @@ pub enum DeedForm {
     AllDeallocated,
 }
 
-/// How what stands after the command word of a deed on elements or pairs is written.
-#[derive(Clone, Copy, Debug, PartialEq, Eq)]
-pub enum ElementForm {
-    /// A key, a number and a value.
-    Set,
-    /// A key, a number and a value.
-    Insert,
-    /// A key and a number.
-    Erase,
-    /// A key and a number.
-    Reserve,
-    /// A key and a value.
-    Lookup,
-    /// A key and a value.
-    Remove,
-}
-
-/// The form of a deed on elements.
-macro_rules! element {
-    ($form:ident) => {
-        CommandForm::Deed(DeedForm::Element(ElementForm::$form))
-    };
-}
-
 /// The form of a deed.
 macro_rules! deed {
     ($form:ident) => {
@@ -126,28 +114,25 @@ macro_rules! deed {
 
 /// The command words, each with its form, by the place that `place_of` gives them.
 static FORMS: [&[(&[u8], CommandForm)]; 32] = [
-    &[(b"remove", element!(Remove))],
+    &[(b"remove", deed!(Remove))],
     &[(b"clear", deed!(Clear)), (b"append", deed!(Append))],
     &[(b"push", CommandForm::Push)],
     &[],
     &[
-        (b"reserve", element!(Reserve)),
+        (b"reserve", deed!(Reserve)),
         (b"free", deed!(Free)),
         (b"reserve_named", deed!(ReserveNamed)),
         (b"reserve_unique", deed!(ReserveUnique)),
     ],
     &[],
-    &[
-        (b"lookup", element!(Lookup)),
-        (b"zero_free", deed!(ZeroFree)),
-    ],
+    &[(b"lookup", deed!(Lookup)), (b"zero_free", deed!(ZeroFree))],
     &[(b"sanity", deed!(Sanity))],
     &[(b"put", CommandForm::Put)],
     &[(b"all_deallocated", deed!(AllDeallocated))],
     &[],
     &[
-        (b"set", element!(Set)),
-        (b"erase", element!(Erase)),
+        (b"set", deed!(Set)),
+        (b"erase", deed!(Erase)),
         (b"unique", deed!(ListKinds)),
     ],
     &[],
@@ -174,7 +159,7 @@ static FORMS: [&[(&[u8], CommandForm)]; 32] = [
         (b"find", deed!(Find)),
         (b"find_or_construct", deed!(FindOrConstruct)),
     ],
-    &[(b"insert", element!(Insert))],
+    &[(b"insert", deed!(Insert))],
     &[
         (b"blocks", deed!(Blocks)),
         (b"num_named", deed!(NumNamed)),
@@ -253,24 +238,58 @@ pub fn split_form(line: &[u8]) -> Option<(CommandForm, &[u8])>
     find_form(&FORMS, line)
 }
 
-/// Returns the deed on elements or pairs that what stands after a command word of this form asks for.
+/// Returns the deed that asks for a write of an element, by what stands after its word.
 #[inline(never)]
-fn read_element<'a>(
-    form: ElementForm,
-    bytes: &'a [u8],
-    scratch: &'a mut LineBuffer,
-) -> Option<Deed<'a>>
+fn read_set<'a>(bytes: &'a [u8], scratch: &'a mut LineBuffer) -> Option<Deed<'a>>
     ensures { option_map deed_of result
-        ≡ option_and_then (element_reader_of form (whole_language current)) (words bytes.now) }
+        ≡ option_and_then (deed_reader_of SetForm (whole_language current)) (words bytes.now) }
 {
-    match form {
-        ElementForm::Set => key_number_literal(bytes, scratch).map(Deed::Set),
-        ElementForm::Insert => key_number_literal(bytes, scratch).map(Deed::Insert),
-        ElementForm::Erase => key_and_number(bytes, scratch).map(Deed::Erase),
-        ElementForm::Reserve => key_and_number(bytes, scratch).map(Deed::Reserve),
-        ElementForm::Lookup => key_and_literal(bytes, scratch).map(Deed::Lookup),
-        ElementForm::Remove => key_and_literal(bytes, scratch).map(Deed::Remove),
-    }
+    key_number_literal(bytes, scratch).map(Deed::Set)
+}
+
+/// Returns the deed that asks for an insertion of an element, by what stands after its word.
+#[inline(never)]
+fn read_insert<'a>(bytes: &'a [u8], scratch: &'a mut LineBuffer) -> Option<Deed<'a>>
+    ensures { option_map deed_of result
+        ≡ option_and_then (deed_reader_of InsertForm (whole_language current)) (words bytes.now) }
+{
+    key_number_literal(bytes, scratch).map(Deed::Insert)
+}
+
+/// Returns the deed that asks for a removal of an element, by what stands after its word.
+#[inline(never)]
+fn read_erase<'a>(bytes: &'a [u8], scratch: &'a mut LineBuffer) -> Option<Deed<'a>>
+    ensures { option_map deed_of result
+        ≡ option_and_then (deed_reader_of EraseForm (whole_language current)) (words bytes.now) }
+{
+    key_and_number(bytes, scratch).map(Deed::Erase)
+}
+
+/// Returns the deed that asks for room for elements, by what stands after its word.
+#[inline(never)]
+fn read_reserve<'a>(bytes: &'a [u8], scratch: &'a mut LineBuffer) -> Option<Deed<'a>>
+    ensures { option_map deed_of result
+        ≡ option_and_then (deed_reader_of ReserveForm (whole_language current)) (words bytes.now) }
+{
+    key_and_number(bytes, scratch).map(Deed::Reserve)
+}
+
+/// Returns the deed that asks for a look-up of a pair, by what stands after its word.
+#[inline(never)]
+fn read_lookup<'a>(bytes: &'a [u8], scratch: &'a mut LineBuffer) -> Option<Deed<'a>>
+    ensures { option_map deed_of result
+        ≡ option_and_then (deed_reader_of LookupForm (whole_language current)) (words bytes.now) }
+{
+    key_and_literal(bytes, scratch).map(Deed::Lookup)
+}
+
+/// Returns the deed that asks for a removal of a pair, by what stands after its word.
+#[inline(never)]
+fn read_remove<'a>(bytes: &'a [u8], scratch: &'a mut LineBuffer) -> Option<Deed<'a>>
+    ensures { option_map deed_of result
+        ≡ option_and_then (deed_reader_of RemoveForm (whole_language current)) (words bytes.now) }
+{
+    key_and_literal(bytes, scratch).map(Deed::Remove)
 }
 
 /// Returns the deed that what stands after a command word of this form asks for.
@@ -291,11 +310,16 @@ pub fn read_deed<'a>(
         DeedForm::DestroyPtr => read_destroy_ptr(bytes),
         DeedForm::Show => only_key(bytes, scratch).map(Deed::Show),
         DeedForm::Info => only_key(bytes, scratch).map(Deed::Info),
-        DeedForm::Element(form) => read_element(form, bytes, scratch),
+        DeedForm::Set => read_set(bytes, scratch),
+        DeedForm::Insert => read_insert(bytes, scratch),
+        DeedForm::Erase => read_erase(bytes, scratch),
+        DeedForm::Reserve => read_reserve(bytes, scratch),
         DeedForm::Shrink => only_key(bytes, scratch).map(Deed::Shrink),
         DeedForm::Clear => only_key(bytes, scratch).map(Deed::Clear),
         DeedForm::Assign => read_assign(bytes, scratch),
         DeedForm::Append => read_append(bytes, scratch),
+        DeedForm::Lookup => read_lookup(bytes, scratch),
+        DeedForm::Remove => read_remove(bytes, scratch),
         DeedForm::ListNames => read_alone(Deed::ListNames, bytes),
         DeedForm::ListKinds => read_alone(Deed::ListKinds, bytes),
         DeedForm::Blocks => read_alone(Deed::Blocks, bytes),

@@ -33,7 +33,7 @@ pub use blanks::at_end;
 pub use buffer::{Buffer, LineBuffer};
 pub use commands::{Content, Deed, LineStart};
 pub use errors::{put_line_error, put_refusal};
-pub use forms::{CommandForm, DeedForm, ElementForm, read_deed};
+pub use forms::{CommandForm, DeedForm, read_deed};
 pub use kinds::kind_of_word;
 pub use line::{MAX_LINE_LEN, line_error, line_start, without_return};
 pub use lists::{Literals, TextLiterals};

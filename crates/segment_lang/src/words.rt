@@ -1,15 +1,14 @@
 //! The words of a line, one after another.
 
 ghost use Rattle.std.specs.Prelude.{◌≡◌, ◌≤◌, ◌<◌, ◌+◌, ◌++◌, drop, length, option_map, take, take_while, IfSome, Some};
-ghost use Rattle.std.specs.Prelude.{None};
-ghost use Rattle.std.specs.Prelude.{if◌then◌else◌};
+ghost use Rattle.std.specs.Prelude.{None, option_and_then, if◌then◌else◌};
 ghost use Rattle.std.specs.List.{prefix_len};
 ghost use Rattle.raw_region.specs.Format.{current};
 ghost use Rattle.seg_types.specs.Names.{is_name};
 ghost use Rattle.segment_lang.specs.Words.{is_bare, is_plain, digit_of};
 ghost use Rattle.segment_lang.specs.Tokens.{bare_at, digits_at, ends_word, escape_at, item_at, next_two};
 ghost use Rattle.segment_lang.specs.Tokens.{next_word, only_word, three_words, two_words, text_at, behind_quote};
-ghost use Rattle.segment_lang.specs.Tokens.{behind_text, text_in, up_to_blank};
+ghost use Rattle.segment_lang.specs.Tokens.{behind_opening, behind_text, up_to_blank};
 ghost use Rattle.segment_lang.specs.Seen.{bytes_said, word_of};
 
 use crate::blanks::{at_end, is_blank, skip_blanks};
@@ -21,20 +20,20 @@ use std::marker::Model;
 /// for.
 #[derive(Drop)]
 pub struct Quoted<'a> {
-    // The bytes; or, if one is escaped, what stands behind the quote that opens the text, to the end of the line.
+    // The bytes; or, if one is escaped, the line from the quote that opens the text on. Bytes that are not escaped have
+    // no quote.
     spelled: &'a [u8],
-    is_escaped: bool,
 }
 
 impl<'a> Model for Quoted<'a> {
-    ghost use Rattle.std.specs.Prelude.{◌≡◌, List, ℕ, IsSome, true, if◌then◌else◌};
-    ghost use Rattle.segment_lang.specs.Tokens.{text_at, text_in};
+    ghost use Rattle.std.specs.Prelude.{List, ℕ, IfSome, IsSome};
+    ghost use Rattle.segment_lang.specs.Tokens.{behind_opening, spelled_bytes, text_at};
 
     ghost Value = { List ℕ };
 
-    ghost view = { λ q. if q.is_escaped then text_in q.spelled.now else q.spelled.now };
+    ghost view = { λ q. spelled_bytes q.spelled.now };
 
-    ghost invariant = { λ q. q.is_escaped ≡ true → IsSome (text_at q.spelled.now) };
+    ghost invariant = { λ q. IfSome (behind_opening q.spelled.now) (λ text. IsSome (text_at text)) };
 }
 
 impl<'a> Quoted<'a> {
@@ -46,10 +45,10 @@ impl<'a> Quoted<'a> {
         requires { length self.now ≤ 4096 }
         ensures { result.now ≡ self.now }
     {
-        if self.is_escaped {
-            return self.decoded(scratch);
+        match open_text(self.spelled) {
+            Some(_) => self.decoded(scratch),
+            None => self.spelled,
         }
-        self.spelled
     }
 
     /// Returns the name that the bytes are, or `None` if they are none. It is lent from the line, or decoded into
@@ -57,10 +56,10 @@ impl<'a> Quoted<'a> {
     pub fn to_name(&self, scratch: &'a mut LineBuffer) -> Option<Name<'a>>
         ensures { option_map name_seen result ≡ (if is_name current self.now then Some self.now else None) }
     {
-        if self.is_escaped {
-            return Name::new(self.decoded(scratch));
+        match open_text(self.spelled) {
+            Some(_) => Name::new(self.decoded(scratch)),
+            None => Name::new(self.spelled),
         }
-        Name::new(self.spelled)
     }
 
     /// Returns the first 4096 of the bytes, which it puts into `scratch`, whatever it held.
@@ -77,11 +76,11 @@ impl<'a> Quoted<'a> {
         requires { length text.old ≤ 4096 }
         ensures { text.new ≡ take 4096 (text.old ++ self.now) }
     {
-        if !self.is_escaped {
+        let Some(spelled) = open_text(self.spelled) else {
             text.extend(self.spelled);
             return;
-        }
-        let mut rest = self.spelled;
+        };
+        let mut rest = spelled;
         'items: while let Some((byte, tail)) = read_item(rest) {
             text.extend(&[byte]);
             rest = tail;
@@ -242,6 +241,20 @@ fn skip_items(bytes: &[u8]) -> &[u8]
     rest
 }
 
+/// Returns what is after the quote that opens a text, where it stands in front.
+fn open_text(bytes: &[u8]) -> Option<&[u8]>
+    ensures value { option_map (λ x. x.now) result ≡ behind_opening bytes.now }
+    ensures shrinking { IfSome result (λ x. length x.now < length bytes.now) }
+{
+    let [byte, rest @ ..] = bytes else {
+        return None;
+    };
+    if *byte != b'"' {
+        return None;
+    }
+    Some(rest)
+}
+
 /// Returns what is after the quote that closes a text, where it stands in front and the word ends there.
 fn close_text(bytes: &[u8]) -> Option<&[u8]>
     ensures value { option_map (λ x. x.now) result ≡ behind_quote bytes.now }
@@ -256,30 +269,19 @@ fn close_text(bytes: &[u8]) -> Option<&[u8]>
     Some(rest)
 }
 
-/// Returns the text after the quote that opens it, and what is after the quote that closes it.
+/// Returns the text that a quote in front opens, and what is after the quote that closes it.
 fn read_text(bytes: &[u8]) -> Option<(Quoted<'_>, &[u8])>
-    ensures value { option_map (λ x. (x.0, x.1.now)) result ≡ text_at bytes.now }
+    ensures value { option_map (λ x. (x.0, x.1.now)) result ≡ option_and_then text_at (behind_opening bytes.now) }
     ensures shrinking { IfSome result (λ x. length x.1.now < length bytes.now) }
     ensures fits { IfSome result (λ x. length x.0 ≤ length bytes.now) }
 {
-    let (front, behind) = split_plain(bytes);
+    let text = open_text(bytes)?;
+    let (front, behind) = split_plain(text);
     if let Some(rest) = close_text(behind) {
-        return Some((
-            Quoted {
-                spelled: front,
-                is_escaped: false,
-            },
-            rest,
-        ));
+        return Some((Quoted { spelled: front }, rest));
     }
-    let rest = close_text(skip_items(bytes))?;
-    Some((
-        Quoted {
-            spelled: bytes,
-            is_escaped: true,
-        },
-        rest,
-    ))
+    let rest = close_text(skip_items(text))?;
+    Some((Quoted { spelled: bytes }, rest))
 }
 
 /// Returns the next word, after the blanks in front of it, and what is after it. There is none at the end, and where a
@@ -293,11 +295,11 @@ pub fn next_word(bytes: &[u8]) -> Option<(Word<'_>, &[u8])>
     ensures fits { IfSome result (λ x. length (bytes_said x.0) ≤ length bytes.now) }
 {
     let bytes = skip_blanks(bytes);
-    let [first, rest @ ..] = bytes else {
+    let [first, ..] = bytes else {
         return None;
     };
     if *first == b'"' {
-        let (text, rest) = read_text(rest)?;
+        let (text, rest) = read_text(bytes)?;
         return Some((Word::Text(text), rest));
     }
     let (word, rest) = read_bare(bytes)?;

@@ -9,7 +9,8 @@ use Rattle.std.proofs.lemmas.List.{take_all}
 use Rattle.std.proofs.lemmas.List.Sums.{take_while-cons}
 use Rattle.segment_lang.specs.Words.{is_plain, byte_of_digits}
 use Rattle.segment_lang.specs.Tokens.{text_at, escaped_at, high_digit_at, item_at, escape_at, digits_at, longer}
-use Rattle.segment_lang.specs.Tokens.{closed_at, quote_at, behind_quote, ends_word, behind_text, text_in}
+use Rattle.segment_lang.specs.Tokens.{closed_at, quote_at, behind_quote, ends_word, behind_opening, behind_text}
+use Rattle.segment_lang.specs.Tokens.{spelled_bytes, text_in}
 use Rattle.segment_lang.proofs.words.LineFronts.{kept_more}
 
 -- ---- an item in front
@@ -177,6 +178,28 @@ last_byte done left all few l h = sym (take_all 4096 done few)
     ∙ ap (take 4096) (sym (append-nil done) ∙ sym (ap (λ xs. done ++ xs) l)) ∙ h
 
 -- ---- a text with nothing escaped
+
+-- bytes without the quote that opens a text stand for themselves
+pub spelled_plain : (bytes : List ℕ) → None ≡ behind_opening bytes → spelled_bytes bytes ≡ bytes
+spelled_plain bytes h = sym (ap (λ text. unwrap_or (option_map text_in text) bytes) h)
+
+-- where that quote is in front, the bytes are those of the text behind it
+pub spelled_text : (bytes text : List ℕ) → Some text ≡ behind_opening bytes → spelled_bytes bytes ≡ text_in text
+spelled_text bytes text h = sym (ap (λ text. unwrap_or (option_map text_in text) bytes) h)
+
+-- a plain byte is no quote
+no_quote : (c : ℕ) → is_plain c ≡ true → (c == 0x22) ≡ false
+no_quote c h = grind (arith, nat_tests)
+
+plain_or_none : (p : Bool) (c : ℕ) (cs : List ℕ) → is_plain c ≡ p → behind_opening (cond p (c ∷ cs) []) ≡ None
+plain_or_none true c cs h = ap (λ q. cond q (Some cs) None) (no_quote c h)
+plain_or_none false c cs h = refl
+
+-- plain bytes begin with no quote
+pub plain_opens_none : (bytes : List ℕ) → behind_opening (take_while is_plain bytes) ≡ None
+plain_opens_none [] = refl
+plain_opens_none (c ∷ cs) =
+    ap behind_opening (take_while-cons is_plain c cs) ∙ plain_or_none (is_plain c) c (take_while is_plain cs) refl
 
 -- a plain byte is no backslash
 pub no_backslash : (c : ℕ) → is_plain c ≡ true → (c == 0x5C) ≡ false

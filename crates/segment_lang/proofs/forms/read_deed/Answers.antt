@@ -42,8 +42,17 @@ returns-in-Info c =
     rw c.in-Info.is (map_made deed_of deed.Info _ _ c.map-in-Info.ensures.cases ∙ c.only_key-in-Info.ensures asked.Info
     ∙ sym (of_key asked.Info key_of c.args.bytes.now))
 
-pub returns-in-Element : goal.returns-in-Element
-returns-in-Element c = rw c.in-Element.is c.read_element.ensures
+pub returns-in-Set : goal.returns-in-Set
+returns-in-Set c = rw c.in-Set.is c.read_set.ensures
+
+pub returns-in-Insert : goal.returns-in-Insert
+returns-in-Insert c = rw c.in-Insert.is c.read_insert.ensures
+
+pub returns-in-Erase : goal.returns-in-Erase
+returns-in-Erase c = rw c.in-Erase.is c.read_erase.ensures
+
+pub returns-in-Reserve : goal.returns-in-Reserve
+returns-in-Reserve c = rw c.in-Reserve.is c.read_reserve.ensures
 
 pub returns-in-Shrink : goal.returns-in-Shrink
 returns-in-Shrink c =
@@ -62,6 +71,12 @@ returns-in-Assign c = rw c.in-Assign.is (c.read_assign.ensures ∙ sym (of_assig
 
 pub returns-in-Append : goal.returns-in-Append
 returns-in-Append c = rw c.in-Append.is (c.read_append.ensures ∙ sym (of_appending c.args.bytes.now))
+
+pub returns-in-Lookup : goal.returns-in-Lookup
+returns-in-Lookup c = rw c.in-Lookup.is c.read_lookup.ensures
+
+pub returns-in-Remove : goal.returns-in-Remove
+returns-in-Remove c = rw c.in-Remove.is c.read_remove.ensures
 
 pub returns-in_ok-only_number-in-ReserveNamed : goal.returns-in_ok-only_number-in-ReserveNamed
 returns-in_ok-only_number-in-ReserveNamed c =

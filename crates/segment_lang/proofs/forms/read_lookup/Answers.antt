@@ -1,0 +1,11 @@
+use Rattle.std.proofs.Common.{◌∙◌, sym}
+use Rattle.seg_types.specs.Commands as asked
+use Rattle.segment_lang.specs.declared.commands.Deed.TheVariants as deed
+use Rattle.segment_lang.specs.Seen.{deed_of}
+use Rattle.segment_lang.proofs.commands.Words.{of_key_literal}
+use Rattle.segment_lang.proofs.words.Readers.{map_made}
+use Rattle.segment_lang.proofs.forms.read_lookup.Goals as goal
+
+pub returns : goal.returns
+returns c = map_made deed_of deed.Lookup _ _ c.map.ensures.cases ∙ c.key_and_literal.ensures asked.Lookup
+    ∙ sym (of_key_literal asked.Lookup c.args.bytes.now)

@@ -1,0 +1,11 @@
+use Rattle.std.proofs.Common.{◌∙◌, sym}
+use Rattle.seg_types.specs.Commands as asked
+use Rattle.segment_lang.specs.declared.commands.Deed.TheVariants as deed
+use Rattle.segment_lang.specs.Seen.{deed_of}
+use Rattle.segment_lang.proofs.commands.Words.{of_key_number}
+use Rattle.segment_lang.proofs.words.Readers.{map_made}
+use Rattle.segment_lang.proofs.forms.read_reserve.Goals as goal
+
+pub returns : goal.returns
+returns c = map_made deed_of deed.Reserve _ _ c.map.ensures.cases ∙ c.key_and_number.ensures asked.Reserve
+    ∙ sym (of_key_number asked.Reserve c.args.bytes.now)

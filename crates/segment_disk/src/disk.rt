@@ -56,7 +56,8 @@ pub trait Disk {
         ensures { step self.old (Read (read_delta nothing_given (Self.Reader.history reader))) self.new };
 
     /// Compares the file of a path with the one that the right to write was given for. An error where another file has
-    /// taken its name; Ok also where that one can't be held, and where nothing is there.
+    /// taken its name, and where one has come since the right was given and nothing was there; Ok also where that one
+    /// can't be held, and where nothing is there.
     fn compare(&mut self, path: &str, hold: &Self::Hold) -> Result<(), DeviceFault>
         ensures { step self.old (Compared path.now (is_ok result)) self.new };
 
@@ -66,9 +67,9 @@ pub trait Disk {
         ensures fresh { IfOk result (λ made. Self.Writer.history made.0 ≡ nothing_taken) };
 
     /// Empties a file, or makes one beside it, and opens it for writing. One that is made beside another is put in its
-    /// place or discarded when it is closed. Where another file has taken the name of the one that is held, that one is
-    /// neither emptied nor replaced, and the answer is an error. Where nothing is there, a file is made that is held
-    /// from then on.
+    /// place or discarded when it is closed. Where another file has taken the name of the one that is held, or has come
+    /// since the right was given and nothing was there, it is neither emptied nor replaced, and the answer is an error.
+    /// Where nothing is there, a file is made that is held from then on.
     fn create(
         &mut self,
         path: &str,

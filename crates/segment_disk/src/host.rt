@@ -4,7 +4,7 @@ ghost use Rattle.segment_disk.specs.Events.{nothing_taken};
 
 use crate::disk::{Disk, OpenedFile};
 use crate::file_problems::{creation_problem, problem_of};
-use crate::locks::{Identity, PAUSE, lock, lock_made, open_to_write, sync_file};
+use crate::locks::{FileLock, Identity, PAUSE, lock, lock_made, open_to_write, sync_file};
 use crate::presence::{AlreadyLocked, FileProblem, Presence, SaveMode};
 use crate::replacement_file::ReplacementFile;
 use crate::sparse::{SparseFile, longest_file};
@@ -33,20 +33,15 @@ pub struct HostDisk<'a, R: Files> {
 /// The right to write a file, which the system takes back if this is dropped.
 #[derive(Drop)]
 pub struct HostLock {
-    /// The lock of the file, if it has one.
-    lock: Option<File>,
+    /// What there is to hold of the file.
+    lock: FileLock,
     /// The file that was made beside it last, while its fate is open.
     beside: Option<ReplacementFile>,
 }
 
 impl HostLock {
-    fn new(lock: Option<File>) -> HostLock {
+    fn new(lock: FileLock) -> HostLock {
         HostLock { lock, beside: None }
-    }
-
-    /// Returns the file that is locked, if one is.
-    fn identity(&self) -> Option<Identity> {
-        self.lock.as_ref().and_then(Identity::of)
     }
 }
 
@@ -78,7 +73,7 @@ impl<'a, R: Files<File = File> + AllocGlobal + Clock> HostDisk<'a, R> {
         match how {
             SaveMode::InPlace => self.emptied(path, hold),
             SaveMode::Replacing => {
-                let (file, beside) = ReplacementFile::make(self.files, path, hold.identity())?;
+                let (file, beside) = ReplacementFile::make(self.files, path, hold.lock.identity())?;
                 hold.beside = Some(beside);
                 Ok(file)
             }
@@ -93,9 +88,9 @@ impl<'a, R: Files<File = File> + AllocGlobal + Clock> HostDisk<'a, R> {
     }
 
     /// Opens a file for writing, and empties it, or makes it if it is not there. If a file is locked, no other is
-    /// emptied that has taken its name: they are compared when the file is open.
+    /// emptied that has taken its name, and none if nothing was there: they are compared when the file is open.
     fn emptied(&self, path: &str, hold: &mut HostLock) -> io::Result<File> {
-        let held = hold.identity();
+        let held = hold.lock.identity();
         if held.is_none() {
             return fs::create(self.files, path);
         }
@@ -132,9 +127,9 @@ impl<'a, R: Files<File = File> + AllocGlobal + Clock> HostDisk<'a, R> {
         }
     }
 
-    /// Tells whether another file has taken the name of the one that is locked.
+    /// Tells whether another file has taken the name of the one that is locked, or one has come where nothing was.
     fn is_taken(&self, path: &str, hold: &HostLock) -> bool {
-        match (hold.identity(), Identity::at(self.files, path)) {
+        match (hold.lock.identity(), Identity::at(self.files, path)) {
             (Some(held), Ok(named)) => held != named,
             _ => false,
         }
@@ -206,7 +201,7 @@ impl<'a, R: Files<File = File> + AllocGlobal + Clock> Disk for HostDisk<'a, R> {
     }
 
     fn create_new(&mut self, path: &str) -> Result<(StdOutput<SparseFile>, HostLock), DeviceFault> {
-        let mut hold = HostLock::new(None);
+        let mut hold = HostLock::new(FileLock::Absent);
         let made = self.made(path, &mut hold);
         let writer = self.writer_of(made, path, SaveMode::InPlace)?;
         Ok((writer, hold))

@@ -16,15 +16,17 @@ pub(crate) const PAUSE: u64 = 50;
 
 /// Which file one is, whatever names lead to it while it is open.
 #[derive(Clone, Copy, Debug, PartialEq, Eq)]
-pub(crate) struct Identity {
-    device: u64,
-    number: u64,
+pub(crate) enum Identity {
+    /// No file: nothing is there.
+    Nothing,
+    /// The one with this number on this device.
+    Inode { device: u64, number: u64 },
 }
 
 impl Identity {
     /// Returns the identity of a file by its metadata.
     fn new(found: &Metadata) -> Identity {
-        Identity {
+        Identity::Inode {
             device: found.dev(),
             number: found.ino(),
         }
@@ -41,6 +43,28 @@ impl Identity {
     /// Returns the identity of the file that a path leads to.
     pub(crate) fn at<R: Files<File = File>>(files: &R, path: &str) -> io::Result<Identity> {
         Ok(Identity::new(&fs::metadata(files, path)?))
+    }
+}
+
+/// What there is to hold of a file.
+#[derive(Drop)]
+pub(crate) enum FileLock {
+    /// Its lock.
+    Held(File),
+    /// Nothing: it can't be locked, or is no file on a disk, as a pipe.
+    Unlocked,
+    /// Nothing: it was not there when its lock was asked for.
+    Absent,
+}
+
+impl FileLock {
+    /// Returns the one file that may be written: the locked one, or no file if it was not there. `None` is any.
+    pub(crate) fn identity(&self) -> Option<Identity> {
+        match self {
+            FileLock::Held(file) => Identity::of(file),
+            FileLock::Unlocked => None,
+            FileLock::Absent => Some(Identity::Nothing),
+        }
     }
 }
 
@@ -64,37 +88,44 @@ pub(crate) fn sync_file(file: &File) -> bool {
     }
 }
 
-/// Locks the file that a path leads to. `None` is one that can't be locked, and what is no file on a disk, as a pipe.
+/// Opens what a path leads to, if that is a file on a disk: to open a pipe would wait for its other end.
+fn open_to_lock<R: Files<File = File>>(files: &R, path: &str) -> io::Result<Option<File>> {
+    if !fs::metadata(files, path)?.is_file() {
+        return Ok(None);
+    }
+    Ok(Some(fs::open(files, path)?))
+}
+
+/// Locks the file that a path leads to, if one is there that can be locked.
 pub(crate) fn lock<R: Files<File = File>>(
     files: &R,
     path: &str,
-) -> Result<Option<File>, AlreadyLocked> {
+) -> Result<FileLock, AlreadyLocked> {
     for _ in 0..TRIES {
-        if !fs::metadata(files, path).is_ok_and(|found| found.is_file()) {
-            return Ok(None);
-        }
-        let Ok(file) = fs::open(files, path) else {
-            return Ok(None);
+        let file = match open_to_lock(files, path) {
+            Ok(Some(file)) => file,
+            Err(error) if error.kind() == ErrorKind::NotFound => return Ok(FileLock::Absent),
+            _ => return Ok(FileLock::Unlocked),
         };
         match file.try_lock() {
-            Ok(()) if leads_to(files, path, &file) => return Ok(Some(file)),
+            Ok(()) if leads_to(files, path, &file) => return Ok(FileLock::Held(file)),
             // it was replaced in between, and the lock is that of the file that was there before
             Ok(()) => {}
             Err(TryLockError::WouldBlock) => return Err(AlreadyLocked),
-            Err(TryLockError::Error(_)) => return Ok(None),
+            Err(TryLockError::Error(_)) => return Ok(FileLock::Unlocked),
         }
     }
     Err(AlreadyLocked)
 }
 
-/// Locks a file that was just made. Another may have opened it since, and has the lock until it finds no segment there.
-/// `None` is one that can't be locked.
-pub(crate) fn lock_made<C: Clock>(clock: &C, file: &File) -> io::Result<Option<File>> {
+/// Locks a file that was just made, if it can be. Another may have opened it since, and has the lock until it finds no
+/// segment there.
+pub(crate) fn lock_made<C: Clock>(clock: &C, file: &File) -> io::Result<FileLock> {
     for _ in 0..TRIES {
         match file.try_lock() {
-            Ok(()) => return Ok(Some(file.try_clone()?)),
+            Ok(()) => return Ok(FileLock::Held(file.try_clone()?)),
             Err(TryLockError::WouldBlock) => sleep(clock, Duration::from_millis(PAUSE)),
-            Err(TryLockError::Error(_)) => return Ok(None),
+            Err(TryLockError::Error(_)) => return Ok(FileLock::Unlocked),
         }
     }
     Err(io::Error::from(ErrorKind::AlreadyExists))

@@ -1,6 +1,6 @@
 //! Files of the system that are made beside others, to take their place.
 
-use crate::locks::{Identity, lock_made, open_to_write, sync_file};
+use crate::locks::{FileLock, Identity, lock_made, open_to_write, sync_file};
 use std::fs::{self, File, OpenFile, OpenOptions, Permissions};
 use std::io::{self, ErrorKind};
 use std::os::unix::fs::OpenOptionsExt;
@@ -15,13 +15,13 @@ pub(crate) struct ReplacementFile {
     old: PathBuf,
     /// Its own path: the other's, and `.new` after it.
     new: String,
-    /// Its lock, if it has one: it is held before it has the other's name.
-    lock: Option<File>,
+    /// What there is to hold of it: it is held before it has the other's name.
+    lock: FileLock,
 }
 
 impl ReplacementFile {
-    /// Makes an empty file beside the one of a path, with its rights. Where a file is locked, the path leads to it, and
-    /// what an earlier run left there is removed before; otherwise nothing may be there.
+    /// Makes an empty file beside the one of a path, with its rights. Where one file may be written, the path leads to
+    /// it, and what an earlier run left there is removed before; otherwise nothing may be there.
     pub(crate) fn make<R: Files<File = File> + AllocGlobal + Clock>(
         rt: &R,
         path: &str,
@@ -46,7 +46,7 @@ impl ReplacementFile {
         let mut beside = ReplacementFile {
             old,
             new,
-            lock: None,
+            lock: FileLock::Absent,
         };
         match beside.take_over(rt, &file, described.permissions()) {
             Ok(()) => Ok((file, beside)),
@@ -68,8 +68,8 @@ impl ReplacementFile {
         file.set_permissions(rights)
     }
 
-    /// Returns the lock of the file.
-    pub(crate) fn into_lock(self) -> Option<File> {
+    /// Returns what there is to hold of the file.
+    pub(crate) fn into_lock(self) -> FileLock {
         self.lock
     }
 

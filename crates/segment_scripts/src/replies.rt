@@ -69,10 +69,8 @@ pub fn reply<'a>(
         Deed::DestroyPtr(handle) => gone(segment.destroy_ptr(handle)),
         Deed::Show(key) => CommandAnswer::Shown(key),
         Deed::Info(key) => CommandAnswer::Told(key),
-        Deed::Set((key, index, value)) => {
-            done(set(segment, &key, index, &value, &mut room.text))
-        }
-        Deed::Insert((key, index, value)) => {
+        Deed::Set(key, index, value) => { done(set(segment, &key, index, &value, &mut room.text)) }
+        Deed::Insert(key, index, value) => {
             done(add(
                 segment,
                 &key,
@@ -81,14 +79,14 @@ pub fn reply<'a>(
                 &mut room.text,
             ))
         }
-        Deed::Erase((key, index)) => done(erase(segment, &key, index)),
-        Deed::Reserve((key, count)) => done(segment.reserve(&key, count)),
+        Deed::Erase(key, index) => done(erase(segment, &key, index)),
+        Deed::Reserve(key, count) => done(segment.reserve(&key, count)),
         Deed::Shrink(key) => done(segment.shrink(&key)),
         Deed::Clear(key) => done(segment.clear(&key)),
         Deed::Assign { key, values } => done(assign(segment, &key, values, room)),
         Deed::Append { key, text } => done(append(segment, &key, text, &mut room.text)),
-        Deed::Lookup((key, at)) => value_found(look_up(segment, &key, &at)),
-        Deed::Remove((key, at)) => truth(erase_pair(segment, &key, &at)),
+        Deed::Lookup(key, at) => value_found(look_up(segment, &key, &at)),
+        Deed::Remove(key, at) => truth(erase_pair(segment, &key, &at)),
         Deed::ListNames => CommandAnswer::Names,
         Deed::ListKinds => CommandAnswer::Kinds,
         Deed::Blocks => CommandAnswer::Blocks,

@@ -74,13 +74,13 @@ pub enum Deed<'a> {
     /// Print what an object is.
     Info(Key<'a>),
     /// Write one element of an object: the object, which element, counted from 0, and what it becomes.
-    Set((Key<'a>, u64, Literal<'a>)),
+    Set(Key<'a>, u64, Literal<'a>),
     /// Put an element into a vector: the vector, where it stands then, counted from 0, and the new element.
-    Insert((Key<'a>, u64, Literal<'a>)),
+    Insert(Key<'a>, u64, Literal<'a>),
     /// Take an element out of a vector: the vector, and which element, counted from 0.
-    Erase((Key<'a>, u64)),
+    Erase(Key<'a>, u64),
     /// Make room in an object for as many elements: the object, and how many.
-    Reserve((Key<'a>, u64)),
+    Reserve(Key<'a>, u64),
     /// Give back the room of an object that no element uses.
     Shrink(Key<'a>),
     /// Take all elements out of an object.
@@ -100,9 +100,9 @@ pub enum Deed<'a> {
         text: Quoted<'a>,
     },
     /// Print the value that stands at a key of a map: the map, and the pair's key.
-    Lookup((Key<'a>, Literal<'a>)),
+    Lookup(Key<'a>, Literal<'a>),
     /// Take a pair out of a map: the map, and the pair's key.
-    Remove((Key<'a>, Literal<'a>)),
+    Remove(Key<'a>, Literal<'a>),
     /// Print the named objects by name.
     ListNames,
     /// Print the unique objects by kind.

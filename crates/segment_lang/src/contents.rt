@@ -1,11 +1,11 @@
 //! What an object is made with, as a line writes it.
 
-ghost use Rattle.std.specs.Prelude.{◌≡◌, option_and_then, option_map};
-ghost use Rattle.seg_types.specs.Commands.{Bytes};
+ghost use Rattle.std.specs.Prelude.{◌≡◌, Some, None, option_and_then, option_map, if◌then◌else◌};
+ghost use Rattle.seg_types.specs.Commands.{Bytes, Elements, NoPairs, Strings};
 ghost use Rattle.segment_lang.specs.Words.{words};
-ghost use Rattle.segment_lang.specs.Tokens.{only_word};
+ghost use Rattle.segment_lang.specs.Tokens.{at_end, only_word};
 ghost use Rattle.segment_lang.specs.Reading.{content, quoted_of};
-ghost use Rattle.segment_lang.specs.Arguments.{scalar_at};
+ghost use Rattle.segment_lang.specs.Arguments.{numbers_at, scalar_at, texts_at};
 ghost use Rattle.segment_lang.specs.Seen.{content_of};
 
 use crate::blanks::at_end;
@@ -26,6 +26,14 @@ fn read_scalar(kind: ScalarKind, count: u32, bytes: &[u8]) -> Option<Content<'_>
     Some(Content::Scalars { value, count })
 }
 
+/// Reads any number of values of the kind.
+fn read_vector(kind: ScalarKind, bytes: &[u8]) -> Option<Content<'_>>
+    ensures { option_map content_of result ≡ option_map (Elements kind) (numbers_at kind bytes.now) }
+{
+    let values = read_elements(kind, bytes)?;
+    Some(Content::Elements(values))
+}
+
 /// Returns one text.
 fn read_string(bytes: &[u8]) -> Option<Content<'_>>
     ensures { option_map content_of result ≡ option_map Bytes (option_and_then quoted_of (only_word bytes.now)) }
@@ -35,15 +43,33 @@ fn read_string(bytes: &[u8]) -> Option<Content<'_>>
     Some(Content::String(text))
 }
 
+/// Reads any number of texts.
+fn read_strings(bytes: &[u8]) -> Option<Content<'_>>
+    ensures { option_map content_of result ≡ option_map Strings (texts_at bytes.now) }
+{
+    let texts = read_texts(bytes)?;
+    Some(Content::Strings(texts))
+}
+
+/// Reads nothing: a map begins without pairs.
+fn read_no_pairs(key: ScalarKind, value: ScalarKind, bytes: &[u8]) -> Option<Content<'_>>
+    ensures { option_map content_of result ≡ (if at_end bytes.now then Some (NoPairs key value) else None) }
+{
+    if !at_end(bytes) {
+        return None;
+    }
+    Some(Content::NoPairs { key, value })
+}
+
 /// Returns what an object of the kind is made with.
 pub fn read_content(kind: Kind, count: u32, bytes: &[u8]) -> Option<Content<'_>>
     ensures { option_map content_of result ≡ option_and_then (content kind count) (words bytes.now) }
 {
     match kind {
         Kind::Scalar(kind) => read_scalar(kind, count, bytes),
-        Kind::Vector(kind) => read_elements(kind, bytes).map(Content::Elements),
+        Kind::Vector(kind) => read_vector(kind, bytes),
         Kind::String => read_string(bytes),
-        Kind::Strings => read_texts(bytes).map(Content::Strings),
-        Kind::Map(key, value) => at_end(bytes).then_some(Content::NoPairs { key, value }),
+        Kind::Strings => read_strings(bytes),
+        Kind::Map(key, value) => read_no_pairs(key, value, bytes),
     }
 }

@@ -5,12 +5,11 @@ ghost use Rattle.std.specs.Prelude.{is_some, option_map, map, slice_index_or};
 ghost use Rattle.std.specs.List.{list_all};
 ghost use Rattle.raw_region.specs.Format.{current};
 ghost use Rattle.segment_lang.specs.Words.{is_word, words};
+ghost use Rattle.seg_types.specs.Commands as asked;
+ghost use Rattle.segment_lang.specs.Arguments.{command_of_three, command_of_two};
 ghost use Rattle.segment_lang.specs.Language.{whole_language};
-ghost use Rattle.segment_lang.specs.Reading.{form_of};
+ghost use Rattle.segment_lang.specs.Reading.{form_of, with_key_literal, with_key_number, with_key_number_literal};
 ghost use Rattle.segment_lang.specs.Seen.{deed_of, deed_reader_of, found_in, place_of, reader_of, with_rest};
-ghost use Rattle.segment_lang.specs.declared.forms.DeedForm.TheVariants.{Set as SetForm, Insert as InsertForm};
-ghost use Rattle.segment_lang.specs.declared.forms.DeedForm.TheVariants.{Erase as EraseForm, Reserve as ReserveForm};
-ghost use Rattle.segment_lang.specs.declared.forms.DeedForm.TheVariants.{Lookup as LookupForm, Remove as RemoveForm};
 ghost use Rattle.segment_lang.specs.Tokens.{behind_word, is_unbroken, up_to_blank};
 
 use crate::blanks::at_end;
@@ -241,55 +240,55 @@ pub fn split_form(line: &[u8]) -> Option<(CommandForm, &[u8])>
 /// Returns the deed that asks for a write of an element, by what stands after its word.
 #[inline(never)]
 fn read_set<'a>(bytes: &'a [u8], scratch: &'a mut LineBuffer) -> Option<Deed<'a>>
-    ensures { option_map deed_of result
-        ≡ option_and_then (deed_reader_of SetForm (whole_language current)) (words bytes.now) }
+    ensures { option_map deed_of result ≡ command_of_three (with_key_number_literal asked.Set) bytes.now }
 {
-    key_number_literal(bytes, scratch).map(Deed::Set)
+    let (key, index, value) = key_number_literal(bytes, scratch)?;
+    Some(Deed::Set(key, index, value))
 }
 
 /// Returns the deed that asks for an insertion of an element, by what stands after its word.
 #[inline(never)]
 fn read_insert<'a>(bytes: &'a [u8], scratch: &'a mut LineBuffer) -> Option<Deed<'a>>
-    ensures { option_map deed_of result
-        ≡ option_and_then (deed_reader_of InsertForm (whole_language current)) (words bytes.now) }
+    ensures { option_map deed_of result ≡ command_of_three (with_key_number_literal asked.Insert) bytes.now }
 {
-    key_number_literal(bytes, scratch).map(Deed::Insert)
+    let (key, index, value) = key_number_literal(bytes, scratch)?;
+    Some(Deed::Insert(key, index, value))
 }
 
 /// Returns the deed that asks for a removal of an element, by what stands after its word.
 #[inline(never)]
 fn read_erase<'a>(bytes: &'a [u8], scratch: &'a mut LineBuffer) -> Option<Deed<'a>>
-    ensures { option_map deed_of result
-        ≡ option_and_then (deed_reader_of EraseForm (whole_language current)) (words bytes.now) }
+    ensures { option_map deed_of result ≡ command_of_two (with_key_number asked.Erase) bytes.now }
 {
-    key_and_number(bytes, scratch).map(Deed::Erase)
+    let (key, index) = key_and_number(bytes, scratch)?;
+    Some(Deed::Erase(key, index))
 }
 
 /// Returns the deed that asks for room for elements, by what stands after its word.
 #[inline(never)]
 fn read_reserve<'a>(bytes: &'a [u8], scratch: &'a mut LineBuffer) -> Option<Deed<'a>>
-    ensures { option_map deed_of result
-        ≡ option_and_then (deed_reader_of ReserveForm (whole_language current)) (words bytes.now) }
+    ensures { option_map deed_of result ≡ command_of_two (with_key_number asked.Reserve) bytes.now }
 {
-    key_and_number(bytes, scratch).map(Deed::Reserve)
+    let (key, count) = key_and_number(bytes, scratch)?;
+    Some(Deed::Reserve(key, count))
 }
 
 /// Returns the deed that asks for a look-up of a pair, by what stands after its word.
 #[inline(never)]
 fn read_lookup<'a>(bytes: &'a [u8], scratch: &'a mut LineBuffer) -> Option<Deed<'a>>
-    ensures { option_map deed_of result
-        ≡ option_and_then (deed_reader_of LookupForm (whole_language current)) (words bytes.now) }
+    ensures { option_map deed_of result ≡ command_of_two (with_key_literal asked.Lookup) bytes.now }
 {
-    key_and_literal(bytes, scratch).map(Deed::Lookup)
+    let (key, at) = key_and_literal(bytes, scratch)?;
+    Some(Deed::Lookup(key, at))
 }
 
 /// Returns the deed that asks for a removal of a pair, by what stands after its word.
 #[inline(never)]
 fn read_remove<'a>(bytes: &'a [u8], scratch: &'a mut LineBuffer) -> Option<Deed<'a>>
-    ensures { option_map deed_of result
-        ≡ option_and_then (deed_reader_of RemoveForm (whole_language current)) (words bytes.now) }
+    ensures { option_map deed_of result ≡ command_of_two (with_key_literal asked.Remove) bytes.now }
 {
-    key_and_literal(bytes, scratch).map(Deed::Remove)
+    let (key, at) = key_and_literal(bytes, scratch)?;
+    Some(Deed::Remove(key, at))
 }
 
 /// Returns the deed that what stands after a command word of this form asks for.

@@ -35,8 +35,8 @@ pub fn index_key<'a>(word: Word<'a>, scratch: &'a mut LineBuffer) -> Option<Inde
 {
     match word {
         Word::Bare([b'@', kind @ ..]) => Some(IndexKey::Unique(kind_named(kind)?)),
-        Word::Bare(name) => bare_name(name).map(IndexKey::Name),
-        Word::Text(text) => text.to_name(scratch).map(IndexKey::Name),
+        Word::Bare(name) => Some(IndexKey::Name(bare_name(name)?)),
+        Word::Text(text) => Some(IndexKey::Name(text.to_name(scratch)?)),
     }
 }
 
@@ -76,7 +76,7 @@ pub fn new_key_for<'a>(
 {
     match word {
         Word::Bare(word) if is_word(word, b"-") => Some(NewKey::Anonymous),
-        _ => index_key_for(kind, word, scratch).map(IndexKey::into_new_key),
+        _ => Some(index_key_for(kind, word, scratch)?.into_new_key()),
     }
 }
 
@@ -96,6 +96,6 @@ pub fn key_of<'a>(word: Word<'a>, scratch: &'a mut LineBuffer) -> Option<Key<'a>
 {
     match word {
         Word::Bare([b'#', digits @ ..]) => Some(Key::Handle(number_of(digits)?)),
-        _ => index_key(word, scratch).map(IndexKey::into_key),
+        _ => Some(index_key(word, scratch)?.into_key()),
     }
 }

@@ -84,7 +84,7 @@ pub fn read_destroy<'a>(bytes: &'a [u8], scratch: &'a mut LineBuffer) -> Option<
     ensures { option_map deed_of result ≡ command_of_one (with_key asked.Destroy name_key) bytes.now }
 {
     let word = only_word(bytes)?;
-    index_key(word, scratch).map(Deed::Destroy)
+    Some(Deed::Destroy(index_key(word, scratch)?))
 }
 
 /// Returns a handle.

@@ -269,7 +269,9 @@ fn close_text(bytes: &[u8]) -> Option<&[u8]>
     Some(rest)
 }
 
-/// Returns the text that a quote in front opens, and what is after the quote that closes it.
+/// Returns the text that a quote in front opens, and what is after the quote that closes it. It is not inlined, so that a
+/// bare word is read with few registers.
+#[inline(never)]
 fn read_text(bytes: &[u8]) -> Option<(Quoted<'_>, &[u8])>
     ensures value { option_map (λ x. (x.0, x.1.now)) result ≡ option_and_then text_at (behind_opening bytes.now) }
     ensures shrinking { IfSome result (λ x. length x.1.now < length bytes.now) }

@@ -28,6 +28,9 @@ pub mod unchecked;
 pub use blocks::tiles::TileInfo;
 pub use blocks::walking_tiles::Tiles;
 pub use containers::element_runs::ElementRun;
+pub use containers::fillings::{
+    NewMap, NewNumbers, NewString, NewTexts, NewVector, ObjectInit, ObjectShape,
+};
 pub use errors::{CreateError, CreateRefused, RelocateRefused};
 pub use indexes::iterating::{Instances, Names};
 pub use modes::Mode;

@@ -1,116 +1,151 @@
 //! Objects made of what a line writes.
 ghost use Rattle.std.specs.Prelude.{◌≡◌, ◌≤◌, IsTrue, length};
 ghost use Rattle.std.specs.List.{AllByRecursion};
-ghost use Rattle.seg_types.specs.declared.kinds.Kind.TheVariants.{String as StringKind, Vector as VectorOf};
-ghost use Rattle.seg_types.specs.Commands.{Bytes, Construct, ConstructIt, Elements, FindOrConstruct, Strings};
-ghost use Rattle.seg_types.specs.Keys.{index_key_seen, new_key_seen};
-ghost use Rattle.seg_types.specs.Kinds.{is_value};
+ghost use Rattle.seg_types.specs.Commands.{Command, Construct, ConstructIt, Content as AskedContent, Elements};
+ghost use Rattle.seg_types.specs.Commands.{FindOrConstruct, Strings};
+ghost use Rattle.seg_types.specs.{Keys.index_key_seen, Keys.new_key_seen, Kinds.is_value, Names.Key as AnyKey};
 ghost use Rattle.segment_lang.specs.Seen.{content_of};
-ghost use Rattle.segment_manager.specs.objects.Found.{found_object_answer};
-ghost use Rattle.segment_manager.specs.Keeping.{IsBoundKey, UnchangedWhere};
 ghost use Rattle.segment_manager.specs.State.{TakesStep, UnchangedIfRefused, handle_answer};
-ghost use Rattle.segment_scripts.specs.Replies.{IsLineContent, IsMeant};
+ghost use Rattle.segment_scripts.specs.Replies.{IsLineContent, IsMeant, Replies};
 
 use crate::machine::ParseBuffers;
+use crate::replies::{CommandAnswer, found, made};
 use crate::rows::{Rows, ValueBuffer, on_row, value_row};
 use crate::text_rows::{FEW, TextRow, text_row};
-use seg_types::{Handle, IndexKey, NewKey, Refusal, Scalar, ScalarKind};
+use seg_types::{Handle, IndexKey, NewKey, Refusal, Scalar, ScalarKind, by_value};
 use segment_lang::{Content, LiteralValues, TextLiterals};
-use segment_manager::Segment;
+use segment_manager::{NewMap, NewNumbers, NewString, NewTexts, NewVector, ObjectInit, Segment};
 
-/// Makes an object, and returns its handle.
-///
-/// # Errors
-///
-/// As the segment's call. The objects are as before.
-#[tactic(auto, using(crate::proofs::values::Keys::content_kind, crate::proofs::values::Keys::content_some, crate::proofs::values::Keys::content_few))]
+/// A key under which a line makes an object.
+pub trait LineKey {
+    // The key.
+    ghost key: { Self → AnyKey };
+
+    // The command of a content.
+    ghost command: { Self → AskedContent → Command };
+
+    /// Does the command with what fills the object, and returns its answer.
+    fn make<'a, F: ObjectInit>(&self, segment: &mut Segment, filling: &F) -> CommandAnswer<'a>
+        requires object { F.stands filling.now }
+        requires content { IsLineContent (key self.now) (F.content filling.now) }
+        ensures { Replies segment.old segment.new (command self.now (F.content filling.now)) result };
+}
+
+/// An object is made.
+impl LineKey for NewKey<'_> {
+    ghost key = { new_key_seen };
+
+    ghost command = { λ key content. Construct (new_key_seen key) content };
+
+    #[inline(always)]
+    fn make<'a, F: ObjectInit>(&self, segment: &mut Segment, filling: &F) -> CommandAnswer<'a> {
+        made(segment.construct_under(self, filling))
+    }
+}
+
+/// An object is found, or made if there is none.
+impl LineKey for IndexKey<'_> {
+    ghost key = { index_key_seen };
+
+    ghost command = { λ key content. FindOrConstruct (index_key_seen key) content };
+
+    #[inline(always)]
+    fn make<'a, F: ObjectInit>(&self, segment: &mut Segment, filling: &F) -> CommandAnswer<'a> {
+        found(segment.find_or_construct_under(self, filling))
+    }
+}
+
+/// Does what a line asks for that makes an object of this content, and returns the answer.
+#[tactic(auto, using(crate::proofs::values::Keys::line_some, crate::proofs::values::Keys::line_few))]
 #[inline(never)]
-pub fn construct(
+pub fn make<'a, K: LineKey>(
     segment: &mut Segment,
-    key: &NewKey,
+    key: &K,
     content: Content<'_>,
     room: &mut ParseBuffers,
-) -> Result<Handle, Refusal>
-    requires { IsLineContent (new_key_seen key.now) (content_of content) }
-    ensures step { TakesStep segment.old segment.new (Construct (new_key_seen key.now) (content_of content.entry))
-        (handle_answer result) }
-    ensures refused { UnchangedIfRefused segment.old segment.new result }
+) -> CommandAnswer<'a>
+    requires { IsLineContent (K.key key.now) (content_of content) }
+    ensures { Replies segment.old segment.new (K.command key.now (content_of content.entry)) result }
 {
     match content {
-        Content::Scalars { value, count } => segment.construct_value(key, count, value),
-        Content::Elements(values) => construct_vector(segment, key, values, &mut room.rows),
-        Content::String(text) => segment.construct_string(key, text.bytes(&mut room.text)),
-        Content::Strings(texts) => construct_texts(segment, key, texts, &mut room.texts),
+        Content::Scalars { value, count } => {
+            by_value!(value, value => key.make(segment, &NewNumbers { count, value }))
+        }
+        Content::Elements(values) => make_vector(segment, key, values, &mut room.rows),
+        Content::String(text) => {
+            let bytes = text.bytes(&mut room.text);
+            key.make(segment, &NewString { bytes })
+        }
+        Content::Strings(texts) => make_texts(segment, key, texts, &mut room.texts),
         Content::NoPairs {
             key: keys,
             value: values,
-        } => segment.construct_map_of(key, keys, values),
+        } => key.make(segment, &NewMap { keys, values }),
     }
 }
 
-/// Makes a vector of the values, and returns its handle.
-fn construct_vector(
+/// Makes a vector of the values.
+fn make_vector<'a, K: LineKey>(
     segment: &mut Segment,
-    key: &NewKey,
+    key: &K,
     values: LiteralValues<'_>,
     rows: &mut Rows,
-) -> Result<Handle, Refusal>
-    requires { IsLineContent (new_key_seen key.now) (Elements values.kind values.numbers) }
-    ensures step { TakesStep segment.old segment.new
-        (Construct (new_key_seen key.now) (Elements values.entry.kind values.entry.numbers)) (handle_answer result) }
-    ensures refused { UnchangedIfRefused segment.old segment.new result }
+) -> CommandAnswer<'a>
+    requires { IsLineContent (K.key key.now) (Elements values.kind values.numbers) }
+    ensures { Replies segment.old segment.new
+        (K.command key.now (Elements values.entry.kind values.entry.numbers)) result }
 {
-    on_row!(values.kind(), rows, construct_row(segment, key, values))
+    on_row!(values.kind(), rows, make_row(segment, key, values))
 }
 
-/// Makes a vector of the values, which are of the type's kind, and returns its handle.
-fn construct_row<T: Scalar>(
+/// Makes a vector of the values, which are of the type's kind.
+fn make_row<'a, T: Scalar, K: LineKey>(
     segment: &mut Segment,
-    key: &NewKey,
+    key: &K,
     values: LiteralValues<'_>,
     row: &mut ValueBuffer<T>,
-) -> Result<Handle, Refusal>
+) -> CommandAnswer<'a>
     requires kind { values.kind ≡ T.kind }
-    requires content { IsLineContent (new_key_seen key.now) (Elements values.kind values.numbers) }
+    requires content { IsLineContent (K.key key.now) (Elements values.kind values.numbers) }
     requires range { AllByRecursion (λ z. IsTrue (is_value T.kind z)) values.numbers }
     requires max_count { length values.numbers ≤ 2048 }
-    ensures step { TakesStep segment.old segment.new
-        (Construct (new_key_seen key.now) (Elements values.entry.kind values.entry.numbers)) (handle_answer result) }
-    ensures refused { UnchangedIfRefused segment.old segment.new result }
+    ensures { Replies segment.old segment.new
+        (K.command key.now (Elements values.entry.kind values.entry.numbers)) result }
 {
     value_row(values, row);
-    segment.construct_vec(key, row.as_slice())
+    let values = row.as_slice();
+    key.make(segment, &NewVector { values })
 }
 
-/// Makes a vector of strings of the texts, and returns its handle.
+/// Makes a vector of strings of the texts.
 #[inline(never)]
-fn construct_texts(
+fn make_texts<'a, K: LineKey>(
     segment: &mut Segment,
-    key: &NewKey,
+    key: &K,
     texts: TextLiterals<'_>,
     row: &mut TextRow,
-) -> Result<Handle, Refusal>
-    requires { IsLineContent (new_key_seen key.now) (Strings texts) }
-    ensures step { TakesStep segment.old segment.new (Construct (new_key_seen key.now) (Strings texts.entry))
-        (handle_answer result) }
-    ensures refused { UnchangedIfRefused segment.old segment.new result }
+) -> CommandAnswer<'a>
+    requires { IsLineContent (K.key key.now) (Strings texts) }
+    ensures { Replies segment.old segment.new (K.command key.now (Strings texts.entry)) result }
 {
     text_row(texts, row);
     if FEW < row.len() {
-        return construct_many(segment, key, row);
+        return make_many(segment, key, row);
     }
-    segment.construct_texts(key, row.few().as_slice())
+    let few = row.few();
+    let texts = few.as_slice();
+    key.make(segment, &NewTexts { texts })
 }
 
-/// Makes a vector of strings of the texts of a row, however many, and returns its handle.
+/// Makes a vector of strings of the texts of a row, however many.
 #[inline(never)]
-fn construct_many(segment: &mut Segment, key: &NewKey, row: &TextRow) -> Result<Handle, Refusal>
-    requires { IsLineContent (new_key_seen key.now) (Strings row.now) }
-    ensures step { TakesStep segment.old segment.new (Construct (new_key_seen key.now) (Strings row.now))
-        (handle_answer result) }
-    ensures refused { UnchangedIfRefused segment.old segment.new result }
+fn make_many<'a, K: LineKey>(segment: &mut Segment, key: &K, row: &TextRow) -> CommandAnswer<'a>
+    requires { IsLineContent (K.key key.now) (Strings row.now) }
+    ensures { Replies segment.old segment.new (K.command key.now (Strings row.now)) result }
 {
-    segment.construct_texts(key, row.all().as_slice())
+    let all = row.all();
+    let texts = all.as_slice();
+    key.make(segment, &NewTexts { texts })
 }
 
 /// Makes an array of the values, and returns its handle.
@@ -132,118 +167,4 @@ pub fn construct_it(
 {
     let kind = values.kind();
     segment.construct_values(key, kind, count, &mut values)
-}
-
-/// Finds an object, or makes it where there is none, and returns its handle and how many elements it has.
-///
-/// # Errors
-///
-/// As the segment's call. The objects are as before.
-#[tactic(auto, using(crate::proofs::values::Keys::index_kind, crate::proofs::values::Keys::index_some, crate::proofs::values::Keys::index_few))]
-#[inline(never)]
-pub fn find_or_construct(
-    segment: &mut Segment,
-    key: &IndexKey,
-    content: Content<'_>,
-    room: &mut ParseBuffers,
-) -> Result<(Handle, u32), Refusal>
-    requires { IsLineContent (index_key_seen key.now) (content_of content) }
-    ensures step { TakesStep segment.old segment.new
-        (FindOrConstruct (index_key_seen key.now) (content_of content.entry)) (found_object_answer result) }
-    ensures refused { UnchangedIfRefused segment.old segment.new result }
-    ensures search { UnchangedWhere segment.old segment.new (IsBoundKey (index_key_seen key.now)) }
-{
-    match content {
-        Content::Scalars { value, count } => segment.find_or_construct_value(key, count, value),
-        Content::Elements(values) => {
-            find_or_construct_vector(segment, key, values, &mut room.rows)
-        }
-        Content::String(text) => {
-            segment.find_or_construct_string(key, text.bytes(&mut room.text))
-        }
-        Content::Strings(texts) => find_or_construct_texts(segment, key, texts, &mut room.texts),
-        Content::NoPairs {
-            key: keys,
-            value: values,
-        } => segment.find_or_construct_map_of(key, keys, values),
-    }
-}
-
-/// Finds a vector, or makes it of the values if there is none.
-fn find_or_construct_vector(
-    segment: &mut Segment,
-    key: &IndexKey,
-    values: LiteralValues<'_>,
-    rows: &mut Rows,
-) -> Result<(Handle, u32), Refusal>
-    requires { IsLineContent (index_key_seen key.now) (Elements values.kind values.numbers) }
-    ensures step { TakesStep segment.old segment.new
-        (FindOrConstruct (index_key_seen key.now) (Elements values.entry.kind values.entry.numbers))
-        (found_object_answer result) }
-    ensures refused { UnchangedIfRefused segment.old segment.new result }
-    ensures search { UnchangedWhere segment.old segment.new (IsBoundKey (index_key_seen key.now)) }
-{
-    on_row!(
-        values.kind(),
-        rows,
-        find_or_construct_row(segment, key, values)
-    )
-}
-
-/// Finds a vector, or makes it of the values, which are of the type's kind, if there is none.
-fn find_or_construct_row<T: Scalar>(
-    segment: &mut Segment,
-    key: &IndexKey,
-    values: LiteralValues<'_>,
-    row: &mut ValueBuffer<T>,
-) -> Result<(Handle, u32), Refusal>
-    requires kind { values.kind ≡ T.kind }
-    requires content { IsLineContent (index_key_seen key.now) (Elements values.kind values.numbers) }
-    requires range { AllByRecursion (λ z. IsTrue (is_value T.kind z)) values.numbers }
-    requires max_count { length values.numbers ≤ 2048 }
-    ensures step { TakesStep segment.old segment.new
-        (FindOrConstruct (index_key_seen key.now) (Elements values.entry.kind values.entry.numbers))
-        (found_object_answer result) }
-    ensures refused { UnchangedIfRefused segment.old segment.new result }
-    ensures search { UnchangedWhere segment.old segment.new (IsBoundKey (index_key_seen key.now)) }
-{
-    value_row(values, row);
-    segment.find_or_construct_vec(key, row.as_slice())
-}
-
-/// Finds a vector of strings, or makes it of the texts if there is none.
-#[inline(never)]
-fn find_or_construct_texts(
-    segment: &mut Segment,
-    key: &IndexKey,
-    texts: TextLiterals<'_>,
-    row: &mut TextRow,
-) -> Result<(Handle, u32), Refusal>
-    requires { IsLineContent (index_key_seen key.now) (Strings texts) }
-    ensures step { TakesStep segment.old segment.new
-        (FindOrConstruct (index_key_seen key.now) (Strings texts.entry)) (found_object_answer result) }
-    ensures refused { UnchangedIfRefused segment.old segment.new result }
-    ensures search { UnchangedWhere segment.old segment.new (IsBoundKey (index_key_seen key.now)) }
-{
-    text_row(texts, row);
-    if FEW < row.len() {
-        return find_or_construct_many(segment, key, row);
-    }
-    segment.find_or_construct_texts(key, row.few().as_slice())
-}
-
-/// Finds a vector of strings, or makes it of the texts of a row, however many, if there is none.
-#[inline(never)]
-fn find_or_construct_many(
-    segment: &mut Segment,
-    key: &IndexKey,
-    row: &TextRow,
-) -> Result<(Handle, u32), Refusal>
-    requires { IsLineContent (index_key_seen key.now) (Strings row.now) }
-    ensures step { TakesStep segment.old segment.new (FindOrConstruct (index_key_seen key.now) (Strings row.now))
-        (found_object_answer result) }
-    ensures refused { UnchangedIfRefused segment.old segment.new result }
-    ensures search { UnchangedWhere segment.old segment.new (IsBoundKey (index_key_seen key.now)) }
-{
-    segment.find_or_construct_texts(key, row.all().as_slice())
 }

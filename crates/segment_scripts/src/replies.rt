@@ -8,7 +8,7 @@ ghost use Rattle.segment_manager.specs.State.{done_answer, gone_answer, handle_a
 ghost use Rattle.segment_scripts.specs.Replies.{IsMeant, Replies, answer_seen};
 
 use crate::changing::{append, assign};
-use crate::constructing::{construct, construct_it, find_or_construct};
+use crate::constructing::{construct_it, make};
 use crate::machine::ParseBuffers;
 use seg_types::{Handle, Key, Refusal, ScalarValue};
 use segment_lang::Deed;
@@ -57,22 +57,18 @@ pub fn reply<'a>(
     ensures { Replies segment.old segment.new (deed_of deed.entry) result }
 {
     match deed {
-        Deed::Construct { key, content } => made(construct(segment, &key, content, room)),
+        Deed::Construct { key, content } => make(segment, &key, content, room),
         Deed::ConstructIt { key, count, values } => {
             made(construct_it(segment, &key, count, values))
         }
         Deed::Find { kind, key } => looked_up(segment.find_kind(&key.into_key(), kind)),
-        Deed::FindOrConstruct { key, content } => {
-            found(find_or_construct(segment, &key, content, room))
-        }
+        Deed::FindOrConstruct { key, content } => make(segment, &key, content, room),
         Deed::Destroy(key) => truth(segment.destroy(&key)),
         Deed::DestroyPtr(handle) => gone(segment.destroy_ptr(handle)),
         Deed::Show(key) => CommandAnswer::Shown(key),
         Deed::Info(key) => CommandAnswer::Told(key),
-        Deed::Set((key, index, value)) => {
-            done(set(segment, &key, index, &value, &mut room.text))
-        }
-        Deed::Insert((key, index, value)) => {
+        Deed::Set(key, index, value) => { done(set(segment, &key, index, &value, &mut room.text)) }
+        Deed::Insert(key, index, value) => {
             done(add(
                 segment,
                 &key,
@@ -81,14 +77,14 @@ pub fn reply<'a>(
                 &mut room.text,
             ))
         }
-        Deed::Erase((key, index)) => done(erase(segment, &key, index)),
-        Deed::Reserve((key, count)) => done(segment.reserve(&key, count)),
+        Deed::Erase(key, index) => done(erase(segment, &key, index)),
+        Deed::Reserve(key, count) => done(segment.reserve(&key, count)),
         Deed::Shrink(key) => done(segment.shrink(&key)),
         Deed::Clear(key) => done(segment.clear(&key)),
         Deed::Assign { key, values } => done(assign(segment, &key, values, room)),
         Deed::Append { key, text } => done(append(segment, &key, text, &mut room.text)),
-        Deed::Lookup((key, at)) => value_found(look_up(segment, &key, &at)),
-        Deed::Remove((key, at)) => truth(erase_pair(segment, &key, &at)),
+        Deed::Lookup(key, at) => value_found(look_up(segment, &key, &at)),
+        Deed::Remove(key, at) => truth(erase_pair(segment, &key, &at)),
         Deed::ListNames => CommandAnswer::Names,
         Deed::ListKinds => CommandAnswer::Kinds,
         Deed::Blocks => CommandAnswer::Blocks,
@@ -105,7 +101,7 @@ pub fn reply<'a>(
 }
 
 /// Returns the answer where an object was made, or not.
-fn made<'a>(made: Result<Handle, Refusal>) -> CommandAnswer<'a>
+pub fn made<'a>(made: Result<Handle, Refusal>) -> CommandAnswer<'a>
     ensures { (d : Directory) → answer_seen d result ≡ handle_answer made }
 {
     match made {
@@ -115,7 +111,7 @@ fn made<'a>(made: Result<Handle, Refusal>) -> CommandAnswer<'a>
 }
 
 /// Returns the answer where an object was found or made, or not.
-fn found<'a>(found: Result<(Handle, u32), Refusal>) -> CommandAnswer<'a>
+pub fn found<'a>(found: Result<(Handle, u32), Refusal>) -> CommandAnswer<'a>
     ensures { (d : Directory) → answer_seen d result ≡ found_object_answer found }
 {
     match found {

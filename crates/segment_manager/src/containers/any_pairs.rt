@@ -7,7 +7,7 @@ ghost use Rattle.segment_manager.specs.State.{AnswersQueryOfKind, TakesStepOfKin
 
 use crate::objects::object_ref::ObjectRef;
 use crate::segment::Segment;
-use seg_types::{Refusal, ScalarKind, ScalarValue, by_kind, by_value};
+use seg_types::{Refusal, Scalar, ScalarKind, ScalarValue, by_kind, by_value};
 
 impl Segment {
     /// Returns the value of a key of the map of a key, a map with keys of the kind of `at` and values of a kind.
@@ -27,9 +27,26 @@ impl Segment {
         ensures { AnswersQueryOfKind self.now (O.key key.now) (MapOf (kind_of_scalar at) values)
             (Lookup (O.key key.now) (literal_of (kind_of_scalar at) (value_of_scalar at))) (any_value_answer result) }
     {
+        by_value!(at, at => self.value_by_key(key, at, values))
+    }
+
+    /// Returns the value of a key of the map of a key, for keys of a type. It is inlined, as are the two for keys of a
+    /// type below.
+    #[inline(always)]
+    fn value_by_key<K: Scalar, O: ObjectRef>(
+        &self,
+        key: &O,
+        at: K,
+        values: ScalarKind,
+    ) -> Result<Option<ScalarValue>, Refusal>
+        requires { O.stands key.now self.now }
+        ensures { AnswersQueryOfKind self.now (O.key key.now) (MapOf K.kind values)
+            (Lookup (O.key key.now) (literal_of K.kind (K.whole at))) (any_value_answer result) }
+    {
         macro_rules! got {
             ($type:ty, $kind:ident) => {
-                by_value!(at, at => self.map_get::<_, $type, O>(key, at)?.map(ScalarValue::$kind))
+                self.map_get::<_, $type, O>(key, at)?
+                    .map(ScalarValue::$kind)
             };
         }
         Ok(by_kind!(values, got))
@@ -57,7 +74,24 @@ impl Segment {
             (literal_of (kind_of_scalar value) (value_of_scalar value))) (truth_answer result) }
         ensures refused { OnErr result (self.new ≡ self.old) }
     {
-        by_value!(at, at => by_value!(value, value => self.map_put(key, at, value)))
+        by_value!(at, at => self.put_by_key(key, at, value))
+    }
+
+    /// Puts the value of a key into the map of a key, for keys of a type, and returns whether the key is new.
+    #[inline(always)]
+    fn put_by_key<K: Scalar, O: ObjectRef>(
+        &mut self,
+        key: &O,
+        at: K,
+        value: ScalarValue,
+    ) -> Result<bool, Refusal>
+        requires { O.stands key.now self.old }
+        ensures step { TakesStepOfKind self.old self.new (O.key key.now) (MapOf K.kind (kind_of_scalar value))
+            (Put (O.key key.now) (literal_of K.kind (K.whole at))
+            (literal_of (kind_of_scalar value) (value_of_scalar value))) (truth_answer result) }
+        ensures refused { OnErr result (self.new ≡ self.old) }
+    {
+        by_value!(value, value => self.map_put(key, at, value))
     }
 
     /// Erases a key from the map of a key, a map with keys of its kind and values of a kind, and returns whether it was
@@ -81,9 +115,26 @@ impl Segment {
         ensures refused { OnErr result (self.new ≡ self.old) }
         ensures absent { UnchangedWhere self.old self.new (LacksPair (O.key key.now) (value_of_scalar at)) }
     {
+        by_value!(at, at => self.erase_by_key(key, at, values))
+    }
+
+    /// Erases a key from the map of a key, for keys of a type, and returns whether it was there.
+    #[inline(always)]
+    fn erase_by_key<K: Scalar, O: ObjectRef>(
+        &mut self,
+        key: &O,
+        at: K,
+        values: ScalarKind,
+    ) -> Result<bool, Refusal>
+        requires { O.stands key.now self.old }
+        ensures step { TakesStepOfKind self.old self.new (O.key key.now) (MapOf K.kind values)
+            (Remove (O.key key.now) (literal_of K.kind (K.whole at))) (truth_answer result) }
+        ensures refused { OnErr result (self.new ≡ self.old) }
+        ensures absent { UnchangedWhere self.old self.new (LacksPair (O.key key.now) (K.whole at)) }
+    {
         macro_rules! erased {
             ($type:ty, $kind:ident) => {
-                by_value!(at, at => self.map_erase::<_, $type, O>(key, at))
+                self.map_erase::<_, $type, O>(key, at)
             };
         }
         by_kind!(values, erased)

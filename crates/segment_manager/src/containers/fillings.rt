@@ -21,17 +21,19 @@ pub(crate) const LONGEST: usize = 8;
 /// The most elements of an object of scalars.
 pub(crate) const MAX_COUNT: u32 = MAX_ARRAY_LEN as u32;
 
-/// What is known of an object before a block is asked for: its kind, how many elements it has, and the bytes of its
-/// value in its own block.
+/// What is known of an object before a block is asked for.
 #[derive(Clone, Copy)]
-pub(crate) struct ObjectShape {
-    pub(crate) kind: Kind,
-    pub(crate) count: u32,
-    pub(crate) len: u64,
+pub struct ObjectShape {
+    /// Its kind.
+    pub kind: Kind,
+    /// How many elements it has.
+    pub count: u32,
+    /// The bytes of its value in its own block.
+    pub len: u64,
 }
 
-/// What fills a new object.
-pub(crate) trait ObjectInit {
+/// What fills a new object: of each content one type is here.
+pub trait ObjectInit {
     // What it makes of the object, as commands say it.
     ghost content: { Self → Content };
 
@@ -59,9 +61,11 @@ pub(crate) trait ObjectInit {
 
 /// A value, so many times.
 #[derive(Drop)]
-pub(crate) struct NewNumbers<T> {
-    pub(crate) count: u32,
-    pub(crate) value: T,
+pub struct NewNumbers<T> {
+    /// How many times, from 1 to 1048576.
+    pub count: u32,
+    /// The value.
+    pub value: T,
 }
 
 impl<T: Scalar> ObjectInit for NewNumbers<T> {
@@ -86,8 +90,9 @@ impl<T: Scalar> ObjectInit for NewNumbers<T> {
 
 /// The values of a vector.
 #[derive(Drop)]
-pub(crate) struct NewVector<'a, T> {
-    pub(crate) values: &'a [T],
+pub struct NewVector<'a, T> {
+    /// The values.
+    pub values: &'a [T],
 }
 
 impl<T: Scalar> ObjectInit for NewVector<'_, T> {
@@ -108,8 +113,9 @@ impl<T: Scalar> ObjectInit for NewVector<'_, T> {
 
 /// The bytes of a string.
 #[derive(Drop)]
-pub(crate) struct NewString<'a> {
-    pub(crate) bytes: &'a [u8],
+pub struct NewString<'a> {
+    /// The bytes.
+    pub bytes: &'a [u8],
 }
 
 impl ObjectInit for NewString<'_> {
@@ -131,8 +137,9 @@ impl ObjectInit for NewString<'_> {
 
 /// The texts of a vector of strings.
 #[derive(Drop)]
-pub(crate) struct NewTexts<'a> {
-    pub(crate) texts: &'a [&'a [u8]],
+pub struct NewTexts<'a> {
+    /// The texts.
+    pub texts: &'a [&'a [u8]],
 }
 
 impl ObjectInit for NewTexts<'_> {
@@ -154,9 +161,11 @@ impl ObjectInit for NewTexts<'_> {
 
 /// A map of two kinds without a pair.
 #[derive(Drop)]
-pub(crate) struct NewMap {
-    pub(crate) keys: ScalarKind,
-    pub(crate) values: ScalarKind,
+pub struct NewMap {
+    /// The kind of its keys.
+    pub keys: ScalarKind,
+    /// The kind of its values.
+    pub values: ScalarKind,
 }
 
 impl ObjectInit for NewMap {

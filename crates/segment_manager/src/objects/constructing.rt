@@ -107,8 +107,18 @@ impl Segment {
     }
 
     /// Makes an object of what fills it, and returns its handle.
+    ///
+    /// Example: `let handle = segment.construct_under(&name, &NewString { bytes: b"text" })?`.
+    ///
+    /// # Conditions
+    ///
+    /// An object can hold what fills it: of numbers there are 1 to 1048576. The key suits its kind ([`ConstructKey`]).
+    ///
+    /// # Errors
+    ///
+    /// As of `construct`.
     #[inline(always)]
-    pub(crate) fn construct_under<F: ObjectInit, D: ConstructKey>(
+    pub fn construct_under<F: ObjectInit, D: ConstructKey>(
         &mut self,
         key: &D,
         filling: &F,

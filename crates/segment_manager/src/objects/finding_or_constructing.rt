@@ -107,9 +107,20 @@ impl Segment {
         by_value!(value, it => self.find_or_construct(key, count, it))
     }
 
-    /// Returns the handle of the object of a key and its count, or makes an object of what fills it.
+    /// Returns the handle of the object of a key and its count, or makes an object of what fills it. An object that is
+    /// found stays as it is.
+    ///
+    /// Example: `let (handle, count) = segment.find_or_construct_under(&name, &NewString { bytes: b"text" })?`.
+    ///
+    /// # Conditions
+    ///
+    /// An object can hold what fills it: of numbers there are 1 to 1048576. The key suits its kind ([`ConstructKey`]).
+    ///
+    /// # Errors
+    ///
+    /// As of `find_or_construct`.
     #[inline(always)]
-    pub(crate) fn find_or_construct_under<F: ObjectInit, D: FindOrConstructKey>(
+    pub fn find_or_construct_under<F: ObjectInit, D: FindOrConstructKey>(
         &mut self,
         key: &D,
         filling: &F,

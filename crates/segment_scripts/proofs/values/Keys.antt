@@ -5,7 +5,7 @@ use Rattle.std.proofs.lemmas.Bool.{eqb-true}
 use Rattle.std.proofs.lemmas.List.{length-replicate}
 use Rattle.seg_types.specs.declared.kinds.ScalarKind.{ScalarKind}
 use Rattle.seg_types.specs.declared.kinds.Kind.{Kind}
-use Rattle.seg_types.specs.declared.kinds.Kind.TheVariants.{Map, Scalar, String, Strings, Vector}
+use Rattle.seg_types.specs.declared.kinds.Kind.TheVariants.{Scalar}
 use Rattle.seg_types.specs.declared.keys.NewKey.{NewKey}
 use Rattle.seg_types.specs.declared.keys.NewKey.TheVariants as new
 use Rattle.seg_types.specs.declared.keys.IndexKey.{IndexKey}
@@ -14,6 +14,8 @@ use Rattle.seg_types.specs.Kinds.{code_of, kind_of_code, same_kind}
 use Rattle.seg_types.specs.Keys.{index_key_seen, new_key_seen}
 use Rattle.seg_types.specs.Commands as asked
 use Rattle.segment_lang.specs.Reading.{agrees}
+use Rattle.seg_types.specs.Names.{Key}
+use Rattle.segment_manager.specs.{Directory.kind_of, Plan.bare}
 use Rattle.segment_manager.specs.objects.NewObjects.{IsOfItsKind, IsOfKind}
 use Rattle.segment_manager.proofs.Laws.{code-read}
 use Rattle.segment_scripts.specs.Replies.{IsLineContent, IsMeant}
@@ -41,73 +43,35 @@ some n z h = subst (λ m. 1 ≤ m) (length-replicate n z) h
 few : (n : ℕ) (z : ℤ) → length (replicate n z) ≤ 1048576 → n ≤ 1048576
 few n z h = subst (λ m. m ≤ 1048576) (length-replicate n z) h
 
--- ---- a new object
+-- ---- what a line makes
 
-module _ (key : NewKey) (k : ScalarKind) (n : ℕ) (z : ℤ)
-    (h : IsLineContent (new_key_seen key) (asked.Numbers k (replicate n z))) where
-  -- the content of the line is of its kind
-  pub content_kind : IsOfItsKind (new_key_seen key) k
-  content_kind = new-of key (Scalar k) h.2
+-- a content of a line is of a kind that agrees with its key
+line-agrees : (key : Key) (content : asked.Content) → IsLineContent key content
+    → IsTrue (agrees (kind_of (bare content)) key)
+line-agrees key (asked.Numbers k zs) h = h.2
+line-agrees key (asked.Elements k zs) h = h.1
+line-agrees key (asked.Bytes bs) h = h.1
+line-agrees key (asked.NoPairs k v) h = h
+line-agrees key (asked.Strings bss) h = h.1
 
-  -- the line has at least one element
-  pub content_some : 1 ≤ n
-  content_some = some n z h.0
+-- the content of a line is of the kind of its new key
+pub new_line_kind : (key : NewKey) (content : asked.Content) → IsLineContent (new_key_seen key) content
+    → IsOfKind (new_key_seen key) (kind_of (bare content))
+new_line_kind key content h = new-of key (kind_of (bare content)) (line-agrees (new_key_seen key) content h)
 
-  -- the line has at most 2^20 elements
-  pub content_few : n ≤ 1048576
-  content_few = few n z h.1
+-- the content of a line is of the kind of its entry
+pub entry_line_kind : (key : IndexKey) (content : asked.Content) → IsLineContent (index_key_seen key) content
+    → IsOfKind (index_key_seen key) (kind_of (bare content))
+entry_line_kind key content h = entry-of key (kind_of (bare content)) (line-agrees (index_key_seen key) content h)
 
--- ---- an object that is found or made
+module _ (key : Key) (k : ScalarKind) (n : ℕ) (z : ℤ) (h : IsLineContent key (asked.Numbers k (replicate n z))) where
+  -- a line of numbers has at least one
+  pub line_some : 1 ≤ n
+  line_some = some n z h.0
 
-module _ (key : IndexKey) (k : ScalarKind) (n : ℕ) (z : ℤ)
-    (h : IsLineContent (index_key_seen key) (asked.Numbers k (replicate n z))) where
-  -- the content of the indexed line is of its kind
-  pub index_kind : IsOfItsKind (index_key_seen key) k
-  index_kind = entry-of key (Scalar k) h.2
-
-  -- the indexed line has at least one element
-  pub index_some : 1 ≤ n
-  index_some = some n z h.0
-
-  -- the indexed line has at most 2^20 elements
-  pub index_few : n ≤ 1048576
-  index_few = few n z h.1
-
--- ---- vectors and strings
-
-pub elements_kind : (key : NewKey) (k : ScalarKind) (zs : List ℤ)
-    → IsLineContent (new_key_seen key) (asked.Elements k zs) → IsOfKind (new_key_seen key) (Vector k)
-elements_kind key k zs h = new-of key (Vector k) h.1
-
-pub bytes_kind : (key : NewKey) (bs : List ℕ) → IsLineContent (new_key_seen key) (asked.Bytes bs)
-    → IsOfKind (new_key_seen key) String
-bytes_kind key bs h = new-of key String h.1
-
--- a line of strings is of the kind of its key
-pub strings_kind : (key : NewKey) (bss : List (List ℕ)) → IsLineContent (new_key_seen key) (asked.Strings bss)
-    → IsOfKind (new_key_seen key) Strings
-strings_kind key bss h = new-of key Strings h.1
-
-pub index_elements_kind : (key : IndexKey) (k : ScalarKind) (zs : List ℤ)
-    → IsLineContent (index_key_seen key) (asked.Elements k zs) → IsOfKind (index_key_seen key) (Vector k)
-index_elements_kind key k zs h = entry-of key (Vector k) h.1
-
-pub index_bytes_kind : (key : IndexKey) (bs : List ℕ) → IsLineContent (index_key_seen key) (asked.Bytes bs)
-    → IsOfKind (index_key_seen key) String
-index_bytes_kind key bs h = entry-of key String h.1
-
-pub pairs_kind : (key : NewKey) (k v : ScalarKind) → IsLineContent (new_key_seen key) (asked.NoPairs k v)
-    → IsOfKind (new_key_seen key) (Map k v)
-pairs_kind key k v h = new-of key (Map k v) h
-
-pub index_pairs_kind : (key : IndexKey) (k v : ScalarKind) → IsLineContent (index_key_seen key) (asked.NoPairs k v)
-    → IsOfKind (index_key_seen key) (Map k v)
-index_pairs_kind key k v h = entry-of key (Map k v) h
-
--- an indexed line of strings is of the kind of its key
-pub index_strings_kind : (key : IndexKey) (bss : List (List ℕ))
-    → IsLineContent (index_key_seen key) (asked.Strings bss) → IsOfKind (index_key_seen key) Strings
-index_strings_kind key bss h = entry-of key Strings h.1
+  -- a line of numbers has at most 2^20
+  pub line_few : n ≤ 1048576
+  line_few = few n z h.1
 
 -- ---- an array
 

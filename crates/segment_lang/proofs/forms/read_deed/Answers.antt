@@ -5,7 +5,7 @@ use Rattle.segment_lang.specs.declared.commands.Deed.TheVariants as deed
 use Rattle.segment_lang.specs.Reading.{key_of, name_key, new_key}
 use Rattle.segment_lang.specs.Seen.{deed_of}
 use Rattle.segment_lang.proofs.commands.Words.{alone_at_end as ends, of_appending, of_assigning, of_finding, of_handle}
-use Rattle.segment_lang.proofs.commands.Words.{of_key, of_making}
+use Rattle.segment_lang.proofs.commands.Words.{of_key, of_key_literal, of_key_number, of_key_number_literal, of_making}
 use Rattle.segment_lang.proofs.commands.Words.{of_making_each, of_number}
 use Rattle.segment_lang.proofs.words.Readers.{map_made}
 use Rattle.segment_lang.proofs.forms.read_deed.Goals as goal
@@ -43,16 +43,17 @@ returns-in-Info c =
     ∙ sym (of_key asked.Info key_of c.args.bytes.now))
 
 pub returns-in-Set : goal.returns-in-Set
-returns-in-Set c = rw c.in-Set.is c.read_set.ensures
+returns-in-Set c = rw c.in-Set.is (c.read_set.ensures ∙ sym (of_key_number_literal asked.Set c.args.bytes.now))
 
 pub returns-in-Insert : goal.returns-in-Insert
-returns-in-Insert c = rw c.in-Insert.is c.read_insert.ensures
+returns-in-Insert c =
+    rw c.in-Insert.is (c.read_insert.ensures ∙ sym (of_key_number_literal asked.Insert c.args.bytes.now))
 
 pub returns-in-Erase : goal.returns-in-Erase
-returns-in-Erase c = rw c.in-Erase.is c.read_erase.ensures
+returns-in-Erase c = rw c.in-Erase.is (c.read_erase.ensures ∙ sym (of_key_number asked.Erase c.args.bytes.now))
 
 pub returns-in-Reserve : goal.returns-in-Reserve
-returns-in-Reserve c = rw c.in-Reserve.is c.read_reserve.ensures
+returns-in-Reserve c = rw c.in-Reserve.is (c.read_reserve.ensures ∙ sym (of_key_number asked.Reserve c.args.bytes.now))
 
 pub returns-in-Shrink : goal.returns-in-Shrink
 returns-in-Shrink c =
@@ -73,10 +74,10 @@ pub returns-in-Append : goal.returns-in-Append
 returns-in-Append c = rw c.in-Append.is (c.read_append.ensures ∙ sym (of_appending c.args.bytes.now))
 
 pub returns-in-Lookup : goal.returns-in-Lookup
-returns-in-Lookup c = rw c.in-Lookup.is c.read_lookup.ensures
+returns-in-Lookup c = rw c.in-Lookup.is (c.read_lookup.ensures ∙ sym (of_key_literal asked.Lookup c.args.bytes.now))
 
 pub returns-in-Remove : goal.returns-in-Remove
-returns-in-Remove c = rw c.in-Remove.is c.read_remove.ensures
+returns-in-Remove c = rw c.in-Remove.is (c.read_remove.ensures ∙ sym (of_key_literal asked.Remove c.args.bytes.now))
 
 pub returns-in_ok-only_number-in-ReserveNamed : goal.returns-in_ok-only_number-in-ReserveNamed
 returns-in_ok-only_number-in-ReserveNamed c =

@@ -2,16 +2,16 @@
 use Rattle.std.proofs.Common.{refl, subst, true}
 use Rattle.seg_types.specs.Commands.{AllDeallocated, Find, Free, Lookup, NumNamed, NumUnique, Sanity}
 use Rattle.seg_types.specs.Keys.{index_key_seen, key_seen}
-use Rattle.segment_lang.specs.Seen.{deed_of, content_of, literal_of}
+use Rattle.segment_lang.specs.Seen.{deed_of, literal_of}
 use Rattle.segment_manager.specs.Answers.{Done, Made, Number, Truth}
-use Rattle.segment_manager.specs.objects.Found.{found_answer, found_object}
+use Rattle.segment_manager.specs.objects.Found.{found_answer}
 use Rattle.segment_manager.specs.containers.Maps.{any_value_answer}
 use Rattle.segment_manager.specs.State.{AnswersQuery}
 use Rattle.segment_scripts.specs.declared.replies.CommandAnswer.TheVariants as said
 use Rattle.segment_scripts.proofs.segments.CommandSteps.{keeps-refused, replies-as, replies-blocks, replies-command}
 use Rattle.segment_scripts.proofs.segments.CommandSteps.{replies-found}
 use Rattle.segment_scripts.proofs.segments.CommandSteps.{replies-info}
-use Rattle.segment_scripts.proofs.segments.CommandSteps.{has-found, lacks-found, named-found, places-found}
+use Rattle.segment_scripts.proofs.segments.CommandSteps.{lacks-found, named-found, places-found}
 use Rattle.segment_scripts.proofs.segments.CommandSteps.{unique-found}
 use Rattle.segment_scripts.proofs.segments.CommandSteps.{replies-kinds, replies-names, replies-read, replies-show}
 use Rattle.segment_scripts.specs.Replies.{IsMeant}
@@ -19,12 +19,11 @@ use Rattle.segment_scripts.proofs.changing.Texts.{has-room}
 use Rattle.segment_scripts.proofs.replies.reply.Goals as goal
 
 pub returns-in-Construct : goal.returns-in-Construct
-returns-in-Construct c = replies-command c.in-Construct.is Made (λ _.
-    refl) c.construct.result refl refl c.made.ensures c.construct.ensures.step c.construct.ensures.refused (λ _. refl)
+returns-in-Construct c = replies-as c.in-Construct.is c.make.ensures
 
 pub returns-in-ConstructIt : goal.returns-in-ConstructIt
 returns-in-ConstructIt c = replies-command c.in-ConstructIt.is Made (λ _.
-    refl) c.construct_it.result refl refl c.made-in-ConstructIt.ensures c.construct_it.ensures.step
+    refl) c.construct_it.result refl refl c.made.ensures c.construct_it.ensures.step
     c.construct_it.ensures.refused (λ _. refl)
 
 pub returns-in-Find : goal.returns-in-Find
@@ -35,12 +34,7 @@ returns-in-Find c = replies-as c.in-Find.is
     c.into_key.ensures c.find_kind.ensures))
 
 pub returns-in-FindOrConstruct : goal.returns-in-FindOrConstruct
-returns-in-FindOrConstruct c =
-    replies-found c.in-FindOrConstruct.is found_object (λ _.
-    refl) c.find_or_construct.result refl refl c.found.ensures c.find_or_construct.ensures.step
-    c.find_or_construct.ensures.refused
-    (has-found (index_key_seen c.in-FindOrConstruct.key) (content_of c.in-FindOrConstruct.content)
-    c.find_or_construct.ensures.search)
+returns-in-FindOrConstruct c = replies-as c.in-FindOrConstruct.is c.make-in-FindOrConstruct.ensures
 
 pub returns-in-Destroy : goal.returns-in-Destroy
 returns-in-Destroy c = replies-found c.in-Destroy.is Truth (λ _.

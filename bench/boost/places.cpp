@@ -8,7 +8,6 @@
 #include "zaluxhoni_files.h"
 #include <sys/resource.h>
 #include <sys/wait.h>
-#include <unistd.h>
 #else
 #include <boost/interprocess/allocators/allocator.hpp>
 #include <boost/interprocess/containers/vector.hpp>
@@ -22,6 +21,7 @@
 #include <cstring>
 #include <ctime>
 #include <string>
+#include <unistd.h>
 #include <vector>
 
 namespace {
@@ -55,6 +55,10 @@ template <class Call> void times(const char *side, const std::string &what, int 
     }
     print(side, what, steps, least);
 }
+
+/// Lets the clock go on by which the system dates files, which stands still for some milliseconds: a file that was made
+/// in this very moment is looked at twice.
+void let_stand() { usleep(30000); }
 
 std::string empty_file(std::uint64_t size) {
     return "an empty mapped file of " + std::to_string(size / MIB) + " MiB opened, set, closed";
@@ -233,9 +237,11 @@ void run(const char *path, const char *checker) {
     });
     for (const std::uint64_t size : EMPTY_SIZES) {
         make_file(path, size, 0);
+        let_stand();
         times("ours", empty_file(size), 1, [&] { return open_set_close(path); });
     }
     make_file(path, FULL_SIZE, OBJECTS);
+    let_stand();
     times("ours", FULL_FILE, 1, [&] { return open_set_close(path); });
     if (checker) check_beside(checker, path, FULL_FILE);
     std::remove(path);
@@ -283,9 +289,11 @@ void run(const char *path, const char *) {
     pushes<point>(path, OWN_PUSHES);
     for (const std::uint64_t size : EMPTY_SIZES) {
         make_file(path, size, 0);
+        let_stand();
         times("Boost", empty_file(size), 1, [&] { return open_set_close(path); });
     }
     make_file(path, FULL_SIZE, OBJECTS);
+    let_stand();
     times("Boost", FULL_FILE, 1, [&] { return open_set_close(path); });
     std::remove(path);
 }

@@ -12,6 +12,7 @@
 #include <sys/mman.h>
 #include <sys/stat.h>
 #include <sys/xattr.h>
+#include <time.h>
 #include <unistd.h>
 
 enum { LARGEST = 1 << 30, TRIES = 64, PAGE = 4096, PIECE = 8 * PAGE };
@@ -314,14 +315,33 @@ static zx_code judge(zx_file *file, const struct stat *found) {
     return ZX_DONE;
 }
 
-/* What exists at the path, for a call that opens. ZX_FILE_MISSING only if nothing does. */
-static zx_code look(zx_file *file, const char *path, bool *is_link) {
+/* What a path led to, and when that was asked, by the clock by which the system dates changes of files. */
+struct sight {
+    struct timespec at;
     struct stat found;
-    if (lstat(path, &found) != 0) return errno == ENOENT ? faulty(file, ZX_FILE_MISSING, ENOENT) : fault(file);
-    *is_link = S_ISLNK(found.st_mode);
-    if (*is_link && stat(path, &found) != 0)
+    bool is_link;
+};
+
+/* What exists at the path, for a call that opens. ZX_FILE_MISSING only if nothing does. */
+static zx_code look(zx_file *file, const char *path, struct sight *sight) {
+    clock_gettime(CLOCK_REALTIME_COARSE, &sight->at);
+    if (lstat(path, &sight->found) != 0) return errno == ENOENT ? faulty(file, ZX_FILE_MISSING, ENOENT) : fault(file);
+    sight->is_link = S_ISLNK(sight->found.st_mode);
+    if (sight->is_link && stat(path, &sight->found) != 0)
         return errno == ENOENT ? faulty(file, ZX_FILE_DANGLES, ENOENT) : fault(file);
-    return judge(file, &found);
+    return judge(file, &sight->found);
+}
+
+static int compared(const struct timespec *one, const struct timespec *other) {
+    if (one->tv_sec != other->tv_sec) return one->tv_sec < other->tv_sec ? -1 : 1;
+    return one->tv_nsec < other->tv_nsec ? -1 : one->tv_nsec > other->tv_nsec;
+}
+
+/* Whether a file surely has the names that it had when it was seen. To give or to take one dates the file anew. The
+   clock of dates stands still for some milliseconds, so a file that was dated just before it was seen does not tell. */
+static bool has_its_names(const struct sight *sight, const struct stat *file) {
+    return is_same(&sight->found, file) && sight->found.st_nlink == file->st_nlink &&
+           compared(&sight->found.st_ctim, &file->st_ctim) == 0 && compared(&file->st_ctim, &sight->at) < 0;
 }
 
 /* Keeps the path, which nobody asks for once the file is open. */
@@ -402,8 +422,8 @@ static void remove_spare(const struct zx_held_file *held, bool has_one_name, enu
     if (may_unmark && has_one_name) fremovexattr(held->file, MARK);
 }
 
-/* Opens and locks the file of a name that was found. AGAIN if the name meanwhile leads to another one. */
-static zx_code lock(zx_file *file, struct zx_held_file *held, struct stat *opened) {
+/* Opens and locks the file of a name that was seen. AGAIN if the name meanwhile leads to another one. */
+static zx_code lock(zx_file *file, struct zx_held_file *held, const struct sight *sight, struct stat *opened) {
     int how = held->is_read ? O_RDONLY : O_RDWR;
     held->file = openat(held->folder, held->name, how | O_NOFOLLOW | O_NONBLOCK | O_NOCTTY | O_CLOEXEC);
     if (held->file < 0) return errno == ENOENT || errno == ELOOP ? (zx_code)AGAIN : fault(file);
@@ -414,7 +434,7 @@ static zx_code lock(zx_file *file, struct zx_held_file *held, struct stat *opene
     zx_code code = judge(file, opened);
     if (code != ZX_DONE) return code;
     if (is_refused) return faulty(file, ZX_FILE_IN_USE, EWOULDBLOCK);
-    if (!leads_to(held->folder, held->name, opened)) return AGAIN;
+    if (!has_its_names(sight, opened) && !leads_to(held->folder, held->name, opened)) return AGAIN;
     if (held->is_read) return ZX_DONE;
     // a file that is opened by its path is mapped
     enum marked marked = held->folder == AT_FDCWD ? is_marked(held->file) : UNKNOWN;
@@ -425,21 +445,21 @@ static zx_code lock(zx_file *file, struct zx_held_file *held, struct stat *opene
 /* Finds what the mode wants: the file, locked, and what it is; or, if it is to be created, its folder and name. */
 static zx_code hold_once(zx_file *file, const char *path, uint32_t mode, bool is_mapped, struct zx_held_file **held,
                          struct stat *found) {
-    bool is_link = false;
+    struct sight sight;
     if (mode == ZX_CREATE_ONLY && lstat(path, found) == 0) return faulty(file, ZX_FILE_EXISTS, EEXIST);
-    zx_code code = look(file, path, &is_link);
+    zx_code code = look(file, path, &sight);
     if (code == ZX_FILE_MISSING && mode != ZX_OPEN_ONLY && mode < ZX_OPEN_READ_ONLY) return find(file, path, held);
     if (code != ZX_DONE) return code;
     if (mode == ZX_CREATE_ONLY) return AGAIN;
-    char *real = is_link ? realpath(path, NULL) : NULL;
-    if (is_link && !real)
+    char *real = sight.is_link ? realpath(path, NULL) : NULL;
+    if (sight.is_link && !real)
         return errno == ENOENT ? (zx_code)AGAIN : errno == ENOMEM ? (zx_code)ZX_NO_MEMORY : fault(file);
     code = is_mapped ? keep(real ? real : path, held) : find(file, real ? real : path, held);
     free(real);
     if (code == ZX_FILE_MISSING) return AGAIN;
     if (code != ZX_DONE) return code;
     (*held)->is_read = mode >= ZX_OPEN_READ_ONLY;
-    code = lock(file, *held, found);
+    code = lock(file, *held, &sight, found);
     if (code != ZX_DONE) release(*held);
     return code;
 }
@@ -711,8 +731,8 @@ zx_code zx_file_flush(zx_file *file) {
 }
 
 static zx_code open_unheld(zx_file *file, const char *path, uint32_t how) {
-    bool is_link;
-    zx_code code = look(file, path, &is_link);
+    struct sight sight;
+    zx_code code = look(file, path, &sight);
     if (code != ZX_DONE) return code;
     int from = open(path, O_RDONLY | O_NONBLOCK | O_NOCTTY | O_CLOEXEC);
     if (from < 0) return fault(file);

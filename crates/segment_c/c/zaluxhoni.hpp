@@ -682,14 +682,11 @@ struct placed_spot : spot {
     placed_spot(const spot &object) : spot(object) {}
 
     /// Returns how many values are still there. A segment that was closed has changed, too. There is no branch, so a
-    /// loop that changes nothing asks once.
+    /// loop that changes nothing asks once; and one that reads and writes a value asks once for both.
     std::uint64_t left() const noexcept {
         return count & (std::uint64_t{0} - static_cast<std::uint64_t>(of->raw()->changes == changes));
     }
-    /// Tells whether the value of an index is still there: quicker for a loop that writes, which asks at each step.
-    bool has(std::uint64_t index) const noexcept {
-        return __builtin_expect(of->raw()->changes == changes, true) && __builtin_expect(index < count, true);
-    }
+    bool has(std::uint64_t index) const noexcept { return __builtin_expect(index < left(), true); }
 };
 
 /// Reads a text by a call that says how much room it needs.
@@ -762,11 +759,9 @@ template <class T> struct values {
         }
     }
     [[gnu::always_inline]] static T get(const placed_spot &of, std::uint64_t index) {
-        return __builtin_expect(index < of.left(), true) ? read(of.at, index) : away(of, index);
-    }
-    [[gnu::always_inline]] static T begun(const placed_spot &of, std::uint64_t index) {
         return of.has(index) ? read(of.at, index) : away(of, index);
     }
+    [[gnu::always_inline]] static T begun(const placed_spot &of, std::uint64_t index) { return get(of, index); }
     static void set(const spot &of, std::uint64_t index, const T &value) {
         if constexpr (is_scalar<T>) {
             const zx_value passed = stored<T>::value(value);

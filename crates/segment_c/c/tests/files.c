@@ -53,6 +53,8 @@ static __thread const char *const *swapped;
 static bool is_killed;
 /* Whether lstat takes a pipe for a file, as where one is put in the place of the other meanwhile. */
 static bool is_blind;
+/* What others do between the opening of a file and its lock. */
+static __thread void (*before_lock)(void);
 
 static const char *of_case(void) {
     static __thread char all[200];
@@ -135,6 +137,9 @@ int __wrap_flock(int file, int how);
 int __wrap_flock(int file, int how) {
     if (lacks == NO_LOCKS) return errno = ENOLCK, -1;
     if (way == AT_ONCE && fails("flock", EWOULDBLOCK)) return -1;
+    void (*others)(void) = before_lock;
+    before_lock = NULL;
+    if (others) others();
     return __real_flock(file, how);
 }
 
@@ -563,6 +568,60 @@ static void a_pipe_behind_the_look(void) {
     IS(unlink(the_file()), 0);
 }
 
+/* Another path in the folder. */
+static const char *beside(const char *end) {
+    static __thread char paths[2][440];
+    static __thread int turn;
+    char *path = paths[turn ^= 1];
+    snprintf(path, sizeof paths[0], "%s.%s", the_file(), end);
+    return path;
+}
+
+static void replaced(void) { rename(beside("new"), the_file()); }
+static void named_twice_and_replaced(void) {
+    IS(link(the_file(), beside("old")), 0);
+    replaced();
+}
+static void moved(void) { rename(the_file(), beside("old")); }
+static void moved_and_put_back(void) {
+    moved();
+    rename(beside("old"), the_file());
+}
+static void moved_and_replaced(void) {
+    moved();
+    replaced();
+}
+
+/* A name is changed before the file that it led to is locked: what is opened is what has the name then. The file was
+   dated just before, or a while before. */
+static void names_behind_the_look(void) {
+    static const struct {
+        void (*others)(void);
+        int64_t file, old; /* what stands there behind the call, which adds 100 */
+    } cases_of[] = { { replaced, 150, -1 }, { named_twice_and_replaced, 150, 5 }, { moved, -1, 5 },
+                     { moved_and_put_back, 105, -1 }, { moved_and_replaced, 150, 5 } };
+    for (size_t i = 0; i < 4 * (sizeof cases_of / sizeof *cases_of); i++) {
+        zx_file file = ZX_CLOSED_FILE;
+        const uint32_t mapped = i & 1 ? ZX_MAPPED : 0;
+        const int64_t wanted = cases_of[i / 4].file;
+        seed(50);
+        IS(rename(the_file(), beside("new")), 0);
+        seed(5);
+        if (i & 2) usleep(30000);
+        before_lock = cases_of[i / 4].others;
+        IS(zx_file_open(&file, the_file(), ZX_OPEN_ONLY | mapped, 0), wanted < 0 ? ZX_FILE_MISSING : ZX_DONE);
+        IS(before_lock == NULL, true);
+        if (wanted >= 0) IS(set(&file, wanted), ZX_DONE);
+        IS(wanted < 0 ? ZX_DONE : zx_file_close(&file), ZX_DONE);
+        IS(stands(the_file()), wanted);
+        IS(stands(beside("old")), cases_of[i / 4].old);
+        unlink(beside("old"));
+        unlink(beside("new"));
+        unlink(the_file());
+    }
+    seed(5);
+}
+
 /* A child that the C library does not know of has a copy of the lock, which ends with the parent's. */
 static void a_child_by_the_system_call(void) {
     zx_file file = ZX_CLOSED_FILE;
@@ -744,6 +803,7 @@ int main(int count, char **words) {
     seed(5);
     what_is_passed();
     a_pipe_behind_the_look();
+    names_behind_the_look();
     a_child_by_the_system_call();
     what_did_not_change();
     a_longer_file();

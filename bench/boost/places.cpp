@@ -111,7 +111,7 @@ void check_beside(const char *checker, const char *path, const std::string &what
     for (int i = 0; i < ROUNDS; i++) {
         const pid_t child = fork();
         if (child == 0) {
-            execl(checker, checker, "check", path, static_cast<char *>(nullptr));
+            execl(checker, checker, "check", "--quiet", path, static_cast<char *>(nullptr));
             _exit(127);
         }
         int status = -1;

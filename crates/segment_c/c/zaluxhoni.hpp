@@ -686,7 +686,6 @@ struct placed_spot : spot {
     std::uint64_t left() const noexcept {
         return count & (std::uint64_t{0} - static_cast<std::uint64_t>(of->raw()->changes == changes));
     }
-    bool has(std::uint64_t index) const noexcept { return __builtin_expect(index < left(), true); }
 };
 
 /// Reads a text by a call that says how much room it needs.
@@ -759,7 +758,7 @@ template <class T> struct values {
         }
     }
     [[gnu::always_inline]] static T get(const placed_spot &of, std::uint64_t index) {
-        return of.has(index) ? read(of.at, index) : away(of, index);
+        return __builtin_expect(index < of.left(), true) ? read(of.at, index) : away(of, index);
     }
     [[gnu::always_inline]] static T begun(const placed_spot &of, std::uint64_t index) { return get(of, index); }
     static void set(const spot &of, std::uint64_t index, const T &value) {
@@ -772,7 +771,8 @@ template <class T> struct values {
         }
     }
     [[gnu::always_inline]] static void set(const placed_spot &of, std::uint64_t index, const T &value) {
-        if (of.has(index) && (of.of->raw()->shared || lends(of.of, of.handle))) write(of.at, index, value);
+        const bool is_there = __builtin_expect(index < of.left(), true);
+        if (is_there && (of.of->raw()->shared || lends(of.of, of.handle))) write(of.at, index, value);
         else set(static_cast<const spot &>(of), index, value);
     }
 

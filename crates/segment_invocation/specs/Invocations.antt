@@ -20,6 +20,8 @@ use Rattle.segment_invocation.specs.declared.invocations.Invocation.TheVariants.
 use Rattle.segment_invocation.specs.declared.invocations.Invocation.TheVariants.{Explain, Grow, Shrink, Migrate}
 use Rattle.segment_invocation.specs.declared.invocations.Invocation.TheVariants.{ChangeWith, Tell, Names, Load, Lint}
 use Rattle.segment_invocation.specs.declared.invocations.Invocation.TheVariants.{Language, Version}
+use Rattle.segment_invocation.specs.declared.invocations.FileCommand.{FileCommand}
+use Rattle.segment_invocation.specs.declared.invocations.FileCommand.TheVariants as on_file
 use Rattle.segment_invocation.specs.declared.invocations.FileChange.{FileChange}
 use Rattle.segment_invocation.specs.declared.invocations.FileChange.TheVariants as change
 use Rattle.segment_invocation.specs.declared.invocations.ModeName.{ModeName}
@@ -367,22 +369,40 @@ asked_of_run said =
 abbrev pub asked_run : List Row → Option InvocationValue
 asked_run words = asked_of_run (run_words words)
 
+-- the command of a word that takes one file, and no lines
+abbrev pub command_called : Text → Option FileCommand
+command_called word =
+    if bytes_eq word (codes "create") then Some on_file.Create
+    else if bytes_eq word (codes "grow") then Some on_file.Grow
+    else if bytes_eq word (codes "shrink") then Some on_file.Shrink
+    else if bytes_eq word (codes "migrate") then Some on_file.Migrate
+    else if bytes_eq word (codes "stat") then Some on_file.Stat
+    else if bytes_eq word (codes "draw") then Some on_file.Draw
+    else if bytes_eq word (codes "dump") then Some on_file.Dump
+    else if bytes_eq word (codes "names") then Some on_file.Names
+    else if bytes_eq word (codes "load") then Some on_file.Load
+    else None
+
+-- what such a command asks for
+abbrev pub asked_as : Option FileCommand → List Row → Option InvocationValue
+asked_as (Some on_file.Create) words = with_number (λ file n. Some (create file n)) words
+asked_as (Some on_file.Grow) words = asked_grow words
+asked_as (Some on_file.Shrink) words = asked_kept change.Shrink words
+asked_as (Some on_file.Migrate) words = asked_kept change.Migrate words
+asked_as (Some on_file.Stat) words = with_file (λ file. Some (tell file Figures)) words
+asked_as (Some on_file.Draw) words = asked_draw words
+asked_as (Some on_file.Dump) words = asked_dump words
+asked_as (Some on_file.Names) words = asked_names words
+asked_as (Some on_file.Load) words = asked_load words
+asked_as None words = None
+
 abbrev pub asked_in : Text → List Row → Option InvocationValue
 asked_in subcommand words =
-    if bytes_eq subcommand (codes "create") then with_number (λ file n. Some (create file n)) words
+    if bytes_eq subcommand (codes "lint") then Some lint
+    else if bytes_eq subcommand (codes "language") then Some language
     else if bytes_eq subcommand (codes "run") then asked_run words
     else if bytes_eq subcommand (codes "check") then asked_check words
-    else if bytes_eq subcommand (codes "grow") then asked_grow words
-    else if bytes_eq subcommand (codes "shrink") then asked_kept change.Shrink words
-    else if bytes_eq subcommand (codes "migrate") then asked_kept change.Migrate words
-    else if bytes_eq subcommand (codes "stat") then with_file (λ file. Some (tell file Figures)) words
-    else if bytes_eq subcommand (codes "draw") then asked_draw words
-    else if bytes_eq subcommand (codes "dump") then asked_dump words
-    else if bytes_eq subcommand (codes "names") then asked_names words
-    else if bytes_eq subcommand (codes "load") then asked_load words
-    else if bytes_eq subcommand (codes "lint") then Some lint
-    else if bytes_eq subcommand (codes "language") then Some language
-    else None
+    else asked_as (command_called subcommand) words
 
 -- a subcommand with its words
 abbrev pub asked_of : Option (Text × List Row) → Option InvocationValue
@@ -439,12 +459,7 @@ abbrev pub wrong_filed : Text → List Row → Wrong
 wrong_filed subcommand words =
     if bytes_eq subcommand (codes "run") then wrong_run (run_words words)
     else if bytes_eq subcommand (codes "check") then many_files
-    else if bytes_eq subcommand (codes "create") then no_number
-    else if bytes_eq subcommand (codes "grow") then no_number
-    else if bytes_eq subcommand (codes "shrink") then no_number
-    else if bytes_eq subcommand (codes "migrate") then no_number
-    else if bytes_eq subcommand (codes "names") then no_number
-    else if bytes_eq subcommand (codes "load") then no_number
+    else if is_some (command_called subcommand) then no_number
     else no_command
 
 -- a file is looked for before all else

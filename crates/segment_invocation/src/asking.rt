@@ -7,7 +7,7 @@ ghost use Rattle.clap.specs.{Matches.found_of, Values.kind_of, Walk.first_of, Wa
 ghost use Rattle.clap.specs.declared.error.kind.ErrorKind.TheVariants.{DisplayVersion, OutOfMemory as NoMemory};
 ghost use Rattle.segment_lang.specs.Words.{number_of};
 ghost use Rattle.segment_invocation.specs.Invocations.{InvocationValue, IsAskedBy, IsWritten, IsWrongBy, ParsesTo};
-ghost use Rattle.segment_invocation.specs.Invocations.{asked_by};
+ghost use Rattle.segment_invocation.specs.Invocations.{asked_as, asked_by};
 ghost use Rattle.segment_invocation.specs.Invocations.{asked_change, asked_check, asked_in, asked_run, is_set, list_of};
 ghost use Rattle.segment_invocation.specs.Invocations.{many_files, mode_of, no_mode, no_number, origin_by, origin_of};
 ghost use Rattle.segment_invocation.specs.Invocations.{run_words, saving_of, seconds_of, size_of, two_scripts};
@@ -18,7 +18,8 @@ ghost use Rattle.segment_invocation.specs.declared.usage.UsageError.TheVariants.
 
 use crate::command_line::command_line;
 use crate::invocations::{
-    AnswerOptions, FileChange, FileOptions, Invocation, ModeName, Report, RunOptions, Script,
+    AnswerOptions, FileChange, FileCommand, FileOptions, Invocation, ModeName, Report, RunOptions,
+    Script,
 };
 use crate::nearest::nearest_mode;
 use crate::usage::{InvocationFault, UsageError};
@@ -196,6 +197,44 @@ fn change_of<'a>(file: &'a str, change: FileChange, keeping: FileOptions) -> Inv
     }
 }
 
+/// Returns what the words of a command with this one file ask for.
+fn read_filed<'a>(
+    command: FileCommand,
+    file: &'a str,
+    words: &ArgMatches<'a>,
+) -> Result<Invocation<'a>, UsageError>
+    requires { first_of (codes "file") (rows_of (found_of words.now)) ≡ Some file.now }
+    ensures read { MatchResult result (λ i. asked_as (Some command) (rows_of (found_of words.now)) ≡ Some (asked_by i))
+        (λ e. asked_as (Some command) (rows_of (found_of words.now)) ≡ None) }
+    ensures error { IfErr result (λ e. wrong_by e ≡ Some no_number) }
+{
+    match command {
+        FileCommand::Create => Ok(Invocation::Create(file, number_in(words)?)),
+        FileCommand::Grow => {
+            let bytes = number_in(words)?;
+            Ok(change_of(file, FileChange::Grow(bytes), keeping_in(words)?))
+        }
+        FileCommand::Shrink => Ok(change_of(file, FileChange::Shrink, keeping_in(words)?)),
+        FileCommand::Migrate => Ok(change_of(file, FileChange::Migrate, keeping_in(words)?)),
+        FileCommand::Stat => Ok(Invocation::Tell(file, Report::Figures)),
+        FileCommand::Draw if is_set(words, "html") => Ok(Invocation::Tell(file, Report::Page)),
+        FileCommand::Draw => Ok(Invocation::Tell(file, Report::Picture)),
+        FileCommand::Dump if is_set(words, "json") => Ok(Invocation::Tell(file, Report::Json)),
+        FileCommand::Dump if is_set(words, "capacities") => {
+            Ok(Invocation::Tell(file, Report::Capacities))
+        }
+        FileCommand::Dump => Ok(Invocation::Tell(file, Report::Dump)),
+        FileCommand::Names => {
+            let most = count_in(words, "most")?;
+            Ok(Invocation::Names(file, word_of(words, "prefix").unwrap_or(""), most))
+        }
+        FileCommand::Load => {
+            let size = count_in(words, "size")?;
+            Ok(Invocation::Load(file, size, keeping_in(words)?))
+        }
+    }
+}
+
 /// Returns what the words of a command ask for.
 #[tactic(auto, using(crate::proofs::asking::NamedFiles::lint_asked, crate::proofs::asking::NamedFiles::language_asked, crate::proofs::asking::NamedFiles::without_file))]
 fn read_command<'a>(
@@ -221,30 +260,12 @@ fn read_command<'a>(
         return Err(UsageError::File);
     };
     match name {
-        "create" => Ok(Invocation::Create(file, number_in(words)?)),
         "run" => read_run(alloc, file, words, lines),
         "check" => read_check(file, words, files),
-        "grow" => {
-            let bytes = number_in(words)?;
-            Ok(change_of(file, FileChange::Grow(bytes), keeping_in(words)?))
-        }
-        "shrink" => Ok(change_of(file, FileChange::Shrink, keeping_in(words)?)),
-        "migrate" => Ok(change_of(file, FileChange::Migrate, keeping_in(words)?)),
-        "stat" => Ok(Invocation::Tell(file, Report::Figures)),
-        "draw" if is_set(words, "html") => Ok(Invocation::Tell(file, Report::Page)),
-        "draw" => Ok(Invocation::Tell(file, Report::Picture)),
-        "dump" if is_set(words, "json") => Ok(Invocation::Tell(file, Report::Json)),
-        "dump" if is_set(words, "capacities") => { Ok(Invocation::Tell(file, Report::Capacities)) }
-        "dump" => Ok(Invocation::Tell(file, Report::Dump)),
-        "names" => {
-            let most = count_in(words, "most")?;
-            Ok(Invocation::Names(file, word_of(words, "prefix").unwrap_or(""), most))
-        }
-        "load" => {
-            let size = count_in(words, "size")?;
-            Ok(Invocation::Load(file, size, keeping_in(words)?))
-        }
-        _ => Err(UsageError::Command),
+        _ => match FileCommand::from_word(name) {
+            Some(command) => read_filed(command, file, words),
+            None => Err(UsageError::Command),
+        },
     }
 }
 

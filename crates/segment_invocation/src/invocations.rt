@@ -1,11 +1,55 @@
 //! What the program may be asked for.
 ghost use Rattle.std.specs.Prelude.{◌≡◌, IfOk};
-ghost use Rattle.segment_invocation.specs.Invocations.{is_plain, is_plain_run, mode_called, origin_by, script_text};
+ghost use Rattle.segment_invocation.specs.Invocations.{command_called, is_plain, is_plain_run, mode_called, origin_by};
+ghost use Rattle.segment_invocation.specs.Invocations.{script_text};
 ghost use Rattle.segment_invocation.specs.Invocations.{wants_size};
 
 use raw_region::{OutOfMemory, append};
 use segment_disk::SaveMode;
 use std::alloc::Global;
+
+/// A command that takes one file, and no lines.
+#[derive(Clone, Copy)]
+pub(crate) enum FileCommand {
+    /// `create`: a file is made, with an empty segment.
+    Create,
+    /// `grow`: free bytes are added at the end.
+    Grow,
+    /// `shrink`: the free bytes at the end go.
+    Shrink,
+    /// `migrate`: the image is written in the newest format.
+    Migrate,
+    /// `stat`: the figures are told.
+    Stat,
+    /// `draw`: the picture is told, or a page with it.
+    Draw,
+    /// `dump`: the objects are told, as text or as JSON.
+    Dump,
+    /// `names`: the names are told.
+    Names,
+    /// `load`: a dump is loaded into the file.
+    Load,
+}
+
+impl FileCommand {
+    /// Returns the command of a word. `None` is a word that is none of the nine.
+    pub(crate) fn from_word(word: &str) -> Option<FileCommand>
+        ensures { result ≡ command_called word.now }
+    {
+        match word {
+            "create" => Some(FileCommand::Create),
+            "grow" => Some(FileCommand::Grow),
+            "shrink" => Some(FileCommand::Shrink),
+            "migrate" => Some(FileCommand::Migrate),
+            "stat" => Some(FileCommand::Stat),
+            "draw" => Some(FileCommand::Draw),
+            "dump" => Some(FileCommand::Dump),
+            "names" => Some(FileCommand::Names),
+            "load" => Some(FileCommand::Load),
+            _ => None,
+        }
+    }
+}
 
 /// The name of a mode on the command line.
 #[derive(Clone, Copy, Debug, PartialEq, Eq)]

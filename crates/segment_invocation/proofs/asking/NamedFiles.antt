@@ -11,7 +11,11 @@ use Rattle.clap.specs.Walk.{Row, Text, first_of, rows_of}
 use Rattle.clap.specs.declared.parser.matches.Found.{Found}
 use Rattle.clap.proofs.WalkLemmas.{raw_values-rows}
 use Rattle.segment_lang.specs.Words.{number_of}
-use Rattle.segment_invocation.specs.Invocations.{InvocationValue, language, lint, asked_in, list_of, size_of}
+use Rattle.segment_invocation.specs.Invocations.{InvocationValue, asked_as, asked_in, command_called}
+use Rattle.segment_invocation.specs.Invocations.{language, lint, list_of}
+use Rattle.segment_invocation.specs.Invocations.{size_of}
+use Rattle.segment_invocation.specs.declared.invocations.FileCommand.{FileCommand}
+use Rattle.segment_invocation.specs.declared.invocations.FileCommand.TheVariants as on_file
 
 module _ (name : Text) (rows : List Row) where
   -- the name of `lint` asks for a lint
@@ -70,19 +74,23 @@ pub number_unread : (word : Option Text) → size_of word ≡ None → option_an
 number_unread None h = cc
 number_unread (Some w) h = none_of (number_of w) h
 
+fileless : (command : Option FileCommand) (rows : List Row) → first_of (codes "file") rows ≡ None
+    → asked_as command rows ≡ None
+fileless (Some on_file.Create) rows e = rw e refl
+fileless (Some on_file.Grow) rows e = rw e refl
+fileless (Some on_file.Shrink) rows e = rw e refl
+fileless (Some on_file.Migrate) rows e = rw e refl
+fileless (Some on_file.Stat) rows e = rw e refl
+fileless (Some on_file.Draw) rows e = rw e refl
+fileless (Some on_file.Dump) rows e = rw e refl
+fileless (Some on_file.Names) rows e = rw e refl
+fileless (Some on_file.Load) rows e = rw e refl
+fileless None rows e = refl
+
 -- every other command wants a file
 pub without_file : (name : Text) (rows : List Row) → bytes_eq name (codes "lint") ≡ false
     → bytes_eq name (codes "language") ≡ false
     → first_of (codes "file") rows ≡ None → asked_in name rows ≡ None
-without_file name rows l h e =
-    neither (bytes_eq name (codes "create")) _ _ (rw e refl)
+without_file name rows l h e = rw (l, h)
     (neither (bytes_eq name (codes "run")) _ _ (rw e refl)
-    (neither (bytes_eq name (codes "check")) _ _ (rw e refl)
-    (neither (bytes_eq name (codes "grow")) _ _ (rw e refl)
-    (neither (bytes_eq name (codes "shrink")) _ _ (rw e refl)
-    (neither (bytes_eq name (codes "migrate")) _ _ (rw e refl)
-    (neither (bytes_eq name (codes "stat")) _ _ (rw e refl)
-    (neither (bytes_eq name (codes "draw")) _ _ (rw e refl)
-    (neither (bytes_eq name (codes "dump")) _ _ (rw e refl)
-    (neither (bytes_eq name (codes "names")) _ _ (rw e refl)
-    (neither (bytes_eq name (codes "load")) _ _ (rw e refl) (rw (l, h) refl)))))))))))
+    (neither (bytes_eq name (codes "check")) _ _ (rw e refl) (fileless (command_called name) rows e)))

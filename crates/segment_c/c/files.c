@@ -338,10 +338,12 @@ static int compared(const struct timespec *one, const struct timespec *other) {
 }
 
 /* Whether a file surely has the names that it had when it was seen. To give or to take one dates the file anew. The
-   clock of dates stands still for some milliseconds, so a file that was dated just before it was seen does not tell. */
+   clock of dates stands still for some milliseconds, so a file that was dated just before it was seen does not tell. Nor
+   does a date in whole hundredths of a second: there are file systems that have no others, or only whole seconds. */
 static bool has_its_names(const struct sight *sight, const struct stat *file) {
     return is_same(&sight->found, file) && sight->found.st_nlink == file->st_nlink &&
-           compared(&sight->found.st_ctim, &file->st_ctim) == 0 && compared(&file->st_ctim, &sight->at) < 0;
+           compared(&sight->found.st_ctim, &file->st_ctim) == 0 && compared(&file->st_ctim, &sight->at) < 0 &&
+           file->st_ctim.tv_nsec % 10000000 != 0;
 }
 
 /* Keeps the path, which nobody asks for once the file is open. */

@@ -53,6 +53,8 @@ static __thread const char *const *swapped;
 static bool is_killed;
 /* Whether lstat takes a pipe for a file, as where one is put in the place of the other meanwhile. */
 static bool is_blind;
+/* Whether files are dated by whole seconds, as on some file systems. */
+static bool is_coarse;
 /* What others do between the opening of a file and its lock. */
 static __thread void (*before_lock)(void);
 
@@ -79,7 +81,6 @@ static bool fails(const char *name, int error) {
     }
 
 WRAPPED(int, stat, (const char *path, struct stat *found), path, found)
-WRAPPED(int, fstat, (int file, struct stat *found), file, found)
 WRAPPED(int, fstatat, (int folder, const char *path, struct stat *found, int flags), folder, path, found, flags)
 WRAPPED(int, ftruncate, (int file, off_t len), file, len)
 WRAPPED(int, fsync, (int file), file)
@@ -129,6 +130,16 @@ int __wrap_lstat(const char *path, struct stat *found) {
     if (way == AT_ONCE && fails("lstat", EIO)) return -1;
     int answer = __real_lstat(path, found);
     if (is_blind) found->st_mode = S_IFREG | 0644;
+    if (is_coarse) found->st_ctim.tv_nsec = 0;
+    return answer;
+}
+
+int __real_fstat(int file, struct stat *found);
+int __wrap_fstat(int file, struct stat *found);
+int __wrap_fstat(int file, struct stat *found) {
+    if (way == AT_ONCE && fails("fstat", EIO)) return -1;
+    int answer = __real_fstat(file, found);
+    if (is_coarse) found->st_ctim.tv_nsec = 0;
     return answer;
 }
 
@@ -593,32 +604,34 @@ static void moved_and_replaced(void) {
 }
 
 /* A name is changed before the file that it led to is locked: what is opened is what has the name then. The file was
-   dated just before, or a while before. */
+   dated just before, or a while before; to the nanosecond, or to the second. */
 static void names_behind_the_look(void) {
     static const struct {
         void (*others)(void);
         int64_t file, old; /* what stands there behind the call, which adds 100 */
     } cases_of[] = { { replaced, 150, -1 }, { named_twice_and_replaced, 150, 5 }, { moved, -1, 5 },
                      { moved_and_put_back, 105, -1 }, { moved_and_replaced, 150, 5 } };
-    for (size_t i = 0; i < 4 * (sizeof cases_of / sizeof *cases_of); i++) {
+    for (size_t i = 0; i < 8 * (sizeof cases_of / sizeof *cases_of); i++) {
         zx_file file = ZX_CLOSED_FILE;
         const uint32_t mapped = i & 1 ? ZX_MAPPED : 0;
-        const int64_t wanted = cases_of[i / 4].file;
+        const int64_t wanted = cases_of[i / 8].file;
         seed(50);
         IS(rename(the_file(), beside("new")), 0);
         seed(5);
         if (i & 2) usleep(30000);
-        before_lock = cases_of[i / 4].others;
+        is_coarse = i & 4;
+        before_lock = cases_of[i / 8].others;
         IS(zx_file_open(&file, the_file(), ZX_OPEN_ONLY | mapped, 0), wanted < 0 ? ZX_FILE_MISSING : ZX_DONE);
         IS(before_lock == NULL, true);
         if (wanted >= 0) IS(set(&file, wanted), ZX_DONE);
         IS(wanted < 0 ? ZX_DONE : zx_file_close(&file), ZX_DONE);
         IS(stands(the_file()), wanted);
-        IS(stands(beside("old")), cases_of[i / 4].old);
+        IS(stands(beside("old")), cases_of[i / 8].old);
         unlink(beside("old"));
         unlink(beside("new"));
         unlink(the_file());
     }
+    is_coarse = false;
     seed(5);
 }
 

@@ -435,6 +435,8 @@ static bool is_tried(const struct scene *scene, int at) {
 }
 
 static void where_the_system_fails(void) {
+    // each try looks at the name twice, so that all make the same calls
+    is_coarse = true;
     for (lacks = HAS_ALL; lacks < SYSTEMS; lacks++) {
         for (way = AT_ONCE; way < WAYS; way++) {
             for (size_t i = 0; i < sizeof scenes / sizeof scenes[0]; i++) {
@@ -450,6 +452,7 @@ static void where_the_system_fails(void) {
     }
     lacks = HAS_ALL;
     way = AT_ONCE;
+    is_coarse = false;
 }
 
 /* Whether the file is marked as one beside which a new one may stand. */

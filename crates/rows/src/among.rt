@@ -73,13 +73,13 @@ fn moves_alike(alloc: Global, segment: Segment, wanted: &[u8], place: Place) -> 
 
 fn relocates_alike(segment: Segment, room: RawRegion, wanted: &[u8], place: Place) -> bool {
     match segment.relocate(room, 0) {
-        Ok((segment, left)) => {
-            let is_same = segment.as_bytes() == wanted;
-            drop(segment);
-            is_same && stands_among(&left, place, wanted)
-        }
+        Ok((segment, left)) => is_moved(&segment, &left, place, wanted),
         Err(_) => false,
     }
+}
+
+fn is_moved(segment: &Segment, left: &RawRegion, place: Place, wanted: &[u8]) -> bool {
+    segment.as_bytes() == wanted && stands_among(left, place, wanted)
 }
 
 /// Tells whether a region has the bytes of a segment in a place, and all others are marked.

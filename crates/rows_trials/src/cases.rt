@@ -108,6 +108,16 @@ impl<'a> Case<'a> {
         case
     }
 
+    /// Returns the case with another script, of which nothing is known but that it prints no more than so many bytes.
+    pub fn unknown(&self, script: &'a [u8], room: usize) -> Case<'a> {
+        let mut case = *self;
+        case.script = script;
+        case.answers = None;
+        case.answer_room = room;
+        case.saved = None;
+        case
+    }
+
     /// Returns the case with another script.
     pub fn with_script(&self, script: &'a Script) -> Case<'a> {
         let mut case = self.with_text(&script.text, &script.answers);

@@ -38,6 +38,15 @@ impl<'a> Images<'a> {
         found.unwrap_or(&[])
     }
 
+    /// Returns the image that a line names, with the changes that others say.
+    pub fn changed(&self, notes: &Notes, line: &Line<'_>, changes: &[Line<'_>]) -> Vec<u8> {
+        let mut image = notes.copy(self.get(notes, line, line.rest));
+        for change in changes {
+            notes.change(change, &mut image);
+        }
+        image
+    }
+
     fn keep(&mut self, notes: &Notes, name: &'a str, image: Vec<u8>) {
         notes.has_memory(self.named.push(Named { name, image }).is_ok());
     }

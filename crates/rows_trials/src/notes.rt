@@ -62,6 +62,13 @@ impl Notes {
         copy
     }
 
+    /// Returns a copy of a text with the end of a line.
+    pub fn line_of(&self, text: &str) -> Vec<u8> {
+        let mut line = self.copy(text.as_bytes());
+        self.put(&mut line, b"\n");
+        line
+    }
+
     /// Returns a number that stands in a line.
     pub fn number(&self, line: &Line<'_>, text: &str) -> u64 {
         let number = text.parse::<u64>().ok();

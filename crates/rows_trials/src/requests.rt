@@ -2,6 +2,7 @@
 
 use crate::cases::{Case, Place};
 use crate::lines::Line;
+use crate::notes::Notes;
 use crate::row_runners::{PIECES, RowRunner, Runner, count};
 use crate::scripts::{Script, has_piece};
 
@@ -14,118 +15,130 @@ const LOOK: &[u8] = b"free\nblocks\nlist\nunique\nnum_named\nnum_unique\nsanity\
 /// More bytes than a look prints.
 const ROOM: usize = 4112;
 
+/// The lines before the command, and the command with the answer that it gives if each request has a fit.
+#[derive(Drop)]
+struct Requests {
+    before: Script,
+    command: Script,
+}
+
+impl Requests {
+    /// Adds what a line says, if it says no sizes.
+    fn add(&mut self, notes: &Notes, line: &Line<'_>, answers: &[Line<'_>]) {
+        let script = match line.word {
+            ">" => &mut self.before,
+            "?" => &mut self.command,
+            word => return notes.is_placed(word == "requests", line),
+        };
+        script.add(notes, line, answers, 1);
+    }
+}
+
+/// What a segment must have for requests: so many free bytes, as the command `free` prints them, and a fit for each.
+#[derive(Drop)]
+struct Fit<'x> {
+    free: &'x [u8],
+    is_granted: bool,
+}
+
 impl<R: Runner> RowRunner<R> {
-    /// Makes the requests that the lines say, in each of the sizes. The lines before the command are a script; the
-    /// command has the answer that it gives if each request has a fit.
+    /// Makes the requests that the lines say, in each of the sizes. The lines before the command are a script.
     pub fn check_requests(&self, lines: &[Line<'_>]) {
-        let notes = &self.notes;
-        let mut before = Script::new(notes.alloc);
-        let mut command = Script::new(notes.alloc);
+        let mut requests = Requests {
+            before: Script::new(self.notes.alloc),
+            command: Script::new(self.notes.alloc),
+        };
         for said in lines.chunk_by(|_, line| line.word == "<") {
-            if let [line, answers @ ..] = said {
-                match line.word {
-                    ">" => before.add(notes, line, answers, 1),
-                    "?" => command.add(notes, line, answers, 1),
-                    "refused" | "granted" => self.check_fits(line, &before, &command),
-                    word => notes.is_placed(word == "requests", line),
-                }
+            self.check_said(said, &mut requests);
+        }
+        drop(requests);
+    }
+
+    fn check_said(&self, said: &[Line<'_>], requests: &mut Requests) {
+        if let [line, answers @ ..] = said {
+            if ["refused", "granted"].contains(&line.word) {
+                self.check_fits(line, requests);
+            } else {
+                requests.add(&self.notes, line, answers);
             }
         }
-        drop(before);
-        drop(command);
     }
 
     /// Makes the requests in sizes of one line, each with the bytes that are free then.
-    fn check_fits(&self, line: &Line<'_>, before: &Script, command: &Script) {
+    fn check_fits(&self, line: &Line<'_>, requests: &Requests) {
         for fit in line.rest.split_whitespace() {
             let (size, free) = fit.split_once(':').unwrap_or((fit, ""));
-            let size = self.notes.number(line, size);
-            self.check_fit(line, size, free, before, command);
+            let free = self.notes.line_of(free);
+            self.check_fit(line, self.notes.number(line, size), &free, requests);
             count(&self.rows, 1);
         }
     }
 
     /// Makes the requests in a segment of so many bytes in two places and in pieces, where so many bytes are free then.
-    fn check_fit(&self, line: &Line<'_>, size: u64, free: &str, before: &Script, command: &Script) {
+    fn check_fit(&self, line: &Line<'_>, size: u64, free: &[u8], requests: &Requests) {
         let places = Place::usual(size);
-        let mut case = Case::new(line.number, Some(size), &[], &places);
-        case.answer_room = ROOM;
-        let mut free = self.notes.copy(free.as_bytes());
-        self.notes.put(&mut free, b"\n");
-        for place in &places {
+        let case = Case::new(line.number, Some(size), &[], &places);
+        let is_granted = line.word == "granted";
+        let fit = Fit { free, is_granted };
+        self.request_in_places(
+            &case.unknown(&requests.before.text, ROOM),
+            &fit,
+            &requests.command,
+        );
+    }
+
+    fn request_in_places(&self, case: &Case<'_>, fit: &Fit<'_>, command: &Script) {
+        let mut case = *case;
+        for place in case.places {
             case.place = *place;
-            self.request_by_pieces(&case, line, &free, before, command);
+            self.request_by_pieces(&case, fit, command);
         }
     }
 
-    fn request_by_pieces<'x>(
-        &self,
-        case: &Case<'x>,
-        line: &Line<'_>,
-        free: &[u8],
-        before: &'x Script,
-        command: &Script,
-    ) {
+    fn request_by_pieces(&self, case: &Case<'_>, fit: &Fit<'_>, command: &Script) {
         let mut case = *case;
         for piece in PIECES {
             case.piece = piece;
-            self.request(&case, line, free, before, command);
+            self.request(&case, fit, command);
         }
     }
 
     /// Makes the requests in the segment that the lines before the command leave. None of these is refused.
-    fn request<'x>(
-        &self,
-        case: &Case<'x>,
-        line: &Line<'_>,
-        free: &[u8],
-        before: &'x Script,
-        command: &Script,
-    ) {
-        let mut case = *case;
-        case.script = &before.text;
-        case.answers = None;
-        case.saved = None;
-        let made = self.outcome(&case);
+    fn request(&self, case: &Case<'_>, fit: &Fit<'_>, command: &Script) {
+        let made = self.outcome(case);
         let is_sound = !has_piece(&made.answers, b"error");
         let what = "a line before the command is refused";
-        self.notes.holds(is_sound, line.number, what);
-        let case = case.on(&made.saved);
-        if line.word == "granted" {
-            self.ask(&case, free, command);
+        self.notes.holds(is_sound, case.line, what);
+        let case = *case;
+        self.request_on(&case.on(&made.saved), fit, command);
+    }
+
+    fn request_on(&self, case: &Case<'_>, fit: &Fit<'_>, command: &Script) {
+        if fit.is_granted {
+            self.ask(case, fit.free, command);
         } else {
-            self.ask_in_vain(&case, free, command);
+            self.ask_in_vain(case, fit.free, command);
         }
-        drop(made);
     }
 
     /// Makes requests of which one has no fit: after it all is as before.
     fn ask_in_vain(&self, case: &Case<'_>, free: &[u8], command: &Script) {
-        let notes = &self.notes;
-        let mut case = *case;
-        case.script = LOOK;
-        let stood = self.outcome(&case);
+        let stood = self.outcome(&case.unknown(LOOK, ROOM));
         let what = "before the command another number of bytes is free";
-        notes.holds(stood.answers.starts_with(free), case.line, what);
-        let mut behind = Script::new(notes.alloc);
-        behind.add_line(notes, case.line, &command.text, b"error 9 no space\n");
-        behind.add_line(notes, case.line, LOOK, &stood.answers);
-        let case = case.with_text(&behind.text, &behind.answers);
-        self.check(&case.saving(&stood.saved));
-        drop(stood);
-        drop(behind);
+        self.notes
+            .holds(stood.answers.starts_with(free), case.line, what);
+        let refused = (command.text.as_slice(), b"error 9 no space\n".as_slice());
+        let behind = Script::of(&self.notes, case.line, refused, (LOOK, &stood.answers));
+        let case = *case;
+        self.check(&case.with_script(&behind).saving(&stood.saved));
     }
 
     /// Makes requests that have a fit: what they leave is an image, which is read and saved as it is.
     fn ask(&self, case: &Case<'_>, free: &[u8], command: &Script) {
-        let notes = &self.notes;
-        let mut behind = Script::new(notes.alloc);
-        behind.add_line(notes, case.line, &command.text, &command.answers);
-        behind.add_line(notes, case.line, b"free\n", free);
-        let opened = *case;
-        let done = self.outcome(&opened.with_text(&behind.text, &behind.answers));
-        self.check(&opened.saved_as_is(&done.saved));
-        drop(done);
-        drop(behind);
+        let granted = (command.text.as_slice(), command.answers.as_slice());
+        let behind = Script::of(&self.notes, case.line, granted, (b"free\n", free));
+        let case = *case;
+        let done = self.outcome(&case.with_script(&behind));
+        self.check(&case.saved_as_is(&done.saved));
     }
 }

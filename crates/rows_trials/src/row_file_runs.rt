@@ -60,10 +60,7 @@ impl<R: Runner> RowRunner<R> {
         let line = beginning_of(row, lines);
         notes.is_placed(line.is_beginning(), row);
         if line.word == "image" {
-            let mut image = notes.copy(images.get(notes, line, line.rest));
-            for change in lines {
-                notes.change(change, &mut image);
-            }
+            let image = images.changed(notes, line, lines);
             return self.check_parts(images, line, lines, None, image);
         }
         for size in line.rest.split_whitespace() {
@@ -137,14 +134,18 @@ impl<R: Runner> RowRunner<R> {
         for line in lines {
             let (places, changes) = line.rest.split_once(' ').unwrap_or((line.rest, ""));
             let image = self.damaged(images, first, line, changes);
-            let is_told = match self.runner.verdict(&image) {
-                Some((class, place)) => class == line.word && self.is_among(line, places, place),
-                None => false,
-            };
-            let what = "another class or place is told, or none";
-            self.notes.holds(is_told, line.number, what);
+            self.check_verdict(line, places, &image);
             count(&self.rows, 1);
         }
+    }
+
+    fn check_verdict(&self, line: &Line<'_>, places: &str, image: &[u8]) {
+        let is_told = match self.runner.verdict(image) {
+            Some((class, place)) => class == line.word && self.is_among(line, places, place),
+            None => false,
+        };
+        let what = "another class or place is told, or none";
+        self.notes.holds(is_told, line.number, what);
     }
 
     /// Tells whether a place is one of those that a text says.

@@ -33,6 +33,14 @@ impl Script {
         }
     }
 
+    /// Makes a script of two lines, each with what it prints, that stand in one line of the file.
+    pub fn of(notes: &Notes, number: usize, one: (&[u8], &[u8]), other: (&[u8], &[u8])) -> Script {
+        let mut script = Script::new(notes.alloc);
+        script.add_line(notes, number, one.0, one.1);
+        script.add_line(notes, number, other.0, other.1);
+        script
+    }
+
     /// Adds a command and the lines that it prints, so that they stand there so often.
     pub fn add(&mut self, notes: &Notes, command: &Line<'_>, answers: &[Line<'_>], times: u64) {
         let mut text = Vec::new(notes.alloc);

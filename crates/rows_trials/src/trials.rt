@@ -42,21 +42,26 @@ impl<R: Runner> RowRunner<R> {
     /// Runs a script whose image is known: in all places, in pieces, with other line ends, and with devices that fail.
     /// It also runs it among other bytes, and as a copy, which saves nothing.
     fn vary<'x>(&self, case: &Case<'x>, script: &'x Script) {
-        let mut case = *case;
-        self.check_by_pieces(&case);
-        self.cut_session(&case, script);
+        self.check_by_pieces(case);
+        self.cut_session(case, script);
         let what = "among other bytes it answers or saves something else, or these are written";
         self.notes
-            .holds(self.runner.runs_among(&case), case.line, what);
-        let text = front_of(&script.text, script.text.len().saturating_sub(1));
-        self.check(&case.with_text(text, &script.answers));
-        let text = script.with_returns(&self.notes);
-        if !has_piece(&script.text, b"\r\n") {
-            self.check(&case.with_text(&text, &script.answers));
-        }
+            .holds(self.runner.runs_among(case), case.line, what);
+        self.vary_ends(case, script);
+        let mut case = *case;
         case.call = Call::CopyOnWrite;
         case.saved = Some(&[]);
         self.check_in_places(&case);
+    }
+
+    fn vary_ends<'x>(&self, case: &Case<'x>, script: &'x Script) {
+        let text = front_of(&script.text, script.text.len().saturating_sub(1));
+        self.check(&case.with_text(text, &script.answers));
+        if !has_piece(&script.text, b"\r\n") {
+            let text = script.with_returns(&self.notes);
+            let case = *case;
+            self.check(&case.with_text(&text, &script.answers));
+        }
     }
 
     /// Makes a call that ends with a fault and saves nothing, in all modes, in all places and in pieces; an image that

@@ -3,3 +3,4 @@ pub mod AllUnderstood
 pub mod Subcommands
 pub mod PlainWords
 pub mod Settings
+pub mod Turns

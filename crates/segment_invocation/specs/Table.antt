@@ -6,6 +6,7 @@ use Rattle.clap.specs.Simple.{Shape, new_app, with_rule}
 use Rattle.segment_invocation.specs.Invocations.{flag, lines, maybe, operand, operands, option}
 use Rattle.segment_invocation.specs.declared.command_line.CommandWord.{CommandWord}
 use Rattle.segment_invocation.specs.declared.command_line.CommandWord.TheVariants as word
+use Rattle.segment_invocation.specs.declared.command_line.HelpEnd.{HelpEnd}
 
 -- a word, as clap reads it
 abbrev pub word_rule : CommandWord → Rule
@@ -18,7 +19,7 @@ word_rule (word.Flag name help) = flag name.now
 
 -- a command's name, what it does, what its help has at the end, and its words
 abbrev pub CommandSpec : Type 0
-CommandSpec = Bor Text × Bor Text × Option (Bor Text) × Bor (List CommandWord)
+CommandSpec = Bor Text × Bor Text × Option HelpEnd × Bor (List CommandWord)
 
 -- a command, as clap reads it
 abbrev pub row_shape : CommandSpec → Shape

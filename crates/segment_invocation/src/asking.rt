@@ -1,6 +1,6 @@
 //! What the words of a command line ask for.
 ghost use Rattle.std.specs.Prelude.{◌≡◌, false, Some, None, Ok, Err, map, drop, codes, IfErr, IfOk, MatchResult};
-ghost use Rattle.std.specs.Prelude.{option_map, option_and_then, unwrap_or};
+ghost use Rattle.std.specs.Prelude.{IfSome, option_map, option_and_then, unwrap_or};
 ghost use Rattle.std.specs.List.{list_any};
 ghost use Rattle.std.specs.Str.{bytes_eq};
 ghost use Rattle.clap.specs.{Matches.found_of, Values.kind_of, Walk.first_of, Walk.rows_of};
@@ -235,8 +235,36 @@ fn read_filed<'a>(
     }
 }
 
-/// Returns what the words of a command ask for.
+/// Returns what the words of a command ask for, with this file among them if there is one. It is no run or check of it.
 #[tactic(auto, using(crate::proofs::asking::NamedFiles::lint_asked, crate::proofs::asking::NamedFiles::language_asked, crate::proofs::asking::NamedFiles::without_file))]
+fn read_plain<'a>(
+    name: &str,
+    file: Option<&'a str>,
+    words: &ArgMatches<'a>,
+) -> Result<Invocation<'a>, UsageError>
+    requires file { option_map (λ f. f.now) file ≡ first_of (codes "file") (rows_of (found_of words.now)) }
+    requires name { IfSome file (λ _. (bytes_eq name.now (codes "run") ≡ false)
+        × (bytes_eq name.now (codes "check") ≡ false)) }
+    ensures read { MatchResult result (λ i. asked_in name.now (rows_of (found_of words.now)) ≡ Some (asked_by i))
+        (λ e. asked_in name.now (rows_of (found_of words.now)) ≡ None) }
+    ensures error { IfErr result (λ e. wrong_by e ≡ Some (wrong_in name.now (rows_of (found_of words.now)))) }
+{
+    if name == "lint" {
+        return Ok(Invocation::Lint);
+    }
+    if name == "language" {
+        return Ok(Invocation::Language);
+    }
+    let Some(file) = file else {
+        return Err(UsageError::File);
+    };
+    match FileCommand::from_word(name) {
+        Some(command) => read_filed(command, file, words),
+        None => Err(UsageError::Command),
+    }
+}
+
+/// Returns what the words of a command ask for.
 fn read_command<'a>(
     alloc: Global,
     name: &str,
@@ -250,23 +278,27 @@ fn read_command<'a>(
         (λ e. asked_in name.now (rows_of (found_of words.now)) ≡ None) }
     ensures error { IfErr result (λ e. wrong_by e ≡ Some (wrong_in name.now (rows_of (found_of words.now)))) }
 {
-    if name == "lint" {
-        return Ok(Invocation::Lint);
+    match word_of(words, "file") {
+        Some(file) if name == "run" => read_run(alloc, file, words, lines),
+        Some(file) if name == "check" => read_check(file, words, files),
+        file => read_plain(name, file, words),
     }
-    if name == "language" {
-        return Ok(Invocation::Language);
-    }
-    let Some(file) = word_of(words, "file") else {
-        return Err(UsageError::File);
-    };
-    match name {
-        "run" => read_run(alloc, file, words, lines),
-        "check" => read_check(file, words, files),
-        _ => match FileCommand::from_word(name) {
-            Some(command) => read_filed(command, file, words),
-            None => Err(UsageError::Command),
-        },
-    }
+}
+
+/// Returns what the words of a command ask for, after taking from them those that there may be more of.
+fn read_found<'a>(
+    alloc: Global,
+    name: &str,
+    words: &ArgMatches<'a>,
+) -> Result<Invocation<'a>, InvocationFault>
+    ensures read { IfOk result (λ i. asked_in name.now (rows_of (found_of words.now)) ≡ Some (asked_by i)) }
+    ensures refused { (w : UsageError) → result ≡ Err (Usage w)
+        → (asked_in name.now (rows_of (found_of words.now)) ≡ None)
+        × (wrong_by w ≡ Some (wrong_in name.now (rows_of (found_of words.now)))) }
+{
+    let files = texts_in(alloc, words, "file")?;
+    let lines = texts_in(alloc, words, "line")?;
+    Ok(read_command(alloc, name, words, files, lines)?)
 }
 
 /// Returns what words without a command ask for: the version or help, or says that they are wrong.
@@ -304,11 +336,7 @@ pub fn invocation<'a>(
         Err(other) => return read_other(other),
     };
     match matches.subcommand() {
-        Some((name, found)) => {
-            let files = texts_in(alloc, found, "file")?;
-            let lines = texts_in(alloc, found, "line")?;
-            Ok(read_command(alloc, name, found, files, lines)?)
-        }
+        Some((name, found)) => read_found(alloc, name, found),
         None => Err(InvocationFault::Usage(UsageError::Command)),
     }
 }

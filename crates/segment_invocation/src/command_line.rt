@@ -2,7 +2,7 @@
 ghost use Rattle.std.specs.Prelude.{◌≡◌, false, fold, map, IfOk};
 ghost use Rattle.clap.specs.{Walk.rule_of, Simple.app_of, Simple.new_app, Simple.with_rule, Simple.with_subcommand};
 ghost use Rattle.clap.specs.declared.builder.command.Command.TheViews.{out-Command as fields_of};
-ghost use Rattle.segment_invocation.specs.Invocations.{command_line, program};
+ghost use Rattle.segment_invocation.specs.Invocations.{command_line, maybe, program};
 ghost use Rattle.segment_invocation.specs.Table.{row_shape, word_rule};
 
 use crate::version::VERSION;
@@ -111,11 +111,31 @@ pub enum CommandWord {
     Flag(&'static str, &'static str),
 }
 
+/// What help has at the end. The table of commands has no such text itself: its proof grows with each byte.
+#[derive(Clone, Copy)]
+pub(crate) enum HelpEnd {
+    /// What statuses the program ends with.
+    Statuses,
+    /// What the modes are.
+    Modes,
+    /// What the words of the commands of a script stand for.
+    Words,
+}
+
+/// Returns the text of an end.
+fn end_text(end: HelpEnd) -> &'static str {
+    match end {
+        HelpEnd::Statuses => STATUSES,
+        HelpEnd::Modes => MODES,
+        HelpEnd::Words => WORDS,
+    }
+}
+
 /// A command: its name, what it does, what its help has at the end, and its words.
 type Row = (
     &'static str,
     &'static str,
-    Option<&'static str>,
+    Option<HelpEnd>,
     &'static [CommandWord],
 );
 
@@ -224,7 +244,7 @@ static COMMANDS: [Row; 13] = [
     (
         "run",
         RUN,
-        Some(MODES),
+        Some(HelpEnd::Modes),
         &[
             FILE, SCRIPT, MODE, RUN_SIZE, LINE, REPLACE, STRICT, NUMBERED, WAIT, VERBOSE,
         ],
@@ -239,8 +259,16 @@ static COMMANDS: [Row; 13] = [
     ("names", NAMES, None, &[FILE, PREFIX, MOST, VERBOSE]),
     ("load", LOAD, None, &[FILE, LOADED, REPLACE, WAIT, VERBOSE]),
     ("lint", LINT, None, &[VERBOSE]),
-    ("language", LANGUAGE, Some(WORDS), &[VERBOSE]),
+    ("language", LANGUAGE, Some(HelpEnd::Words), &[VERBOSE]),
 ];
+
+/// Returns a word of a command that has a value, for clap, without what else is so of it.
+fn valued_arg<'a>(alloc: Global, name: &'a str, shown: &'a str, help: &'a str) -> Arg<'a>
+    ensures rule { rule_of result ≡ maybe name.now }
+    ensures local { result.global ≡ false }
+{
+    Arg::new(alloc, name).value_name(shown).help(help)
+}
 
 /// Returns a word of a command, for clap.
 fn arg_of<'a>(alloc: Global, word: &CommandWord) -> Arg<'a>
@@ -248,28 +276,19 @@ fn arg_of<'a>(alloc: Global, word: &CommandWord) -> Arg<'a>
     ensures local { result.global ≡ false }
 {
     match *word {
-        CommandWord::Operand(name, shown, help) => Arg::new(alloc, name)
-            .required(true)
-            .value_name(shown)
-            .help(help),
-        CommandWord::Operands(name, shown, help) => Arg::new(alloc, name)
-            .required(true)
-            .action(ArgAction::Append)
-            .value_name(shown)
-            .help(help),
-        CommandWord::Optional(name, shown, help) => {
-            Arg::new(alloc, name).value_name(shown).help(help)
+        CommandWord::Operand(name, shown, help) => {
+            valued_arg(alloc, name, shown, help).required(true)
         }
-        CommandWord::Short(name, letter, shown, help) => Arg::new(alloc, name)
+        CommandWord::Operands(name, shown, help) => valued_arg(alloc, name, shown, help)
+            .required(true)
+            .action(ArgAction::Append),
+        CommandWord::Optional(name, shown, help) => valued_arg(alloc, name, shown, help),
+        CommandWord::Short(name, letter, shown, help) => valued_arg(alloc, name, shown, help)
             .short(letter)
-            .action(ArgAction::Append)
-            .value_name(shown)
-            .help(help),
-        CommandWord::Option(name, shown, help) => Arg::new(alloc, name)
+            .action(ArgAction::Append),
+        CommandWord::Option(name, shown, help) => valued_arg(alloc, name, shown, help)
             .long(name)
-            .action(ArgAction::Set)
-            .value_name(shown)
-            .help(help),
+            .action(ArgAction::Set),
         CommandWord::Flag(name, help) => Arg::new(alloc, name)
             .long(name)
             .action(ArgAction::SetTrue)
@@ -282,14 +301,14 @@ fn bare_command<'a>(
     alloc: Global,
     name: &'a str,
     about: &'a str,
-    end: Option<&'a str>,
+    end: Option<HelpEnd>,
 ) -> Command<'a>
     ensures app { app_of result ≡ new_app name.now }
     ensures local { (fields_of result).has_globals ≡ false }
 {
     let command = Command::new(alloc, name).about(about);
     match end {
-        Some(end) => command.after_help(end),
+        Some(end) => command.after_help(end_text(end)),
         None => command,
     }
 }
@@ -314,25 +333,21 @@ fn with_words<'a>(
 }
 
 /// Returns the program, without its commands.
-fn program<'a>(alloc: Global, about: &'a str, statuses: &'a str) -> Command<'a>
+fn program<'a>(alloc: Global, about: &'a str) -> Command<'a>
     ensures { app_of result ≡ program }
 {
-    bare_command(alloc, "segment", about, Some(statuses))
+    bare_command(alloc, "segment", about, Some(HelpEnd::Statuses))
         .version(VERSION)
         .subcommand_required(true)
         .arg_required_else_help(true)
 }
 
-/// Returns the program with a command after those that it has.
-fn with_command<'a>(
-    alloc: Global,
-    program: Command<'a>,
-    row: &Row,
-) -> Result<Command<'a>, AllocError>
-    ensures { IfOk result (λ c. app_of c ≡ with_subcommand (app_of program.entry) (row_shape row.now)) }
+/// Returns the command of a row.
+fn command_of<'a>(alloc: Global, row: &Row) -> Result<Command<'a>, AllocError>
+    ensures app { IfOk result (λ c. (app_of c).top ≡ row_shape row.now) }
+    ensures local { IfOk result (λ c. (fields_of c).has_globals ≡ false) }
 {
-    let command = bare_command(alloc, row.0, row.1, row.2);
-    program.subcommand(with_words(alloc, command, row.3)?)
+    with_words(alloc, bare_command(alloc, row.0, row.1, row.2), row.3)
 }
 
 /// Returns the program with these commands after those that it has.
@@ -346,7 +361,7 @@ fn with_commands<'a>(
     let mut program = begun;
     let mut rest = rows;
     'commands: while let [row, tail @ ..] = rest {
-        program = with_command(alloc, program, row)?;
+        program = program.subcommand(command_of(alloc, row)?)?;
         rest = tail;
     }
     Ok(program)
@@ -356,5 +371,5 @@ fn with_commands<'a>(
 pub fn command_line<'a>(alloc: Global) -> Result<Command<'a>, AllocError>
     ensures { IfOk result (λ c. app_of c ≡ command_line) }
 {
-    with_commands(alloc, program(alloc, ABOUT, STATUSES), &COMMANDS)
+    with_commands(alloc, program(alloc, ABOUT), &COMMANDS)
 }

@@ -52,7 +52,7 @@ impl FileCommand {
 }
 
 /// The name of a mode on the command line.
-#[derive(Clone, Copy, Debug, PartialEq, Eq)]
+#[derive(Clone, Copy)]
 pub enum ModeName {
     /// `create_only`: the segment is made, in a file that is not there.
     CreateOnly,
@@ -90,7 +90,7 @@ impl ModeName {
 }
 
 /// What is told of the segment in a file.
-#[derive(Clone, Copy, Debug, PartialEq, Eq)]
+#[derive(Clone, Copy)]
 pub enum Report {
     /// How its bytes are used, in figures.
     Figures,
@@ -107,7 +107,7 @@ pub enum Report {
 }
 
 /// How the segment in a file changes without a script.
-#[derive(Clone, Copy, Debug, PartialEq, Eq)]
+#[derive(Clone, Copy)]
 pub enum FileChange {
     /// The segment becomes larger by so many bytes.
     Grow(u64),
@@ -118,7 +118,7 @@ pub enum FileChange {
 }
 
 /// How a run answers.
-#[derive(Clone, Copy, Debug, PartialEq, Eq)]
+#[derive(Clone, Copy)]
 pub struct AnswerOptions {
     /// `--strict`: the first answer that is an error ends the run, and nothing is saved.
     pub strict: bool,
@@ -127,7 +127,7 @@ pub struct AnswerOptions {
 }
 
 /// How the file of a command that writes is taken and saved.
-#[derive(Clone, Copy, Debug, PartialEq, Eq)]
+#[derive(Clone, Copy)]
 pub struct FileOptions {
     /// How a file that is there is saved: `--replace` says by a new one, which takes the place of the old.
     pub saving: SaveMode,
@@ -151,7 +151,7 @@ impl FileOptions {
 }
 
 /// Where the script of a run comes from.
-#[derive(Debug, Drop, PartialEq, Eq)]
+#[derive(Drop)]
 pub enum Script<'a> {
     /// Standard input.
     Input,
@@ -178,7 +178,7 @@ pub fn script_text(alloc: Global, lines: &[&str]) -> Result<Vec<u8>, OutOfMemory
 }
 
 /// What a run is asked for beside its file, mode and size.
-#[derive(Debug, Drop, PartialEq, Eq)]
+#[derive(Drop)]
 pub struct RunOptions<'a> {
     /// Where its script comes from.
     pub script: Script<'a>,
@@ -214,7 +214,7 @@ impl<'a> RunOptions<'a> {
 }
 
 /// What the program is asked for. A file goes by its path, and sizes count bytes.
-#[derive(Debug, Drop, PartialEq, Eq)]
+#[derive(Drop)]
 pub enum Invocation<'a> {
     /// To make an empty segment of this size in a file that is not there.
     Create(&'a str, u64),

@@ -16,7 +16,7 @@ const MODES: [&str; 5] = [
 const NEAR: f64 = 0.7;
 
 /// What to try in place of a word, if anything. As text it is a line that says so, or nothing.
-#[derive(Clone, Copy, Debug, PartialEq, Eq)]
+#[derive(Clone, Copy, Debug)]
 pub struct Tip {
     mode: Option<&'static str>,
 }

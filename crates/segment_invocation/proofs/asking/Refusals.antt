@@ -147,3 +147,11 @@ read_wrong words f found is n w e = wrong_if words f (ap asked_of is ∙ n) w (e
 pub usage_same : (told w : UsageError) (fault : InvocationFault) → fault ≡ Usage told → ◌≡◌ {A = Result Invocation
     InvocationFault} (Err fault) (Err (Usage w)) → told ≡ w
 usage_same told w fault f e = cc
+
+-- words that ask for something are read as that, or memory is refused
+pub found_given : (a : InvocationValue) (result : Result Invocation InvocationFault) (asked : Option InvocationValue)
+    → IfOk result (λ i. asked ≡ Some (asked_by i)) → ((w : UsageError) → result ≡ Err (Usage w) → asked ≡ None)
+    → asked ≡ Some a → MatchResult result (λ i. asked_by i ≡ a) (λ e. e ≡ OutOfMemory)
+found_given a (Ok i) asked h n given = same_Some _ _ (sym h ∙ given)
+found_given a (Err OutOfMemory) asked h n given = refl
+found_given a (Err (Usage w)) asked h n given = absurd (none-some a (sym (n w refl) ∙ given))

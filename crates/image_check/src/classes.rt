@@ -2,46 +2,35 @@
 ghost use Rattle.std.specs.Prelude.{◌≡◌};
 ghost use Rattle.image_check.specs.Classes.{number_of};
 
+use std::fmt;
 use thiserror::Error;
 
 /// Why bytes are no image of a directory, in the order in which the classes are looked at.
 #[derive(Clone, Copy, Debug, PartialEq, Eq, Error)]
 pub enum ImageClass {
     /// There are fewer than 144 bytes, the least that a segment has, or fewer than the header says.
-    #[error("the image ends too early")]
     Truncated,
     /// The first eight bytes are not `MSEGFILE`.
-    #[error("the image does not begin with the magic")]
     BadMagic,
     /// The version is not the one that is read.
-    #[error("the version is not supported")]
     UnsupportedVersion,
     /// The size is not that of a segment, or there are more bytes than it says.
-    #[error("the size is wrong")]
     BadSize,
     /// A byte of the header that is kept for later is not zero.
-    #[error("a reserved byte is not zero")]
     BadReserved,
     /// The tags do not fill the segment with tiles.
-    #[error("the tags are wrong")]
     BadTag,
     /// The free blocks do not make up a tree by length and offset.
-    #[error("the free tree is wrong")]
     BadFreeTree,
     /// An index has a wrong count, capacity, block or entry.
-    #[error("an index is wrong")]
     BadIndex,
     /// An object has a wrong kind, count, name, class, padding or value, or stands in the wrong index.
-    #[error("an object is wrong")]
     BadObject,
     /// Two links lead to one block.
-    #[error("two links lead to one block")]
     SharedBlock,
     /// The block, elements, pairs or counts of a container are wrong.
-    #[error("a container is wrong")]
     BadContainer,
     /// A block belongs to nothing.
-    #[error("a block belongs to nothing")]
     OrphanBlock,
 }
 
@@ -64,5 +53,29 @@ impl ImageClass {
             ImageClass::BadContainer => 11,
             ImageClass::OrphanBlock => 12,
         }
+    }
+
+    /// Returns the text of the class.
+    fn text(self) -> &'static str {
+        match self {
+            ImageClass::Truncated => "the image ends too early",
+            ImageClass::BadMagic => "the image does not begin with the magic",
+            ImageClass::UnsupportedVersion => "the version is not supported",
+            ImageClass::BadSize => "the size is wrong",
+            ImageClass::BadReserved => "a reserved byte is not zero",
+            ImageClass::BadTag => "the tags are wrong",
+            ImageClass::BadFreeTree => "the free tree is wrong",
+            ImageClass::BadIndex => "an index is wrong",
+            ImageClass::BadObject => "an object is wrong",
+            ImageClass::SharedBlock => "two links lead to one block",
+            ImageClass::BadContainer => "a container is wrong",
+            ImageClass::OrphanBlock => "a block belongs to nothing",
+        }
+    }
+}
+
+impl fmt::Display for ImageClass {
+    fn fmt<W: fmt::Write>(&self, f: &mut fmt::Formatter<W>) -> fmt::Result {
+        f.write_str(self.text())
     }
 }

@@ -6,7 +6,7 @@ ghost use Rattle.image_check.specs.Counting.{AreCounted};
 use block_tags::Tile;
 
 /// What was counted of the tiles that a walk has passed.
-#[derive(Clone, Copy, Debug)]
+#[derive(Clone, Copy)]
 pub(crate) struct Counts {
     /// How many are free.
     pub(crate) free: u64,

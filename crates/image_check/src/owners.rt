@@ -14,7 +14,7 @@ use block_tags::{Role, TAG_LEN, Tile};
 
 /// A link that leads to a block. Places are numbers of four bytes, since no image is longer than 2^30 bytes: there is a
 /// row for each block, and they are gone through many times.
-#[derive(Clone, Copy, Debug, PartialEq, Eq)]
+#[derive(Clone, Copy)]
 pub(crate) struct Owner {
     /// Where it stands.
     pub(crate) at: u32,
@@ -24,7 +24,7 @@ pub(crate) struct Owner {
 }
 
 /// A block in use, and what was found of it.
-#[derive(Clone, Copy, Debug)]
+#[derive(Clone, Copy)]
 pub(crate) struct Block {
     /// What it is for.
     pub(crate) role: Role,

@@ -184,6 +184,11 @@ as_program (Ok Whole) = Ok tt
 as_program (Ok Refused) = Err Stopped
 as_program (Err fault) = Err (Session fault)
 
+-- what the saving behind a whole run answered, as a run answers it
+abbrev pub as_saved : {E : Type 0} → Result (Unit {0}) E → Result End SessionFault
+as_saved (Ok done) = Ok Whole
+as_saved (Err why) = Err WriteFault
+
 -- the program answers as a run did
 pub record IsAnswerOf (runs : Result End SessionFault → Type 0) (result : Result (Unit {0}) CommandFault) : Type 0 where
   pub answer : Result End SessionFault

@@ -7,7 +7,7 @@ ghost use Rattle.segment_disk.specs.Events.{create_mode_of};
 ghost use Rattle.segment_commands.specs.Resizing.{RunsResize, TellsAndWrites, TellsSize, more_by, next_by, refusal_by};
 ghost use Rattle.segment_commands.specs.{Resizing.size_line, Telling.WritesAndFlushes};
 
-use crate::command_faults::CommandFault;
+use crate::command_faults::{CommandFault, written};
 use crate::opening::open_segment;
 use crate::telling::write_and_flush;
 use grow_shrink::{GrowError, shrink_to_fit};
@@ -101,8 +101,10 @@ fn resize_held<D: Disk, O: Output>(
     let current = AcceptedVersions::Current;
     let more = more_for(how);
     let mut segment = open_segment(alloc, disk, path, current, Mode::Write, more)?;
-    resize_segment(&mut segment, how)?;
-    Ok(tell_and_write(disk, path, saving, hold, &segment, out)?)
+    match resize_segment(&mut segment, how) {
+        Ok(()) => written(tell_and_write(disk, path, saving, hold, &segment, out)),
+        Err(error) => Err(CommandFault::from(error)),
+    }
 }
 
 /// Writes the segment in a file by the current format, with the right to write the file, and then says `ok`.
@@ -119,8 +121,10 @@ fn migrate_held<D: Disk, O: Output>(
         O.history O.flushes out.old out.new result }
 {
     let segment = open_segment(alloc, disk, path, AcceptedVersions::All, Mode::Write, 0)?;
-    write_image(disk, path, saving, hold, &segment)?;
-    Ok(write_and_flush(out, b"ok\n")?)
+    match write_image(disk, path, saving, hold, &segment) {
+        Ok(()) => written(write_and_flush(out, b"ok\n")),
+        Err(refused) => Err(CommandFault::from(refused)),
+    }
 }
 
 /// Changes the segment in a file, with the right to write the file.

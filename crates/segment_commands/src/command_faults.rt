@@ -4,7 +4,7 @@ ghost use Rattle.image_check.specs.declared.errors.MemoryFault.TheVariants.{Byte
 ghost use Rattle.segment_cli.specs.declared.faults.SessionFault.TheVariants.{OutOfMemory as NoMemory};
 ghost use Rattle.segment_cli.specs.declared.faults.SessionFault.TheVariants.{WriteFault as NotWritten};
 ghost use Rattle.segment_commands.specs.declared.command_faults.CommandFault.TheVariants.{InUse as HeldByAnother};
-ghost use Rattle.segment_commands.specs.Faults.{GrowthFault, Session};
+ghost use Rattle.segment_commands.specs.{Commands.written_as, Faults.GrowthFault, Faults.Session};
 
 use grow_shrink::GrowError;
 use raw_region::{DeviceFault, OutOfMemory};
@@ -40,6 +40,16 @@ pub enum CommandFault {
 pub(crate) const WRITE_FAULT: CommandFault = CommandFault::Program(ProgramFault::Session(
     SessionFault::WriteFault,
 ));
+
+/// Returns what a writing answered, as the program answers it.
+pub(crate) fn written(answer: Result<(), DeviceFault>) -> Result<(), CommandFault>
+    ensures { result ≡ written_as answer }
+{
+    match answer {
+        Ok(()) => Ok(()),
+        Err(_) => Err(WRITE_FAULT),
+    }
+}
 
 impl From<GrowError> for CommandFault {
     ghost from_gives = { λ error fault. fault ≡ GrowthFault error };

@@ -1,9 +1,12 @@
 //! The command that makes an empty segment in a file.
 ghost use Rattle.segment_commands.specs.Commands.{RunsCreate, MakesSegment};
+ghost use Rattle.segment_disk.specs.Events.{New};
+ghost use Rattle.segment_file.specs.Files.{WritesImage};
 
-use crate::command_faults::CommandFault;
+use crate::command_faults::{CommandFault, written};
 use block_tags::is_legal_size;
 use grow_shrink::region_for;
+use raw_region::DeviceFault;
 use raw_region::std_io::StdSource;
 use segment_cli::{ProgramFault, SessionFault, Start, begin};
 use segment_disk::{Disk, Presence};
@@ -25,6 +28,18 @@ pub(crate) fn new_segment(alloc: Global, size: u64) -> Result<Segment, SessionFa
     begin(alloc, start, Mode::Write, &mut nothing, region, 0)
 }
 
+/// Writes the image of a segment to a file that is made for it, which is held no longer.
+pub(crate) fn write_made<D: Disk>(
+    disk: &mut D,
+    path: &str,
+    segment: &Segment,
+) -> Result<(), DeviceFault>
+    ensures { WritesImage D.step disk.old disk.new New path.now segment.now.cut.bytes result }
+{
+    write_new(disk, path, segment)?;
+    Ok(())
+}
+
 /// Makes an empty segment of `size` bytes in a file that is not there.
 ///
 /// # Errors
@@ -43,6 +58,5 @@ pub fn create<D: Disk>(
         return Err(CommandFault::Program(ProgramFault::Exists));
     }
     let segment = new_segment(alloc, size)?;
-    write_new(disk, path, &segment)?;
-    Ok(())
+    written(write_made(disk, path, &segment))
 }

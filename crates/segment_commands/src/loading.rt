@@ -6,7 +6,8 @@ ghost use Rattle.segment_commands.specs.LoadOver.{RunsLoadOver, LoadsOver};
 ghost use Rattle.segment_commands.specs.Loading.{IsFitting, IsMadeIfGiven, IsSizeFit, IsWantedSize, LoadsDump};
 ghost use Rattle.segment_commands.specs.Loading.{LoadsSegment, LoadsWhatFits, NeedsRoom, RunsLoad, load_fault};
 
-use crate::command_faults::CommandFault;
+use crate::command_faults::{CommandFault, written};
+use crate::creating::write_made;
 use crate::read_all::read_text;
 use block_tags::is_legal_size;
 use grow_shrink::region_for;
@@ -14,7 +15,7 @@ use raw_region::Source;
 use segment_cli::{ProgramFault, SessionFault};
 use segment_disk::{Disk, Presence, SaveMode};
 use segment_dump::{LoadError, count_dump, declared_size, without_notes};
-use segment_file::{write_image, write_new};
+use segment_file::write_image;
 use segment_manager::Segment;
 use std::alloc::Global;
 
@@ -120,8 +121,7 @@ pub fn load<D: Disk, S: Source>(
         return Err(CommandFault::Program(ProgramFault::Exists));
     }
     let segment = load_dump(alloc, size, script)?;
-    write_new(disk, path, &segment)?;
-    Ok(())
+    written(write_made(disk, path, &segment))
 }
 
 /// Returns what [`load_over`] does with the right to write the file.
@@ -137,7 +137,7 @@ fn load_held<D: Disk, S: Source>(
     ensures { LoadsOver D.step disk.old disk.new path.now size (S.history script.old) (S.history script.new) result }
 {
     let segment = load_dump(alloc, size, script)?;
-    Ok(write_image(disk, path, SaveMode::Replacing, hold, &segment)?)
+    written(write_image(disk, path, SaveMode::Replacing, hold, &segment))
 }
 
 /// Makes a segment of the dump that a reader gives, as [`load`] does, in a new file or in place of an old one. The old

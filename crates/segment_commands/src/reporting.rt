@@ -5,7 +5,7 @@ ghost use Rattle.raw_region.specs.Device.{Writes};
 ghost use Rattle.segment_report.specs.Names.{names_text};
 ghost use Rattle.segment_commands.specs.Reporting.{RunsReport, WritesTextOf, text_of};
 
-use crate::command_faults::CommandFault;
+use crate::command_faults::{CommandFault, written};
 use crate::opening::open_segment;
 use image_check::AcceptedVersions;
 use raw_region::DeviceFault;
@@ -57,7 +57,7 @@ pub fn tell_segment<D: Disk, O: Output>(
 {
     let current = AcceptedVersions::Current;
     let segment = open_segment(alloc, disk, path, current, Mode::ReadOnly, 0)?;
-    Ok(tell_report(out, &segment, what)?)
+    written(tell_report(out, &segment, what))
 }
 
 /// Writes the names of a segment that begin with a text, at most so many, and gives out all that was written.
@@ -94,5 +94,5 @@ pub fn names<D: Disk, O: Output>(
 {
     let current = AcceptedVersions::Current;
     let segment = open_segment(alloc, disk, path, current, Mode::ReadOnly, 0)?;
-    Ok(tell_names(out, &segment, prefix.as_bytes(), most)?)
+    written(tell_names(out, &segment, prefix.as_bytes(), most))
 }

@@ -1,20 +1,21 @@
 //! The command that runs a script on the segment in a file.
-ghost use Rattle.std.specs.Prelude.{◌≡◌, ◌≢◌, ◌+◌, ◌^◌, ◌-◌, ◌<◌, true, false};
+ghost use Rattle.std.specs.Prelude.{◌≡◌, ◌≢◌, ◌+◌, ◌^◌, ◌-◌, ◌<◌, true, false, Ok};
+ghost use Rattle.segment_scripts.specs.declared.ends.End.TheVariants.{Whole};
 ghost use Rattle.segment_manager.specs.declared.modes.Mode.TheVariants.{Write};
 ghost use Rattle.segment_disk.specs.Events.{CreateMode, IsFlushed, create_mode_of};
-ghost use Rattle.segment_commands.specs.{Modes.RunsInMode, Running.as_program};
+ghost use Rattle.segment_commands.specs.{Modes.RunsInMode, Running.as_program, Running.as_saved};
 ghost use Rattle.segment_commands.specs.Running.{MakesRun, RunsAnyFile, RunsFile, RunsHeld, RunsNewFile, RunsOpened};
 
 use crate::answering::run_script;
 use crate::command_faults::CommandFault;
-use crate::creating::new_segment;
+use crate::creating::{new_segment, write_made};
 use crate::opening::open_segment;
 use image_check::AcceptedVersions;
-use raw_region::Source;
+use raw_region::{DeviceFault, Source};
 use segment_answers::LineOutput;
 use segment_cli::{ProgramFault, SessionFault};
 use segment_disk::{Disk, Presence, SaveMode};
-use segment_file::{write_image, write_new};
+use segment_file::write_image;
 use segment_invocation::ModeName;
 use segment_manager::Mode;
 use segment_scripts::{End, Until};
@@ -75,6 +76,27 @@ fn can_be_read<S: Source>(script: &mut S) -> bool
     script.read(&mut []).is_ok()
 }
 
+/// Tells whether a run came to the end of its script, and all answers went out.
+fn is_whole(ended: Result<End, SessionFault>) -> bool
+    ensures complete { result ≡ true → ended ≡ Ok Whole }
+    ensures early_stop { result ≡ false → ended ≢ Ok Whole }
+{
+    match ended {
+        Ok(End::Whole) => true,
+        Ok(End::Refused) | Err(_) => false,
+    }
+}
+
+/// Returns what the saving behind a whole run answered, as a run answers it.
+fn saved(answer: Result<(), DeviceFault>) -> Result<End, SessionFault>
+    ensures { result ≡ as_saved answer }
+{
+    match answer {
+        Ok(()) => Ok(End::Whole),
+        Err(refused) => Err(SessionFault::from(refused)),
+    }
+}
+
 /// Runs a script on the segment in a file, gives out its answers, and saves it, unless the run ended at a refusal.
 fn run_opened<D: Disk, S: Source, O: LineOutput>(
     alloc: Global,
@@ -92,12 +114,11 @@ fn run_opened<D: Disk, S: Source, O: LineOutput>(
         (S.history script.new) O.history (IsFlushed O.history O.flushes out.new) out.old out.new result }
 {
     let mut segment = open_segment(alloc, disk, path, AcceptedVersions::Current, Mode::Write, 0)?;
-    match run_script(&mut segment, until, script, out)? {
-        End::Refused => Ok(End::Refused),
-        End::Whole => {
-            write_image(disk, path, saving, hold, &segment)?;
-            Ok(End::Whole)
-        }
+    let ended = run_script(&mut segment, until, script, out);
+    if is_whole(ended) {
+        saved(write_image(disk, path, saving, hold, &segment))
+    } else {
+        ended
     }
 }
 
@@ -185,12 +206,11 @@ fn run_made<D: Disk, S: Source, O: LineOutput>(
         O.history (IsFlushed O.history O.flushes out.new) out.old out.new result }
 {
     let mut segment = new_segment(alloc, size)?;
-    match run_script(&mut segment, until, script, out)? {
-        End::Refused => Ok(End::Refused),
-        End::Whole => {
-            write_new(disk, path, &segment)?;
-            Ok(End::Whole)
-        }
+    let ended = run_script(&mut segment, until, script, out);
+    if is_whole(ended) {
+        saved(write_made(disk, path, &segment))
+    } else {
+        ended
     }
 }
 

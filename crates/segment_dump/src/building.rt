@@ -22,7 +22,7 @@ use segment_manager::unchecked::object_here;
 use segment_manager::{AnonymousInstance, ConstructKey, Segment, UniqueInstance};
 
 /// Why building stops.
-#[derive(Clone, Copy, Debug, PartialEq, Eq)]
+#[derive(Clone, Copy)]
 pub enum BuildError {
     /// The text is no dump.
     Syntax(SyntaxError),

@@ -73,7 +73,7 @@ pub enum LoadError {
 }
 
 /// What is wrong at a place of the text, in bytes from its start.
-#[derive(Clone, Copy, Debug, PartialEq, Eq)]
+#[derive(Clone, Copy)]
 pub struct SyntaxError {
     /// The place.
     pub at: usize,

@@ -176,6 +176,7 @@ module _ {D O E : Type 0} (step : D → Event → D → Type 0) (history : O →
       flushed = record { before = out'; flush = flush; same = same };
     }
 
+    -- all went out
     pub going_done : flushes out' true out''
         → ChecksAll step disk disk' history flushes out out'' err err' quiet files (Ok worst)
     going_done flush = record {
@@ -185,6 +186,7 @@ module _ {D O E : Type 0} (step : D → Event → D → Type 0) (history : O →
       answer = (going.named, going.worst_is, all_told true flush);
     }
 
+    -- the last of it did not
     pub going_kept : flushes out' false out''
         → ChecksAll step disk disk' history flushes out out'' err err' quiet files (Err (Session WriteFault))
     going_kept flush = record {

@@ -1,5 +1,5 @@
 -- How a run ends, from what its steps answered.
-use Rattle.std.proofs.Common.{◌≡◌, ◌≢◌, ◌⊎◌, ◌<◌, ℕ, Bool, true, false, inl, inr, List, [], ◌∷◌, length, Ok, Err, refl}
+use Rattle.std.proofs.Common.{◌≡◌, ◌⊎◌, ◌<◌, ℕ, Bool, true, false, inl, inr, List, [], ◌∷◌, length, Ok, Err, refl}
 use Rattle.std.proofs.Common.{Result, sym, ap, subst, ◌∙◌, arith}
 use Rattle.std.proofs.lemmas.Bool.{false≢true}
 use Rattle.raw_region.specs.Device.{ReadDelta, WriteDelta}
@@ -25,11 +25,11 @@ use Rattle.image_check.specs.Saving.{IsSaved}
 use Rattle.segment_cli.specs.Session.{StartsFrom, Failures, SavesImage}
 use Rattle.segment_cli.proofs.Laws.{stopped_session, done_session, unsaved_session}
 use Rattle.segment_disk.specs.Events.{CreateMode, New, Truncate, Replacement, Event, After}
-use Rattle.segment_file.specs.Files.{WriteOutcome, Overtaken, NotMade, Closed, Offered, IsMade, IsUnwritten}
+use Rattle.segment_file.specs.Files.{WriteOutcome, IsMade, IsUnwritten}
 use Rattle.segment_file.specs.Files.{WritesImage, write_events, whole_outcome, all_of}
 use Rattle.segment_commands.specs.Running.{Act, AnswersScript, IsAnsweredAct, IsAnsweredTo, IsRefusedAct}
 use Rattle.segment_commands.specs.Running.{IsUnrefusedAct, LeavesUnsaved, LosesAnswers, StopsWithFault, EndsRun, Ran}
-use Rattle.segment_commands.specs.Running.{RunsScript, saving}
+use Rattle.segment_commands.specs.Running.{RunsScript, as_saved, saving}
 
 -- lines leave the mode as it is
 mode_kept : (at : MachineState) (ls : List (List ℕ)) → (answer_all answer_line at ls).1.mode ≡ at.mode
@@ -287,6 +287,20 @@ module _ {D : Type 0} (step : D → Event → D
         asked = w.asked;
         unsaved = unsaved_by w.written w.fate w.accepted;
       }))
+
+      -- the one or the other
+      pub saving_run : {E : Type 0} (answer : Result (Unit {0}) E)
+          → WritesImage step old new how path s'.cut.bytes answer
+          → EndsRun step old new how path act Flushed (as_saved answer)
+      saving_run (Ok done) w = saved w
+      saving_run (Err e) w = unsaved e w
+
+  -- a run that did not end whole
+  pub unsaved_run : (old : D) (ended : Result End SessionFault) → (ended ≡ Ok Whole → ⊥)
+      → RunsScript until s s' script out Flushed ended → EndsRun step old old how path act Flushed ended
+  unsaved_run old (Ok Whole) is_not answered = absurd (is_not refl)
+  unsaved_run old (Ok Refused) is_not answered = refusing_run old answered
+  unsaved_run old (Err fault) is_not why = stopped old fault why
 
   -- a run in a mode that saves nothing ends as its script does
   pub free_run : (mode ≡ Write → ⊥) → (old : D) → (result : Result End SessionFault)

@@ -270,3 +270,14 @@ module _ (text : List ℕ) (capacity base : ℕ) (size : Option ℕ) (room : ℕ
   lacking-made counted o cause r e m =
       let none = made-none counted cause (none-lacking capacity base size room counted o r e) m in
       subst (λ p. IfSome p (IsLacking text capacity base size room)) (sym none) tt
+
+-- of a text that is wrong no want is said, whatever was counted
+pub unlacking : (text : List ℕ) (capacity base : ℕ) (size : Option ℕ) (room : ℕ) (counted : Result Count ℕ)
+    (cause : LoadError) → IsWrong text cause
+    → LoadsUnlessLacking capacity base size room counted (cause_but_bad cause)
+unlacking text capacity base size room (Ok count) (Bad bad) w = λ e. refl
+unlacking text capacity base size room (Err left) (Bad bad) w = refl
+unlacking text capacity base size room counted BadSize w = absurd w
+unlacking text capacity base size room counted RegionTooSmall w = absurd w
+unlacking text capacity base size room counted NoSpace w = absurd w
+unlacking text capacity base size room counted LongText w = absurd w

@@ -4,6 +4,7 @@ use Rattle.image_check.proofs.Common.{◌≤◌}
 use Rattle.std.proofs.lemmas.List.{length-append}
 use Rattle.image_check.proofs.reading.FrontAlone.{short-roomy}
 use Rattle.image_check.proofs.reading.Stops.{front_stops, wrong_front_decides, wrong_front_stops}
+use Rattle.image_check.proofs.reading.Ends.{more_ends}
 use Rattle.image_check.proofs.reading.Formats.{since-format}
 use Rattle.image_check.proofs.reading.Places.{end-shown, front-shown}
 use Rattle.image_check.proofs.image_read.read_front.Goals as goal
@@ -117,3 +118,24 @@ returns-in_err-read_all-in-Err-clause-exclusive g c =
     let p = err_from_is_err_and c.from_residual-in_err-read_all-in-Err.result
     c.from_residual-in_err-read_all-in-Err.ensures.1 in
     rw (p.1, p.2) (λ e. absurd (short-roomy _ _ c.in_err-read_all-in-Err.ensures.on_error.1 e))
+
+-- ---- the ends
+
+pub returns-in_err-read_all-clause-ends : goal.returns-in_err-read_all-clause-ends
+returns-in_err-read_all-clause-ends g c = c.in_err-read_all.ensures.ends (let told = c.told-front in omega arith)
+
+pub returns-in_err-read_all-in-Err-clause-ends : goal.returns-in_err-read_all-in-Err-clause-ends
+returns-in_err-read_all-in-Err-clause-ends g c =
+    let ok = c.in_ok-read_all.ensures in
+    let told = c.told-front in
+    more_ends (g.S.Source.history c.args.reader.now) (g.S.Source.history c.read_all.new.reader)
+    (g.S.Source.history c.read_all-in-Err.new.reader) (ok.ends (omega arith)) (ok.growth (omega arith))
+    (c.in_err-read_all-in-Err.ensures.ends (omega arith))
+
+pub returns-in_ok-read_all-in-Err-clause-ends : goal.returns-in_ok-read_all-in-Err-clause-ends
+returns-in_ok-read_all-in-Err-clause-ends g c =
+    let ok = c.in_ok-read_all.ensures in
+    let told = c.told-front in
+    more_ends (g.S.Source.history c.args.reader.now) (g.S.Source.history c.read_all.new.reader)
+    (g.S.Source.history c.read_all-in-Err.new.reader) (ok.ends (omega arith)) (ok.growth (omega arith))
+    (c.in_ok-read_all-in-Err.ensures.ends (omega arith))

@@ -3,6 +3,7 @@ use Rattle.image_check.proofs.Common.{format_in, length, patched, read_delta, su
 use Rattle.raw_region.specs.Regions.{with_bytes}
 use Rattle.image_check.proofs.reading.Buffer.{HasFront-least}
 use Rattle.image_check.proofs.opening.InRegion.{IsBegun, begun-HasFront, begun-read, begun-start, begun-stops}
+use Rattle.image_check.proofs.reading.Ends.{more_ends}
 use Rattle.image_check.proofs.reading.Formats.{since-format}
 use Rattle.image_check.proofs.image_read.read_image.Goals as goal
 
@@ -94,3 +95,15 @@ returns-in-Err-read_rest-clause-output g c =
     subst (λ (f : ℕ). IsShown f (drop (length old) new) c.in-Err-read_rest.cause) (sym by)
     (was.output f0 (begun-HasFront f0 old mid front c.args.region c.args.base c.in-Ok.size c.write.new.self begun) old
     (begun-start f0 old mid front c.args.region c.args.base c.in-Ok.size c.write.new.self begun))
+
+pub returns-in-Ok-read_rest-clause-ends : goal.returns-in-Ok-read_rest-clause-ends
+returns-in-Ok-read_rest-clause-ends g c =
+    more_ends (g.S.Source.history c.args.reader.now) (g.S.Source.history c.read_front.new.reader)
+    (g.S.Source.history c.read_rest.new.reader) c.in-Ok.ensures.ends c.in-Ok.ensures.growth
+    c.in-Ok-read_rest.ensures.ends
+
+pub returns-in-Err-read_rest-clause-ends : goal.returns-in-Err-read_rest-clause-ends
+returns-in-Err-read_rest-clause-ends g c =
+    more_ends (g.S.Source.history c.args.reader.now) (g.S.Source.history c.read_front.new.reader)
+    (g.S.Source.history c.read_rest.new.reader) c.in-Ok.ensures.ends c.in-Ok.ensures.growth
+    c.in-Err-read_rest.ensures.ends

@@ -2,6 +2,7 @@ use Rattle.image_check.proofs.Common.{ap, arith, drop, err_from_is_err_and, erro
 use Rattle.image_check.proofs.Common.{length-take-le, take, ◌-◌, ◌∙◌, ◌≡◌}
 use Rattle.std.proofs.lemmas.List.{length-append}
 use Rattle.image_check.specs.Causes.{error_in}
+use Rattle.image_check.proofs.reading.Ends.{more_ends}
 use Rattle.image_check.proofs.reading.Buffer.{filled_short, filled_whole, front-length, rest-filled}
 use Rattle.image_check.proofs.reading.FrontAlone.{end-roomy, short-roomy}
 use Rattle.image_check.proofs.reading.Places.{end-shown, err-in, err-out, whole-shown}
@@ -79,3 +80,18 @@ returns-in_err-read_all-clause-room g c =
 
 pub returns-clause-room : goal.returns-clause-room
 returns-clause-room g c = end-roomy _ _ c.find_end.result c.find_end.ensures.on_error
+
+-- ---- the ends
+
+pub returns-in_err-read_all-clause-ends : goal.returns-in_err-read_all-clause-ends
+returns-in_err-read_all-clause-ends g c =
+    c.in_err-read_all.ensures.ends (let len = c.bytes_mut.ensures.len in let min_len = c.requires.min_len in
+    let size = c.size-size.ensures in omega (arith, len, min_len, size))
+
+pub returns-clause-ends : goal.returns-clause-ends
+returns-clause-ends g c =
+    let ok = c.in_ok-read_all.ensures in
+    let len = c.bytes_mut.ensures.len in let min_len = c.requires.min_len in let size = c.size-size.ensures in
+    more_ends (g.S.Source.history c.args.reader.now) (g.S.Source.history c.read_all.new.reader)
+    (g.S.Source.history c.find_end.new.reader) (ok.ends (omega (arith, len, min_len, size)))
+    (ok.growth (omega (arith, len, min_len, size))) c.find_end.ensures.ends

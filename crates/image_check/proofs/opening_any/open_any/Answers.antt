@@ -5,7 +5,8 @@ use Rattle.image_check.proofs.opening.AnyFormat.{opens-any, unread-any}
 use Rattle.image_check.proofs.reading.Formats.{format_of-few}
 use Rattle.image_check.proofs.Common.{IfErr, List, true, ℕ, ◌≡◌}
 use Rattle.image_check.specs.Opening.{is_late}
-use Rattle.image_check.specs.Passes.{CountsTiles}
+use Rattle.image_check.specs.Passes.{CountsBlocks, CountsTiles}
+use Rattle.std.proofs.Common.{OnOk}
 use Rattle.image_check.proofs.opening_any.open_any.Goals as goal
 
 pub returns-in-Err-clause-opening : goal.returns-in-Err-clause-opening
@@ -45,3 +46,13 @@ returns-in-Ok-clause-visits_on_error g c =
     subst (λ (b : List ℕ). IfErr c.open_window.result (λ refused.
     is_late refused.cause ≡ true → CountsTiles b c.args.steps.now c.open_window.new.steps))
     c.in-Ok.ensures.reading.bytes c.open_window.ensures.visits_on_error
+
+pub returns-in-Ok-clause-tiles : goal.returns-in-Ok-clause-tiles
+returns-in-Ok-clause-tiles g c =
+    subst (λ (b : List ℕ). OnOk c.open_window.result (CountsTiles b c.args.steps.now c.open_window.new.steps))
+    c.in-Ok.ensures.reading.bytes c.open_window.ensures.tiles
+
+pub returns-in-Ok-clause-blocks : goal.returns-in-Ok-clause-blocks
+returns-in-Ok-clause-blocks g c =
+    subst (λ (b : List ℕ). OnOk c.open_window.result (CountsBlocks b c.args.steps.now c.open_window.new.steps))
+    c.in-Ok.ensures.reading.bytes c.open_window.ensures.blocks

@@ -3,7 +3,8 @@ use Rattle.image_check.proofs.opening.AnyFormat.{opens-any, unplaced-any}
 use Rattle.image_check.proofs.reading.Formats.{format_of-few}
 use Rattle.image_check.proofs.Common.{IfErr, List, true, ℕ, ◌≡◌}
 use Rattle.image_check.specs.Opening.{is_late}
-use Rattle.image_check.specs.Passes.{CountsTiles}
+use Rattle.image_check.specs.Passes.{CountsBlocks, CountsTiles}
+use Rattle.std.proofs.Common.{OnOk}
 use Rattle.image_check.proofs.opening_any_bytes.open_any_bytes.Goals as goal
 
 pub returns-in-Err-clause-opening : goal.returns-in-Err-clause-opening
@@ -28,3 +29,13 @@ returns-in-Ok-clause-visits_on_error c =
     subst (λ (b : List ℕ). IfErr c.open_window.result (λ refused.
     is_late refused.cause ≡ true → CountsTiles b c.args.steps.now c.open_window.new.steps))
     c.in-Ok.ensures.placement.bytes c.open_window.ensures.visits_on_error
+
+pub returns-in-Ok-clause-tiles : goal.returns-in-Ok-clause-tiles
+returns-in-Ok-clause-tiles c =
+    subst (λ (b : List ℕ). OnOk c.open_window.result (CountsTiles b c.args.steps.now c.open_window.new.steps))
+    c.in-Ok.ensures.placement.bytes c.open_window.ensures.tiles
+
+pub returns-in-Ok-clause-blocks : goal.returns-in-Ok-clause-blocks
+returns-in-Ok-clause-blocks c =
+    subst (λ (b : List ℕ). OnOk c.open_window.result (CountsBlocks b c.args.steps.now c.open_window.new.steps))
+    c.in-Ok.ensures.placement.bytes c.open_window.ensures.blocks

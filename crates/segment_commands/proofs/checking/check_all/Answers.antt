@@ -1,9 +1,10 @@
 -- One more file was checked: its lines went out, or the output failed.
 use Rattle.std.proofs.Common.{ap, map, refl, Ok, ◌∙◌}
+use Rattle.std.proofs.lemmas.List.{take_all}
 use Rattle.std.proofs.lemmas.Result.{err_from_is_err_and}
 use Rattle.segment_commands.specs.Checking.{worse}
-use Rattle.segment_commands.proofs.checking.Files.{going_lost, going_more, none_going, paths-more, paths-rest}
-use Rattle.segment_commands.proofs.checking.Files.{unfit_heard}
+use Rattle.segment_commands.proofs.checking.Files.{going_done, going_kept, going_lost, going_more, none_going}
+use Rattle.segment_commands.proofs.checking.Files.{paths-more, paths-rest, unfit_heard}
 use Rattle.segment_commands.proofs.checking.check_all.Goals as goal
 
 pub returns-in_err-tell_fit : goal.returns-in_err-tell_fit
@@ -40,3 +41,19 @@ files-preserved g c =
           (paths-more (λ file. file.now) c.args.files.now c.files.file-index _ c.files-test.true)
           (c.max-worst.ensures ∙ ap (worse c.files.worst) c.status_in.ensures);
     }
+
+pub returns : goal.returns
+returns g c = going_done g.D.Disk.step g.O.Sink.history g.O.Output.flushes c.args.disk.now
+    (g.E.Sink.history c.args.err.now) c.args.out.now c.args.is_quiet c.files.disk (g.E.Sink.history c.files.err)
+    c.files.out c.flush.new.self c.files.said (map (λ file. file.now) c.args.files.now) c.files.worst
+    (let all = take_all c.files.file-index c.args.files.now c.files-test.false in rw all at c.files.invariant.going)
+    c.in_ok-flush.ensures.unchanged c.in_ok-flush.ensures.flush
+
+pub returns-in_err-flush : goal.returns-in_err-flush
+returns-in_err-flush g c =
+    let from = c.from_residual-in_err-flush in let p = err_from_is_err_and from.result from.ensures.1 in
+    rw (p.1, p.2) (going_kept g.D.Disk.step g.O.Sink.history g.O.Output.flushes c.args.disk.now
+    (g.E.Sink.history c.args.err.now) c.args.out.now c.args.is_quiet c.files.disk (g.E.Sink.history c.files.err)
+    c.files.out c.flush.new.self c.files.said (map (λ file. file.now) c.args.files.now) c.files.worst
+    (let all = take_all c.files.file-index c.args.files.now c.files-test.false in rw all at c.files.invariant.going)
+    c.in_err-flush.ensures.unchanged c.in_err-flush.ensures.flush)

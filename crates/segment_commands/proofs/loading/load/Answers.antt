@@ -1,24 +1,24 @@
 use Rattle.std.proofs.Common.{rules, inl, inr, refl}
 use Rattle.std.proofs.lemmas.Result.{err_from_is_err_and}
-use Rattle.segment_commands.proofs.changing.Outcome.{not_written, same_fault, written_whole}
+use Rattle.segment_commands.proofs.changing.Outcome.{image_written, write_fault}
 use Rattle.segment_commands.proofs.loading.Loads.{unmade}
 use Rattle.segment_commands.proofs.loading.load.Goals as goal
 
 pub returns-clause-effect : goal.returns-clause-effect
-returns-clause-effect g c = inr (inr (record {
+returns-clause-effect g c = rw c.written.ensures (inr (inr (record {
   found = c.path_status.result;
   free = search rules;
   looked = c.path_status.new.self;
   asked = c.path_status.ensures;
   segment = c.in_ok-segment.segment;
   made = c.in_ok-segment.ensures;
-  writes = written_whole g.D.Disk.step c.path_status.new.self c.write_new.new.disk _ c.args.path.now
-      c.in_ok-segment.segment.cut.bytes c.in_ok-write_new.ensures;
-  answer = λ fault e. absurd (cc);
-}))
+  writes = image_written g.D.Disk.step c.path_status.new.self c.write_made.new.disk _ c.args.path.now
+      c.in_ok-segment.segment.cut.bytes c.write_made.result c.write_made.ensures;
+  answer = write_fault c.write_made.result;
+})))
 
 pub returns-clause-success : goal.returns-clause-success
-returns-clause-success g c = record {
+returns-clause-success g c = rw c.written.ensures (record {
   loads = λ text r f.
       inr (inr (record {
         found = c.path_status.result;
@@ -27,11 +27,11 @@ returns-clause-success g c = record {
         asked = c.path_status.ensures;
         segment = c.in_ok-segment.segment;
         made = c.in_ok-segment.ensures;
-        writes = written_whole g.D.Disk.step c.path_status.new.self c.write_new.new.disk _ c.args.path.now
-            c.in_ok-segment.segment.cut.bytes c.in_ok-write_new.ensures;
-        answer = λ fault e. absurd (cc);
+        writes = image_written g.D.Disk.step c.path_status.new.self c.write_made.new.disk _ c.args.path.now
+            c.in_ok-segment.segment.cut.bytes c.write_made.result c.write_made.ensures;
+        answer = write_fault c.write_made.result;
       }));
-}
+})
 
 pub returns-in_err-segment-clause-success : goal.returns-in_err-segment-clause-success
 returns-in_err-segment-clause-success g c =
@@ -43,36 +43,4 @@ returns-in_err-segment-clause-success g c =
             c.in_err-segment.field-0.0 text c.in_err-segment.ensures r f,
         refl,
       ));
-    })
-
-pub returns-in_err-write_new-clause-effect : goal.returns-in_err-write_new-clause-effect
-returns-in_err-write_new-clause-effect g c =
-    let from = c.from_residual-in_err-write_new in let p = err_from_is_err_and from.result from.ensures.1 in
-    rw (p.1, p.2) (inr (inr (record {
-      found = c.path_status.result;
-      free = search rules;
-      looked = c.path_status.new.self;
-      asked = c.path_status.ensures;
-      segment = c.in_ok-segment.segment;
-      made = c.in_ok-segment.ensures;
-      writes = not_written g.D.Disk.step c.path_status.new.self c.write_new.new.disk _ c.args.path.now
-          c.in_ok-segment.segment.cut.bytes c.in_err-write_new.field-0.0 _ c.in_err-write_new.ensures;
-      answer = λ fault e. same_fault _ fault e;
-    })))
-
-pub returns-in_err-write_new-clause-success : goal.returns-in_err-write_new-clause-success
-returns-in_err-write_new-clause-success g c =
-    let from = c.from_residual-in_err-write_new in let p = err_from_is_err_and from.result from.ensures.1 in
-    rw (p.1, p.2) (record {
-      loads = λ text r f. inr (inr (record {
-        found = c.path_status.result;
-        free = search rules;
-        looked = c.path_status.new.self;
-        asked = c.path_status.ensures;
-        segment = c.in_ok-segment.segment;
-        made = c.in_ok-segment.ensures;
-        writes = not_written g.D.Disk.step c.path_status.new.self c.write_new.new.disk _ c.args.path.now
-            c.in_ok-segment.segment.cut.bytes c.in_err-write_new.field-0.0 _ c.in_err-write_new.ensures;
-        answer = λ fault e. same_fault _ fault e;
-      }));
     })

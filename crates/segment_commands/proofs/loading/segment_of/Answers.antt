@@ -1,5 +1,5 @@
-use Rattle.std.proofs.Common.{◌≤◌, length, min, arith}
-use Rattle.segment_commands.proofs.loading.Loads.{refused-fits}
+use Rattle.std.proofs.Common.{◌≤◌, length, min, arith, inl}
+use Rattle.segment_commands.proofs.loading.Loads.{refused-fits, roomy-for}
 use Rattle.segment_commands.proofs.loading.segment_of.Goals as goal
 
 pub returns-clause-creation : goal.returns-clause-creation
@@ -12,3 +12,21 @@ returns-clause-creation c = λ f.
     absurd (refused-fits c.args.text.now (length c.in_ok-region.region) c.args.size (length c.bytes_mut.result.now)
     c.wanted_size.result c.in-Err.refused c.in_ok-region.ensures.room wide c.wanted_size.ensures.size_request
     c.in-Err.ensures.success f)
+
+pub returns-clause-load : goal.returns-clause-load
+returns-clause-load c =
+    let len = c.bytes_mut.ensures.len in
+    let capacity = c.capacity-capacity.ensures.capacity in
+    let room = c.in_ok-room.ensures.room in
+    inl (record {
+      region = c.in_ok-region.region;
+      roomy = roomy-for c.args.size c.wanted_size.result c.in_ok-region.region c.wanted_size.ensures.request
+          c.in_ok-region.ensures.room;
+      room = length c.bytes_mut.result.now;
+      wide = omega (arith, len, capacity, room);
+      cause = c.in-Err.refused.cause;
+      why = c.in-Err.ensures.completion.why;
+      needed = c.needed_by.result;
+      needs = c.needed_by.ensures;
+      fault_is = c.fault_of.ensures;
+    })

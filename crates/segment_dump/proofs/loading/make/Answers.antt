@@ -1,6 +1,6 @@
 use Rattle.segment_dump.proofs.loading.make.Goals as goal
 use Rattle.segment_dump.proofs.{Common.length, Common.refl, loading.Judgement.back-some, loading.Judgement.judged}
-use Rattle.segment_dump.proofs.{loading.Judgement.wrong-why}
+use Rattle.segment_dump.proofs.{loading.Judgement.unlacking, loading.Judgement.wrong-why}
 use Rattle.segment_dump.proofs.loading.Success.{good-judged, good-no_front, good-unbuilt, good-uncreated}
 
 pub returns-in-Err-clause-completion : goal.returns-in-Err-clause-completion
@@ -45,3 +45,18 @@ returns-clause-success c =
     c.make_objects.result
     c.read_front.result c.create.result c.new-lines.ensures c.read_front.ensures c.in-Ok.is c.declared_size.ensures
     c.asked_size-asked.ensures.value c.create.ensures c.in-Ok-create.is c.make_objects.ensures _ c.judge.ensures.success
+
+-- ---- what is lacking
+
+pub returns-in-Err-clause-exact : goal.returns-in-Err-clause-exact
+returns-in-Err-clause-exact c = unlacking c.args.text.now (length c.args.region) c.args.base c.args.size
+    (length c.args.room.now) c.args.counted c.bad_dump.result c.bad_dump.ensures
+
+pub returns-in-Err-create-clause-exact : goal.returns-in-Err-create-clause-exact
+returns-in-Err-create-clause-exact c = unlacking c.args.text.now (length c.args.region) c.args.base c.args.size
+    (length c.args.room.now) c.args.counted c.not_created.result.cause c.not_created.ensures.cause
+
+pub returns-in-Err-make_objects-clause-exact : goal.returns-in-Err-make_objects-clause-exact
+returns-in-Err-make_objects-clause-exact c =
+    rw c.let_go.ensures.cause (unlacking c.args.text.now (length c.args.region) c.args.base c.args.size
+    (length c.args.room.now) c.args.counted c.cause_of.result c.cause_of.ensures)

@@ -71,3 +71,11 @@ module _ (S : Type 0) {A : Type 0} {gives : S → Option A → S → Type 0} {ca
             ∙ ap (spelled k) (sym more)) (HasBytesAt-append (bytes_of c.bytes) from (spelled k zs) bytes front
             (subst (λ p. HasBytesAt (bytes_of c.bytes) p bytes) place w.content));
       }
+
+-- what holds of each item holds of those that may come
+pub always-holds : {S A : Type 0} (steps : S → Option A → S → Type 0) (P : A → Type 0) (s : S) → ((x : A) → P x)
+    → HoldsAlong steps s (AllByRecursion P)
+always-holds {S = S} {A = A} steps P s each xs t ran = every xs where
+  every : (xs : List A) → AllByRecursion P xs
+  every [] = tt
+  every (x ∷ xs) = (each x, every xs)

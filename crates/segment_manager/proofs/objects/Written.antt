@@ -1,4 +1,6 @@
 -- A number of the object of a key is written: what the bytes denote then, and that it is the step.
+use Rattle.segment_manager.specs.Keeping.{ChangesElement}
+use Rattle.std.specs.Prelude.{IfOk}
 use Rattle.segment_manager.proofs.Common as common
 use Rattle.seg_types.specs.Commands as asked
 use common.{◌≡◌, refl, sym, ap, subst, ◌∙◌, ℕ, zero, suc, ◌+◌, ◌*◌, ◌<◌, ◌≤◌, ℤ, Bool, true, false, Some, None, Ok, Err}
@@ -139,3 +141,12 @@ stores-number {s} {t} view b {new} {key} k i {p} z may v f there c w = answered 
           (p.handle + p.at) n) (ap (λ (bs : List ℕ). length bs) f ∙ spelling-length k z) c)
           (subst (HasBytesAt (bytes_of new.bytes) (p.handle + p.at)) f w);
     }))))
+
+-- no byte changes but those of the element that is found
+pub changes-element : {s t : SegmentState} (view : s ≡ t) {new : WindowState} (key : Key) (k : ScalarKind) (i : ℕ)
+    {p : Place} {n : ℕ} → n ≡ size_of k → AnswersWith t (λ d. place_at d key k i) (Ok p)
+    → ChangesBytes current s.cut new (p.handle + p.at) n → ChangesElement t (record s { cut = new }) key k i
+changes-element {s} {t} view {new} key k i {p} long there c d said =
+    let stays = λ (u : SegmentState) (q : Place). SameBytesExcept (bytes_of u.cut.bytes) (bytes_of new.bytes)
+    (q.handle + q.at) in subst (λ r. IfOk r (λ (q : Place). stays t q (size_of k))) (there.answers d said)
+    (subst (λ (u : SegmentState). stays u p (size_of k)) view (subst (stays s p) long c.rest))

@@ -6,6 +6,7 @@ use Rattle.segment_manager.proofs.objects.NewKeys.{key-seeks, key-short, key-sor
 use Rattle.segment_manager.proofs.objects.KeyCalls.{place-below, found-answers, segment-index}
 use Rattle.segment_manager.proofs.{objects.Here.has-object, indexes.HeldIndexes.denotes-sorted_index}
 use Rattle.segment_manager.proofs.{objects.ItemCalls.none-items, objects.ItemCalls.shaped-key}
+use Rattle.segment_manager.proofs.{objects.Filling.always-holds}
 use Rattle.segment_manager.specs.objects.Items.{FindsOrTakesIn, TakesItemsIn}
 use Rattle.segment_manager.proofs.objects.finding_or_taking.find_or_take.Goals as goal
 
@@ -85,3 +86,7 @@ returns g c = λ key n.
     subst (FindsOrTakesIn gives whole old new key k count before after) (sym c.counted.ensures)
     (made-items_or_none _ gives whole key k count before c.take_items.result
     (no-objects c.args.index c.args.entry c.in-Absent.place key c.args.name.now (Scalar k) n away) done)
+
+pub take_items-requires-clause-kind_fit : goal.take_items-requires-clause-kind_fit
+take_items-requires-clause-kind_fit g c =
+    always-holds g.I.Iterator.next_gives _ c.args.items.now (λ item. sym c.kind-kind.ensures)

@@ -2,7 +2,7 @@
 use Rattle.segment_manager.proofs.Common.{exit-is, refl, sym, ap, subst, ◌∙◌, length, List, ℕ, Ok, Err, AnswersWith}
 use Rattle.segment_manager.proofs.{blocks.Blocks.spelling-length, objects.Stored.place-room}
 use Rattle.segment_manager.proofs.{directory.CommandSteps.refuses_of_kind-read_only, objects.Written.stores-nothing}
-use Rattle.segment_manager.proofs.{objects.Written.stores-number}
+use Rattle.segment_manager.proofs.{objects.Written.stores-number, objects.Written.changes-element}
 use Rattle.segment_manager.specs.objects.Standing.{place_at}
 use Rattle.segment_manager.proofs.segment.Segment.set.Goals as goal
 
@@ -38,3 +38,10 @@ returns-clause-step g c = (stores-number c.self.view_is c.self.invariant g.T.Sca
     (subst (λ k. AnswersWith c.args.self.now (λ d. place_at d (g.O.ObjectRef.key c.args.key.now) k c.args.index)
     (Ok c.in_ok-target.target)) c.kind.ensures c.in_ok-target.ensures) c.write-2.ensures.changes
     c.write-2.ensures.content).step
+
+pub returns-clause-element : goal.returns-clause-element
+returns-clause-element g c = changes-element c.self.view_is (g.O.ObjectRef.key c.args.key.now) g.T.Scalar.kind
+    c.args.index (ap (λ (bs : List ℕ). length bs) (c.write.ensures.bytes ∙ g.met.T.Scalar.spelled c.args.value)
+    ∙ spelling-length g.T.Scalar.kind (g.T.Scalar.whole c.args.value))
+    (subst (λ k. AnswersWith c.args.self.now (λ d. place_at d (g.O.ObjectRef.key c.args.key.now) k c.args.index)
+    (Ok c.in_ok-target.target)) c.kind.ensures c.in_ok-target.ensures) c.write-2.ensures.changes

@@ -1,7 +1,8 @@
 -- The last value is taken out of the vector that is found.
 use Rattle.segment_manager.proofs.segment.Segment.vec_pop.Goals as goal
 use Rattle.segment_manager.proofs.{containers.Safely.told-gaps, Common.Vector, Common.ap, Common.refl}
-use Rattle.segment_manager.proofs.{containers.ToChange.not-changed, containers.ScalarTypes.of-vector}
+use Rattle.segment_manager.proofs.{containers.ToChange.told-unchanged, containers.ScalarTypes.of-vector}
+use Rattle.best_fit.proofs.Laws.{gaps-refl}
 use Rattle.segment_manager.proofs.containers.VectorAnswers.{some-vector, vector-popped, pop-gaps}
 
 pub pop-requires : goal.pop-requires
@@ -12,9 +13,9 @@ pub invariant_of-self : goal.invariant_of-self
 invariant_of-self g c = (vector-popped (of-vector g.met.T.Scalar) c.self.view_is _ c.kind.ensures c.at.ensures
     c.self.invariant c.in_ok-place.ensures.at _ c.in_ok-place.ensures.writing _ c.pop.ensures).segment
 
-pub returns-in_err-place-clause-step : goal.returns-in_err-place-clause-step
-returns-in_err-place-clause-step g c =
-    not-changed _ _ _ (ap Vector c.kind.ensures) c.from_residual.ensures.1 refl c.in_err-place.ensures
+pub returns-in_err-place : goal.returns-in_err-place
+returns-in_err-place g c = told-unchanged _ _ _ (ap Vector c.kind.ensures) c.from_residual.ensures.1 refl
+    c.in_err-place.ensures (gaps-refl _)
 
 pub returns : goal.returns
 returns g c = told-gaps (vector-popped (of-vector g.met.T.Scalar) c.self.view_is _ c.kind.ensures c.at.ensures

@@ -26,6 +26,7 @@ module _ (s : SegmentState) (list : Directory
       → first + n ≤ length (list d)
   range-there fits = λ d st. subst (λ m. first + n ≤ m) (many.answers d st) (leb-true (first + n) len fits)
 
+  -- a range that the list has is read
   pub range-read : (zs : List ℤ) → nat_le (first + n) len ≡ true
       → ((d : Directory) → DenotesCurrent s.cut.bytes d → zs ≡ take n (drop first (list d)))
       → AnswersWith s (λ d. range_of (list d) first n) (Ok zs)
@@ -36,6 +37,7 @@ module _ (s : SegmentState) (list : Directory
         (ap (nat_le (first + n)) (sym (many.answers d st)) ∙ fits));
   }
 
+  -- a range that the list does not have is refused
   pub range-refused : nat_le (first + n) len ≡ false → AnswersWith s (λ d. range_of (list d) first n) (Err OutOfRange)
   range-refused short = record {
     answers = λ d st. sym (ap (λ b. if b then Ok (take n (drop first (list d))) else Err OutOfRange)
@@ -73,11 +75,13 @@ module _ (s : SegmentState) (o : Located) (l : IsLocated s (ByHandle o.handle) o
       ap (λ zs. range_of zs first n) (its-numbers d (ByHandle o.handle) o.kind p.object p.is (sym (kind-here d st)))
       ∙ sym (told-here d st true row)
 
+  -- what a range of its row is answered is read of such an object
   pub row-reads : (r : Result (List ℤ) Refusal) → is_row k o.kind ≡ true
       → AnswersWith s (λ d. range_of (row_of o d) first n) r
       → AnswersWith s (λ d. range_at d (ByHandle o.handle) k first n) r
   row-reads r row a = record { answers = λ d st. a.answers d st ∙ row-range d st row }
 
+  -- an object of another kind has no row
   pub no-reads : is_row k o.kind ≡ false → AnswersWith s (λ d. range_at d (ByHandle o.handle) k first n) (Err WrongKind)
   no-reads row = record { answers = λ d st. sym (told-here d st false row) }
 

@@ -184,7 +184,7 @@ as_program (Ok Whole) = Ok tt
 as_program (Ok Refused) = Err Stopped
 as_program (Err fault) = Err (Session fault)
 
--- what the saving behind a whole run answered, as a run answers it
+-- the result of a run whose script ended, by the result of its save
 abbrev pub as_saved : {E : Type 0} → Result (Unit {0}) E → Result End SessionFault
 as_saved (Ok done) = Ok Whole
 as_saved (Err why) = Err WriteFault

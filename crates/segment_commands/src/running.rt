@@ -87,7 +87,7 @@ fn is_whole(ended: Result<End, SessionFault>) -> bool
     }
 }
 
-/// Returns what the saving behind a whole run answered, as a run answers it.
+/// Returns the result of a run whose script ended, by the result of its save.
 fn saved(answer: Result<(), DeviceFault>) -> Result<End, SessionFault>
     ensures { result ≡ as_saved answer }
 {

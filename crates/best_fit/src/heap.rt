@@ -131,8 +131,8 @@ impl Heap {
     /// Returns the header's word at `at`: a multiple of 8 below 128, and not 24.
     pub fn header_word(&self, at: u64) -> u64
         requires aligned { at % 8 ≡ 0 }
-        requires subtree { at < HEADER_LEN }
-        requires peer { at ≢ FREE_TREE_ROOT }
+        requires in_range { at < HEADER_LEN }
+        requires unreserved { at ≢ FREE_TREE_ROOT }
         ensures { result ≡ word_at (bytes_of self.now.bytes) at }
     {
         self.gaps.window.read_u64(at)
@@ -141,8 +141,8 @@ impl Heap {
     /// Writes the header's word at `at`: a multiple of 8 below 128, and not 24.
     pub fn set_header_word(&mut self, at: u64, value: u64)
         requires aligned { at % 8 ≡ 0 }
-        requires subtree { at < HEADER_LEN }
-        requires peer { at ≢ FREE_TREE_ROOT }
+        requires in_range { at < HEADER_LEN }
+        requires unreserved { at ≢ FREE_TREE_ROOT }
         ensures changes { ChangesBytes current self.old self.new at 8 }
         ensures word { word_at (bytes_of self.new.bytes) at ≡ value }
     {

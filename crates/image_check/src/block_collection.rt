@@ -72,7 +72,7 @@ fn add_all(window: &ImageWindow, blocks: &mut BlockTable, visits: &mut VisitCoun
 fn add(blocks: &mut BlockTable, tile: Tile, visits: &mut VisitCounter)
     requires max_size { tile.offset + 16 < 2 ^ 32 }
     requires max_len { tile.len < 2 ^ 32 }
-    requires subtree { AreBelow blocks.old.entries (tile.offset + 16) }
+    requires order { AreBelow blocks.old.entries (tile.offset + 16) }
     requires room { length (option_to_list (entry_of tile)) ≤ blocks.old.room }
     ensures entries { blocks.new.entries ≡ blocks.old.entries ++ option_to_list (entry_of tile) }
     ensures room { blocks.old.room ≤ blocks.new.room + length (option_to_list (entry_of tile)) }

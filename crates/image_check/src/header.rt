@@ -88,7 +88,7 @@ pub(crate) fn judge_front(versions: AcceptedVersions, front: &[u8]) -> Result<u6
 /// Returns the place of the first byte that is not the magic's, of bytes that do not begin with it.
 fn other_place(front: &[u8]) -> Offset
     requires min_len { 24 ≤ length front.now }
-    requires peer { has_magic front.now ≡ false }
+    requires magic { has_magic front.now ≡ false }
     ensures { IsFirstOther front.now (codes "MSEGFILE") result }
 {
     'bytes: for at in 0..SPELLED.len() {

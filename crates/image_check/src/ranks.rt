@@ -110,8 +110,9 @@ fn follows(
 /// Tells whether the key of an object stands before that of another, both of the class.
 fn precedes(window: &ImageWindow, class: u64, one: Object, other: Object) -> bool
     requires max_size { length window.now.bytes < 2 ^ 63 }
-    requires single { one.at + 16 + name_len_at (bytes_of window.now.bytes) one.at ≤ length window.now.bytes }
-    requires peer { other.at + 16 + name_len_at (bytes_of window.now.bytes) other.at ≤ length window.now.bytes }
+    requires first_in_bounds { one.at + 16 + name_len_at (bytes_of window.now.bytes) one.at ≤ length window.now.bytes }
+    requires second_in_bounds { other.at + 16 + name_len_at (bytes_of window.now.bytes) other.at
+        ≤ length window.now.bytes }
     ensures { result ≡ key_before class (bytes_of window.now.bytes) one.at other.at }
 {
     if class == NAMED {

@@ -62,7 +62,7 @@ pub fn all_lead(w: &Window, at: u64, n: u64) -> bool
 pub fn shift(w: &mut Window, at: u64, n: u64, by: Places)
     requires aligned { at % 8 ≡ 0 }
     requires source { at + 8 * n ≤ length w.old.bytes }
-    requires unchanged { StaysInside at by }
+    requires in_range { StaysInside at by }
     requires target { moved_to at by + 8 * n ≤ length w.old.bytes }
     requires links { AreValidLinks (bytes_of w.old.bytes) at n }
     ensures len { length w.new.bytes ≡ length w.old.bytes }
@@ -87,7 +87,7 @@ pub fn shift(w: &mut Window, at: u64, n: u64, by: Places)
 pub fn shift_non_null(w: &mut Window, at: u64, n: u64, by: Places)
     requires aligned { at % 8 ≡ 0 }
     requires source { at + 8 * n ≤ length w.old.bytes }
-    requires unchanged { StaysInside at by }
+    requires in_range { StaysInside at by }
     requires target { moved_to at by + 8 * n ≤ length w.old.bytes }
     requires links { AllLinksLead (bytes_of w.old.bytes) at n }
     ensures len { length w.new.bytes ≡ length w.old.bytes }

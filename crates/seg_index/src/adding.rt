@@ -57,7 +57,7 @@ impl Index {
     /// Takes the entry at a place out. Those after it stand one place before; the block stays.
     pub fn remove(self, heap: &mut Heap, place: u64)
         requires index { HasIndex heap.old (place_of self) }
-        requires subtree { place < entry_count heap.old (place_of self) }
+        requires in_range { place < entry_count heap.old (place_of self) }
         ensures index { (t : ATable) (handles : List ℕ) → IsIndexOf heap.old (place_of self) t handles
             → IsIndexOf heap.new (place_of self) t (remove handles place) }
         ensures sorted { (t : ATable) (handles : List ℕ) → IsSortedIndex heap.old self t handles

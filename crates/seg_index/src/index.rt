@@ -66,7 +66,7 @@ impl Index {
     /// Returns the handle that the entry with `i` others before it leads to.
     pub fn at(self, heap: &Heap, i: u64) -> u64
         requires index { HasIndex heap.now (place_of self) }
-        requires subtree { i < entry_count heap.now (place_of self) }
+        requires in_range { i < entry_count heap.now (place_of self) }
         ensures { (t : ATable) (handles : List ℕ) → IsIndexOf heap.now (place_of self) t handles
             → slice_get handles i ≡ Some result }
     {

@@ -14,7 +14,7 @@ pub fn search(comparisons: &mut ComparisonCounter<'_>, count: u64) -> Lookup
     requires keys { AreKeys comparisons.old.heap.now comparisons.old.block count comparisons.old.key }
     requires max_count { count < 2 ^ 40 }
     requires front { comparisons.old.front ≡ key_front comparisons.old.key }
-    requires absent { comparisons.old.count ≡ 0 }
+    requires fresh { comparisons.old.count ≡ 0 }
     ensures place { FindsPositionIn (bytes_of comparisons.old.heap.now.bytes) comparisons.old.key comparisons.old.block
         count result }
     ensures count { comparisons.new.count ≤ bits count }

@@ -200,7 +200,7 @@ fn read_found<K: Plain, V: Plain>(
 fn with_key<K: Plain>(heap: &Heap, node: Option<u64>, key: K, steps: &mut Steps) -> Option<u64>
     requires { IfSome node (λ n. IsTrue (has_room (live_of heap.now.bytes) n (16 + K.SIZE))) }
     ensures node { result ≡ option_and_then (node_with K.Plain (bytes_of heap.now.bytes) key) node }
-    ensures unchanged { IfSome result (λ n. node ≡ Some n) }
+    ensures result { IfSome result (λ n. node ≡ Some n) }
     ensures value { IfSome result (λ n. K.is_value key ≡ true) }
     ensures steps { steps.new ≡ steps.old + reading_steps node }
 {

@@ -19,7 +19,7 @@ pub fn set_words(heap: &mut Heap, place: Place, storage: Option<u64>, count: u64
     requires heap { IsHeap current heap.old.bytes }
     requires aligned { place.at % 8 ≡ 0 }
     requires room { IsTrue (has_room (live_of heap.old.bytes) place.handle (place.at + 24)) }
-    requires even { IfSome storage (λ target. target % 16 ≡ 0) }
+    requires target_aligned { IfSome storage (λ target. target % 16 ≡ 0) }
     ensures { SetsWords heap.old heap.new place storage count }
 {
     heap.set_link(place.handle, place.at, storage);
@@ -74,7 +74,7 @@ pub fn set_storage(heap: &mut Heap, place: Place, array: u64, n: u64)
     requires heap { IsHeap current heap.old.bytes }
     requires aligned { place.at % 8 ≡ 0 }
     requires room { IsTrue (has_room (live_of heap.old.bytes) place.handle (place.at + 24)) }
-    requires even { array % 16 ≡ 0 }
+    requires target_aligned { array % 16 ≡ 0 }
     ensures { SetsStorage heap.old heap.new place array n }
 {
     heap.set_link(place.handle, place.at, Some(array));
@@ -125,8 +125,8 @@ pub fn capacity_for_one(len: u64, capacity: u64) -> u64
 
 /// Returns the capacity that a container has for so many elements more.
 pub fn capacity_for_more(len: u64, more: u64, capacity: u64) -> u64
-    requires need { len + more < 18446744073709551616 }
-    requires repeat { 2 * capacity < 18446744073709551616 }
+    requires no_overflow { len + more < 18446744073709551616 }
+    requires max_value { 2 * capacity < 18446744073709551616 }
     ensures { result ≡ places_for_more len more capacity }
 {
     if len + more <= capacity {

@@ -114,7 +114,7 @@ impl<T: Plain> SegVec<T> {
     pub fn overwrite(self, heap: &mut Heap, first: u64, values: &[T]) -> Result<(), Refusal>
         requires { IsSomeVector T.SIZE T.is_value T.spelling heap.old.bytes self.place }
         ensures sets { SetsAll T.SIZE T.is_value T.spelling heap.old heap.new self.place first values.now result }
-        ensures absent { length values.now ≡ 0 → heap.new ≡ heap.old }
+        ensures noop { length values.now ≡ 0 → heap.new ≡ heap.old }
     {
         let len = self.len(heap);
         let more = values.len() as u64;

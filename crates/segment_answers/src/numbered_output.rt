@@ -131,7 +131,7 @@ impl<O: Output> NumberedOutput<O> {
         requires room { self.old.failures < 2 ^ 64 - 1 }
         requires start { has_number self.old.spot ≡ true }
         requires non_empty { 0 < length line.now }
-        requires single { (k : ℕ) → k < length line.now → is_in_text true (take k line.now) ≡ true }
+        requires line { (k : ℕ) → k < length line.now → is_in_text true (take k line.now) ≡ true }
         ensures count { IfOk result (λ n. n ≤ length line.now) }
         ensures bytes { IfOk result (λ n. self.new.plain.history.bytes ≡ self.old.plain.history.bytes
             ++ take n line.now) }

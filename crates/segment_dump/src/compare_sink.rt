@@ -104,7 +104,7 @@ impl<'a> Sink for CompareSink<'a> {
 /// Tells whether a text goes on with these bytes after its first `at`.
 fn goes_on(text: &[u8], at: usize, bytes: &[u8]) -> bool
     requires { at ≤ length text.now }
-    ensures unchanged { OnTrue result (take (at + length bytes.now) text.now ≡ take at text.now ++ bytes.now) }
+    ensures on_true { OnTrue result (take (at + length bytes.now) text.now ≡ take at text.now ++ bytes.now) }
     ensures in_bounds { OnTrue result (at + length bytes.now ≤ length text.now) }
 {
     let (_, behind) = text.split_at(at);
@@ -117,9 +117,9 @@ fn goes_on(text: &[u8], at: usize, bytes: &[u8]) -> bool
 
 /// Returns how many bytes two slices have in common, from the first on.
 fn common(some: &[u8], other: &[u8]) -> usize
-    ensures non_empty { result ≤ length some.now }
-    ensures peer { result ≤ length other.now }
-    ensures unchanged { take result some.now ≡ take result other.now }
+    ensures first_in_bounds { result ≤ length some.now }
+    ensures second_in_bounds { result ≤ length other.now }
+    ensures front { take result some.now ≡ take result other.now }
     ensures difference { IsOther (drop result some.now) (slice_get other.now result) }
 {
     'bytes: for index in 0..some.len() {

@@ -12,8 +12,8 @@ use segment_manager::Segment;
 ///
 /// If it is not: how many of its bytes, from the first on, are those of the segment. No clause says that number.
 pub fn compare(segment: &Segment, size: u64, text: &[u8]) -> Result<(), usize>
-    ensures unchanged { OnOk result (IsDumpOf segment.now size text.now) }
-    ensures peer { OnErr result (IsNoDumpOf segment.now size text.now) }
+    ensures on_ok { OnOk result (IsDumpOf segment.now size text.now) }
+    ensures on_error { OnErr result (IsNoDumpOf segment.now size text.now) }
 {
     let mut out = CompareSink::new(text);
     match dump_as(segment, size, &mut out) {

@@ -33,7 +33,7 @@ fn is_note(line: &[u8]) -> bool
     requires { is_line line.now ≡ true }
     ensures note { result ≡ true → are_notes true line.now ≡ true }
     ensures non_empty { result ≡ true → 0 < length line.now }
-    ensures peer { result ≡ false → 0 < length line.now → are_notes true line.now ≡ false }
+    ensures complete { result ≡ false → 0 < length line.now → are_notes true line.now ≡ false }
 {
     if line.is_empty() {
         return false;

@@ -10,7 +10,7 @@ use raw_region::{DeviceFault, Source};
 fn keep(front: &mut [u8; FRONT], kept: usize, bytes: &[u8]) -> Option<usize>
     requires { kept ≤ 24 }
     ensures in_bounds { IfSome result (λ n. n ≤ 24) }
-    ensures unchanged { IfSome result (λ n. take n front.new ≡ take kept front.old ++ bytes.now) }
+    ensures contents { IfSome result (λ n. take n front.new ≡ take kept front.old ++ bytes.now) }
     ensures count { IfSome result (λ n. n ≡ kept + length bytes.now) }
     ensures full { result ≡ None → 24 < kept + length bytes.now }
 {

@@ -54,7 +54,7 @@ fn read_whole<S: Source>(
     reader: &mut S,
 ) -> Result<Vec<u8>, OpenFault>
     requires start { IsReadUpTo (S.history reader.old) front.now }
-    requires non_empty { 24 ≤ said }
+    requires min_size { 24 ≤ said }
     ensures reading { MatchResult result (λ text. IsWhole said (S.history reader.new) text.items)
         (IsWhyNotWhole said (S.history reader.new)) }
     ensures history { AppendsBytes (S.history reader.old).bytes (S.history reader.new).bytes }
@@ -82,7 +82,7 @@ pub(crate) fn read_on<S: Source>(
     reader: &mut Headed<S>,
 ) -> Result<Vec<u8>, OpenFault>
     requires front { IsFrontGiven (S.history reader.old.inner) }
-    requires non_empty { 24 ≤ size_word (S.history reader.old.inner).bytes }
+    requires min_size { 24 ≤ size_word (S.history reader.old.inner).bytes }
     ensures reading { MatchResult result
         (λ text. IsWhole (size_word (S.history reader.old.inner).bytes) (S.history reader.new.inner) text.items)
         (IsWhyNotWhole (size_word (S.history reader.old.inner).bytes) (S.history reader.new.inner)) }

@@ -32,7 +32,7 @@ pub fn reads_change_nothing()
 /// States how a step goes for a call that answers less than its command prints. It is refused for the reason that it
 /// answers, and a refused step leaves the directory.
 pub fn steps_lead_on()
-    ensures link_target { StepsLeadOn }
+    ensures step { StepsLeadOn }
     ensures changes { PoppedTextsLeadOn }
     ensures refused { RefusedCallsStay }
 {}

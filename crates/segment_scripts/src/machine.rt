@@ -62,7 +62,7 @@ pub trait Machine {
         out: &mut W,
     ) -> Result<Answered, DeviceFault>
         requires { (W.history out.old).failures < 2 ^ 64 - 1 }
-        ensures link_target { (place : Place) → stands self.old place
+        ensures step { (place : Place) → stands self.old place
             → stands self.new (respond place line.now).1 }
         ensures output { WritesFor (W.history out.old) (W.history out.new) result (stands self.old)
             (λ place. (respond place line.now).0) }

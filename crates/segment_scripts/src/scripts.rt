@@ -45,7 +45,7 @@ fn answer_next<M: Machine, W: Sink, F: RunObserver<W>>(
     follower: &mut F,
 ) -> Result<Answered, DeviceFault>
     requires { (W.history out.old).failures < 2 ^ 64 - 1 }
-    ensures link_target { (place : M.Place) → M.stands machine.old place
+    ensures step { (place : M.Place) → M.stands machine.old place
         → M.stands machine.new (M.respond place line.now).1 }
     ensures output { WritesFor (W.history out.old) (W.history out.new) result (M.stands machine.old)
         (λ place. (M.respond place line.now).0) }
@@ -65,13 +65,13 @@ fn answer_ended<M: Machine, W: Sink, F: RunObserver<W>>(
     follower: &mut F,
 ) -> Result<Answered, DeviceFault>
     requires { (W.history out.old).failures < 2 ^ 64 - 1 }
-    ensures link_target { (place : M.Place) → M.stands machine.old place
+    ensures step { (place : M.Place) → M.stands machine.old place
         → M.stands machine.new (M.respond place (take 4098 (line.old ++ end.now))).1 }
     ensures output { WritesFor (W.history out.old) (W.history out.new) result (M.stands machine.old)
         (λ place. (M.respond place (take 4098 (line.old ++ end.now))).0) }
     ensures report { (place : M.Place) → M.stands machine.old place
         → Tells result (M.refuses place (take 4098 (line.old ++ end.now))) }
-    ensures links { line.new ≡ [] }
+    ensures empty { line.new ≡ [] }
 {
     if line.is_empty() {
         return answer_next(machine, scratch, end, out, follower);

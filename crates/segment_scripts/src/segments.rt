@@ -126,7 +126,7 @@ fn answer_push<W: Sink>(
     }
 }
 
-/// Answers `insert_in_order`, with what stands after it.
+/// Answers `put`, with what stands after it.
 #[inline(never)]
 fn answer_put<W: Sink>(
     segment: &mut Segment,

@@ -19,8 +19,8 @@ impl Heap {
     /// Returns where the header's link at `at` leads: a multiple of 8 below 128, and not 24.
     pub fn header_link(&self, at: u64) -> Option<u64>
         requires aligned { at % 8 ≡ 0 }
-        requires subtree { at < HEADER_LEN }
-        requires peer { at ≢ FREE_TREE_ROOT }
+        requires in_range { at < HEADER_LEN }
+        requires unreserved { at ≢ FREE_TREE_ROOT }
         ensures { result ≡ link_at (bytes_of self.now.bytes) at }
     {
         load(&self.gaps.window, at)
@@ -29,8 +29,8 @@ impl Heap {
     /// Makes the header's link at `at`, a multiple of 8 below 128 and not 24, lead to a multiple of 16, or nowhere.
     pub fn set_header_link(&mut self, at: u64, to: Option<u64>)
         requires aligned { at % 8 ≡ 0 }
-        requires subtree { at < HEADER_LEN }
-        requires peer { at ≢ FREE_TREE_ROOT }
+        requires in_range { at < HEADER_LEN }
+        requires unreserved { at ≢ FREE_TREE_ROOT }
         requires target { IfSome to (λ target. target % 16 ≡ 0) }
         ensures changes { ChangesBytes current self.old self.new at 8 }
         ensures link_target { link_at (bytes_of self.new.bytes) at ≡ to }
@@ -135,7 +135,7 @@ fn way(source: u64, target: u64) -> Places
     requires source_aligned { source % 8 ≡ 0 }
     requires target_aligned { target % 8 ≡ 0 }
     ensures reach { moved_to source result ≡ target }
-    ensures unchanged { StaysInside source result }
+    ensures in_range { StaysInside source result }
 {
     if target >= source {
         Places::Up((target - source) / 8)

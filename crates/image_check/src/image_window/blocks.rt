@@ -181,7 +181,7 @@ impl BlockTable {
     /// Adds a block at `target`, after all others, to those of which there is room for one more. One visit.
     pub(crate) fn add(&mut self, target: u64, block: Block, visits: &mut VisitCounter)
         requires max_size { target < 2 ^ 32 }
-        requires subtree { AreBelow self.old.entries target }
+        requires order { AreBelow self.old.entries target }
         requires room { 0 < self.old.room }
         ensures entries { self.new.entries ≡ self.old.entries ++ (target, block) ∷ [] }
         ensures room { self.old.room ≤ self.new.room + 1 }

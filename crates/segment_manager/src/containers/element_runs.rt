@@ -70,7 +70,7 @@ fn read_run(heap: &Heap, object: Object) -> Result<ElementRun, Refusal>
 /// Returns the elements in the storage of the container whose three words stand at `at` in the block of a handle.
 fn storage_run(heap: &Heap, handle: u64, at: u64, kind: ScalarKind) -> ElementRun
     requires aligned { at % 8 ≡ 0 }
-    requires near_end { at ≤ 4096 }
+    requires max_value { at ≤ 4096 }
     requires room { IsTrue (has_room (live_of heap.now.bytes) handle (at + 24)) }
     ensures offset { result.offset ≡ unwrap_or (link_at (bytes_of heap.now.bytes) (handle + at)) 0 }
     ensures count { result.count ≡ word_at (bytes_of heap.now.bytes) (handle + (at + 8)) }

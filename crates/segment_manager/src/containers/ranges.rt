@@ -31,7 +31,7 @@ impl Segment {
         ensures step { WritesRange self.old self.new (O.key key.now) T.kind first (map T.whole values.now)
             (done_answer result) }
         ensures refused { OnErr result (self.new ≡ self.old) }
-        ensures absent { length values.now ≡ 0 → self.new ≡ self.old }
+        ensures noop { length values.now ≡ 0 → self.new ≡ self.old }
         ensures frame { OnOk result (ChangesRange self.old self.new (O.key key.now) T.kind first (length values.now)) }
     {
         if self.is_read_only() {
@@ -57,7 +57,7 @@ impl Segment {
         ensures step { WritesRange self.old self.new (ByHandle object.now.handle) T.kind first (map T.whole values.now)
             (done_answer result) }
         ensures refused { OnErr result (self.new ≡ self.old) }
-        ensures absent { length values.now ≡ 0 → self.new ≡ self.old }
+        ensures noop { length values.now ≡ 0 → self.new ≡ self.old }
     {
         let place = object.container(Kind::Vector(T::kind()))?;
         SegVec::<T>::at(place).overwrite(&mut self.heap, first, values)
@@ -72,11 +72,11 @@ impl Segment {
     ) -> Result<(), Refusal>
         requires object { IsLocated self.old (ByHandle object.now.handle) object.now }
         requires writing { is_read_only self.old.mode ≡ false }
-        requires peer { (k : AnyScalarKind) → object.now.kind ≡ VectorOf k → ⊥ }
+        requires kind { (k : AnyScalarKind) → object.now.kind ≡ VectorOf k → ⊥ }
         ensures step { WritesRange self.old self.new (ByHandle object.now.handle) T.kind first (map T.whole values.now)
             (done_answer result) }
         ensures refused { OnErr result (self.new ≡ self.old) }
-        ensures absent { length values.now ≡ 0 → self.new ≡ self.old }
+        ensures noop { length values.now ≡ 0 → self.new ≡ self.old }
         ensures frame { OnOk result (ChangesRange self.old self.new (ByHandle object.now.handle) T.kind first
             (length values.now)) }
     {

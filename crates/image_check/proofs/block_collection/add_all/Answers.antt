@@ -32,8 +32,8 @@ add-requires-clause-max_len c =
     let small = legal-small (length w.bytes) c.requires.tiles.size in
     omega arith
 
-pub add-requires-clause-subtree : goal.add-requires-clause-subtree
-add-requires-clause-subtree c =
+pub add-requires-clause-order : goal.add-requires-clause-order
+add-requires-clause-order c =
     let w = c.args.window.now in
     gathering-below w c.args.visits.now c.tiles.visits c.args.blocks.now.room c.tiles.blocks.room c.tiles.blocks.entries
     c.read-here.result

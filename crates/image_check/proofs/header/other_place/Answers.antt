@@ -16,4 +16,4 @@ all-magic b h = eq-eqb (word_at (bytes_of b) 0) magic_number (ap (little_number 
 
 pub returns : goal.returns
 returns c = absurd (true≢false (sym (all-magic c.args.front.now (λ i lt. c.bytes.invariant.same i (omega
-    (arith, c.bytes-test.false, lt)))) ∙ c.requires.peer))
+    (arith, c.bytes-test.false, lt)))) ∙ c.requires.magic))

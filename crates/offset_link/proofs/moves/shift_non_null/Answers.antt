@@ -17,7 +17,7 @@ pub returns-in-Down-clause-lead : goal.returns-in-Down-clause-lead
 returns-in-Down-clause-lead c =
     let at = c.args.at in let n = c.args.n in let to = at - 8 * c.in-Down.places in
     let inside : to + 8 * n ≤ length c.args.w.now.bytes = rw c.in-Down.is at c.requires.target in
-    let stays : 8 * c.in-Down.places ≤ at = rw c.in-Down.is at c.requires.unchanged in
+    let stays : 8 * c.in-Down.places ≤ at = rw c.in-Down.is at c.requires.in_range in
     rw c.in-Down.is (lent_leads c.args.w.now.bytes c.bytes_mut-bytes.result.now c.move_down.new.bytes
     c.size-size.result at to n c.size-size.ensures c.size-size.type_inv
     c.bytes_mut-bytes.ensures.bytes c.move_down.ensures inside (omega (arith, c.requires.aligned))

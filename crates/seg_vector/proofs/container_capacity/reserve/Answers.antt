@@ -12,7 +12,7 @@ set_storage-requires c =
     let s = c.requires.container.1.1.1 in
     let r = given-of c.args.n c.len_of.result c.link_of-storage.result s c.link_of-storage.ensures c.len_of.ensures
     c.in-Ok.ensures in let run = grown-run s r in
-    record { heap = run.heap; aligned = s.aligned; room = head-room run.head; even = come-aligned r }
+    record { heap = run.heap; aligned = s.aligned; room = head-room run.head; target_aligned = come-aligned r }
 
 pub returns-then-n-capacity_of : goal.returns-then-n-capacity_of
 returns-then-n-capacity_of c len t bytes s =

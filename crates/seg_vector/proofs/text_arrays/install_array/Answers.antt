@@ -14,7 +14,7 @@ link_of-requires-clause-room c = head-room (ready c.requires).run.head
 pub set_storage-requires-2 : goal.set_storage-requires-2
 set_storage-requires-2 c =
     let r = c.requires in let q = (ready r).run in
-    record { heap = q.heap; aligned = r.texts.aligned; room = head-room q.head; even = ready-even r }
+    record { heap = q.heap; aligned = r.texts.aligned; room = head-room q.head; target_aligned = ready-even r }
 
 pub move_elements_down-requires : goal.move_elements_down-requires
 move_elements_down-requires c =
@@ -36,7 +36,7 @@ set_storage-requires c =
       heap = laid-heap _ _ d.live;
       aligned = r.texts.aligned;
       room = changed-room _ _ _ _ _ c.args.place.handle (c.args.place.at + 24) d (head-room (ready r).run.head);
-      even = ready-even r;
+      target_aligned = ready-even r;
     }
 
 pub deallocate-requires : goal.deallocate-requires

@@ -2,22 +2,22 @@ use Rattle.segment_dump.proofs.Common.{sym, subst, ◌∙◌, false≢true, Writ
 use Rattle.segment_dump.proofs.comparing.Comparison.{is-written, never-fails, owed-alike}
 use Rattle.segment_dump.proofs.comparing.compare.Goals as goal
 
-pub returns-then-has_all-clause-unchanged : goal.returns-then-has_all-clause-unchanged
-returns-then-has_all-clause-unchanged c = record {
+pub returns-then-has_all-clause-on_ok : goal.returns-then-has_all-clause-on_ok
+returns-then-has_all-clause-on_ok c = record {
   is = λ d st. is-written c.args.text.now (dump_text c.args.size (portable d)) c.new-out.result c.dump_as.new.out
       c.in-Ok.field-0 c.new-out.ensures (c.in-Ok.ensures.writes d st) c.if-has_all.ensures.every;
 }
 
-pub returns-else-has_all-clause-peer : goal.returns-else-has_all-clause-peer
-returns-else-has_all-clause-peer c = record {
+pub returns-else-has_all-clause-on_error : goal.returns-else-has_all-clause-on_error
+returns-else-has_all-clause-on_error c = record {
   is_not = λ d st e.
       let all = owed-alike c.args.text.now (dump_text c.args.size (portable d)) c.new-out.result c.dump_as.new.out
       c.in-Ok.field-0 c.new-out.ensures c.if-has_all.ensures.known_size (c.in-Ok.ensures.writes d st) e in
       false≢true (sym c.if-has_all.false ∙ c.has_all.ensures.totality all);
 }
 
-pub returns-in-Err-clause-peer : goal.returns-in-Err-clause-peer
-returns-in-Err-clause-peer c = record {
+pub returns-in-Err-clause-on_error : goal.returns-in-Err-clause-on_error
+returns-in-Err-clause-on_error c = record {
   is_not = λ d st e.
       never-fails c.args.text.now c.new-out.result c.dump_as.new.out c.new-out.ensures c.alike-in-Err.ensures _
       c.in-Err.field-0 c.in-Err.is

@@ -4,5 +4,6 @@ use Rattle.segment_dump.proofs.{Common.◌==◌, Common.ap, Common.true, Common.
 pub returns-clause-note : goal.returns-clause-note
 returns-clause-note c = λ e. note-told c.args.line.now true c.requires (ap (λ b. b == 0x23) c.if-line-ne35.false) e
 
-pub returns-clause-peer : goal.returns-clause-peer
-returns-clause-peer c = λ e s. note-told c.args.line.now false c.requires (ap (λ b. b == 0x23) c.if-line-ne35.false) e
+pub returns-clause-complete : goal.returns-clause-complete
+returns-clause-complete c = λ e s. note-told c.args.line.now false c.requires
+    (ap (λ b. b == 0x23) c.if-line-ne35.false) e

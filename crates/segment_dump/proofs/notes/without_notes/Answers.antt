@@ -7,7 +7,7 @@ returns-then-not-is_note c =
     let at = c.last_line_at.ensures in
     let other : 0 < length c.notes.left.now → are_notes true (drop c.last_line_at.result c.notes.left.now) ≡ false =
     λ s. subst (λ l. are_notes true l ≡ false) c.split_at.ensures.back
-    (c.is_note.ensures.peer c.if-not-is_note.true (omega (arith, at.some s, c.split_at.ensures.back_len))) in
+    (c.is_note.ensures.complete c.if-not-is_note.true (omega (arith, at.some s, c.split_at.ensures.back_len))) in
     sym (kept-whole c.notes.left.now c.last_line_at.result at other) ∙ c.notes.invariant
 
 pub notes-preserved : goal.notes-preserved

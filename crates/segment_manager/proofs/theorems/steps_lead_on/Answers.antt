@@ -5,7 +5,7 @@ use Rattle.segment_manager.proofs.theorems.steps_lead_on.Goals as goal
 
 pub returns : goal.returns
 returns c = record {
-  link_target = step-leads;
+  step = step-leads;
   changes = λ old new key result h. result-leads TextElement (λ bytes. refl) (Pop key) result h;
   refused = refused-stays;
 }

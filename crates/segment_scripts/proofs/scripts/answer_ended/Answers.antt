@@ -4,11 +4,11 @@ use Rattle.segment_scripts.specs.Refusing.{Tells}
 use Rattle.segment_scripts.proofs.runs.AnswersSoFar.{whole_line}
 use Rattle.segment_scripts.proofs.scripts.answer_ended.Goals as goal
 
-pub returns-then-is_empty-clause-link_target : goal.returns-then-is_empty-clause-link_target
-returns-then-is_empty-clause-link_target g c = λ place s.
+pub returns-then-is_empty-clause-step : goal.returns-then-is_empty-clause-step
+returns-then-is_empty-clause-step g c = λ place s.
     subst (λ (r : List ℕ × g.M.Machine.Place). g.M.Machine.stands c.answer_next.new.machine r.1)
     (whole_line g.M.Machine.respond g.met.M.Machine.long_lines place c.args.line.now c.args.end.now
-    (sym c.is_empty.ensures ∙ c.if-is_empty.true)) (c.answer_next.ensures.link_target place s)
+    (sym c.is_empty.ensures ∙ c.if-is_empty.true)) (c.answer_next.ensures.step place s)
 
 pub returns-then-is_empty-clause-output : goal.returns-then-is_empty-clause-output
 returns-then-is_empty-clause-output g c = record {

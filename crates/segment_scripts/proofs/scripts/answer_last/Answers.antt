@@ -17,7 +17,7 @@ returns-in_err-answered-clause-on_error g c =
     (g.W.Sink.history c.answer_next.new.out).bytes
     (same_line g.M.Machine.respond start before read (Stands c.args.machine.now) c.args.line.now
     c.as_slice-last.result.now (g.W.Sink.history c.args.out.now).bytes h.behind c.as_slice-last.ensures)
-    (sym c.is_empty.ensures ∙ c.if-not-is_empty.true) err.link_target (λ p s. (err.output.writes p s).err))
+    (sym c.is_empty.ensures ∙ c.if-not-is_empty.true) err.step (λ p s. (err.output.writes p s).err))
 
 pub returns-then-is_stop-clause-on_ok : goal.returns-then-is_stop-clause-on_ok
 returns-then-is_stop-clause-on_ok g c = λ start before read h.
@@ -31,7 +31,7 @@ returns-then-is_stop-clause-on_ok g c = λ start before read h.
     (g.W.Sink.history c.args.out.now).bytes (g.W.Sink.history c.answer_next.new.out).bytes
     (same_on g.M.Machine.respond stops start before read (Stands c.args.machine.now) c.args.line.now
     c.as_slice-last.result.now (g.W.Sink.history c.args.out.now).bytes h c.as_slice-last.ensures)
-    (sym c.is_empty.ensures ∙ c.if-not-is_empty.true) ok.link_target (λ p s. (ok.output.writes p s).ok)
+    (sym c.is_empty.ensures ∙ c.if-not-is_empty.true) ok.step (λ p s. (ok.output.writes p s).ok)
     (λ p s. ap (λ b. may_stop until && b) (sym (ok.report p s)) ∙ sym c.is_stop.ensures ∙ c.if-is_stop.true)
 
 pub returns-else-is_stop-clause-on_ok : goal.returns-else-is_stop-clause-on_ok
@@ -46,7 +46,7 @@ returns-else-is_stop-clause-on_ok g c = λ start before read h.
     (g.W.Sink.history c.args.out.now).bytes (g.W.Sink.history c.answer_next.new.out).bytes
     (same_on g.M.Machine.respond stops start before read (Stands c.args.machine.now) c.args.line.now
     c.as_slice-last.result.now (g.W.Sink.history c.args.out.now).bytes h c.as_slice-last.ensures)
-    (sym c.is_empty.ensures ∙ c.if-not-is_empty.true) ok.link_target (λ p s. (ok.output.writes p s).ok)
+    (sym c.is_empty.ensures ∙ c.if-not-is_empty.true) ok.step (λ p s. (ok.output.writes p s).ok)
     (λ p s. ap (λ b. may_stop until && b) (sym (ok.report p s)) ∙ sym c.is_stop.ensures ∙ c.if-is_stop.false)
 
 pub returns-else-not-is_empty-clause-on_ok : goal.returns-else-not-is_empty-clause-on_ok

@@ -20,7 +20,7 @@ returns-in_err-answered-clause-on_error g c =
     (Stands c.answer_ended.new.machine)
     c.lines.line (g.W.Sink.history c.lines.out).bytes (g.W.Sink.history c.answer_ended.new.out).bytes
     (c.lines.invariant.behind start before read h)
-    (first_end c.lines.rest.now c.in-Some.len c.in-Some.ensures.0 c.in-Some.ensures.1) was.link_target
+    (first_end c.lines.rest.now c.in-Some.len c.in-Some.ensures.0 c.in-Some.ensures.1) was.step
     c.lines.invariant.parts (λ p s. (was.output.writes p s).err))
 
 pub returns-then-is_stop-clause-on_ok : goal.returns-then-is_stop-clause-on_ok
@@ -34,7 +34,7 @@ returns-then-is_stop-clause-on_ok g c = λ start before read h.
     (Stands c.answer_ended.new.machine)
     c.lines.line (g.W.Sink.history c.lines.out).bytes (g.W.Sink.history c.answer_ended.new.out).bytes
     (c.lines.invariant.behind start before read h)
-    (first_end c.lines.rest.now c.in-Some.len c.in-Some.ensures.0 c.in-Some.ensures.1) ok.link_target
+    (first_end c.lines.rest.now c.in-Some.len c.in-Some.ensures.0 c.in-Some.ensures.1) ok.step
     c.lines.invariant.parts (λ p s. (ok.output.writes p s).ok)
     (λ p s. ap (λ b. may_stop until && b) (sym (ok.report p s)) ∙ sym c.is_stop.ensures ∙ c.if-is_stop.true)
 
@@ -57,9 +57,9 @@ lines-preserved g c =
           (Stands c.answer_ended.new.machine)
           c.lines.line (g.W.Sink.history c.lines.out).bytes (g.W.Sink.history c.answer_ended.new.out).bytes
           (c.lines.invariant.behind start before read h)
-          ends ok.link_target c.answer_ended.new.line (λ p s. (ok.output.writes p s).ok)
+          ends ok.step c.answer_ended.new.line (λ p s. (ok.output.writes p s).ok)
           (λ p s. ap (λ b. may_stop until && b) (sym (ok.report p s)) ∙ sym c.is_stop.ensures
-          ∙ c.if-is_stop.false) ok.links;
+          ∙ c.if-is_stop.false) ok.empty;
       failures = omega (arith, ok.output.counted, c.lines.invariant.failures);
     }
 

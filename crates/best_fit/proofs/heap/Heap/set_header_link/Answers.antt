@@ -9,7 +9,7 @@ invariant_of-self c =
     let w = c.self.inside.gaps.window in let e = c.set_link.ensures in let q = c.requires in
     held-same c.self.inside.points c.self.inside.gaps.window.bytes c.set_link.new.window.bytes c.self.invariant.points
     (header_changed w c.set_link.new.window c.args.at c.self.invariant.heap e.place e.len q.aligned
-    q.subtree q.peer e.frame).live
+    q.in_range q.unreserved e.frame).live
 
 pub returns-clause-changes : goal.returns-clause-changes
 returns-clause-changes c =
@@ -17,4 +17,4 @@ returns-clause-changes c =
     let same : c.args.self.now ≡ w = cc in
     subst (λ (v : WindowState). ChangesBytes current v c.set_link.new.window c.args.at 8) (sym same)
     (header_changed w c.set_link.new.window c.args.at c.self.invariant.heap e.place e.len
-    q.aligned q.subtree q.peer e.frame)
+    q.aligned q.in_range q.unreserved e.frame)

@@ -17,5 +17,5 @@ returns g c =
       value = c.with_key.ensures.value;
       root = c.open-pairs.ensures.root;
       exit = exit_is o c.with_key.result c.find_remove_point-way.result.node c.find_remove_point-way.result.exit
-          c.with_key.ensures.unchanged way.exit;
+          c.with_key.ensures.result way.exit;
     }

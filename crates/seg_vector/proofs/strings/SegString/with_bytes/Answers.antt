@@ -7,7 +7,7 @@ set_words-requires c = record {
   heap = laid-heap _ _ c.in_ok-storage.ensures.change.live;
   aligned = c.requires.aligned;
   room = head-still c.args.place c.requires.heap c.requires.room c.in_ok-storage.ensures.change;
-  even = text-even c.in_ok-storage.ensures;
+  target_aligned = text-even c.in_ok-storage.ensures;
 }
 
 pub returns-in_err-storage : goal.returns-in_err-storage

@@ -10,7 +10,7 @@ pub set_words-requires : goal.set_words-requires
 set_words-requires c =
     let still = texts-still c.requires.1.1 c.in_ok-array.ensures.change in
     let x = (c.release.ensures c.requires.0 c.requires.1.0 still).texts in
-    record { heap = x.heap; aligned = x.aligned; room = x.room; even = laid-even c.in_ok-array.ensures }
+    record { heap = x.heap; aligned = x.aligned; room = x.room; target_aligned = laid-even c.in_ok-array.ensures }
 
 pub returns-clause-changes : goal.returns-clause-changes
 returns-clause-changes c =

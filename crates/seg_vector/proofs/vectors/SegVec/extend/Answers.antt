@@ -10,8 +10,8 @@ returns-then-more-gt-MAX_SEGMENT_LEN g c xs t v =
     too-many c.args.heap.now (capacity_for_more (length xs) more t.capacity) v.stands g.met.T.Plain.sizes.0
     (omega (arith, enough, c.if-more-gt-MAX_SEGMENT_LEN.true))
 
-pub capacity_for_more-wanted-requires-clause-need : goal.capacity_for_more-wanted-requires-clause-need
-capacity_for_more-wanted-requires-clause-need g c =
+pub capacity_for_more-wanted-requires-clause-no_overflow : goal.capacity_for_more-wanted-requires-clause-no_overflow
+capacity_for_more-wanted-requires-clause-no_overflow g c =
     let v = c.requires.1.1 in let few = few-places c.args.heap.now g.met.T.Plain.sizes.0 v in
     omega (
       arith,
@@ -21,8 +21,8 @@ capacity_for_more-wanted-requires-clause-need g c =
       c.if-more-gt-MAX_SEGMENT_LEN.false,
     )
 
-pub capacity_for_more-wanted-requires-clause-repeat : goal.capacity_for_more-wanted-requires-clause-repeat
-capacity_for_more-wanted-requires-clause-repeat g c =
+pub capacity_for_more-wanted-requires-clause-max_value : goal.capacity_for_more-wanted-requires-clause-max_value
+capacity_for_more-wanted-requires-clause-max_value g c =
     let v = c.requires.1.1 in let few = few-places c.args.heap.now g.met.T.Plain.sizes.0 v in
     omega (arith, few.1, c.capacity.ensures c.requires.0 c.requires.1.0 v)
 

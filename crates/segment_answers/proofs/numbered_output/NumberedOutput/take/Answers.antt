@@ -11,7 +11,7 @@ invariant_of-self-2 g c =
     let begun : is_in_text false old ≡ true = was.place ∙ c.requires.start in
     let some : 0 < c.in-Ok.taken = search rules in
     let one : (k : ℕ) → k < c.in-Ok.taken → is_in_text true (take k c.args.line.now) ≡ true =
-    λ k h. c.requires.single k (omega (arith, h, c.in-Ok.ensures.count)) in
+    λ k h. c.requires.line k (omega (arith, h, c.in-Ok.ensures.count)) in
     let told = line_text old new c.args.line.now c.in-Ok.taken begun some c.in-Ok.ensures.count one
     c.in-Ok.ensures.bytes in
     record {

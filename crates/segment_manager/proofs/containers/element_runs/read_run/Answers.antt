@@ -12,8 +12,8 @@ storage_run-requires-clause-aligned c =
     (are-words o s _ (c.value_at-at.ensures ∙ ap value_offset said)
     (vector-len c.in-Vector.kind o.value (sym c.in-Vector.is ∙ ap (λ (q : Located). q.kind) said))).whole
 
-pub storage_run-requires-clause-near_end : goal.storage_run-requires-clause-near_end
-storage_run-requires-clause-near_end c =
+pub storage_run-requires-clause-max_value : goal.storage_run-requires-clause-max_value
+storage_run-requires-clause-max_value c =
     let o = c.requires.object.0 in let s = c.requires.object.1 in let said = c.requires.text o s in
     (are-words o s _ (c.value_at-at.ensures ∙ ap value_offset said)
     (vector-len c.in-Vector.kind o.value (sym c.in-Vector.is ∙ ap (λ (q : Located). q.kind) said))).near
@@ -38,8 +38,8 @@ storage_run-requires-in-String-clause-aligned c =
     (are-words o s _ (c.value_at-at.ensures ∙ ap value_offset said)
     (string-len o.value (sym c.in-String.is ∙ ap (λ (q : Located). q.kind) said))).whole
 
-pub storage_run-requires-in-String-clause-near_end : goal.storage_run-requires-in-String-clause-near_end
-storage_run-requires-in-String-clause-near_end c =
+pub storage_run-requires-in-String-clause-max_value : goal.storage_run-requires-in-String-clause-max_value
+storage_run-requires-in-String-clause-max_value c =
     let o = c.requires.object.0 in let s = c.requires.object.1 in let said = c.requires.text o s in
     (are-words o s _ (c.value_at-at.ensures ∙ ap value_offset said)
     (string-len o.value (sym c.in-String.is ∙ ap (λ (q : Located). q.kind) said))).near

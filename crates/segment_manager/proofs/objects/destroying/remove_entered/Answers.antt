@@ -6,8 +6,8 @@ use Rattle.segment_manager.proofs.objects.destroying.remove_entered.Goals as goa
 pub at-handle-requires-clause-index : goal.at-handle-requires-clause-index
 at-handle-requires-clause-index c = entry-index c.requires
 
-pub at-handle-requires-clause-subtree : goal.at-handle-requires-clause-subtree
-at-handle-requires-clause-subtree c = entry-below c.args.heap.now c.requires
+pub at-handle-requires-clause-in_range : goal.at-handle-requires-clause-in_range
+at-handle-requires-clause-in_range c = entry-below c.args.heap.now c.requires
 
 pub release_contents-requires : goal.release_contents-requires
 release_contents-requires c = entry-object c.args.index c.args.place c.at-handle.ensures c.requires
@@ -15,8 +15,8 @@ release_contents-requires c = entry-object c.args.index c.args.place c.at-handle
 pub remove-requires-clause-index : goal.remove-requires-clause-index
 remove-requires-clause-index c = index-still c.at-handle.ensures c.release_contents.ensures c.requires
 
-pub remove-requires-clause-subtree : goal.remove-requires-clause-subtree
-remove-requires-clause-subtree c = below-still c.at-handle.ensures c.release_contents.ensures c.requires
+pub remove-requires-clause-in_range : goal.remove-requires-clause-in_range
+remove-requires-clause-in_range c = below-still c.at-handle.ensures c.release_contents.ensures c.requires
 
 pub deallocate-requires : goal.deallocate-requires
 deallocate-requires c =

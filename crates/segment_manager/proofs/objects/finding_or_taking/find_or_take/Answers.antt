@@ -19,8 +19,8 @@ lookup-requires g c = record {
 pub at-requires-clause-index : goal.at-requires-clause-index
 at-requires-clause-index g c = segment-index c.args.index c.requires.segment
 
-pub at-requires-clause-subtree : goal.at-requires-clause-subtree
-at-requires-clause-subtree g c =
+pub at-requires-clause-in_range : goal.at-requires-clause-in_range
+at-requires-clause-in_range g c =
     place-below c.args.index c.args.entry c.in-Found.place c.requires.segment c.in-Found.ensures.place
 
 pub found_of-requires : goal.found_of-requires

@@ -8,8 +8,8 @@ use Rattle.segment_manager.proofs.segment.Segment.entered.Goals as goal
 pub at-handle-requires-clause-index : goal.at-handle-requires-clause-index
 at-handle-requires-clause-index c = segment-index c.args.index c.self.invariant
 
-pub at-handle-requires-clause-subtree : goal.at-handle-requires-clause-subtree
-at-handle-requires-clause-subtree c = below-count c.self.view_is c.args.index c.self.invariant c.requires
+pub at-handle-requires-clause-in_range : goal.at-handle-requires-clause-in_range
+at-handle-requires-clause-in_range c = below-count c.self.view_is c.args.index c.self.invariant c.requires
 
 pub read_instance-requires-clause-heap : goal.read_instance-requires-clause-heap
 read_instance-requires-clause-heap c =

@@ -10,8 +10,8 @@ lookup-requires c = record { index = denotes-sorted_index c.args.index c.self.in
 pub at-requires-clause-index : goal.at-requires-clause-index
 at-requires-clause-index c = segment-index c.args.index c.self.invariant
 
-pub at-requires-clause-subtree : goal.at-requires-clause-subtree
-at-requires-clause-subtree c =
+pub at-requires-clause-in_range : goal.at-requires-clause-in_range
+at-requires-clause-in_range c =
     place-below c.args.index c.args.entry c.in-Found.place c.self.invariant c.in-Found.ensures.place
 
 pub returns-in-Found : goal.returns-in-Found

@@ -8,7 +8,7 @@ use Rattle.segment_manager.proofs.containers.RangeCalls.{array-short, array-spel
 
 pub returns-then-code-clause-step : goal.returns-then-code-clause-step
 returns-then-code-clause-step g c = array-other c.args.self.now c.args.object.now c.requires.object g.T.Scalar.kind
-    c.args.first (map g.T.Scalar.whole c.args.values.now) c.requires.writing c.requires.peer
+    c.args.first (map g.T.Scalar.whole c.args.values.now) c.requires.writing c.requires.kind
     (array-unlike c.args.object.now c.kind.ensures c.code.ensures c.code-2.ensures c.if-code.true)
 
 pub returns-then-not-has_range-clause-step : goal.returns-then-not-has_range-clause-step

@@ -30,5 +30,5 @@ returns g c =
     record {
       step = d.step;
       refused = d.refused;
-      absent = λ e. (λ i. record { cut = c.overwrite.ensures.absent e i; mode = c.self.inside.mode }) ∙ c.self.view_is;
+      noop = λ e. (λ i. record { cut = c.overwrite.ensures.noop e i; mode = c.self.inside.mode }) ∙ c.self.view_is;
     }

@@ -29,7 +29,7 @@ pub write_in_array-requires : goal.write_in_array-requires
 write_in_array-requires g c = record {
   object = located-here _ _ _ c.in_ok-object.ensures;
   writing = sym c.is_read_only.ensures ∙ c.if-is_read_only.false;
-  peer = c.in_default.not-Vector;
+  kind = c.in_default.not-Vector;
 }
 
 pub returns-in-Vector-clause-step : goal.returns-in-Vector-clause-step

@@ -23,7 +23,7 @@ returns-in-None g c =
     let was = c.args.self.now in
     let same = quiet c.args.line.now c.in-None.ensures in
     record {
-      link_target = quiet_leads was.line was.has_found was.rows.now c.saturating_add-self.result c.args.line.now
+      step = quiet_leads was.line was.has_found was.rows.now c.saturating_add-self.result c.args.line.now
           c.saturating_add-self.ensures same;
       output = quiet_writes was.line was.has_found was.rows.now c.saturating_add-self.result c.args.line.now
           c.saturating_add-self.ensures same Done (g.W.Sink.history c.args.out.now);

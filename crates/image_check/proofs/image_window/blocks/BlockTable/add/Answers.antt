@@ -18,7 +18,7 @@ added c =
     ] in
     let room : 0 < spare map = subst (λ m.
     0 < spare m) (sym same) (subst (λ (v : BlockMap). 0 < v.room) (sym c.self.view_is) c.requires.room) in
-    let below = subst (λ (v : BlockMap). AreBelow v.entries c.args.target) (sym c.self.view_is) c.requires.subtree in
+    let below = subst (λ (v : BlockMap). AreBelow v.entries c.args.target) (sym c.self.view_is) c.requires.order in
     let new = subst (λ m. AreBelow m.entries c.args.target) (sym same) below in
     ok-then c.insert.result _ (c.insert.ensures.succeeds room) c.insert.ensures.entries
     ∙ insert_entry-new nat_eq map c.args.target c.new.result (below-new map.entries c.args.target new)
@@ -27,7 +27,7 @@ added c =
 
 pub invariant_of-self : goal.invariant_of-self
 invariant_of-self c =
-    let below = subst (λ (v : BlockMap). AreBelow v.entries c.args.target) (sym c.self.view_is) c.requires.subtree in
+    let below = subst (λ (v : BlockMap). AreBelow v.entries c.args.target) (sym c.self.view_is) c.requires.order in
     subst AreSortedBlocks (sym (added c))
     (order-push c.self.inside.map.entries c.args.target c.args.block c.requires.max_size c.self.invariant below)
 

@@ -38,7 +38,7 @@ fn mend_red<N: NodesMut>(
     side: Side,
 ) -> Leftover
     requires node { N.is_node visits.old.nodes.now top ≡ true }
-    requires min_weight { child_of side (N.cells visits.old.nodes.now top) ≡ Some heavy }
+    requires child { child_of side (N.cells visits.old.nodes.now top) ≡ Some heavy }
     requires red { (N.cells visits.old.nodes.now heavy).red ≡ true }
     requires no_overflow { visits.old.steps + 20 < 2 ^ 64 }
     ensures repair { (t : Tree) → IsTree (N.cells visits.old.nodes.now) (Some top) t
@@ -175,7 +175,7 @@ fn sink<N: NodesMut>(visits: &mut NodeCursorMut<N>, red: bool, link: Option<u64>
 fn take_least<N: NodesMut>(visits: &mut NodeCursorMut<N>, at: u64) -> Least
     requires node { N.is_node visits.old.nodes.now at ≡ true }
     // So that the way down to it is a step, which pays for what is done there on the way back.
-    requires removal { visits.old.at ≢ Some at }
+    requires exclusive { visits.old.at ≢ Some at }
     requires tree { (t : Tree)
         × IsOrderedTree (N.order visits.old.nodes.now) (N.cells visits.old.nodes.now) (Some at) t
         × (visits.old.steps + 14 * height t + 40 < 2 ^ 64) }

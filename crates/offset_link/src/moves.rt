@@ -206,7 +206,7 @@ fn move_runs_up<const NON_NULL: bool>(
     ahead: usize,
     before: Seen,
 ) -> Seen
-    requires prefix { ahead ≤ at }
+    requires in_range { ahead ≤ at }
     requires in_bounds { at + by + 64 * n ≤ length bytes.old }
     requires places { by % 8 ≡ 0 }
     ensures changes { bytes.new ≡ patched bytes.old (at + by)

@@ -78,7 +78,7 @@ impl Index {
     /// is a comparison of two keys.
     pub fn lookup(self, heap: &Heap, key: Entry<'_>, steps: &mut Steps) -> Lookup
         requires index { HasSortedIndex heap.now self }
-        requires sort { index_of key ≡ self }
+        requires key { index_of key ≡ self }
         ensures place { (t : ATable) (handles : List ℕ) → IsIndexOf heap.now (place_of self) t handles
             → FindsPosition (bytes_of heap.now.bytes) key.entry handles result }
         ensures steps_lower { steps.old ≤ steps.new }

@@ -50,7 +50,7 @@ impl Index {
 
     /// Gives the block of a growth back, and with it the live set from which it was taken.
     pub fn give_back(growth: Growth, heap: &mut Heap, steps: &mut Steps)
-        requires lock { IsLiveGrowth heap.old growth }
+        requires growth { IsLiveGrowth heap.old growth }
         ensures changes { FreesGrowth heap.old heap.new growth.block }
         ensures unchanged { Restores heap.old heap.new growth }
         ensures steps_lower { steps.old ≤ steps.new }

@@ -38,7 +38,7 @@ pub fn element(heap: &Heap, place: Place, each: u64, index: u64) -> &[u8]
 /// Leaves the first `n` elements.
 pub fn truncate(heap: &mut Heap, place: Place, each: u64, n: u64)
     requires container { IsStanding heap.old.bytes place each }
-    requires smaller_count { n ≤ len_at heap.old.bytes place }
+    requires max_count { n ≤ len_at heap.old.bytes place }
     ensures { Truncates heap.old heap.new place each n }
 {
     heap.set_word(place.handle, place.at + LEN_OFFSET, n);

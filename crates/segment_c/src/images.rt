@@ -42,7 +42,7 @@ use std::alloc::Global;
 pub extern "C" fn zx_create(alloc: Global, h: &mut SegmentSlot, size: u64) -> u32
     ensures size { (result ≡ 22) ↔ (is_legal_size size ≡ false) }
     ensures creation { result ≡ 0 → HoldsSegment h.new.segment.value (λ t. CreatesOk (zeros size) 0 size Write t) }
-    ensures default { 1 ≤ result → result ≢ 22 → result ≡ 26 }
+    ensures error { 1 ≤ result → result ≢ 22 → result ≡ 26 }
     ensures unchanged_on_error { 1 ≤ result → h.new.segment.value ≡ h.old.segment.value }
     ensures marks { PlacesSegment result h.old.marks h.new.marks false }
 {

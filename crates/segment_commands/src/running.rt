@@ -70,8 +70,8 @@ pub fn run<D: Disk, S: Source, O: LineOutput>(
 /// its place.
 fn can_be_read<S: Source>(script: &mut S) -> bool
     requires { (S.history script.old).failures < 2 ^ 64 - 1 }
-    ensures possible { result ≡ true → S.history script.new ≡ S.history script.old }
-    ensures impossible { result ≡ false → (S.history script.new).failures ≡ (S.history script.old).failures + 1 }
+    ensures on_true { result ≡ true → S.history script.new ≡ S.history script.old }
+    ensures on_false { result ≡ false → (S.history script.new).failures ≡ (S.history script.old).failures + 1 }
 {
     script.read(&mut []).is_ok()
 }

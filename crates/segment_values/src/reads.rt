@@ -85,7 +85,7 @@ fn copy_row<T: Scalar>(
     row: &mut [T],
 )
     requires row { HasRow segment.now _object.now T.kind run }
-    requires presence { first + length row.old ≤ run.count }
+    requires in_bounds { first + length row.old ≤ run.count }
     ensures { (d : Directory) → DenotesCurrent segment.now.cut.bytes d
         → map T.whole row.new ≡ take (length row.old) (drop first (row_of _object.now d)) }
 {

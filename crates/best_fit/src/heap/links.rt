@@ -134,7 +134,7 @@ fn move_non_null_to(window: &mut Window, source: u64, target: u64, n: u64)
 fn way(source: u64, target: u64) -> Places
     requires source_aligned { source % 8 ≡ 0 }
     requires target_aligned { target % 8 ≡ 0 }
-    ensures reach { moved_to source result ≡ target }
+    ensures result { moved_to source result ≡ target }
     ensures in_range { StaysInside source result }
 {
     if target >= source {

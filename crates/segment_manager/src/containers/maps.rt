@@ -181,7 +181,7 @@ impl Segment {
             (Put (O.key key.now) (literal_of K.kind (K.whole at)) (literal_of V.kind (V.whole value)))
             (truth_answer result) }
         ensures refused { OnErr result (self.new ≡ self.old) }
-        ensures repeat { ChangesValue self.old self.new (O.key key.now) K.kind (K.whole at) V.kind }
+        ensures overwrite { ChangesValue self.old self.new (O.key key.now) K.kind (K.whole at) V.kind }
     {
         if self.is_read_only() {
             return Err(Refusal::ReadOnly);

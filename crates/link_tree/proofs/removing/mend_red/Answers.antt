@@ -23,7 +23,7 @@ returns-clause-repair g c = λ t w o.
     (g.N.Nodes.cells c.paint.new.visits.nodes.now)
     (g.N.Nodes.cells c.fix_double_red-root.new.visits.nodes.now) (g.N.Nodes.cells c.set_child.new.self.nodes.now)
     c.args.top c.args.heavy c.fix_double_red-root.result c.rotate.result c.child-inner.result t w o
-    c.requires.min_weight
+    c.requires.child
     c.requires.red c.rotate.ensures.rotation c.set_red.ensures.cells
     c.child-inner.ensures.value redden balance (nodes_of-rebalanced side)
     (c.set_child.ensures.cells ∙ ap (λ (x : Side).

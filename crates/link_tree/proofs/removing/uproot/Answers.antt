@@ -45,9 +45,9 @@ returns-in_default-clause-rest g c = λ u w.
     sink_far (strict g.met.N.Nodes s) Right uprooted h (g.N.Nodes.cells c.sink.new.visits.nodes.now) c.args.at
     c.sink.result.root c.sink.result.fell u w (sym r.right_is ∙ c.in_default.is) (λ r x. refl) sink
 
-pub take_least-next-requires-clause-removal : goal.take_least-next-requires-clause-removal
-take_least-next-requires-clause-removal g c = λ k.
-    let r = read g (goal.at.take_least-next-requires-clause-removal g c).After-child in
+pub take_least-next-requires-clause-exclusive : goal.take_least-next-requires-clause-exclusive
+take_least-next-requires-clause-exclusive g c = λ k.
+    let r = read g (goal.at.take_least-next-requires-clause-exclusive g c).After-child in
     let s = c.args.visits.now.nodes.now in
     let right = c.in-Some.right in
     let is_right : (g.N.Nodes.cells s c.args.at).right ≡ Some right = sym r.right_is ∙ c.in-Some.is in

@@ -9,7 +9,7 @@ pub overflow_mul-from : goal.overflow_mul-from
 overflow_mul-from g c =
     let k = g.T.Scalar.kind in let first = c.args.first in
     let within = row-bytes-inside c.args.segment.now c.args._object.now k c.args.run first (length c.args.row.now)
-    c.requires.row c.requires.presence in
+    c.requires.row c.requires.in_bounds in
     let short = c.requires.row.short in
     let same : c.SIZE.result * first ≡ size_of k * first = ap (λ n. n * first) (c.SIZE.ensures ∙ g.met.T.Scalar.size) in
     omega (arith, within, short, same)
@@ -18,7 +18,7 @@ pub overflow_add-from : goal.overflow_add-from
 overflow_add-from g c =
     let k = g.T.Scalar.kind in let first = c.args.first in
     let within = row-bytes-inside c.args.segment.now c.args._object.now k c.args.run first (length c.args.row.now)
-    c.requires.row c.requires.presence in
+    c.requires.row c.requires.in_bounds in
     let short = c.requires.row.short in
     let same : c.SIZE.result * first ≡ size_of k * first = ap (λ n. n * first) (c.SIZE.ensures ∙ g.met.T.Scalar.size) in
     omega (arith, within, short, same)
@@ -27,7 +27,7 @@ pub overflow_mul-len : goal.overflow_mul-len
 overflow_mul-len g c =
     let k = g.T.Scalar.kind in let n = length c.args.row.now in
     let within = row-bytes-inside c.args.segment.now c.args._object.now k c.args.run c.args.first n c.requires.row
-    c.requires.presence in
+    c.requires.in_bounds in
     let short = c.requires.row.short in
     let same : c.SIZE-2.result * n ≡ size_of k * n = ap (λ m. m * n) (c.SIZE-2.ensures ∙ g.met.T.Scalar.size) in
     omega (arith, within, short, same)
@@ -37,7 +37,7 @@ returns g c = λ d st.
     let k = g.T.Scalar.kind in let first = c.args.first in let n = length c.args.row.now in
     let o = c.args._object.now in let run = c.args.run in
     c.read_values.ensures (take n (drop first (row_of o d)))
-    (row-bytes c.args.segment.now o k run first n _ c.requires.row c.requires.presence
+    (row-bytes c.args.segment.now o k run first n _ c.requires.row c.requires.in_bounds
     (slice-part c.as_bytes.ensures.bytes
     (ap (λ m. run.offset + m * first) (c.SIZE.ensures ∙ g.met.T.Scalar.size))
     (ap (λ m. m * n) (c.SIZE-2.ensures ∙ g.met.T.Scalar.size))) d st)

@@ -5,15 +5,15 @@ use Rattle.best_fit.proofs.heap.links.move_non_null_to.Goals as goal
 
 pub shift_non_null-requires-clause-target : goal.shift_non_null-requires-clause-target
 shift_non_null-requires-clause-target c =
-    subst (λ (k : ℕ). k + 8 * c.args.n ≤ length c.args.window.now.bytes) (sym c.way.ensures.reach) c.requires.target
+    subst (λ (k : ℕ). k + 8 * c.args.n ≤ length c.args.window.now.bytes) (sym c.way.ensures.result) c.requires.target
 
 pub returns-clause-lead : goal.returns-clause-lead
 returns-clause-lead c =
     subst (λ (k : ℕ). KeepTargets (bytes_of c.args.window.now.bytes) (bytes_of c.shift_non_null.new.w.bytes)
-    c.args.source k c.args.n) c.way.ensures.reach c.shift_non_null.ensures.lead
+    c.args.source k c.args.n) c.way.ensures.result c.shift_non_null.ensures.lead
 
 pub returns-clause-output : goal.returns-clause-output
 returns-clause-output c =
     subst (λ (k : ℕ). c.shift_non_null.new.w ≡ with_bytes c.args.window.now
     (patched c.args.window.now.bytes k (relinked (bytes_of c.args.window.now.bytes) c.args.source k c.args.n)))
-    c.way.ensures.reach c.shift_non_null.ensures.output
+    c.way.ensures.result c.shift_non_null.ensures.output

@@ -11,7 +11,7 @@ search-result-requires-clause-keys c =
     let p = placed block q.index.index
     (leads_from c.args.heap.now c.header_offset.ensures c.header_link.ensures c.in-Some.is) in
     same_search (λ v k b. AreKeys v b n k) (sym e.heap) (sym e.key) (sym e.block)
-    (keys_given c.args.heap.now c.args.self c.args.key block n q c.requires.sort p c.len.ensures.word)
+    (keys_given c.args.heap.now c.args.self c.args.key block n q c.requires.key p c.len.ensures.word)
 
 pub returns-clause-place : goal.returns-clause-place
 returns-clause-place c = λ t hs i.

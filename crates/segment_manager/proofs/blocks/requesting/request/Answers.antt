@@ -5,9 +5,10 @@ use Rattle.segment_manager.proofs.blocks.requesting.request.Goals as goal
 
 pub give_back-requires : goal.give_back-requires
 give_back-requires c = record {
-  lock = subst (λ (s : WindowState). IfSome c.in_ok-growth.growth.block (λ h. IsTrue (is_live_in (live_of s.bytes) h)))
-      (sym c.in-Err.ensures.answer.same) (growth-held c.args.heap.now c.prepare.new.heap
-      (place_of c.args.index) c.in_ok-growth.growth.block c.in_ok-growth.ensures.growth);
+  growth = subst (λ (s : WindowState). IfSome c.in_ok-growth.growth.block
+      (λ h. IsTrue (is_live_in (live_of s.bytes) h))) (sym c.in-Err.ensures.answer.same)
+      (growth-held c.args.heap.now c.prepare.new.heap (place_of c.args.index) c.in_ok-growth.growth.block
+      c.in_ok-growth.ensures.growth);
 }
 
 pub returns-in-Err : goal.returns-in-Err

@@ -13,7 +13,7 @@ use Rattle.segment_manager.proofs.objects.finding_or_constructing.find_or_constr
 pub lookup-requires : goal.lookup-requires
 lookup-requires g c = record {
   index = denotes-sorted_index c.args.index c.requires.segment.1.denotes;
-  sort = key-sort c.args.index c.args.entry c.requires.key.0 c.args.name.now
+  key = key-sort c.args.index c.args.entry c.requires.key.0 c.args.name.now
       (kind_of (bare (g.F.ObjectInit.content c.args.filling.now))) c.requires.key.1;
 }
 

@@ -13,7 +13,7 @@ use Rattle.segment_manager.proofs.objects.finding_or_taking.find_or_take.Goals a
 pub lookup-requires : goal.lookup-requires
 lookup-requires g c = record {
   index = denotes-sorted_index c.args.index c.requires.segment.1.denotes;
-  sort = key-sort c.args.index c.args.entry c.requires.key.0 c.args.name.now (Scalar g.T.Scalar.kind) c.requires.key.1;
+  key = key-sort c.args.index c.args.entry c.requires.key.0 c.args.name.now (Scalar g.T.Scalar.kind) c.requires.key.1;
 }
 
 pub at-requires-clause-index : goal.at-requires-clause-index

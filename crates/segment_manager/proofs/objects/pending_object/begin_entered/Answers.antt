@@ -6,7 +6,7 @@ use Rattle.segment_manager.proofs.objects.pending_object.begin_entered.Goals as 
 pub lookup-requires : goal.lookup-requires
 lookup-requires c = record {
   index = denotes-sorted_index c.args.index c.requires.segment.1.denotes;
-  sort = key-sort c.args.index c.args.entry c.requires.key.0 c.args.name.now c.args.shape.kind c.requires.key.1;
+  key = key-sort c.args.index c.args.entry c.requires.key.0 c.args.name.now c.args.shape.kind c.requires.key.1;
 }
 
 pub begin_at-requires-clause-index : goal.begin_at-requires-clause-index

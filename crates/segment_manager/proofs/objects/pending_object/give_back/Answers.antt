@@ -10,7 +10,7 @@ pub give_back-requires : goal.give_back-requires
 give_back-requires c =
     let l : WritesUnindexedForEntry c.requires.0 c.args.heap.now c.args.handle c.in-Some.new =
     subst (WritesUnindexedObject c.requires.0 c.args.heap.now c.args.handle) c.in-Some.is c.requires.1 in
-    record { lock = loose-held l c.deallocate.ensures.released }
+    record { growth = loose-held l c.deallocate.ensures.released }
 
 pub returns-in-Some : goal.returns-in-Some
 returns-in-Some c = λ old loose.

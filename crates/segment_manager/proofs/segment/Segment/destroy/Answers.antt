@@ -13,7 +13,7 @@ returns-then-is_read_only-clause-step c = refuses-read_only c.args.self.now (Des
 pub lookup-requires : goal.lookup-requires
 lookup-requires c = record {
   index = denotes-sorted_index c.entry_of-index.result.0 c.self.invariant.1.denotes;
-  sort = seeks-sort c.entry_of-index.result.0 c.entry_of-index.result.1 (index_key_seen c.args.key.now)
+  key = seeks-sort c.entry_of-index.result.0 c.entry_of-index.result.1 (index_key_seen c.args.key.now)
       c.entry_of-index.ensures.search;
 }
 

@@ -4,7 +4,7 @@ use Rattle.segment_manager.proofs.{indexes.HeldIndexes.denotes-sorted_index, obj
 use Rattle.segment_manager.proofs.segment.Segment.listed_under.Goals as goal
 
 pub lookup-requires : goal.lookup-requires
-lookup-requires c = record { index = denotes-sorted_index c.args.index c.self.invariant.1.denotes; sort = c.requires }
+lookup-requires c = record { index = denotes-sorted_index c.args.index c.self.invariant.1.denotes; key = c.requires }
 
 pub returns-in-Found : goal.returns-in-Found
 returns-in-Found c = λ h each. subst

@@ -5,7 +5,7 @@ use Rattle.segment_manager.proofs.objects.KeyCalls.{absent-answers, found-answer
 use Rattle.segment_manager.proofs.segment.Segment.look_up.Goals as goal
 
 pub lookup-requires : goal.lookup-requires
-lookup-requires c = record { index = denotes-sorted_index c.args.index c.self.invariant.1.denotes; sort = c.requires }
+lookup-requires c = record { index = denotes-sorted_index c.args.index c.self.invariant.1.denotes; key = c.requires }
 
 pub at-requires-clause-index : goal.at-requires-clause-index
 at-requires-clause-index c = segment-index c.args.index c.self.invariant

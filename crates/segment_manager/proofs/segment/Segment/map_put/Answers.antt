@@ -52,12 +52,12 @@ returns g c =
     record {
       step = d.step;
       refused = d.refused;
-      repeat = map-again (of-map g.met.K.Scalar) (of-map g.met.V.Scalar) _ _ c.self.view_is _ _ _ c.at.ensures
+      overwrite = map-again (of-map g.met.K.Scalar) (of-map g.met.V.Scalar) _ _ c.self.view_is _ _ _ c.at.ensures
           c.in_ok-place.ensures _ c.args.at c.args.value c.put.result c.put.ensures.effect;
     }
 
-pub returns-then-is_read_only-clause-repeat : goal.returns-then-is_read_only-clause-repeat
-returns-then-is_read_only-clause-repeat g c = λ d l p has. record { at = λ j f. refl }
+pub returns-then-is_read_only-clause-overwrite : goal.returns-then-is_read_only-clause-overwrite
+returns-then-is_read_only-clause-overwrite g c = λ d l p has. record { at = λ j f. refl }
 
-pub returns-in_err-place-clause-repeat : goal.returns-in_err-place-clause-repeat
-returns-in_err-place-clause-repeat g c = λ d l p has. record { at = λ j f. refl }
+pub returns-in_err-place-clause-overwrite : goal.returns-in_err-place-clause-overwrite
+returns-in_err-place-clause-overwrite g c = λ d l p has. record { at = λ j f. refl }

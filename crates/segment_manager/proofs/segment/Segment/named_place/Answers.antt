@@ -5,7 +5,7 @@ use Rattle.segment_manager.proofs.indexes.PartedNames.{first-absent, first-found
 use Rattle.segment_manager.specs.indexes.NamesFrom.{IsFirstFrom}
 
 pub lookup-requires : goal.lookup-requires
-lookup-requires c = record { index = denotes-sorted_index Named c.self.invariant.1.denotes; sort = refl }
+lookup-requires c = record { index = denotes-sorted_index Named c.self.invariant.1.denotes; key = refl }
 
 pub returns-in-Found : goal.returns-in-Found
 returns-in-Found c = subst (λ t. IsFirstFrom t c.args.text.now c.in-Found.place) c.self.view_is

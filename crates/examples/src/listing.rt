@@ -14,10 +14,12 @@ fn fill(segment: &mut Segment, name: &Name) -> Result<u64, Refusal> {
 
 /// Tells what stands first in each index.
 fn tell_the_first(rt: &HostRuntime, segment: &Segment) -> Result<()> {
-    if let Some(first) = segment.named_instances().next() {
+    let first = segment.named_instances().next();
+    if let Some(first) = first {
         println!(rt; "a list: the first name has the handle #{}", first.handle)?;
     }
-    if let Some(only) = segment.unique_instances().next() {
+    let only = segment.unique_instances().next();
+    if let Some(only) = only {
         println!(rt; "a list: the first unique object is of kind {}", only.kind)?;
     }
     Ok(())

@@ -3,13 +3,15 @@ use anyhow::Result;
 use zaluxhoni::{Disk, Mode, Name, Refusal, Segment, named, read};
 
 /// Returns the prices of two articles.
-fn two_prices(shop: &Segment, prices: &Name) -> Result<[Option<i64>; 2], Refusal> {
-    Ok([shop.map_get(prices, 2i32)?, shop.map_get(prices, 4i32)?])
+fn two_prices(shop: &Segment, prices: &Name) -> Result<(Option<i64>, Option<i64>), Refusal> {
+    let second = shop.map_get(prices, 2i32)?;
+    let fourth = shop.map_get(prices, 4i32)?;
+    Ok((second, fourth))
 }
 
 /// Asks a shop for two prices.
 fn tell(rt: &HostRuntime, shop: &Segment) -> Result<()> {
-    let [second, fourth] = two_prices(shop, &named("prices")?)?;
+    let (second, fourth) = two_prices(shop, &named("prices")?)?;
     println!(rt; "a map: article 2 costs {second:?}, article 4 {fourth:?}")?;
     Ok(())
 }

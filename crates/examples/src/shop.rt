@@ -6,9 +6,9 @@ use zaluxhoni::{Disk, Mode, Segment, SegmentFile, named, read};
 fn fill(shop: &mut Segment) -> Result<()> {
     let (prices, basket) = (named("prices")?, named("basket")?);
     shop.find_or_construct_map::<i32, i64, _>(&prices)?;
-    for (article, price) in [(1i32, 250i64), (2, 1999), (3, 75)] {
-        shop.map_put(&prices, article, price)?;
-    }
+    shop.map_put(&prices, 1i32, 250i64)?;
+    shop.map_put(&prices, 2i32, 1999i64)?;
+    shop.map_put(&prices, 3i32, 75i64)?;
     shop.find_or_construct_texts(&basket, &[])?;
     Ok(shop.texts_push(&basket, b"apples")?)
 }

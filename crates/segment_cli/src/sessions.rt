@@ -88,7 +88,7 @@ fn save_segment<W: Sink>(segment: &Segment, image_out: &mut W) -> Result<(), Dev
     ensures failures { (W.history image_out.new).failures
         ≡ (W.history image_out.old).failures + failures_in result }
 {
-    if segment.mode() == Mode::Write {
+    if let Mode::Write = segment.mode() {
         save(segment, image_out)?;
     }
     Ok(())

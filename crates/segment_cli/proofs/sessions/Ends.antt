@@ -1,9 +1,9 @@
 -- Each end of a session is one that it may have.
 use Rattle.std.proofs.Common.{◌≡◌, ℕ, false, true, inl, inr, List, [], ◌++◌, length, take, drop, Result, Ok, Err}
-use Rattle.std.proofs.Common.{MatchResult, refl, sym, ap, subst, ◌∙◌, arith}
-use Rattle.std.proofs.lemmas.List.{take-append-drop, length-drop, drop_all}
+use Rattle.std.proofs.Common.{MatchResult, ◌+◌, ◌≤◌, nat_lt, refl, sym, ap, subst, ◌∙◌, arith}
+use Rattle.std.proofs.lemmas.List.{append-nil, take-append-drop, length-drop, drop_all}
 use Rattle.raw_region.specs.Device.{ReaderHistory, ReadDelta, WriterHistory, WriteDelta, IsProperPrefix, read_delta}
-use Rattle.raw_region.specs.Device.{write_delta}
+use Rattle.raw_region.specs.Device.{write_delta, AppendsBytes, EndsAtMostOnce}
 use Rattle.raw_region.specs.{Answers.AppendsProperPrefix, Format.current}
 use Rattle.raw_region.proofs.Laws.{added}
 use Rattle.segment_manager.specs.declared.modes.Mode.TheVariants.{Write}
@@ -52,6 +52,26 @@ not_written took = record {
   bytes = drop_all (length took.bytes) took.bytes (omega arith);
   failed = none_failed took.failures took.failures refl;
 }
+
+-- bytes that were added come behind those before
+pub appended : (old new b : List ℕ) → new ≡ old ++ b → AppendsBytes old new
+appended old new b e = e ∙ ap (λ (l : List ℕ). old ++ l) (sym (added old new b e))
+
+-- none were added
+pub none_appended : (old : List ℕ) → AppendsBytes old old
+none_appended old = appended old old [] (sym (append-nil old))
+
+-- no failure was counted
+pub none_counted : (old new : ℕ) → new ≡ old + 0 → nat_lt old new ≡ false
+none_counted old new e = none_failed old new (omega arith)
+
+-- a reader that was not asked met no end
+pub none_ended : (gave : ReaderHistory) → EndsAtMostOnce gave gave
+none_ended gave = omega arith
+
+-- nor did it give more than it may
+pub none_beyond : (count limit : ℕ) → count ≤ count + limit + 1
+none_beyond count limit = omega arith
 
 -- a front of the image was added
 pub front_added : (old new image : List ℕ) → AppendsProperPrefix old new image

@@ -1,7 +1,7 @@
-use Rattle.std.proofs.{Common.arith, lemmas.Result.err_from_is_err_and}
+use Rattle.std.proofs.lemmas.Result.{err_from_is_err_and}
 use Rattle.raw_region.proofs.Laws.{added}
-use Rattle.segment_scripts.proofs.Laws.{none_failed, one_failed}
-use Rattle.segment_cli.proofs.sessions.Ends.{front_added, not_written}
+use Rattle.segment_scripts.proofs.Laws.{one_failed}
+use Rattle.segment_cli.proofs.sessions.Ends.{appended, front_added, none_appended, none_counted, not_written}
 use Rattle.segment_cli.proofs.migrations.Outcomes.{migrated, not-migrated, unmigrated}
 use Rattle.segment_cli.proofs.migrations.migrate.Goals as goal
 
@@ -14,7 +14,7 @@ returns-in_err-segment-clause-migration g c =
 pub returns-clause-migration : goal.returns-clause-migration
 returns-clause-migration g c = migrated _ _ _ _ _ c.in_ok-segment.segment c.in_ok-segment.ensures.opening
     c.save.ensures.acceptance (added _ _ _ c.in_ok-save.ensures.output.ok)
-    (none_failed _ _ (let counted = c.in_ok-save.ensures.output.counted in omega arith))
+    (none_counted _ _ c.in_ok-save.ensures.output.counted)
 
 pub returns-in_err-save-clause-migration : goal.returns-in_err-save-clause-migration
 returns-in_err-save-clause-migration g c =
@@ -22,3 +22,21 @@ returns-in_err-save-clause-migration g c =
     rw (p.1, p.2) (unmigrated _ _ _ _ _ c.in_ok-segment.segment c.in_ok-segment.ensures.opening
     c.save.ensures.acceptance (front_added _ _ _ c.in_err-save.ensures.output.err)
     (one_failed _ _ c.in_err-save.ensures.output.counted))
+
+pub returns-in_err-segment-clause-saved_history : goal.returns-in_err-segment-clause-saved_history
+returns-in_err-segment-clause-saved_history g c = none_appended (g.W.Sink.history c.args.image_out.now).bytes
+
+pub returns-clause-saved_history : goal.returns-clause-saved_history
+returns-clause-saved_history g c = appended _ _ _ c.in_ok-save.ensures.output.ok
+
+pub returns-in_err-save-clause-saved_history : goal.returns-in_err-save-clause-saved_history
+returns-in_err-save-clause-saved_history g c = appended _ _ _ c.in_err-save.ensures.output.err.added
+
+pub returns-in_err-segment-clause-image_history : goal.returns-in_err-segment-clause-image_history
+returns-in_err-segment-clause-image_history g c = c.in_err-segment.ensures.history.grows
+
+pub returns-clause-image_history : goal.returns-clause-image_history
+returns-clause-image_history g c = c.in_ok-segment.ensures.history.grows
+
+pub returns-in_err-save-clause-image_history : goal.returns-in_err-save-clause-image_history
+returns-in_err-save-clause-image_history g c = c.in_ok-segment.ensures.history.grows

@@ -1,7 +1,9 @@
-use Rattle.std.proofs.{Common.arith, lemmas.Result.err_from_is_err_and}
+use Rattle.std.proofs.{Common.length, lemmas.Result.err_from_is_err_and}
 use Rattle.raw_region.proofs.Laws.{added}
-use Rattle.segment_scripts.proofs.Laws.{none_failed, one_failed}
-use Rattle.segment_cli.proofs.sessions.Ends.{at_first, first, not_asked, not_written, served, unbegun_session}
+use Rattle.segment_scripts.specs.Lines.{script_limit}
+use Rattle.segment_scripts.proofs.Laws.{one_failed}
+use Rattle.segment_cli.proofs.sessions.Ends.{at_first, first, none_appended, none_beyond, none_counted, none_ended}
+use Rattle.segment_cli.proofs.sessions.Ends.{not_asked, not_written, served, unbegun_session}
 use Rattle.segment_cli.proofs.sessions.Ends.{stopped_session, done_session, unsaved_session}
 use Rattle.segment_cli.proofs.sessions.session.Goals as goal
 
@@ -30,7 +32,7 @@ pub returns-clause-session : goal.returns-clause-session
 returns-clause-session g c = let saved = c.in_ok-save_segment.ensures in
     done_session _ _ _ _ _ c.in_ok-segment.segment c.serve.new.segment tt c.in_ok-segment.ensures.start
     (served _ _ _ _ _ c.in_ok-serve.ensures.service) saved.on_ok (λ writes. added _ _ _ (saved.bytes writes))
-    (none_failed _ _ (let failures = saved.failures in omega (arith, failures)))
+    (none_counted _ _ saved.failures)
 
 pub returns-clause-output_history : goal.returns-clause-output_history
 returns-clause-output_history g c =
@@ -51,3 +53,22 @@ returns-in_err-save_segment-clause-output_history g c =
     let begun = c.in_ok-segment.ensures.start.answers in
     c.serve.ensures.output_history (first c.args.mode begun.from)
     (at_first c.args.mode begun.from c.in_ok-segment.segment begun.mode begun.stands)
+
+pub returns-in_err-segment-clause-script_history : goal.returns-in_err-segment-clause-script_history
+returns-in_err-segment-clause-script_history g c = none_appended (g.S.Source.history c.args.script.now).bytes
+
+pub returns-in_err-segment-clause-output_history : goal.returns-in_err-segment-clause-output_history
+returns-in_err-segment-clause-output_history g c = none_appended (g.O.Sink.history c.args.out.now).bytes
+
+pub returns-in_err-segment-clause-saved_history : goal.returns-in_err-segment-clause-saved_history
+returns-in_err-segment-clause-saved_history g c = none_appended (g.W.Sink.history c.args.image_out.now).bytes
+
+pub returns-in_err-serve-clause-saved_history : goal.returns-in_err-serve-clause-saved_history
+returns-in_err-serve-clause-saved_history g c = none_appended (g.W.Sink.history c.args.image_out.now).bytes
+
+pub returns-in_err-segment-clause-script_end : goal.returns-in_err-segment-clause-script_end
+returns-in_err-segment-clause-script_end g c = none_ended (g.S.Source.history c.args.script.now)
+
+pub returns-in_err-segment-clause-read_limit : goal.returns-in_err-segment-clause-read_limit
+returns-in_err-segment-clause-read_limit g c =
+    none_beyond (length (g.S.Source.history c.args.script.now).bytes) script_limit

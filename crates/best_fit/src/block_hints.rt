@@ -39,7 +39,7 @@ impl BlockHints {
     pub fn insert(&mut self, handle: u64)
         ensures { (h : ℕ) → IsHinted self.new h → (h ≡ handle) ⊎ IsHinted self.old h }
     {
-        if place(self.piece, handle) < self.handles.capacity() {
+        if place(self.piece, handle) < self.handles.len() {
             note(&mut self.handles, self.piece, handle);
         } else {
             self.widen();
@@ -94,7 +94,6 @@ fn note(handles: &mut Notes, piece: u32, handle: u64)
     let known = handles.get(place) as u64;
     if handle <= u32::MAX as u64 {
         if known == 0 || handle < known {
-            handles.reach(place);
             handles.set(place, handle as u32);
         }
     }

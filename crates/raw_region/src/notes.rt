@@ -11,7 +11,7 @@ const MAX_NOTES: u64 = 4096;
 const NOTED_LEN: u64 = 2048;
 
 /// Numbers that whoever has memory keeps beside it: one for 2048 bytes, and at most 4096. Their room comes with the
-/// memory, and no call here asks for more. Without room there are none. A number that was never reached is 0.
+/// memory, and no call here asks for more. Without room there are none.
 #[derive(Drop)]
 pub struct Notes {
     numbers: Option<Vec<u32>>,
@@ -55,12 +55,9 @@ impl Notes {
     {
         let Notes { numbers } = self;
         match numbers {
-            Some(mut room) => {
-                room.clear();
-                Notes {
-                    numbers: Some(room),
-                }
-            }
+            Some(room) => Notes {
+                numbers: Some(filled(room)),
+            },
             None => Notes { numbers: None },
         }
     }
@@ -70,7 +67,7 @@ impl Notes {
         self.numbers.is_none()
     }
 
-    /// Returns the numbers up to the last place that was reached. All after them are 0.
+    /// Returns all numbers.
     pub fn as_slice(&self) -> &[u32]
         ensures { result.now ≡ self.now }
     {
@@ -80,19 +77,11 @@ impl Notes {
         }
     }
 
-    /// Returns how many these are.
+    /// Returns how many there are.
     pub fn len(&self) -> usize
         ensures { result ≡ length self.now }
     {
         self.as_slice().len()
-    }
-
-    /// Returns for how many numbers there is room.
-    pub fn capacity(&self) -> usize {
-        match &self.numbers {
-            Some(numbers) => numbers.capacity(),
-            None => 0,
-        }
     }
 
     /// Returns the number at `at`, or 0 if there are not so many.
@@ -112,18 +101,17 @@ impl Notes {
             numbers[at] = number;
         }
     }
+}
 
-    /// Goes on with zeros, so that there is a number at `at`, if there is room for it. No memory is asked for.
-    pub fn reach(&mut self, at: usize)
-        ensures { (i : ℕ) → slice_index self.new i ≡ slice_index self.old i }
-    {
-        if let Some(numbers) = &mut self.numbers
-            && numbers.len() <= at
-            && at < numbers.capacity()
-        {
-            let _ = numbers.resize(at + 1, 0);
-        }
-    }
+/// Returns as many zeros as there is room for, so that no memory is asked for.
+fn filled(room: Vec<u32>) -> Vec<u32>
+    ensures { (i : ℕ) → slice_index result.items i ≡ 0 }
+{
+    let mut zeros = room;
+    let count = zeros.capacity();
+    zeros.clear();
+    let _ = zeros.resize(count, 0);
+    zeros
 }
 
 /// Returns the number at `at`, or 0 if there are not so many.

@@ -90,8 +90,7 @@ abbrev pub is_kept : List Tile → ℕ → Bool
 is_kept ts k = nat_lt k 128 || lies_behind ts k
 
 -- what lies round the window, its tiles but for the colours of the free ones, the header, the payloads of blocks and
--- the
--- free bytes of gaps
+-- the free bytes of gaps
 pub record GapTreeFrame : Type 0 where
   pub before : List ℕ
   pub after : List ℕ

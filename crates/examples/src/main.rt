@@ -1,5 +1,4 @@
-//! Thirteen short programs over the library, on files in the folder that they run in. Each prints what it found. Where
-//! a
+//! Thirteen short programs over the library, on files in the folder that they run in. Each prints what it found. If a
 //! word is given, the inventory alone runs, on the file that it names.
 #![tactic(auto)]
 

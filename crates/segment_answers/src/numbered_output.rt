@@ -61,12 +61,12 @@ pub struct NumberedOutput<O: Output> {
     spot: LineSpot,
     failures: u64,
     plain: StdSink<PassThrough>,
-    ghost few: { (O.history inner).failures ≤ failures },
-    ghost told: { text_part false (O.history inner).bytes ≡ plain.history.bytes },
+    ghost failures_upper: { (O.history inner).failures ≤ failures },
+    ghost text: { text_part false (O.history inner).bytes ≡ plain.history.bytes },
     ghost place: { is_in_text false (O.history inner).bytes ≡ has_number spot },
-    ghost passing: { plain.history.failures ≡ 0 },
-    ghost broken: { spot ≡ IsBroken → 0 < (O.history inner).failures },
-    ghost faultless: { 0 < failures → 0 < (O.history inner).failures },
+    ghost unbroken: { plain.history.failures ≡ 0 },
+    ghost cause: { spot ≡ IsBroken → 0 < (O.history inner).failures },
+    ghost failures_lower: { 0 < failures → 0 < (O.history inner).failures },
 }
 
 impl<O: Output> NumberedOutput<O> {

@@ -1,6 +1,5 @@
 -- What is noted of the segment of a handle: how often it was changed, whether C lent its memory, and whether C may
--- write
--- elements where they stand.
+-- write elements where they stand.
 use Rattle.std.specs.Prelude.{◌≡◌, ◌≤◌, ℕ, ◌+◌, ◌%◌, Bool, false, true}
 use Rattle.segment_c.specs.declared.segment_slot.Marks.{Marks}
 

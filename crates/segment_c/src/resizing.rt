@@ -74,8 +74,7 @@ fn code_of_growth(why: GrowError) -> u32
 }
 
 /// Moves the segment to the front of a region of `capacity` bytes. Keys and handles stay good. One in memory that C
-/// lent
-/// stays there, with the code 27.
+/// lent stays there, with the code 27.
 #[unsafe(no_mangle)]
 pub extern "C" fn zx_relocate(alloc: Global, h: &mut SegmentSlot, capacity: u64) -> u32
     ensures stop { RefusesArgument (capacity_wrong capacity) result h.old.segment.value h.new.segment.value }

@@ -157,8 +157,7 @@ module _ {D : Type 0} (step : D → Event → D
     pub flushed : Flushed false
 
   -- why the image is not in the file or need not last: another has its name, it could not be made or emptied, writing
-  -- it failed, or all of it
-  -- was written and need not last, or did not take the place of the old one
+  -- it failed, or all of it was written and need not last, or did not take the place of the old one
   abbrev pub LeavesUnsaved : WriteOutcome → Type 0
   LeavesUnsaved Overtaken = IsAnsweredAct act
   LeavesUnsaved NotMade = IsAnsweredAct act

@@ -38,8 +38,7 @@ use Rattle.segment_file.specs.Files.{open_events, failed_open_events}
 -- ---- how much room a segment has
 
 -- the capacity of its region: for as many bytes as the disk tells of its file, or as its image says if these are more,
--- and
--- for so many bytes more
+-- and for so many bytes more
 abbrev pub file_region : ℕ → ℕ → List ℕ → ℕ
 file_region len more image = region_len (max len (size_word image) + more)
 

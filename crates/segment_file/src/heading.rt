@@ -29,12 +29,12 @@ pub(crate) struct Headed<S: Source> {
     kept: usize,
     /// Whether they are all that it gave, and no read failed.
     is_all: bool,
-    ghost within: { kept ≤ 24 },
-    ghost all: { is_all ≡ true → take kept front ≡ (S.history inner).bytes },
+    ghost in_bounds: { kept ≤ 24 },
+    ghost contents: { is_all ≡ true → take kept front ≡ (S.history inner).bytes },
     ghost count: { is_all ≡ true → length (S.history inner).bytes ≡ kept },
     ghost sound: { is_all ≡ true → (S.history inner).failures ≡ 0 },
     // it gave more than 24, or failed
-    ghost lost: { is_all ≡ false → 24 < length (S.history inner).bytes + 25 * (S.history inner).failures },
+    ghost cause: { is_all ≡ false → 24 < length (S.history inner).bytes + 25 * (S.history inner).failures },
 }
 
 impl<S: Source> Headed<S> {

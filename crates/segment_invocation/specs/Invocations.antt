@@ -137,10 +137,8 @@ pub data Origin : Type 0 where
   from_lines : List Text → Origin
 
 -- a file goes by its path; a file that is written may have how it is saved, and how many seconds are waited for it; a
--- run
--- may also have a script, and whether it is strict, and its answers are numbered; a check of all says whether it is
--- quiet;
--- names begin with a text and may be limited; a load has a size or takes the least
+-- run may also have a script, and whether it is strict, and its answers are numbered; a check of all says whether it is
+-- quiet; names begin with a text and may be limited; a load has a size or takes the least
 pub data InvocationValue : Type 0 where
   create : Text → ℕ → InvocationValue
   run : Text → ModeName → Option ℕ → InvocationValue
@@ -443,8 +441,7 @@ wrong_by TwoScripts = Some two_scripts
 wrong_by Files = Some many_files
 
 -- of a run the first of these: its mode is none, its size is no number, it lacks a size, the seconds are no number, it
--- has
--- two scripts
+-- has two scripts
 abbrev pub wrong_run : RunWords → Wrong
 wrong_run said =
     if not (is_some (mode_of said.mode)) then no_mode

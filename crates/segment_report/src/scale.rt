@@ -7,8 +7,8 @@ ghost use Rattle.segment_report.specs.Picture.{bytes_in_row, left_of, right_of, 
 pub struct Scale {
     /// The bytes of a row.
     pub row: u64,
-    ghost some: { 0 < row },
-    ghost few: { row ≤ 2 ^ 31 },
+    ghost non_empty: { 0 < row },
+    ghost max_value: { row ≤ 2 ^ 31 },
 }
 
 /// Where the shape of some bytes stands in a picture, in pixels.

@@ -81,7 +81,7 @@ pub record GoesBackPairs {A : Type 0} (k v : ScalarKind) (seen : A
 
 -- the object is there, and so many pairs are left at most
 pub record IsPairWalk (k v : ScalarKind) (o : Located) (w : PairWalk) : Type 0 where
-  pub here : IsObject o w.segment
+  pub live : IsObject o w.segment
   pub few : (d : Directory) → DenotesCurrent w.segment.cut.bytes d → length (pairs_left k v d w) ≤ w.left
 
 -- ---- what is read

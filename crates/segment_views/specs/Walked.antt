@@ -25,7 +25,7 @@ pub record GoesOnElements {A B : Type 0} (elements : Directory → Key → List 
 -- the object is there, and has so many elements
 pub record IsWalkOver {B : Type 0} (elements : Directory
     → List B) (s : SegmentState) (o : Located) (len : ℕ) : Type 0 where
-  pub here : IsObject o s
+  pub live : IsObject o s
   pub length_is : AnswersWith s (λ d. length (elements d)) len
 
 -- the element that is read, as it is seen; none where the reading is refused

@@ -27,7 +27,7 @@ pub struct View<'a, C> {
     pub(crate) segment: &'a mut Segment,
     pub(crate) object: Object,
     of: PhantomData<C>,
-    ghost here: { IsObject object segment.now },
+    ghost live: { IsObject object segment.now },
 }
 
 impl<'a, C: ViewContent> View<'a, C> {

@@ -2,8 +2,7 @@
 //!
 //! A program opens or makes a [`SegmentFile`] over the files of the system ([`HostDisk`]), constructs and finds objects
 //! in its [`Segment`] by their names ([`named`]), and saves it; no other may write the file meanwhile. One that only
-//! reads
-//! a file gets its segment by [`read`]. `crates/examples` has programs that do so.
+//! reads a file gets its segment by [`read`]. `crates/examples` has programs that do so.
 //!
 //! Every call on a segment takes whatever the segment holds, and returns or refuses. A few ask for something else
 //! before they are called, say so under `# Conditions`, and which call does the same without:

@@ -73,8 +73,7 @@ regrown-trans a b c r s =
     }
 
 -- What is known before the last step: the gap that the block has become is to be put into the tree of the others, and
--- with it there the
--- block is given back.
+-- with it there the block is given back.
 pub record GivenBack (w four : WindowState) (at start : ℕ) : Type 0 where
   pub front : List Gap
   pub gap : Gap

@@ -47,9 +47,8 @@ front_block m m' x k l s = record {
   colour = s.colour;
 }
 
--- What is known once the block has taken the gap behind it and is cut, or not: if it is, the gap that is cut off is
--- to be put into the
--- tree of the others.
+-- What is known once the block has taken the gap behind it and is cut, or not: if it is, the gap that is cut off is to
+-- be put into the tree of the others.
 pub record Recut (w new : WindowState) (at wanted : ℕ) (is_cut : Bool) : Type 0 where
   pub front : List Gap
   pub gap : Gap

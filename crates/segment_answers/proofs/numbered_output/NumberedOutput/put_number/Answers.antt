@@ -11,12 +11,12 @@ invariant_of-self g c =
     let front : is_in_text false old ≡ false = was.place ∙ ap has_number c.requires.front in
     let fits : was.number < 2 ^ 64 = search rules in
     record {
-      few = omega (arith, was.few, c.in-Ok.ensures.counted);
-      told = number_text was.number fits old new front c.in-Ok.ensures.ok ∙ was.told;
+      failures_upper = omega (arith, was.failures_upper, c.in-Ok.ensures.counted);
+      text = number_text was.number fits old new front c.in-Ok.ensures.ok ∙ was.text;
       place = number_end was.number fits old new front c.in-Ok.ensures.ok;
-      passing = was.passing;
-      broken = λ e. cc;
-      faultless = λ h. omega (arith, was.faultless h, c.in-Ok.ensures.counted);
+      unbroken = was.unbroken;
+      cause = λ e. cc;
+      failures_lower = λ h. omega (arith, was.failures_lower h, c.in-Ok.ensures.counted);
     }
 
 pub invariant_of-self-in-Err : goal.invariant_of-self-in-Err
@@ -27,10 +27,10 @@ invariant_of-self-in-Err g c =
     let front : is_in_text false old ≡ false = was.place ∙ ap has_number c.requires.front in
     let fits : was.number < 2 ^ 64 = search rules in
     record {
-      few = omega (arith, was.few, c.in-Err.ensures.counted);
-      told = part_text was.number fits old new front c.in-Err.ensures.err ∙ was.told;
+      failures_upper = omega (arith, was.failures_upper, c.in-Err.ensures.counted);
+      text = part_text was.number fits old new front c.in-Err.ensures.err ∙ was.text;
       place = part_end was.number fits old new front c.in-Err.ensures.err;
-      passing = was.passing;
-      broken = λ e. omega (arith, c.in-Err.ensures.counted);
-      faultless = λ h. omega (arith, c.in-Err.ensures.counted);
+      unbroken = was.unbroken;
+      cause = λ e. omega (arith, c.in-Err.ensures.counted);
+      failures_lower = λ h. omega (arith, c.in-Err.ensures.counted);
     }

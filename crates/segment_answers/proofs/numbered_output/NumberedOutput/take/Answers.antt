@@ -15,13 +15,13 @@ invariant_of-self-2 g c =
     let told = line_text old new c.args.line.now c.in-Ok.taken begun some c.in-Ok.ensures.count one
     c.in-Ok.ensures.bytes in
     record {
-      few = search rules;
-      told = told ∙ ap (λ l. l ++ take c.in-Ok.taken c.args.line.now) was.told
+      failures_upper = search rules;
+      text = told ∙ ap (λ l. l ++ take c.in-Ok.taken c.args.line.now) was.text
           ∙ sym (passed c.write-2.result was.plain.history.bytes c.write-2.new.self.history.bytes
           (take c.in-Ok.taken c.args.line.now) c.write-2.ensures.inner c.write-2.ensures.bytes);
       place = line_end old new c.args.line.now c.in-Ok.taken begun some c.in-Ok.ensures.count one
           c.in-Ok.ensures.bytes ∙ sym c.spot_behind-self.ensures.text;
-      passing = search rules;
-      broken = λ e. absurd (c.spot_behind-self.ensures.contents e);
-      faultless = search rules;
+      unbroken = search rules;
+      cause = λ e. absurd (c.spot_behind-self.ensures.contents e);
+      failures_lower = search rules;
     }

@@ -6,4 +6,4 @@ pub returns : goal.returns
 returns g c =
     let h = c.args.self.now in
     front_kept h.is_all h.kept (g.S.Source.history h.inner).failures h.front (g.S.Source.history h.inner).bytes
-    (search) h.all h.count h.lost c.requires.long c.requires.sound
+    (search) h.contents h.count h.cause c.requires.long c.requires.sound

@@ -7,8 +7,8 @@ use Rattle.segment_views.proofs.arrays.View+Row+T+Array.copy_from.Goals as goal
 
 pub invariant_of-self : goal.invariant_of-self
 invariant_of-self g c = record {
-  here = stays_written c.args.self.now.segment.now c.write_range.new.self c.args.self.now.object
+  live = stays_written c.args.self.now.segment.now c.write_range.new.self c.args.self.now.object
       (ByHandle c.args.self.now.object.handle) g.T.Scalar.kind 0 (map g.T.Scalar.whole c.args.values.now)
       (done_answer c.write_range.result) c.as_bytes.result.now c.as_bytes.ensures.bytes c.as_bytes.ensures.denotation
-      c.write_range.ensures.step c.args.self.now.here;
+      c.write_range.ensures.step c.args.self.now.live;
 }

@@ -6,7 +6,7 @@ use Rattle.segment_views.proofs.elements.RowItems.new.Goals as goal
 
 pub invariant_of-result : goal.invariant_of-result
 invariant_of-result g c = record {
-  here = c.requires;
+  live = c.requires;
   length_is = subst (AnswersWith c.args.segment.now (λ d.
       length (g.S.Storage.elements d (ByHandle c.args.object.handle) g.T.Scalar.kind)))
       (sym c.number_or_none-len.ensures) c.len.ensures.count;

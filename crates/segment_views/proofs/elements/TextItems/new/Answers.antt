@@ -10,7 +10,7 @@ pub invariant_of-result : goal.invariant_of-result
 invariant_of-result c =
     let key = ByHandle c.args.object.handle in
     record {
-      here = c.requires;
+      live = c.requires;
       length_is = subst (AnswersWith c.args.segment.now (λ d. length (texts_at d key)))
           (sym c.number_or_none-len.ensures)
           (texts-many c.args.segment.now key c.texts_len.result c.texts_len.ensures);

@@ -6,7 +6,7 @@ use Rattle.segment_views.proofs.ranges.MapItems.new.Goals as goal
 
 pub invariant_of-result : goal.invariant_of-result
 invariant_of-result g c = record {
-  here = c.requires;
+  live = c.requires;
   few = all-few c.args.segment.now (ByHandle c.args.object.handle) g.K.Scalar.kind g.V.Scalar.kind
       (bound_map g.K.Scalar.whole c.args.start) (bound_map g.K.Scalar.whole c.args.end)
       c.number_or_none-left.result c.map_len.result c.number_or_none-left.ensures c.map_len.ensures;

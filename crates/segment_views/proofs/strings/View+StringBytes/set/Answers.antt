@@ -5,7 +5,7 @@ use Rattle.segment_views.proofs.strings.View+StringBytes.set.Goals as goal
 
 pub invariant_of-self : goal.invariant_of-self
 invariant_of-self c = record {
-  here = stays_of_kind c.args.self.now.segment.now c.string_set.new.self c.args.self.now.object _ _ _ _
+  live = stays_of_kind c.args.self.now.segment.now c.string_set.new.self c.args.self.now.object _ _ _ _
       c.as_bytes.result.now c.as_bytes.ensures.bytes c.as_bytes.ensures.denotation refl c.string_set.ensures.step
-      c.args.self.now.here;
+      c.args.self.now.live;
 }

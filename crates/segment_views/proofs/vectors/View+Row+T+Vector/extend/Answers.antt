@@ -7,8 +7,8 @@ use Rattle.segment_views.proofs.vectors.View+Row+T+Vector.extend.Goals as goal
 
 pub invariant_of-self : goal.invariant_of-self
 invariant_of-self g c = record {
-  here = stays_extended c.args.self.now.segment.now c.vec_extend.new.self c.args.self.now.object
+  live = stays_extended c.args.self.now.segment.now c.vec_extend.new.self c.args.self.now.object
       (ByHandle c.args.self.now.object.handle) g.T.Scalar.kind (map g.T.Scalar.whole c.args.values.now)
       (done_answer c.vec_extend.result) c.as_bytes.result.now c.as_bytes.ensures.bytes c.as_bytes.ensures.denotation
-      c.vec_extend.ensures.step c.args.self.now.here;
+      c.vec_extend.ensures.step c.args.self.now.live;
 }

@@ -4,7 +4,7 @@ use Rattle.raw_region.specs.Format.{current}
 use Rattle.best_fit.specs.declared.block_hints.BlockHints.{BlockHints}
 use Rattle.best_fit.specs.Heap.{IsHeap, is_live_in, live_of}
 
--- the piece in which an offset lies, where pieces have 2 ^ piece bytes
+-- the piece in which an offset lies, if pieces have 2 ^ piece bytes
 abbrev pub place_of : ℕ → ℕ → ℕ
 place_of piece offset = offset / 2 ^ (piece % 64)
 

@@ -6,7 +6,7 @@ use Rattle.block_tags.specs.declared.tile.Role.TheVariants.{Object}
 use Rattle.best_fit.specs.Extents.{Extent, LiveSet, end_of}
 use Rattle.best_fit.specs.Heap.{EncodesLiveSet, SameBlock, live_of}
 
--- where the last of the extents ends, or an offset where there is none
+-- where the last of the extents ends, or an offset if there is none
 abbrev pub last_end : ℕ → List Extent → ℕ
 last_end from [] = from
 last_end from (x ∷ xs) = last_end (end_of x) xs
@@ -19,7 +19,7 @@ least_size live = last_end 128 live.extents + 16
 abbrev pub of_size : LiveSet → ℕ → LiveSet
 of_size live size = record live { size = size }
 
--- the window begins where it began and has so many bytes; the region is as long as before, and what lies behind both
+-- the window begins where it began and has this many bytes; the region is as long as before, and what lies after both
 -- ends stays
 pub record EndsAt (old new : WindowState) (size : ℕ) : Type 0 where
   pub before : new.before ≡ old.before
@@ -34,16 +34,16 @@ pub record KeepsTo (old new : WindowState) (size : ℕ) (xs : List Extent) : Typ
   pub behind : SameBytes (bytes_of old.bytes) (bytes_of new.bytes) 32 128
   pub blocks : AllByRecursion (SameBlock (bytes_of old.bytes) (bytes_of new.bytes)) xs
 
--- the window has so many bytes, and the same blocks are in use
+-- the window has this many bytes, and the same blocks are in use
 pub record MovesEnd (format : ℕ) (old new : WindowState) (size : ℕ) : Type 0 where
   pub live : EncodesLiveSet format new.bytes (of_size (live_of old.bytes) size)
   pub keeps : KeepsTo old new size (live_of old.bytes).extents
 
--- the block of so many bytes behind a segment of a size
+-- the block of this many bytes after a segment of a size
 abbrev pub block_behind : ℕ → ℕ → Extent
 block_behind size extra = record { offset = size - 16; len = extra; role = Object }
 
--- the window has so many bytes more, which are a block in use behind all others
+-- the window has this many bytes more, which are a block in use after all others
 pub record AppendsBlock (format : ℕ) (old new : WindowState) (extra : ℕ) : Type 0 where
   pub live : EncodesLiveSet format new.bytes (record {
     size = length old.bytes + extra;

@@ -60,7 +60,7 @@ has_links c = list_all (links_among (bytes_of c.bytes) (payloads (gaps_in c))) (
 abbrev pub is_good : WindowState → Bool
 is_good c = is_legal_size (length c.bytes) && has_tags current (bytes_of c.bytes) (length c.bytes) && has_links c
 
--- where tags and links are good, the gaps are the nodes
+-- if tags and links are good, the gaps are the nodes
 unfoldable pub is_gap_node : WindowState → ℕ → Bool
 is_gap_node c n = is_good c && is_in n (payloads (gaps_in c))
 
@@ -73,11 +73,11 @@ gap_cells c n = if is_good c && is_in n (payloads (gaps_in c)) then cells_of (by
 
 -- ---- what no change of links and colours of gaps changes
 
--- a tile, black where it is free
+-- a tile, black if it is free
 abbrev pub plain : Tile → Tile
 plain t = record t { red = not (is_free t) && t.red }
 
--- where the bytes of a tile begin behind its tag, and behind the links of a free one
+-- where the bytes of a tile begin after its tag, and after the links of a free one
 abbrev pub own_from : Tile → ℕ
 own_from t = t.offset + (if is_free t then 32 else 16)
 

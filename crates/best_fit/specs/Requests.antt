@@ -4,7 +4,7 @@ use Rattle.block_tags.specs.declared.tile.Role.{Role}
 use Rattle.best_fit.specs.Extents.{Extent, LiveSet}
 use Rattle.best_fit.specs.Fit.{added, place}
 
--- the extents that requests take, each placed beside those before it; none where one of them has no fit
+-- the extents that requests take, each placed beside those before it; none if one of them has no fit
 abbrev pub place_all : LiveSet → List (ℕ × Role) → Option (List Extent)
 place_all live [] = Some []
 place_all live ((n, role) ∷ needs) =

@@ -35,7 +35,7 @@ impl BlockHints {
         handles
     }
 
-    /// Notes a handle if no lower one is known in its piece. Where it stands after all pieces, these become longer.
+    /// Notes a handle if no lower one is known in its piece. If it stands after all pieces, these become longer.
     pub fn insert(&mut self, handle: u64)
         ensures { (h : ℕ) → IsHinted self.new h → (h ≡ handle) ⊎ IsHinted self.old h }
     {

@@ -39,7 +39,7 @@ pub fn extend(touches: &mut TouchCounter, at: u64, n: u64) -> bool
     true
 }
 
-/// Shortens the block whose tag begins at `at` to hold `n` bytes, where what is cut off can be a gap.
+/// Shortens the block whose tag begins at `at` to hold `n` bytes, if what is cut off can be a gap.
 pub fn shorten(touches: &mut TouchCounter, at: u64, n: u64)
     requires heap { IsHeap current touches.old.gaps.now.window.bytes }
     requires live { IsTrue (is_live_in (live_of touches.old.gaps.now.window.bytes) (at + TAG_LEN)) }

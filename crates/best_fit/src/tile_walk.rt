@@ -10,7 +10,8 @@ use crate::block_hints::BlockHints;
 use block_tags::{TAG_LEN, Tile, first, next, tile_at};
 use raw_region::Window;
 
-/// Tells whether a block in use has this handle. Any number may be asked for. The walk begins at the nearest way-point.
+/// Tells whether a block in use has this handle. Any number may be asked for. The walk begins at the nearest block
+/// hint.
 pub fn is_live(window: &Window, points: &BlockHints, handle: u64) -> bool
     requires { IsHintedHeap window.now.bytes points.now }
     ensures { result ≡ is_live_in (live_of window.now.bytes) handle }

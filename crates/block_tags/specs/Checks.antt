@@ -9,7 +9,7 @@ use Rattle.block_tags.specs.Tiles.{is_tile, is_free, tag_word, tile_at}
 abbrev pub is_tagged : ℕ → Tile → ℕ → Bool
 is_tagged format t word = is_tile format t && (word == tag_word t)
 
--- a tile with a whole tag stands at an offset and ends by another one, behind a tile of length before, which is free or
+-- a tile with a whole tag stands at an offset and ends by another one, after a tile of length before, which is free or
 -- not
 unfoldable pub is_good_tile : ℕ → Memory → ℕ → ℕ → Bool → ℕ → Bool
 is_good_tile format m at before behind_free end =
@@ -17,7 +17,7 @@ is_good_tile format m at before behind_free end =
     (word_at m at == before) && nat_le t.len (end - at) && is_tagged format t (word_at m (at + 8))
     && not (behind_free && is_free t)
 
--- how many good tiles stand one behind another from an offset on, of at most so many
+-- how many good tiles stand one after another from an offset on, of at most this many
 abbrev pub good_tiles_from : ℕ → ℕ → Memory → ℕ → ℕ → Bool → ℕ → ℕ
 good_tiles_from format zero m at before behind_free end = 0
 good_tiles_from format (suc more) m at before behind_free end =
@@ -32,11 +32,11 @@ good_tiles_of format m size = good_tiles_from format (size / 32) m 128 0 false (
 
 -- ---- the first tag that is wrong
 
--- the end tag, behind a tile of length before
+-- the end tag, after a tile of length before
 abbrev pub is_end : Memory → ℕ → ℕ → Bool
 is_end m at before = (word_at m at == before) && (word_at m (at + 8) == 1)
 
--- going from 128 by lengths, good tags lead to this offset, behind a tile of this length, which is free or not
+-- going from 128 by lengths, good tags lead to this offset, after a tile of this length, which is free or not
 pub data Leads (format : ℕ) (m : Memory) (end : ℕ) : ℕ → ℕ → Bool → Type 0 where
   begins : Leads format m end 128 0 false
   follows : {at before : ℕ} {free : Bool} → Leads format m end at before free → at < end

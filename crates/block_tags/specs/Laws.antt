@@ -40,7 +40,7 @@ PayloadIsBesideTags = (c : WindowState) (ts : List Tile) (at : ℕ) (t : Tile) �
     → tile_in ts at ≡ Some t
     → (k : ℕ) → at + 16 ≤ k → k < at + t.len → IsBesideTags ts k × (k < length c.bytes - 16)
 
--- where the tile at an offset stands in a list: what is before it, what is behind, and what becomes of the list where
+-- where the tile at an offset stands in a list: what is before it, what is after, and what becomes of the list if
 -- it changes
 pub record SplitsListAt (ts : List Tile) (at : ℕ) (t : Tile) : Type 0 where
   pub front : List Tile

@@ -1,11 +1,11 @@
--- Lists of tiles: the tile at an offset and its neighbours, and what a list becomes where one of its tiles changes.
+-- Lists of tiles: the tile at an offset and its neighbours, and what a list becomes if one of its tiles changes.
 use Rattle.std.specs.Prelude.{◌≡◌, IsTrue, ℕ, ◌+◌, ◌-◌, ◌<◌, ◌≤◌, ◌⊎◌, Bool, false, Option, Some, None, List, [], ◌∷◌}
 use Rattle.std.specs.Prelude.{◌++◌, ◌==◌, if◌then◌else◌}
 use Rattle.block_tags.specs.declared.tile.Role.{Role}
 use Rattle.block_tags.specs.declared.tile.Tile.{Tile}
 use Rattle.block_tags.specs.Tiles.{is_tile}
 
--- tiles of one format that fill the bytes from an offset up to another, one behind the other
+-- tiles of one format that fill the bytes from an offset up to another, one after the other
 abbrev pub AreContiguous : ℕ → ℕ → List Tile → ℕ → Type 0
 AreContiguous format from [] to = from ≡ to
 AreContiguous format from (t ∷ ts) to = (t.offset ≡ from) × IsTrue (is_tile format t)
@@ -22,12 +22,12 @@ abbrev pub first_in : List Tile → Option Tile
 first_in [] = None
 first_in (t ∷ ts) = Some t
 
--- the tile behind the one at an offset
+-- the tile after the one at an offset
 abbrev pub next_in : List Tile → ℕ → Option Tile
 next_in [] at = None
 next_in (t ∷ ts) at = if t.offset == at then first_in ts else next_in ts at
 
--- the tile before the one at an offset, where this one stands before the list
+-- the tile before the one at an offset, if this one stands before the list
 abbrev pub previous_from : Option Tile → List Tile → ℕ → Option Tile
 previous_from before [] at = None
 previous_from before (t ∷ ts) at = if t.offset == at then before else previous_from (Some t) ts at
@@ -45,7 +45,7 @@ last_in (t ∷ u ∷ ts) = last_in (u ∷ ts)
 abbrev pub free_tile : ℕ → ℕ → Tile
 free_tile offset len = record { offset = offset; len = len; use_of = None; red = false }
 
--- what a list becomes where the tile at an offset and those behind it become others
+-- what a list becomes if the tile at an offset and those after it become others
 abbrev pub changed_at : ℕ → (Tile → List Tile → List Tile) → List Tile → List Tile
 changed_at at change [] = []
 changed_at at change (t ∷ ts) = if t.offset == at then change t ts else t ∷ changed_at at change ts
@@ -54,7 +54,7 @@ changed_at at change (t ∷ ts) = if t.offset == at then change t ts else t ∷ 
 abbrev pub in_two : ℕ → Tile → List Tile → List Tile
 in_two len t ts = record t { len = len } ∷ free_tile (t.offset + len) (t.len - len) ∷ ts
 
--- a tile and the one behind it in one
+-- a tile and the one after it in one
 abbrev pub in_one : Tile → List Tile → List Tile
 in_one t [] = t ∷ []
 in_one t (u ∷ ts) = record t { len = t.len + u.len } ∷ ts
@@ -86,7 +86,7 @@ without_last [] = []
 without_last (t ∷ []) = []
 without_last (t ∷ u ∷ ts) = t ∷ without_last (u ∷ ts)
 
--- one free tile, or none where there is no room
+-- one free tile, or none if there is no room
 abbrev pub laid : ℕ → List Tile
 laid size = if size == 144 then [] else free_tile 128 (size - 144) ∷ []
 

@@ -77,7 +77,7 @@ tile_of_word at w =
 abbrev pub tile_at : Memory → ℕ → Tile
 tile_at m at = tile_of_word at (word_at m (at + 8))
 
--- at most so many tiles from an offset on
+-- at most this many tiles from an offset on
 abbrev pub tiles_from : ℕ → Memory → ℕ → ℕ → List Tile
 tiles_from zero m at end = []
 tiles_from (suc more) m at end =

@@ -13,7 +13,7 @@ pub record EncodesTiles (c : WindowState) (ts : List Tile) : Type 0 where
   pub size : IsTrue (is_legal_size (length c.bytes))
   pub tags : AreTilesOf current (bytes_of c.bytes) (length c.bytes) ts
 
--- the first bytes of the window, so many, are those of a segment whose tags say these tiles
+-- this many bytes at the front of the window are those of a segment whose tags say these tiles
 pub record FrontSaysTiles (c : WindowState) (n : ℕ) (ts : List Tile) : Type 0 where
   pub size : IsTrue (is_legal_size n)
   pub within : n ≤ length c.bytes
@@ -38,7 +38,7 @@ pub record HasTileAt (c : WindowState) (at : ℕ) : Type 0 where
   pub tile : Tile
   pub stands : tile_in tiles at ≡ Some tile
 
--- the tile there has so many bytes, and at least 32 more
+-- the tile there has this many bytes, and at least 32 more
 pub record CanSplit (c : WindowState) (at len : ℕ) : Type 0 where
   pub tiles : List Tile
   pub said : EncodesTiles c tiles
@@ -48,7 +48,7 @@ pub record CanSplit (c : WindowState) (at len : ℕ) : Type 0 where
   pub whole : len % 16 ≡ 0
   pub room : len + 32 ≤ tile.len
 
--- the tile behind the one at this offset is free
+-- the tile after the one at this offset is free
 pub record HasFreeNext (c : WindowState) (at : ℕ) : Type 0 where
   pub tiles : List Tile
   pub said : EncodesTiles c tiles
@@ -58,7 +58,7 @@ pub record HasFreeNext (c : WindowState) (at : ℕ) : Type 0 where
   pub behind : next_in tiles at ≡ Some next
   pub free : IsTrue (is_free next)
 
--- the tile there may keep its colour where it is used for this
+-- the tile there may keep its colour if it is used for this
 pub record CanTakeUse (c : WindowState) (at : ℕ) (use_of : Option Role) : Type 0 where
   pub tiles : List Tile
   pub said : EncodesTiles c tiles
@@ -74,7 +74,7 @@ pub record MayHaveColour (c : WindowState) (at : ℕ) (red : Bool) : Type 0 wher
   pub stands : tile_in tiles at ≡ Some tile
   pub colour : IsTrue (not red || may_be_red current tile.use_of)
 
--- the tags fill the first n bytes, and there is room for one more tile behind them
+-- the tags fill the first n bytes, and there is room for one more tile after them
 pub record CanAppend (c : WindowState) (n : ℕ) : Type 0 where
   pub tiles : List Tile
   pub said : FrontSaysTiles c n tiles

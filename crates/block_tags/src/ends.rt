@@ -24,7 +24,7 @@ pub fn lay(window: &mut Window)
     put_word(window, end + 8, END_MARK);
 }
 
-/// Adds a free black tile where the tags fill the first `old_size` bytes of the window: it reaches from their end tag
+/// Adds a free black tile if the tags fill the first `old_size` bytes of the window: it reaches from their end tag
 /// to the window's.
 pub fn append_free(window: &mut Window, old_size: u64)
     requires { CanAppend window.old old_size }

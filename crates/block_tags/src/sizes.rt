@@ -11,7 +11,8 @@ pub const HEADER_LEN: u64 = 128;
 /// The length of the largest segment, in bytes. No window is longer, and no request for a block of more is met.
 pub const MAX_SEGMENT_LEN: u64 = 1073741824;
 
-/// Tells whether a segment may have so many bytes: 144, which is no tile, or a multiple of 16 from 176 to 1073741824.
+/// Tells whether a segment may have this size in bytes: 144, which is no tile, or a multiple of 16 from 176 to
+/// 1073741824.
 pub fn is_legal_size(size: u64) -> bool
     ensures { result ≡ is_legal size }
 {

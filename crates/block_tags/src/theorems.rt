@@ -22,7 +22,7 @@ pub fn tile_is_read_off()
     ensures { TileIsReadOff }
 {}
 
-/// Tags are good exactly where they say tiles of which no two free ones are neighbours.
+/// Tags are good exactly if they say tiles of which no two free ones are neighbours.
 pub fn good_tags_say_tiles()
     ensures { GoodTagsSayTiles }
 {}
@@ -62,12 +62,12 @@ pub fn tags_that_stay_say_the_same()
     ensures { TagsThatStaySayTheSame }
 {}
 
-/// States that the tags say the same tiles where bytes of a payload change.
+/// States that the tags say the same tiles if bytes of a payload change.
 pub fn payload_may_change()
     ensures { PayloadMayChange }
 {}
 
-/// States that the tags say the same tiles where bytes of the header change.
+/// States that the tags say the same tiles if bytes of the header change.
 pub fn header_may_change()
     ensures { HeaderMayChange }
 {}

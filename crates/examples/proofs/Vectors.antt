@@ -1,4 +1,4 @@
--- A vector stands behind a call that puts a value into it.
+-- A vector stands after a call that puts a value into it.
 use Rattle.std.proofs.Common.{sym, subst, ℕ, Bool, List, [], ◌∷◌, ◌++◌}
 use Rattle.std.specs.Prelude.{Result, Ok, Err}
 use Rattle.raw_region.specs.Memory.{WindowState}

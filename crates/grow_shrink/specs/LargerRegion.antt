@@ -1,4 +1,4 @@
--- A segment that grows, in a larger region where its own has no room.
+-- A segment that grows, in a larger region if its own has no room.
 use Rattle.std.specs.Prelude.{◌≡◌, ◌≤◌, ◌<◌, ◌⊎◌, ℕ, ◌+◌, ◌*◌, ◌/◌, ◌%◌, false, Option, Some, None, Result, MatchResult}
 use Rattle.std.specs.Prelude.{length, max, min}
 use Rattle.raw_region.specs.Refusals.{out_of_memory_of}
@@ -12,7 +12,7 @@ use Rattle.grow_shrink.specs.declared.larger_region.GrowOrMoveError.TheVariants.
 use Rattle.grow_shrink.specs.declared.refusals.GrowError.{GrowError}
 use Rattle.grow_shrink.specs.Resized.{growth_refusal, room_of}
 
--- the capacity of the region for so many bytes: a multiple of 16 from 176 to 1073741824
+-- the capacity of the region for this many bytes: a multiple of 16 from 176 to 1073741824
 abbrev pub region_len : ℕ → ℕ
 region_len bytes = (max 176 (min bytes 1073741824) + 15) / 16 * 16
 
@@ -20,11 +20,11 @@ region_len bytes = (max 176 (min bytes 1073741824) + 15) / 16 * 16
 abbrev pub growth_reason : Mode → ℕ → ℕ → Option GrowError
 growth_reason mode size extra = growth_refusal mode size extra (size + extra)
 
--- no such reason stands against so many bytes more
+-- no such reason stands against this many bytes more
 pub record MayGrow (s : SegmentState) (extra : ℕ) : Type 0 where
   pub may : (d : Directory) → DenotesCurrent s.cut.bytes d → growth_reason s.mode d.size extra ≡ None
 
--- the region ends before the segment with so many bytes more would
+-- the region ends before the segment with this many bytes more would
 abbrev pub IsTooLongFor : SegmentState → ℕ → Type 0
 IsTooLongFor s extra = room_of s.cut < length s.cut.bytes + extra
 
@@ -37,7 +37,7 @@ pub record IsShortOfRoom (s : SegmentState) (extra : ℕ) : Type 0 where
   pub may : MayGrow s extra
   pub short : IsTooLongFor s extra
 
--- the segment is open as before, and each directory has so many bytes more; it moves only if its region is too short
+-- the segment is open as before, and each directory has this many bytes more; it moves only if its region is too short
 pub record GrowsOrMovesOk (old new : SegmentState) (extra : ℕ) : Type 0 where
   pub may : MayGrow old extra
   pub mode : new.mode ≡ old.mode

@@ -8,14 +8,14 @@ use Rattle.segment_manager.specs.State.{SegmentState, DenotesCurrent}
 use Rattle.segment_manager.specs.Step.{is_read_only}
 use Rattle.grow_shrink.specs.declared.refusals.GrowError.{GrowError}
 use Rattle.grow_shrink.specs.declared.refusals.GrowError.TheVariants.{ReadOnly, BadGrow, TooLarge, RegionTooSmall}
--- the directory with so many bytes more, and as far as its last extent and the end tag
+-- the directory with this many bytes more, and as far as its last extent and the end tag
 pub use Rattle.segment_manager.specs.blocks.Resized.{grown, shrunk}
 
 -- how many bytes the region has from the segment's base on
 abbrev pub room_of : WindowState → ℕ
 room_of c = length (whole c) - length c.before
 
--- the first reason not to grow a segment of a size by extra bytes, where its region has so many bytes from its base on
+-- the first reason not to grow a segment of a size by extra bytes, if its region has this many bytes from its base on
 abbrev pub growth_refusal : Mode → ℕ → ℕ → ℕ → Option GrowError
 growth_refusal mode size extra room =
     if is_read_only mode then Some ReadOnly
@@ -33,17 +33,17 @@ abbrev pub growth_error_of : Result (Unit {0}) GrowError → Option GrowError
 growth_error_of (Ok u) = None
 growth_error_of (Err why) = Some why
 
--- the call is refused exactly where this says so of the directory, and for this reason
+-- the call is refused exactly if this says so of the directory, and for this reason
 pub record IsRefusedBy (old : SegmentState) (result : Result (Unit {0}) GrowError) (why : Directory
     → Option GrowError) : Type 0 where
   pub refused : (d : Directory) → DenotesCurrent old.cut.bytes d → growth_error_of result ≡ why d
 
--- the law: where a segment may be so much larger, its directory is one there
+-- the law: if a segment may be so much larger, its directory is one there
 abbrev pub GrownIsDirectory : Type 0
 GrownIsDirectory = (format : ℕ) (d : Directory) (extra : ℕ) → IsDirectory format d → 32 ≤ extra → extra % 16 ≡ 0
     → d.size + extra ≤ 1073741824 → IsDirectory format (grown d extra)
 
--- the law: what is left behind the last extent can be given up
+-- the law: what is left after the last extent can be given up
 abbrev pub ShrunkIsDirectory : Type 0
 ShrunkIsDirectory = (format : ℕ) (d : Directory) → IsDirectory format d → IsDirectory format (shrunk d)
 

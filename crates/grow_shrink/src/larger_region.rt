@@ -42,7 +42,7 @@ fn capacity_for(bytes: u64) -> u64
 ///
 /// # Errors
 ///
-/// If the allocator refuses a region of so many bytes, in whole pieces of 16 and at least 176.
+/// If the allocator refuses a region of `bytes` bytes, rounded up to a multiple of 16 and at least 176.
 pub fn region_for(alloc: Global, bytes: u64) -> Result<RawRegion, OutOfMemory>
     ensures bytes { IfOk result (λ region. region ≡ zeros (region_len bytes)) }
     ensures len { IfOk result (λ region. length region ≡ region_len bytes) }

@@ -67,14 +67,14 @@ fn is_read_only(segment: &Segment) -> bool
     segment.mode() == Mode::ReadOnly
 }
 
-/// Tells whether no segment grows by so many bytes.
+/// Tells whether no segment grows by `extra` bytes.
 fn is_bad(extra: u64) -> bool
     ensures { result ≡ (nat_lt extra 32 || not (extra % 16 == 0)) }
 {
     extra < LEAST || extra % 16 != 0
 }
 
-/// Tells whether a segment of a size would have too many bytes with so many more.
+/// Tells whether a segment of `size` bytes would be too long with `extra` bytes more.
 fn is_above(size: u64, extra: u64) -> bool
     ensures { result ≡ nat_lt 1073741824 (size + extra) }
 {

@@ -24,7 +24,7 @@ fresh_accepted : class_of current fresh ≡ None
 unfolding word_at word_bytes half_word_at zeros current
 fresh_accepted = refl
 
--- the number -2 in 48 bytes, and a free tile behind it
+-- the number -2 in 48 bytes, and a free tile after it
 abbrev one : List ℕ
 one = words (4993446653039301453 ∷ 2 ∷ 224 ∷ 168 ∷ 1 ∷ 0 ∷ 0 ∷ 1 ∷ 0 ∷ 0 ∷ []) ++ zeros 48
     ++ words (0 ∷ 49 ∷ 4294967300 ∷ 0 ∷ 18446744073709551614 ∷ 77 ∷ 48 ∷ 32 ∷ 1 ∷ 1 ∷ 32 ∷ 1 ∷ [])
@@ -50,7 +50,7 @@ one_says : read_off current one
 unfolding read_off word_at word_bytes half_word_at zeros current
 one_says = refl
 
--- an empty text in 64 bytes, and a free tile behind it
+-- an empty text in 64 bytes, and a free tile after it
 abbrev text : List ℕ
 text = words (4993446653039301453 ∷ 2 ∷ 240 ∷ 184 ∷ 1 ∷ 0 ∷ 0 ∷ 1 ∷ 0 ∷ 0 ∷ []) ++ zeros 48
     ++ words (0 ∷ 65 ∷ 4295032832 ∷ 0 ∷ 1 ∷ 0 ∷ 0 ∷ 77 ∷ 64 ∷ 32 ∷ 1 ∷ 1 ∷ 32 ∷ 1 ∷ [])
@@ -128,7 +128,7 @@ map_says : read_off current map
 unfolding read_off word_at word_bytes half_word_at zeros current
 map_says = refl
 
--- a number behind its right kind, with a count of 0
+-- a number after its right kind, with a count of 0
 abbrev wrong : List ℕ
 wrong = words (4993446653039301453 ∷ 2 ∷ 224 ∷ 168 ∷ 1 ∷ 0 ∷ 0 ∷ 1 ∷ 0 ∷ 0 ∷ []) ++ zeros 48
     ++ words (0 ∷ 49 ∷ 4 ∷ 0 ∷ 18446744073709551614 ∷ 77 ∷ 48 ∷ 32 ∷ 1 ∷ 1 ∷ 32 ∷ 1 ∷ [])
@@ -138,7 +138,7 @@ wrong_class : class_of current wrong ≡ Some BadObject
 unfolding word_at word_bytes half_word_at zeros current
 wrong_class = refl
 
--- a number, a free tile and storage: one tile is free, two are in use, and the last of these stands behind the free one
+-- a number, a free tile and storage: one tile is free, two are in use, and the last of these stands after the free one
 abbrev three : List Tile
 three =
     record { offset = 128; len = 48; use_of = Some ObjectRole; red = false } ∷ record

@@ -51,7 +51,7 @@ IsEnd n RegionTooSmall = ⊤
 IsEnd n (OutOfMemory refusal) = ⊤
 IsEnd n ReadFault = ⊤
 
--- of bytes that go on behind a size it is that size
+-- of bytes that go on after a size it is that size
 abbrev pub IsNodeLink : ℕ → ExamineError → Type 0
 IsNodeLink n (Image v) = (v.class ≡ BadSize) × (v.place ≡ n)
 IsNodeLink n RegionTooSmall = ⊤

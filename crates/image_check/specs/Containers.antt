@@ -73,7 +73,7 @@ has_container format m ts t =
     ]
     else true
 
--- a tile of a row in a window of so many bytes
+-- a tile of a row in a window of this many bytes
 pub record LiesInWindow (size : ℕ) (t : Tile) : Type 0 where
   pub low : 128 ≤ t.offset
   pub whole : t.offset % 16 ≡ 0

@@ -5,7 +5,7 @@ use Rattle.best_fit.specs.GapNodes.{gaps_of}
 use Rattle.image_check.specs.declared.counting.Counts.{Counts}
 use Rattle.image_check.specs.Owners.{entries_of}
 
--- where the last tile in use stands, or this place where none is
+-- where the last tile in use stands, or this place if none is
 abbrev pub last_used : ℕ → List Tile → ℕ
 last_used at [] = at
 last_used at (t ∷ ts) = last_used (elim t.use_of [ None ↦ at | Some role ↦ t.offset ]) ts

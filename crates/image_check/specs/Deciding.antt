@@ -19,7 +19,7 @@ unfoldable pub decided : ℕ → List ℕ → Option ImageClass
 decided format front = decided_by (nat_lt (length front) 144) (has_magic front) (has_version format front)
     (has_size front)
 
--- the law: the test finds the class that is decided, and none where none is
+-- the law: the test finds the class that is decided, and none if none is
 pub record IsDecided (format : ℕ) (front : List ℕ) : Type 0 where
   pub some : (c : ImageClass) → decided format front ≡ Some c → DecidesClass format front c
   pub none : decided format front ≡ None → (c : ImageClass) → DecidesClass format front c → ⊥

@@ -23,7 +23,7 @@ root_in (Some o) = Some o.root
 abbrev pub index_of : Blocks → ℕ → Option ℕ
 index_of es n = root_in (entry_at es n)
 
--- the index that lists a number, where the named one lists the first numbers and the unique one the second
+-- the index that lists a number, if the named one lists the first numbers and the unique one the second
 abbrev pub listed : List ℕ → List ℕ → ℕ → Option ℕ
 listed named unique n = if is_among named n then Some 32 else if is_among unique n then Some 56 else None
 

@@ -6,7 +6,7 @@ use Rattle.image_check.specs.Causes.{IsShown, opened_as, opened_in}
 use Rattle.image_check.specs.Opening.{IsTooSmallFor, IsVerified, Verifies, cause_of, is_too_small_answer}
 use Rattle.image_check.specs.OpeningBytes.{IsNotOpenedOf, as_given}
 
--- the answers of a check, and where it tells a class a place that shows it
+-- the answers of a check, and if it tells a class a place that shows it
 pub record Examines (format : ℕ) (image : ReadDelta) (region : List ℕ) (base : ℕ)
     (result : Result (List ℕ) ExamineRefused) : Type 0 where
   pub verifies : Verifies format image region base (opened_in result)

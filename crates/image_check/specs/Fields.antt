@@ -75,7 +75,7 @@ root_link (Map k v, at) = at ∷ []
 root_link (k, at) = []
 
 -- The good ones of these links to nodes, and of the links of the nodes that are reached by them. The links of a node
--- are gone through where it is first met, and these have been met. At most so many links are gone through.
+-- are gone through where it is first met, and these have been met. At most this many links are gone through.
 abbrev pub node_fields : ℕ → Memory → List Tile → List ℕ → List ℕ → List Field
 node_fields zero m ts met links = []
 node_fields (suc more) m ts met [] = []
@@ -150,7 +150,7 @@ is_map_at m ts k v at = elim (tree_from (length ts) (λ n. is_some (tile_of ts N
   | Some t ↦ is_red_black t && are_pairs m ts k v at (nodes_of t)
 ]
 
--- an element of a vector of texts: a link to a block that holds its bytes, and null where it has none
+-- an element of a vector of texts: a link to a block that holds its bytes, and null if it has none
 abbrev pub is_element_at : Memory → List Tile → ℕ → Bool
 is_element_at m ts at = is_table_link ts Storage (link_at m at) 1 (word_at m (at + 8))
 

@@ -11,7 +11,7 @@ use Rattle.image_check.specs.Classes.{class_of}
 abbrev pub version_word : List ℕ → ℕ
 version_word b = half_word_at (bytes_of b) 8
 
--- the format that they say, where it is one of the three, and else the current one
+-- the format that they say, if it is one of the three, and otherwise the current one
 abbrev pub format_of : List ℕ → ℕ
 format_of b = if nat_le (version_word b) 2 then version_word b else current
 

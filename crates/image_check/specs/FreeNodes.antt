@@ -16,7 +16,7 @@ use Rattle.best_fit.specs.GapLaws.{comes}
 unfoldable pub is_place : WindowState → ℕ → Bool
 is_place c n = is_legal_size (length c.bytes) && is_handle_place (length c.bytes) n
 
--- where a link leads: nowhere, where that is no such place
+-- where a link leads: nowhere, if that is no such place
 unfoldable pub placed : ℕ → Option ℕ → Option ℕ
 placed size None = None
 placed size (Some n) = if is_handle_place size n then Some n else None

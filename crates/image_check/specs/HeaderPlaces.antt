@@ -26,7 +26,7 @@ abbrev pub IsFirstReserved : List ℕ → ℕ → Type 0
 IsFirstReserved b at = IsFirstNonzero (bytes_of b) 12 16 at
     ⊎ (AreZero (bytes_of b) 12 16 × IsFirstNonzero (bytes_of b) 80 128 at)
 
--- the size that is none of a segment, or else the first byte behind a segment of that size
+-- the size that is none of a segment, or otherwise the first byte after a segment of that size
 abbrev pub shown_size : List ℕ → ℕ
 shown_size b = if is_legal_size (size_word b) then size_word b else 16
 

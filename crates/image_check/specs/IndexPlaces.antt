@@ -34,7 +34,7 @@ abbrev pub is_new : List Tile → List ℕ → Option ℕ → Bool
 is_new ts earlier None = false
 is_new ts earlier (Some n) = is_some (tile_of ts Object n) && not (is_among earlier n)
 
--- Of so many entries in a block, behind others that lead to these objects, the one at a place is the first that does
+-- Of this many entries in a block, after others that lead to these objects, the one at a place is the first that does
 -- not lead to an object to which none before it leads.
 pub record IsFirstWrong (m : Memory) (ts : List Tile) (earlier : List ℕ) (block count place : ℕ) : Type 0 where
   pub number : ℕ
@@ -49,11 +49,11 @@ pub record IsWrongEntry (m : Memory) (ts : List Tile) (at place : ℕ) : Type 0 
   pub link : link_at m at ≡ Some block
   pub entry : IsFirstWrong m ts (earlier_targets m at) block (word_at m (at + 8)) place
 
--- a word of the index at an offset is wrong, or else an entry
+-- a word of the index at an offset is wrong, or otherwise an entry
 abbrev pub IsWrongAt : Memory → List Tile → ℕ → ℕ → Type 0
 IsWrongAt m ts at place = IsWrongHead m ts at place ⊎ ((is_head m ts at ≡ true) × IsWrongEntry m ts at place)
 
--- something of the named index is wrong, or else of the unique one
+-- something of the named index is wrong, or otherwise of the unique one
 abbrev pub IsWrongIndex : Memory → List Tile → ℕ → Type 0
 IsWrongIndex m ts place =
     IsWrongAt m ts 32 place ⊎ (((has_index m ts 32 && are_distinct (targets m 32)) ≡ true) × IsWrongAt m ts 56 place)

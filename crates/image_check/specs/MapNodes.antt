@@ -23,7 +23,7 @@ abbrev pub is_rooted : ℕ → Option Owner → Bool
 is_rooted root None = false
 is_rooted root (Some o) = o.root == root
 
--- a node of so many bytes to which links lead from this place
+-- a node of this many bytes to which links lead from this place
 abbrev pub is_node_block : ℕ → ℕ → Option Block → Bool
 is_node_block root len None = false
 is_node_block root len (Some b) = same_role Node b.role && nat_le len b.len && is_rooted root b.owner
@@ -35,7 +35,7 @@ is_pair c es root k v n =
     && is_spelling k (read (bytes_of c.bytes) (n + 16) (size_of k))
     && is_spelling v (read (bytes_of c.bytes) (n + 16 + size_of k) (size_of v))
 
--- where a link of a node leads: to the node itself, where it leads to no good one, since no ordered tree has a node
+-- where a link of a node leads: to the node itself, if it leads to no good one, since no ordered tree has a node
 -- below itself
 abbrev pub kept_link : (ℕ → Bool) → ℕ → Option ℕ → Option ℕ
 kept_link good n None = None

@@ -53,7 +53,7 @@ key_before class m g h = if class == 1 then name_before m g h else code_before m
 abbrev pub are_ranked : ℕ → Memory → List ℕ → Bool
 are_ranked class m xs = list_all (λ at. class_at m at == class) xs && rise_by (key_before class m) xs
 
--- an object of the class whose key stands behind that of the last one, where there is one
+-- an object of the class whose key stands after that of the last one, if there is one
 abbrev pub follows : ℕ → Memory → Option ℕ → ℕ → Bool
 follows class m last here = (class_at m here == class) && elim last [ None ↦ true | Some g ↦ key_before class m g here ]
 

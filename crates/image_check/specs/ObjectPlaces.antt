@@ -24,8 +24,8 @@ abbrev pub link_before : Memory → ℕ → ℕ → Option ℕ
 link_before m block zero = None
 link_before m block (suc number) = link_at m (block + 8 * number)
 
--- Of so many entries in a block, the one at a place is the first that leads to an object of another class than this, or
--- of one whose key does not stand behind that of the object to which the entry before it leads.
+-- Of this many entries in a block, the one at a place is the first that leads to an object of another class than this,
+-- or of one whose key does not stand after that of the object to which the entry before it leads.
 pub record IsOutOfOrder (class : ℕ) (m : Memory) (block count place : ℕ) : Type 0 where
   pub number : ℕ
   pub inside : number < count
@@ -41,13 +41,13 @@ pub record IsMisplaced (class : ℕ) (m : Memory) (at place : ℕ) : Type 0 wher
   pub link : link_at m at ≡ Some block
   pub entry : IsOutOfOrder class m block (word_at m (at + 8)) place
 
--- the first entry out of order in the named index, or else in the unique index
+-- the first entry out of order in the named index, or otherwise in the unique index
 abbrev pub IsFirstMisplaced : Memory → ℕ → Type 0
 IsFirstMisplaced m place =
     IsMisplaced 1 m 32 place ⊎ ((are_ranked 1 m (targets m 32) ≡ true) × IsMisplaced 2 m 56 place)
 
--- the first object that is wrong by itself or has no entry in the index of its class; or else, where all are right, the
--- first entry out of order
+-- the first object that is wrong by itself or has no entry in the index of its class; or otherwise, if all are right,
+-- the first entry out of order
 abbrev pub IsWrongObject : ℕ → Memory → List Tile → ℕ → Type 0
 IsWrongObject format m ts place =
     IsFirstWrongTile (is_right_tile format m) ts place

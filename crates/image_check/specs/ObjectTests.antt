@@ -32,11 +32,11 @@ abbrev pub good_for : List Tile → Role → Option ℕ → Option Tile
 good_for ts role None = None
 good_for ts role (Some target) = tile_of ts role target
 
--- a link that is good for the role, to a payload of so many bytes
+-- a link that is good for the role, to a payload of this many bytes
 abbrev pub leads_to : List Tile → Role → Option ℕ → ℕ → Bool
 leads_to ts role link n = elim (good_for ts role link) [ None ↦ false | Some t ↦ nat_le (n + 16) t.len ]
 
--- a link of a block that has so many places: null where there are none
+-- a link of a block that has this many places: null if there are none
 abbrev pub is_table_link : List Tile → Role → Option ℕ → ℕ → ℕ → Bool
 is_table_link ts role link each capacity =
     if capacity == 0 then is_none link else leads_to ts role link (each * capacity)

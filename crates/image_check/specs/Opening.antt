@@ -1,4 +1,4 @@
--- What opening an image may answer, from what its reader gave, where images of one format are read.
+-- What opening an image may answer, from what its reader gave, if images of one format are read.
 use Rattle.std.specs.Prelude.{◌≡◌, ◌⊎◌, ◌<◌, ◌≤◌, ⊤, ℕ, ◌+◌, ◌*◌, ◌/◌, true, false, ◌&&◌, List, [], length, take, drop}
 use Rattle.std.specs.Prelude.{IsTrue, nat_lt, Bool, Some, Result, Ok, Err, MatchResult, if◌then◌else◌}
 use Rattle.std.specs.List.{list_any}
@@ -89,7 +89,7 @@ IsOpenCause format image base capacity (OutOfMemory refusal) =
     IsOutOfMemory format image × IsRefusalFor image.bytes refusal
 IsOpenCause format image base capacity ReadFault = IsUndecided format image
 
--- The region comes back. The bytes before the base and those behind base and size are as they were, and where the image
+-- The region comes back. The bytes before the base and those after base and size are as they were, and if the image
 -- has no place in the region, so are all.
 pub record IsHandedBack (format : ℕ) (image : ReadDelta) (region : List ℕ) (base : ℕ) (back : List ℕ) : Type 0 where
   pub capacity : length back ≡ length region
@@ -141,13 +141,13 @@ abbrev pub failed_reads : {T : Type 0} → Result T OpenError → ℕ
 failed_reads (Ok x) = 0
 failed_reads (Err cause) = elim cause [ Image c ↦ 0 | RegionTooSmall ↦ 0 | OutOfMemory refusal ↦ 0 | ReadFault ↦ 1 ]
 
--- a call asks a reader no more behind its end: where the last read answered it that one alone did, and else none
+-- a call asks a reader no more after its end: if the last read answered it that one alone did, and otherwise none
 abbrev pub AsksToTheEnd : ReaderHistory → ReaderHistory → Type 0
 AsksToTheEnd old new = new.ends ≡ old.ends + (if new.ended then 1 else 0)
 
 -- ---- visits
 
--- the size that the first words say, where it is one that a segment has, and else the least
+-- the size that the first words say, if it is one that a segment has, and otherwise the least
 abbrev pub size_or_least : List ℕ → ℕ
 size_or_least b = if is_legal_size (size_word b) then size_word b else 144
 

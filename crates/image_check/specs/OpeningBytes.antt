@@ -1,4 +1,4 @@
--- What opening an image that lies in memory may answer, where images of one format are read.
+-- What opening an image that lies in memory may answer, if images of one format are read.
 use Rattle.std.specs.Prelude.{◌≡◌, ℕ, ◌+◌, ◌≤◌, true, false, List, length, IsTrue, Some, Result, MatchResult}
 use Rattle.raw_region.specs.Device.{ReadDelta}
 use Rattle.segment_manager.specs.declared.modes.Mode.{Mode}
@@ -23,7 +23,7 @@ IsWhyNotOf format b base capacity RegionTooSmall = IsTooSmallFor format (as_give
 IsWhyNotOf format b base capacity (OutOfMemory refusal) = IsOutOfMemory format (as_given b) × IsRefusalFor b refusal
 IsWhyNotOf format b base capacity ReadFault = ⊥
 
--- no segment is opened; the region comes back, as it was where the bytes are not as many as they say
+-- no segment is opened; the region comes back, as it was if the bytes are not as many as they say
 pub record IsNotOpenedOf (format : ℕ) (b region : List ℕ) (base : ℕ) (refused : OpenRefused) : Type 0 where
   pub why : IsWhyNotOf format b base (length region) refused.cause
   pub handed_back : IsHandedBack format (as_given b) region base refused.region

@@ -142,7 +142,7 @@ MayCount format m ts role at = (target : ℕ) → LeadsTo m ts role at target �
 abbrev pub owner : ℕ → ℕ → Owner
 owner at root = record { at = at; root = root }
 
--- the link at a place is noted, where it leads to a block of the role
+-- the link at a place is noted, if it leads to a block of the role
 abbrev pub IsMarkedLink : Memory → List Tile → Blocks → Role → ℕ → ℕ → Type 0
 IsMarkedLink m ts es role at root = (target : ℕ) → LeadsTo m ts role at target
     → owner_at es target ≡ Some (owner at root)
@@ -222,7 +222,7 @@ abbrev pub next_in : Option Block → Option ℕ
 next_in None = None
 next_in (Some b) = b.next
 
--- what waits behind a node
+-- what waits after a node
 abbrev pub next_at : Blocks → ℕ → Option ℕ
 next_at es n = next_in (block_at es n)
 

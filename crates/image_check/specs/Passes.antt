@@ -28,11 +28,11 @@ pub record HasTiles (b : List ℕ) : Type 0 where
   pub size : IsTrue (is_legal_size (length b))
   pub tags : IsTrue (has_tags current (bytes_of b) (length b))
 
--- a pass that answers a place that shows it exactly where its test fails
+-- a pass that answers a place that shows it exactly if its test fails
 abbrev pub ChecksClass : {A : Type 0} → Bool → (ℕ → Type 0) → Result A ℕ → Type 0
 ChecksClass fine Shows result = MatchResult result (λ done. fine ≡ true) (λ at. (fine ≡ false) × Shows at)
 
--- a pass raises the count by no more than so many, and so many for each 16 bytes of a tile
+-- a pass raises the count by no more than this many, and this many for each 16 bytes of a tile
 abbrev pub Spends : Rates → ℕ → List ℕ → ℕ → ℕ → Type 0
 Spends rates more b old new = (old ≤ new) × (new ≤ old + (more + weigh rates (tiles_in b)))
 

@@ -31,7 +31,7 @@ front_of format b =
 abbrev pub IsShort : Bool → OpenError → Type 0
 IsShort ended cause = (cause ≡ ReadFault) ⊎ ((cause ≡ Image Truncated) × (ended ≡ true))
 
--- Why a reader that was asked for one byte behind the image did not end: it failed, or it gave one.
+-- Why a reader that was asked for one byte after the image did not end: it failed, or it gave one.
 abbrev pub ReadsPastEnd : List ℕ → List ℕ → OpenError → Type 0
 ReadsPastEnd old new cause = ((cause ≡ ReadFault) × (new ≡ old))
     ⊎ ((cause ≡ Image BadSize) × ((byte : ℕ) × (new ≡ old ++ byte ∷ [])))
@@ -70,7 +70,7 @@ pub record IsNotRead (format : ℕ) (image : ReadDelta) (region : List ℕ) (bas
   pub stops : Stops format image base (length region) refused.cause
   pub handed_back : IsHandedBack format image region base refused.region
 
--- ---- by the format that the first words say, where it is one of those that are read
+-- ---- by the format that the first words say, if it is one of those that are read
 
 abbrev pub StopsBy : AcceptedVersions → ReadDelta → ℕ → ℕ → OpenError → Type 0
 StopsBy versions image = Stops (format_in versions image.bytes) image

@@ -24,7 +24,7 @@ pub record MarksLinks (format : ℕ) (b : List ℕ) (At : ℕ
   pub only : (n : ℕ) (o : Owner) → owner_at es n ≡ Some o → (owner_at old n ≡ Some o) ⊎ At o.at
   pub less : 6 * waiting + unspent_budget es ≤ 6 * waited + unspent_budget old
 
--- a pass makes at most so many visits besides those that were due for the blocks that it met
+-- a pass makes at most this many visits besides those that were due for the blocks that it met
 abbrev pub Pays : {A E : Type 0} → ℕ → Result A E → ℕ → ℕ → ℕ → ℕ → Type 0
 Pays n result old owed new owes =
     (old ≤ new) × MatchResult result (λ done. new + owes ≤ old + (owed + n)) (λ class. new ≤ old + (owed + n))
@@ -125,7 +125,7 @@ pub record IsValueGrown (format : ℕ) (b : List ℕ) (kind : Kind) (at : ℕ) (
 
 -- ---- objects
 
--- what is said of the value of the object in a tile, where it is one
+-- what is said of the value of the object in a tile, if it is one
 abbrev pub OfObject : ℕ → Memory → Tile → (Kind → ℕ → Type 0) → Type 0
 OfObject format m t Is = (kind : Kind) → IsTrue (is_use Object t) → kind_at format m (payload t) ≡ Some kind
     → Is kind (value_offset m (payload t))

@@ -23,10 +23,10 @@ abbrev pub said_tiles : List ℕ → List Tile
 said_tiles b = tiles_of (bytes_of b) (size_word b)
 
 -- The place that shows a class that holds: the end of what is too short; the first byte that is not the magic's; the
--- version; the size that is none, or else the first byte behind it; the first reserved byte that is not zero; the first
--- tag that is wrong; the root link of the free tree; the word or entry of an index that is wrong; the first object that
--- is wrong, or else the first entry of an index out of order; a link that leads where another does; the first object
--- whose container is wrong; and the first block to which no link leads.
+-- version; the size that is none, or otherwise the first byte after it; the first reserved byte that is not zero; the
+-- first tag that is wrong; the root link of the free tree; the word or entry of an index that is wrong; the first
+-- object that is wrong, or otherwise the first entry of an index out of order; a link that leads where another does;
+-- the first object whose container is wrong; and the first block to which no link leads.
 abbrev pub Shows : ℕ → List ℕ → ImageClass → ℕ → Type 0
 Shows format b Truncated at = at ≡ length b
 Shows format b BadMagic at = IsFirstOther b (codes "MSEGFILE") at
@@ -46,6 +46,6 @@ Shows format b OrphanBlock at =
 abbrev pub IsVerdict : ℕ → List ℕ → Verdict → Type 0
 IsVerdict format b v = (class_of format b ≡ Some v.class) × Shows format b v.class v.place
 
--- a pass answers the verdict where a class holds
+-- a pass answers the verdict if a class holds
 abbrev pub AnswersVerdict : {A : Type 0} → ℕ → List ℕ → Result A Verdict → Type 0
 AnswersVerdict format b result = MatchResult result (λ done. class_of format b ≡ None) (IsVerdict format b)

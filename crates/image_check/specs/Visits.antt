@@ -4,7 +4,7 @@ use Rattle.block_tags.specs.declared.tile.Role.{Role}
 use Rattle.block_tags.specs.declared.tile.Role.TheVariants.{Object, Index, Storage, Node}
 use Rattle.block_tags.specs.declared.tile.Tile.{Tile}
 
--- a pass makes at most so many visits more
+-- a pass makes at most this many visits more
 abbrev pub AddsVisits : ℕ → ℕ → ℕ → Type 0
 AddsVisits n old new = (old ≤ new) × (new ≤ old + n)
 
@@ -75,7 +75,7 @@ container_rates = record { free = 1; object = 12; index = 1; storage = 24; node 
 abbrev pub orphan_rates : Rates
 orphan_rates = record { free = 0; object = 1; index = 1; storage = 1; node = 1 }
 
--- the tags and the free tree, the passes over the blocks, and all passes behind the first words
+-- the tags and the free tree, the passes over the blocks, and all passes after the first words
 abbrev pub frame_rates : Rates
 frame_rates = both tag_rates tree_rates
 

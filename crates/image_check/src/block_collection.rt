@@ -16,11 +16,11 @@ use block_tags::Tile;
 use std::alloc::Global;
 
 /// Returns the blocks in use by payload, to none of which a link was met, where the tiles were counted. Memory is asked
-/// for once, and not where no block is in use.
+/// for once, and not if no block is in use.
 ///
 /// # Errors
 ///
-/// Where there is no memory for them.
+/// If there is no memory for them.
 pub(crate) fn collect_blocks(
     alloc: Global,
     window: &ImageWindow,

@@ -45,7 +45,7 @@ pub(crate) use visit_counter::VisitCounter;
 ///
 /// # Errors
 ///
-/// The first class that holds. `OutOfMemory` only where none of the classes before `BadIndex` holds and a tile is in
+/// The first class that holds. `OutOfMemory` only if none of the classes before `BadIndex` holds and a tile is in
 /// use. The region comes back as it was.
 pub fn open_window(
     alloc: Global,
@@ -146,7 +146,7 @@ fn pass_all(
     Ok(owners)
 }
 
-/// Returns the count of the tiles of a window whose first words are right, where its reserved bytes, tags and free tree
+/// Returns the count of the tiles of a window whose first words are right, if its reserved bytes, tags and free tree
 /// are right too.
 ///
 /// # Errors

@@ -7,7 +7,7 @@ use crate::checking::VisitCounter;
 use crate::owners::{Block, Owner, Owners, is_same};
 use block_tags::Role;
 
-/// Notes the entry at `place` of the index whose own link stands at `root`, where the entry's link leads to an object
+/// Notes the entry at `place` of the index whose own link stands at `root`, if the entry's link leads to an object
 /// that has no entry yet; whether it does.
 pub(crate) fn enter(
     owners: &mut Owners,

@@ -26,7 +26,7 @@ use best_fit::FREE_TREE_ROOT;
 use block_tags::{TAG_LEN, Tile};
 use offset_link::NULL;
 
-/// Returns the count of the tiles, where the free ones make up the tree that they do in the format, or the link is null
+/// Returns the count of the tiles, if the free ones make up the tree that they do in the format, or the link is null
 /// in format 0.
 pub(crate) fn check_gaps(
     format: u64,
@@ -93,7 +93,7 @@ fn check_free_tree(window: &ImageWindow, visits: &mut VisitCounter) -> Option<Co
     Some(counts)
 }
 
-/// Returns the count of the tiles, where each free one is a node of the tree, and its links are good.
+/// Returns the count of the tiles, if each free one is a node of the tree, and its links are good.
 fn count_planted(
     window: &ImageWindow,
     root: Option<u64>,

@@ -35,7 +35,7 @@ pub(crate) fn kind_of(format: u64, window: &ImageWindow, object: Object) -> Opti
     }
 }
 
-/// Returns the kind of this code, or `None` if no kind has it. The code of an object is looked for among all only where
+/// Returns the kind of this code, or `None` if no kind has it. The code of an object is looked for among all only if
 /// the kind that its parts name has another.
 fn kind_of_code(code: u32) -> Option<Kind>
     ensures { result ≡ code_kind code }

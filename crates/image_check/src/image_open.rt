@@ -19,7 +19,7 @@ use std::alloc::Global;
 /// # Errors
 ///
 /// `RegionTooSmall` as soon as the magic, the version and a legal size are read and the region ends before base plus
-/// size; no more is read then. A class of the image where it denotes no directory, the first that holds, if it was read
+/// size; no more is read then. A class of the image if it denotes no directory, the first that holds, if it was read
 /// to its end or what was read decides it. `ReadFault` if the reader failed before that; it is not asked again after an
 /// error, nor after its end. `OutOfMemory` if memory for the check of the blocks was refused: only if no class before
 /// `BadIndex` holds and a tile is in use. The region comes back.

@@ -65,7 +65,7 @@ pub(crate) fn read_image<S: Source>(
 ///
 /// # Errors
 ///
-/// As `read_image`. Where the bytes begin no image, more are read, since fewer than 144 are too short whatever they
+/// As `read_image`. If the bytes begin no image, more are read, since fewer than 144 are too short whatever they
 /// are.
 fn read_front<S: Source>(
     versions: AcceptedVersions,

@@ -17,7 +17,7 @@ use block_tags::Role;
 ///
 /// # Errors
 ///
-/// The link's place, where another link leads there.
+/// The link's place, if another link leads there.
 pub(crate) fn mark_index(
     window: &ImageWindow,
     owners: &mut Owners,
@@ -50,7 +50,7 @@ pub(crate) fn mark_index(
 ///
 /// # Errors
 ///
-/// The link's place, where another link leads there.
+/// The link's place, if another link leads there.
 pub(crate) fn mark_storage(
     window: &ImageWindow,
     owners: &mut Owners,
@@ -83,7 +83,7 @@ pub(crate) fn mark_storage(
 ///
 /// # Errors
 ///
-/// The link's place, where one of them leads to a block to which another link leads.
+/// The link's place, if one of them leads to a block to which another link leads.
 pub(crate) fn mark_elements(
     window: &ImageWindow,
     owners: &mut Owners,

@@ -23,7 +23,7 @@ use block_tags::Role;
 ///
 /// # Errors
 ///
-/// The link's place, where a link at another place leads there.
+/// The link's place, if a link at another place leads there.
 pub(crate) fn mark(
     owners: &mut Owners,
     role: Role,
@@ -97,7 +97,7 @@ fn root_in(block: Option<Block>, target: u32) -> u32
 ///
 /// # Errors
 ///
-/// The link's place, where one of them leads to a node to which another link leads.
+/// The link's place, if one of them leads to a node to which another link leads.
 fn follow_next(
     window: &ImageWindow,
     owners: &mut Owners,
@@ -135,7 +135,7 @@ fn follow_next(
 ///
 /// # Errors
 ///
-/// The link's place, where two of them lead to one node.
+/// The link's place, if two of them lead to one node.
 pub(crate) fn follow(
     window: &ImageWindow,
     owners: &mut Owners,

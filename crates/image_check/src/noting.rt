@@ -1,4 +1,4 @@
-//! The way-points of a heap, from the map of the blocks of an image.
+//! The block hints of a heap, from the map of the blocks of an image.
 ghost use Rattle.std.specs.Prelude.{◌≡◌, ◌+◌, length};
 ghost use Rattle.best_fit.specs.Heap.{live_of};
 ghost use Rattle.image_check.specs.Owners.{AreBlocksIn};
@@ -7,7 +7,7 @@ use crate::checking::VisitCounter;
 use crate::image_window::BlockTable;
 use best_fit::Heap;
 
-/// Notes each block in use as a way-point of a heap that has them. One visit for each; no tag is read, and no byte
+/// Notes each block in use as a block hint of a heap that has them. One visit for each; no tag is read, and no byte
 /// changes.
 pub(crate) fn note_blocks(blocks: &BlockTable, heap: &mut Heap, visits: &mut VisitCounter)
     requires { AreBlocksIn (live_of heap.old.bytes) blocks.now.entries }

@@ -21,7 +21,7 @@ use std::alloc::Global;
 ///
 /// # Errors
 ///
-/// As [`open`](crate::open), where any of the three versions is taken for the current one.
+/// As [`open`](crate::open), but any of the three versions is taken for the current one.
 ///
 /// `steps` is raised by each visit of the check, as there; the writing of a free tree is not counted.
 pub fn open_any<S: Source>(

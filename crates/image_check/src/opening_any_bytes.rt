@@ -18,7 +18,7 @@ use std::alloc::Global;
 ///
 /// # Errors
 ///
-/// As [`open_bytes`](crate::open_bytes), where any of the three versions is taken for the current one.
+/// As [`open_bytes`](crate::open_bytes), but any of the three versions is taken for the current one.
 ///
 /// `steps` is raised as there.
 pub fn open_any_bytes(

@@ -19,7 +19,7 @@ use std::alloc::Global;
 /// # Errors
 ///
 /// `RegionTooSmall` if the first 24 bytes are the magic, the version and a legal size, and the region ends before base
-/// plus size. Otherwise a class of the image where it denotes no directory, the first that holds. `OutOfMemory` if
+/// plus size. Otherwise a class of the image if it denotes no directory, the first that holds. `OutOfMemory` if
 /// memory for the check of the blocks was refused: only if no class before `BadIndex` holds and a tile is in use.
 /// `ReadFault` never. The region comes back, as it was if the bytes are not as many as they say.
 ///

@@ -19,7 +19,7 @@ pub struct NoBlockMemory {
 ///
 /// # Errors
 ///
-/// Where the allocator refuses it.
+/// If the allocator refuses it.
 pub(crate) fn room_for(alloc: Global, count: usize, end: u64) -> Result<BlockTable, NoBlockMemory>
     ensures empty { IfOk result (λ blocks. blocks.entries ≡ []) }
     ensures room { IfOk result (λ blocks. count ≤ blocks.room) }

@@ -5,7 +5,7 @@ use crate::owners::{Block, Owner};
 use block_tags::Role;
 use std::marker::Model;
 
-/// A block in use. It has 20 bytes, where two `Option`s would take 8 more: there is one for each block, and each page
+/// A block in use. It has 20 bytes; two `Option`s would take 8 more: there is one for each block, and each page
 /// of them is a new one of the system's.
 #[derive(Drop)]
 pub(crate) struct Row {

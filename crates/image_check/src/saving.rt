@@ -8,7 +8,7 @@ ghost use Rattle.image_check.specs.Saving.{IsSaved};
 use raw_region::{DeviceFault, Sink, write_all};
 use segment_manager::Segment;
 
-/// Writes the bytes of an image. Where they denote a directory, a check of the image accepts it.
+/// Writes the bytes of an image. If they denote a directory, a check of the image accepts it.
 fn write_image<W: Sink>(bytes: &[u8], out: &mut W) -> Result<(), DeviceFault>
     requires { (W.history out.old).failures < 2 ^ 64 - 1 }
     ensures output { Writes (W.history out.old) (W.history out.new) result bytes.now }

@@ -42,7 +42,7 @@ fn elements_in(length: u64, len: u64) -> u64
 ///
 /// # Errors
 ///
-/// The link's place, where one of them leads to a block to which another link leads.
+/// The link's place, if one of them leads to a block to which another link leads.
 fn mark_texts(
     window: &ImageWindow,
     owners: &mut Owners,
@@ -81,7 +81,7 @@ fn mark_texts(
 ///
 /// # Errors
 ///
-/// The link's place, where one of them leads to a block to which another link leads.
+/// The link's place, if one of them leads to a block to which another link leads.
 fn mark_array(
     window: &ImageWindow,
     owners: &mut Owners,
@@ -110,7 +110,7 @@ fn mark_array(
 ///
 /// # Errors
 ///
-/// The link's place, where one of them leads to a block to which another link leads.
+/// The link's place, if one of them leads to a block to which another link leads.
 fn mark_value(
     window: &ImageWindow,
     owners: &mut Owners,
@@ -147,7 +147,7 @@ fn mark_value(
 ///
 /// # Errors
 ///
-/// The link's place, where one of them leads to a block to which another link leads.
+/// The link's place, if one of them leads to a block to which another link leads.
 fn mark_object(
     format: u64,
     window: &ImageWindow,
@@ -185,7 +185,7 @@ fn mark_object(
 ///
 /// # Errors
 ///
-/// The link's place, where one of them leads to a block to which another link leads.
+/// The link's place, if one of them leads to a block to which another link leads.
 fn mark_values(
     format: u64,
     window: &ImageWindow,
@@ -223,7 +223,7 @@ fn mark_values(
 ///
 /// # Errors
 ///
-/// The link's place, where both lead to one block.
+/// The link's place, if both lead to one block.
 fn mark_indexes(
     window: &ImageWindow,
     owners: &mut Owners,
@@ -249,7 +249,7 @@ fn mark_indexes(
 ///
 /// # Errors
 ///
-/// The link's place, where two lead to one.
+/// The link's place, if two lead to one.
 pub(crate) fn check_sharing(
     format: u64,
     window: &ImageWindow,

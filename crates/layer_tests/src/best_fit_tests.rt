@@ -31,16 +31,16 @@ fn takes_none(rt: &impl Abort, heap: &mut Heap, n: u64) {
 /// What is done to a heap, or seen of it: blocks are said by their handles.
 #[derive(Clone, Copy)]
 enum Step {
-    /// A block for an object of so many bytes is the one of a handle.
+    /// A request for an object of some bytes gets the block of a handle.
     Takes(u64, u64),
     /// No gap is so long.
     TakesNone(u64),
     GivesBack(u64),
-    /// A block is lengthened in its place to so many bytes, or is not.
+    /// A block is lengthened in its place to hold some bytes, or is not.
     Extends(u64, u64, bool),
-    /// A block is shortened to so many bytes, and has so much room then.
+    /// A block is shortened to some bytes, and then has this much room.
     Shrinks(u64, u64, u64),
-    /// Checks that so many bytes are free, and so many blocks are in use.
+    /// Checks how many bytes are free, and how many blocks are in use.
     HasFree(u64, u64),
 }
 
@@ -85,13 +85,13 @@ fn shrinks(rt: &impl Abort, heap: &mut Heap, handle: u64, n: u64, room: u64) {
     has_just(rt, heap, handle, room);
 }
 
-/// Checks that a block has room for just so many bytes.
+/// Checks that a block has room for just `room` bytes.
 fn has_just(rt: &impl Abort, heap: &Heap, handle: u64, room: u64) {
     holds(rt, heap.is_live(handle));
     same(rt, heap.room(handle), room);
 }
 
-/// Checks that so many bytes are free, and so many blocks are in use.
+/// Checks that `free` bytes are free, and `blocks` blocks are in use.
 fn has_free(rt: &impl Abort, heap: &Heap, free: u64, blocks: u64) {
     same(rt, heap.free_bytes(), free);
     same(rt, heap.live_count(), blocks);
@@ -116,7 +116,7 @@ fn is_red(rt: &impl Abort, heap: &Heap, handle: u64, red: bool) {
     same(rt, heap.node_red(handle), red);
 }
 
-/// Checks that a block has room for so many bytes.
+/// Checks that a block has room for `n` bytes.
 fn fits(rt: &impl Abort, heap: &Heap, handle: u64, n: u64)
     requires { 1 ≤ n }
     ensures { IsTrue (has_room (live_of heap.now.bytes) handle n) }

@@ -3,7 +3,7 @@ ghost use Rattle.std.specs.Prelude.{◌≡◌, IsTrue, Ok};
 
 use std::process::Abort;
 
-/// Fails where a call answers something else than is wanted.
+/// Fails if a call answers something else than is wanted.
 pub fn same<T: PartialEq + Drop>(rt: &impl Abort, got: T, want: T) {
     holds(rt, got == want);
 }

@@ -4,7 +4,7 @@ use Rattle.std.proofs.Common.{◌∙◌, ap, refl}
 use Rattle.std.proofs.lemmas.Bool.{false≢true}
 use Rattle.link_tree.specs.Nodes.{is_in, leads}
 
--- where what precedes a node that stands before a probe stands before it too, what follows one that does not does not
+-- if what precedes a node that stands before a probe stands before it too, what follows one that does not does not
 -- either
 pub stays_behind : (p q : Bool) → (p ≡ true → q ≡ true) → not q ≡ true → not p ≡ true
 stays_behind true q f h = absurd (false≢true (sym (ap not (f refl)) ∙ h))

@@ -4,15 +4,15 @@ use Rattle.std.specs.Prelude.{if◌then◌else◌}
 use Rattle.std.specs.List.{find, list_all}
 use Rattle.link_tree.specs.Tree.{Cell}
 
--- the cells, where one node's left link now leads to `to`
+-- the cells, but one node's left link now leads to `to`
 unfoldable pub with_left : (ℕ → Cell) → ℕ → Option ℕ → ℕ → Cell
 with_left cells n to m = if nat_eq m n then record (cells m) { left = to } else cells m
 
--- the cells, where one node's right link now leads to `to`
+-- the cells, but one node's right link now leads to `to`
 unfoldable pub with_right : (ℕ → Cell) → ℕ → Option ℕ → ℕ → Cell
 with_right cells n to m = if nat_eq m n then record (cells m) { right = to } else cells m
 
--- the cells, where one node now has this colour
+-- the cells, but one node now has this colour
 unfoldable pub with_red : (ℕ → Cell) → ℕ → Bool → ℕ → Cell
 with_red cells n red m = if nat_eq m n then record (cells m) { red = red } else cells m
 
@@ -34,7 +34,7 @@ first_not_before before ns = find (λ n. not (before n)) ns
 abbrev pub last_before : (ℕ → Bool) → List ℕ → Option ℕ
 last_before before ns = find before (reverse ns)
 
--- whether the node stands before or behind each node of the list
+-- whether the node stands before or after each node of the list
 abbrev pub is_ordered_with : (ℕ → ℕ → Bool) → ℕ → List ℕ → Bool
 is_ordered_with precedes n ns = list_all (λ m. precedes n m || precedes m n) ns
 

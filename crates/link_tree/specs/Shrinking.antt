@@ -27,7 +27,7 @@ pub record RemovesTo (cells cells' : ℕ
 abbrev pub reddened : Tree → Tree
 reddened t = painted true t
 
--- where the tree on the far side has fallen, the heavy tree near by gives a black node away, after Filliâtre
+-- if the tree on the far side has fallen, the heavy tree near by gives a black node away, after Filliâtre
 abbrev pub mended_at : Side → Bool → Tree → ℕ → Tree → RemovedSubtree
 mended_at side red leaf n far = record { tree = joined_at side red leaf n far; fell = false }
 mended_at side red (fork false left m right) n far =
@@ -56,7 +56,7 @@ sunk red t =
     if red then record { tree = t; fell = false }
     else (if is_red_tree t then record { tree = blackened t; fell = false } else record { tree = t; fell = true })
 
--- the first node of a tree, or another one where there is no node
+-- the first node of a tree, or another one if there is no node
 abbrev pub least_of : ℕ → Tree → ℕ
 least_of other leaf = other
 least_of other (fork red left n right) = least_of n left

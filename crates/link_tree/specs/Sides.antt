@@ -14,7 +14,7 @@ abbrev pub child_of : Side → Cell → Option ℕ
 child_of Left cell = cell.left
 child_of Right cell = cell.right
 
--- the cells, where one node's link on this side now leads to `to`
+-- the cells, but one node's link on this side now leads to `to`
 abbrev pub with_child : Side → (ℕ → Cell) → ℕ → Option ℕ → ℕ → Cell
 with_child Left = with_left
 with_child Right = with_right

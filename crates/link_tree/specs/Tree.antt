@@ -37,7 +37,7 @@ pub record IsTree (cells : ℕ → Cell) (link : Option ℕ) (t : Tree) : Type 0
   pub root : link ≡ root_of t
   pub holds : AreCellsOf cells t
 
--- each node precedes all that stand behind it, so that none stands twice
+-- each node precedes all that stand after it, so that none stands twice
 abbrev pub is_sorted : (ℕ → ℕ → Bool) → List ℕ → Bool
 is_sorted precedes [] = true
 is_sorted precedes (n ∷ ns) = list_all (precedes n) ns && is_sorted precedes ns
@@ -87,12 +87,12 @@ BoundsHeight = (t : Tree) → IsRedBlack t → height t ≤ 2 * bits (length (no
 
 -- ---- a tree read off
 
--- the tree of a node, where both trees below it are there
+-- the tree of a node, if both trees below it are there
 abbrev pub joined : ℕ → Bool → Option Tree → Option Tree → Option Tree
 joined n red None right = None
 joined n red (Some left) right = elim right [ None ↦ None | Some right ↦ Some (fork red left n right) ]
 
--- the tree that a link leads to, read off to this depth; none where it is deeper, or where a node is met that is not
+-- the tree that a link leads to, read off to this depth; none if it is deeper, or if a node is met that is not
 -- good
 abbrev pub tree_from : ℕ → (ℕ → Bool) → (ℕ → Cell) → Option ℕ → Option Tree
 tree_from zero good cells link = elim link [ None ↦ Some leaf | Some n ↦ None ]

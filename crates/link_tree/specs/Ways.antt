@@ -5,11 +5,11 @@ use Rattle.link_tree.specs.Tree.{Tree, leaf, fork, has_black_root}
 use Rattle.link_tree.specs.declared.change_points.Passed.{Passed}
 use Rattle.link_tree.specs.declared.change_points.Followed.{Followed}
 
--- what is found below a node, or else the node, where it is black and the way goes on to no red one
+-- what is found below a node, or otherwise the node, if it is black and the way goes on to no red one
 abbrev pub entry_over : Bool → ℕ → Tree → Option ℕ → Option ℕ
 entry_over red n next below = option_or below (if not red && has_black_root next then Some n else None)
 
--- The lowest black node on the path of a search that no red one follows there. Where a red node is hung at the end of
+-- The lowest black node on the path of a search that no red one follows there. If a red node is hung at the end of
 -- the path, the tree below this one is balanced anew, with this one still on top and black: so all above it is as it
 -- was.
 abbrev pub insert_point_of : (ℕ → Bool) → Tree → Option ℕ
@@ -26,11 +26,11 @@ passed notes n red before = record {
   entry = if red then notes.entry else option_or notes.above notes.entry;
 }
 
--- what is found below a node, or else the node, where the way goes on to a red one
+-- what is found below a node, or otherwise the node, if the way goes on to a red one
 abbrev pub exit_over : ℕ → Tree → Option ℕ → Option ℕ
 exit_over n next below = option_or below (if has_black_root next then None else Some n)
 
--- The lowest node above another that a red one follows on the way there. Where the other is taken out, the tree under
+-- The lowest node above another that a red one follows on the way there. If the other is taken out, the tree under
 -- the red one has as many black nodes on each path as before, whatever its root is then: so all above this node is as
 -- it was.
 abbrev pub remove_point_of : (ℕ → ℕ → Bool) → ℕ → Tree → Option ℕ

@@ -17,7 +17,7 @@ use crate::nodes::Nodes;
 pub struct InsertPoint {
     /// The first node that does not stand before the probe; none if there is no such node in the tree.
     pub node: Option<u64>,
-    /// Where an insertion at the end of the way begins, for `insert_at`; none where it begins at the root.
+    /// Where an insertion at the end of the way begins, for `insert_at`; none if it begins at the root.
     pub entry: Option<u64>,
     /// How often the search went to a node.
     pub steps: u64,
@@ -70,7 +70,7 @@ impl PathFold for Passed {
 pub struct RemovePoint {
     /// The first node that does not stand before the probe; none if there is no such node in the tree.
     pub node: Option<u64>,
-    /// Where the removal of that node begins, for `remove_at`; none where it begins at the root, or where there is no
+    /// Where the removal of that node begins, for `remove_at`; none if it begins at the root, or if there is no
     /// such node.
     pub exit: Option<u64>,
     /// How often the search went to a node.

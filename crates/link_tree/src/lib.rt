@@ -1,6 +1,6 @@
 //! Ordered red-black trees over links that someone else keeps.
 //!
-//! The keeper of the nodes implements `Nodes`, and `NodesMut` where the tree changes: nodes are `u64`, links
+//! The keeper of the nodes implements `Nodes`, and `NodesMut` if the tree changes: nodes are `u64`, links
 //! `Option<u64>`. No call makes, copies or moves a node, or allocates. Each answers its steps: a step is going to a
 //! node, with all reads and writes of its fields until the call goes to another.
 //! The trees are those of Cormen, Leiserson, Rivest and Stein, Introduction to Algorithms, chapter 13; `insert` goes

@@ -10,7 +10,7 @@ use crate::checking::MAX_HEIGHT;
 use crate::cursor::NodeCursor;
 use crate::nodes::Nodes;
 
-/// Visits the nodes below the link in order, if they are at most so many levels.
+/// Visits the nodes below the link in order: at most `levels` levels.
 fn walk_below<N: Nodes, F: FnMut(u64)>(
     visits: &mut NodeCursor<N>,
     link: Option<u64>,

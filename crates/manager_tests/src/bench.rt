@@ -53,7 +53,7 @@ impl Bench {
         }
     }
 
-    /// Notes where a call answers something else than is wanted.
+    /// Notes it if a call answers something else than is wanted.
     pub fn same<T: PartialEq + Drop>(&mut self, got: T, want: T) {
         self.holds(got == want);
     }
@@ -73,13 +73,13 @@ impl Bench {
         }
     }
 
-    /// Checks that so many bytes are free.
+    /// Checks that `free` bytes are free.
     pub fn has_free(&mut self, free: u64) {
         let is_free = self.segment.free() == free;
         self.holds(is_free);
     }
 
-    /// Checks `construct`: so many times the value, at this handle.
+    /// Checks `construct`: `count` times the value, at this handle.
     pub fn makes<T: Scalar>(&mut self, name: u8, count: u32, value: T, handle: Handle)
         requires non_empty { 1 ≤ count }
         requires max_count { count ≤ 1048576 }

@@ -106,7 +106,7 @@ const DUMP: &[u8] =
 const NOTED: &[u8] =
     b"segment dump 1\nsize 4096\nindexes 1 0\nnamed a vec<i64> 1\n  7\nanonymous string 1\n  2 \"xy\"\nend\n# capacity of names: 4\n# capacity of kinds: 0\n# capacity of named a vec<i64>: 10\n# capacity of anonymous string: 2\n";
 
-/// Checks that a writer with room for so many bytes of the dump with capacities takes these, and then fails.
+/// Checks that a writer with room for `room` bytes of the dump with capacities takes these, and then fails.
 fn is_noted<R: Abort + AllocGlobal>(rt: &R, segment: &Segment, room: usize) {
     let mut out = writer(rt, room);
     let told = dump_with_capacities(segment, &mut out).is_ok();
@@ -158,7 +158,7 @@ const ONE_OF_EACH_IN_JSON: &[u8] =
 const TEXTS_IN_JSON: &[u8] =
     b"{\"class\":\"named\",\"name\":\"\xc3\xa4\\\"\",\"kind\":\"vec<string>\",\"value\":[\"\xc3\xa4\\u001f\\\\/\",{\"base64\":\"/w==\"},{\"base64\":\"+P4=\"},{\"base64\":\"TWHz\"},{\"base64\":\"AICAgA==\"},\"\"]}\n";
 
-/// Checks that a writer with room for so many bytes takes these of the lines of JSON, and then fails.
+/// Checks that a writer with room for `room` bytes takes these of the lines of JSON, and then fails.
 fn is_in_json<R: Abort + AllocGlobal>(rt: &R, segment: &Segment, room: usize, lines: &[u8]) {
     let mut out = writer(rt, room);
     let told = dump_json(segment, &mut out).is_ok();

@@ -14,7 +14,7 @@ pub fn empty<R: Abort + AllocGlobal>(rt: &R) -> Segment {
     done(rt, Segment::create(region, 0, 4096, Mode::Write))
 }
 
-/// Returns a writer with room for so many bytes, which takes 7 at a time.
+/// Returns a writer with room for `room` bytes, which takes 7 at a time.
 pub fn writer<R: Abort + AllocGlobal>(rt: &R, room: usize) -> MemorySink
     ensures { result.failures ≡ 0 }
 {

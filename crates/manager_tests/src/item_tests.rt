@@ -20,7 +20,7 @@ const EXISTS: Result<Handle, Refusal> = Err(Refusal::Exists);
 
 const ONLY_READ: Result<Handle, Refusal> = Err(Refusal::ReadOnly);
 
-/// Asks for so many items of those from 1 on below `end`: what is made, and the first item that is not taken, or `end`.
+/// Asks for `count` items of those from 1 on below `end`: what is made, and the first item that is not taken, or `end`.
 fn takes_for(
     bench: &mut Bench,
     key: &NewKey,

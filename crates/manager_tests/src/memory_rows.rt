@@ -95,7 +95,7 @@ fn serves(
     Tried::Refused
 }
 
-/// Opens an image in a region of its own. Where memory is refused, the region comes back, and serves then.
+/// Opens an image in a region of its own. If memory is refused, the region comes back, and serves then.
 fn open_anew(rt: &impl Abort, alloc: Global, image: &[u8], of_any: bool) -> Option<Tried> {
     let region = RawRegion::new(alloc, 2048).ok()?;
     match opens(alloc, image, region, of_any) {

@@ -45,7 +45,7 @@ fn a_segment_moves_into_another_region_and_back(rt: HostRuntime) {
     drop(left);
 }
 
-/// Fails to move a segment into a region of so many bytes, from `base` on. Both come back as they were.
+/// Fails to move a segment into a region of `capacity` bytes, from `base` on. Both come back as they were.
 fn stays<R: Abort + AllocGlobal>(rt: &R, bench: Bench, capacity: u64, base: u64) -> Bench
     requires capacity { IsCapacity capacity }
     requires base { base % 16 ≡ 0 }

@@ -14,7 +14,7 @@ use seg_types::Refusal;
 use segment_manager::{CreateError, Mode, Segment};
 use std::process::Abort;
 
-/// Returns a segment of so many bytes at `base` of a region of 1024 sevens.
+/// Returns a segment of `size` bytes at `base` of a region of 1024 sevens.
 fn made<R: Abort + AllocGlobal>(rt: &R, base: u64, size: u64, mode: Mode) -> Segment
     requires { base % 16 ≡ 0 }
 {
@@ -58,7 +58,7 @@ fn is_as_it_was(rt: &impl Abort, region: &RawRegion) {
     are_sevens(rt, region, 0, 1024);
 }
 
-/// Checks that no segment of so many bytes is made at `base` of 1024 bytes, and that the region comes back as it was.
+/// Checks that no segment of `size` bytes is made at `base` of 1024 bytes, and that the region comes back as it was.
 fn makes_none<R: Abort + AllocGlobal>(rt: &R, size: u64, cause: CreateError) {
     let region = region_of_sevens(rt, 1024);
     let refused = refusal(rt, Segment::create(region, 16, size, Mode::Write));

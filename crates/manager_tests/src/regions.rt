@@ -5,7 +5,7 @@ use crate::checks::holds;
 use raw_region::RawRegion;
 use std::process::Abort;
 
-/// Returns a region of so many bytes, each of them 7.
+/// Returns a region of `capacity` bytes, each of them 7.
 pub fn region_of_sevens<R: Abort + AllocGlobal>(rt: &R, capacity: u64) -> RawRegion
     requires { IsCapacity capacity }
 {

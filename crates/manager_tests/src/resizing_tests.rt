@@ -6,7 +6,7 @@ use grow_shrink::{GrowError, grow, shrink_to_fit};
 use segment_manager::Mode;
 use std::process::Abort;
 
-/// Checks that a segment has another size, and so many bytes are free.
+/// Checks that a segment has this size, and `free` bytes are free.
 fn has_size(bench: &mut Bench, size: u64, free: u64) {
     let is_said = bench.segment.size() == size;
     bench.holds(is_said);
@@ -15,7 +15,7 @@ fn has_size(bench: &mut Bench, size: u64, free: u64) {
     bench.has_free(free);
 }
 
-/// Checks that a segment grows by so many bytes.
+/// Checks that a segment grows by `extra` bytes.
 fn grows(bench: &mut Bench, extra: u64) {
     let grown = grow(&mut bench.segment, extra);
     bench.same(grown, Ok(()));
@@ -54,7 +54,7 @@ fn an_empty_segment_shrinks_and_grows(rt: HostRuntime) {
     bench.ends(&rt);
 }
 
-/// Checks that a segment does not grow by so many bytes, and is as before.
+/// Checks that a segment does not grow by `extra` bytes, and is as before.
 fn stays<R: Abort + AllocGlobal>(rt: &R, bench: &mut Bench, extra: u64, why: GrowError) {
     let bytes = done(rt, bench.segment.as_bytes().to_vec(rt.alloc()));
     let left = bench.segment.region_left();

@@ -38,7 +38,7 @@ word_by_target at to w = link_word to (target_of at w)
 abbrev pub word_by_distance : ℕ → ℕ → ℕ → ℕ
 word_by_distance at to w = link_word to (Some ((at + w) % 2 ^ 64))
 
--- a word that changed by the distance between two offsets, null again where it was null
+-- a word that changed by the distance between two offsets, null again if it was null
 abbrev pub unless_null : ℕ → ℕ → ℕ → ℕ → ℕ → ℕ
 unless_null from to here there w = if w == word_by_distance from to 1 then 1 else w
 

@@ -1,4 +1,4 @@
--- Bytes that memory has: one list behind another, their fronts and ends, and some of them written over.
+-- Bytes that memory has: one list after another, their fronts and ends, and some of them written over.
 use Rattle.std.proofs.Common.{◌≡◌, refl, sym, ap, subst, ◌∙◌, inl, inr, ℕ, ◌+◌, ◌*◌, ◌≤◌, List, ◌∷◌, length, arith, ◌⊎◌}
 use Rattle.std.proofs.Common.{zero, suc, ◌++◌, length-append, ◌-◌, take, drop, [], ◌<◌}
 use Rattle.std.specs.Prelude.{IsTrue, nat_lt}
@@ -24,7 +24,7 @@ read-append m at (suc a) b =
     let e1 : suc a + b ≡ suc (a + b) = omega arith in let e2 : at + 1 + a ≡ at + suc a = omega arith in
     ap (read m at) e1 ∙ ap (λ ws. m at ∷ ws) (read-append m (at + 1) a b ∙ ap (λ k. read m (at + 1) a ++ read m k b) e2)
 
--- bytes that stand one behind another stand there as one list
+-- bytes that stand one after another stand there as one list
 pub HasBytesAt-append : (m : Memory) (at : ℕ) (xs ys : List ℕ) → HasBytesAt m at xs
     → HasBytesAt m (at + length xs) ys → HasBytesAt m at (xs ++ ys)
 HasBytesAt-append m at xs ys h k = ap (read m at) (length-append xs ys) ∙ read-append m at (length xs) (length ys)
@@ -51,7 +51,7 @@ HasBytesAt-take m at k bytes f h =
     let e : length (take k bytes) ≡ k = omega (arith, length-take k bytes, f) in
     ap (read m at) e ∙ sym (read-take m at k (length bytes) f) ∙ ap (take k) h
 
--- the rest of bytes that stand somewhere stands behind their front
+-- the rest of bytes that stand somewhere stands after their front
 pub HasBytesAt-drop : (m : Memory) (at k : ℕ) (bytes : List ℕ) → k ≤ length bytes → HasBytesAt m at bytes
     → HasBytesAt m (at + k) (drop k bytes)
 HasBytesAt-drop m at k bytes f h =

@@ -26,7 +26,7 @@ pub use Rattle.raw_region.proofs.words.Writing.{writes-behind, writes-then, writ
 
 -- ---- what a device gave or took
 
--- what is behind the bytes before is what was added
+-- what is after the bytes before is what was added
 pub added : (old new b : List ℕ) → new ≡ old ++ b → drop (length old) new ≡ b
 added old new b e = ap (λ (l : List ℕ). drop (length old) l) e ∙ drop_at old b (length old) refl
 

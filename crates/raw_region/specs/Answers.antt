@@ -12,7 +12,7 @@ abbrev pub falls_short : {E : Type 0} → Result ℕ E → ℕ → Bool
 falls_short (Ok n) len = nat_lt n len
 falls_short (Err e) len = false
 
--- how many ends the answer to a read of len bytes is: one where it gave none of some
+-- how many ends the answer to a read of len bytes is: one if it gave none of some
 abbrev pub ends_in : {E : Type 0} → Result ℕ E → ℕ → ℕ
 ends_in (Ok n) len = if (n == 0) && nat_lt 0 len then 1 else 0
 ends_in (Err e) len = 0

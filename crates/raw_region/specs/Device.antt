@@ -38,7 +38,7 @@ read_delta old new =
 abbrev pub write_delta : WriterHistory → WriterHistory → WriteDelta
 write_delta old new = record { bytes = drop (length old.bytes) new.bytes; failed = nat_lt old.failures new.failures }
 
--- A call writes a text: all of it where it answers Ok; where it answers an error, not all of it, from the first byte
+-- A call writes a text: all of it if it answers Ok; if it answers an error, not all of it, from the first byte
 -- on, and one more failure.
 pub record Writes {A E : Type 0} (old new : WriterHistory) (result : Result A E) (text : List ℕ) : Type 0 where
   pub ok : OnOk result (new.bytes ≡ old.bytes ++ text)
@@ -49,12 +49,12 @@ pub record Writes {A E : Type 0} (old new : WriterHistory) (result : Result A E)
 abbrev pub AppendsBytes : List ℕ → List ℕ → Type 0
 AppendsBytes old new = new ≡ old ++ drop (length old) new
 
--- A call reads: what it was given comes behind what was given before, and this many of its reads failed.
+-- A call reads: what it was given comes after what was given before, and this many of its reads failed.
 pub record ReadsSource (old new : ReaderHistory) (failed : ℕ) : Type 0 where
   pub grows : AppendsBytes old.bytes new.bytes
   pub counted : new.failures ≡ old.failures + failed
 
--- A call asks a reader no more behind its end: at most one of its reads answered it.
+-- A call asks a reader no more after its end: at most one of its reads answered it.
 abbrev pub EndsAtMostOnce : ReaderHistory → ReaderHistory → Type 0
 EndsAtMostOnce old new = new.ends ≤ old.ends + 1
 

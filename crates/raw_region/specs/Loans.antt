@@ -13,6 +13,6 @@ rewritten b from len ws = record {
   items = patched b.items from (refill len (part b.items from len) ws);
 }
 
--- b ends so where r ends as ws
+-- b ends so if r ends as ws
 abbrev pub lends_part : MutBor Block → ℕ → ℕ → MutBor (List ℕ) → Fml
 lends_part b from len r = Lends the_row (Array u8 0) b r (rewritten b.now from len)

@@ -4,10 +4,10 @@ ghost use Rattle.std.specs.Prelude.{◌≡◌, ℕ, [], length, slice_index, sli
 use std::alloc::Global;
 use std::marker::Model;
 
-/// At most so many numbers are noted about one memory.
+/// The most numbers that are noted about one memory.
 const MAX_NOTES: u64 = 4096;
 
-/// One number is for so many bytes.
+/// The bytes that one number is for.
 const NOTED_LEN: u64 = 2048;
 
 /// Numbers that whoever has memory keeps beside it: one for 2048 bytes, and at most 4096. Their room comes with the
@@ -84,14 +84,14 @@ impl Notes {
         self.as_slice().len()
     }
 
-    /// Returns the number at `at`, or 0 if there are not so many.
+    /// Returns the number at `at`, or 0 if there are too few.
     pub fn get(&self, at: usize) -> u32
         ensures { result ≡ slice_index self.now at }
     {
         number_at(self.as_slice(), at)
     }
 
-    /// Notes a number at `at`, if there are so many.
+    /// Notes a number at `at`, if there is room for it.
     pub fn set(&mut self, at: usize, number: u32)
         ensures { self.new ≡ slice_set self.old at number }
     {
@@ -114,7 +114,7 @@ fn filled(room: Vec<u32>) -> Vec<u32>
     zeros
 }
 
-/// Returns the number at `at`, or 0 if there are not so many.
+/// Returns the number at `at`, or 0 if there are too few.
 fn number_at(numbers: &[u32], at: usize) -> u32
     ensures { result ≡ slice_index numbers.now at }
 {

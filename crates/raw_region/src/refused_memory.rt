@@ -21,7 +21,7 @@ pub struct OutOfMemory {
 ///
 /// # Errors
 ///
-/// Where the allocator refuses so many bytes.
+/// If the allocator refuses `capacity` bytes.
 pub(crate) fn allocated(alloc: Global, capacity: u64) -> Result<Allocation, OutOfMemory>
     requires { IsCapacity capacity }
     ensures zeros { IfOk result (λ r. r ≡ zeros capacity) }
@@ -41,7 +41,7 @@ pub(crate) fn allocated(alloc: Global, capacity: u64) -> Result<Allocation, OutO
 ///
 /// # Errors
 ///
-/// Where the allocator refuses as many bytes as it has.
+/// If the allocator refuses as many bytes as it has.
 pub fn copy_text(alloc: Global, text: &str) -> Result<String, OutOfMemory>
     ensures copy { IfOk result (λ s. string_bytes s ≡ text.now) }
     ensures refused { IfErr result (λ refusal. refusal ≡ out_of_memory_of (length text.now)) }
@@ -59,7 +59,7 @@ pub fn copy_text(alloc: Global, text: &str) -> Result<String, OutOfMemory>
 ///
 /// # Errors
 ///
-/// Where the allocator refuses as many bytes as the text has then. The text is as it was.
+/// If the allocator refuses as many bytes as the text has then. The text is as it was.
 pub fn append(text: &mut Vec<u8>, more: &[u8]) -> Result<(), OutOfMemory>
     ensures text { text.new.items ≡ (if is_ok result then text.old.items ++ more.now else text.old.items) }
     ensures refused { IfErr result (λ refusal. refusal ≡ out_of_memory_of (length text.old.items + length more.now)) }

@@ -43,7 +43,7 @@ numbers : AreRead (
 unfolding reading
 numbers = refl
 
--- escapes, no blank behind a text, a digit in upper case, an empty name
+-- escapes, no blank after a text, a digit in upper case, an empty name
 texts : AreRead (
     (codes "append \"a b\" \"\\\"\\\\\\x0a\"", Asked (Append (ByName (codes "a b")) (0x22 ∷ 0x5C ∷ 0x0A ∷ [])))
     ∷ (codes "append s \"a\"b", BadSyntax)

@@ -206,7 +206,7 @@ texts : (run (whole_language 2) Write (empty 1024)
 unfolding run
 texts = refl
 
--- a vector of strings that does not fit leaves nothing behind
+-- a vector of strings that does not fit leaves nothing after
 texts_without_room : (run (whole_language 2) Write (empty 288) (codes "construct vec<string> v \"a\"\nfree\n")).0
     ≡ codes "error 9 no space\n144\n"
 unfolding run
@@ -250,7 +250,7 @@ current_names : (run (whole_language current) Write (empty 1024)
 unfolding run current
 current_names = refl
 
--- a last line without an end is a line too, and nothing behind a last end is one
+-- a last line without an end is a line too, and nothing after a last end is one
 no_last_line_end : (run (whole_language 2) Write (empty 176) (codes "size\nfree")).0
     ≡ codes "176\n32\n"
 unfolding run

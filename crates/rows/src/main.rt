@@ -13,7 +13,7 @@ use segments::LibraryRunner;
 use std::process::ExitCode;
 use std::{env, fs, io};
 
-/// Runs the files, and ends with status 1 where something differs from what they say.
+/// Runs the files, and ends with status 1 if something differs from what they say.
 fn main(rt: HostRuntime) -> io::Result<ExitCode> {
     let is_sound = run_files(&rt)?;
     let is_right = run_own(&rt)?;

@@ -55,7 +55,7 @@ impl Machine for Lengths {
         ap (λ (len : ℕ). len == 4098) same };
 }
 
-/// Tells what becomes of a line of so many bytes.
+/// Tells what becomes of a line of `len` bytes.
 fn told_of(len: usize) -> Answered
     ensures { was_refused result ≡ (len == 4098) }
 {
@@ -88,7 +88,7 @@ impl Tally {
         }
     }
 
-    /// Runs a script on the machine, read in pieces of so many bytes: what comes of it, how many lines are executed,
+    /// Runs a script on the machine, read in pieces of `piece` bytes: what comes of it, how many lines are executed,
     /// and the answers.
     fn reads(
         &mut self,
@@ -110,7 +110,7 @@ impl Tally {
         Ok(())
     }
 
-    /// Runs the script with a writer that takes so many bytes: these go out, and so many lines are executed.
+    /// Runs the script with a writer that takes `room` bytes: these go out, and `lines` lines are executed.
     fn writes(
         &mut self,
         alloc: Global,
@@ -127,8 +127,8 @@ impl Tally {
         Ok(())
     }
 
-    /// Runs a script on a segment with a writer that takes so many bytes. These go out, and the line whose answer is
-    /// cut is executed, so that so many bytes are free.
+    /// Runs a script on a segment with a writer that takes `room` bytes. These go out, and the line whose answer is
+    /// cut is executed, so that `free` bytes are free.
     fn stops(&mut self, alloc: Global, room: usize, free: u64) -> Result<(), AllocError> {
         let mut out = MemorySink::new(alloc, room, 3, EndBehaviour::Fails)?;
         let mut segment = empty_segment(alloc)?;

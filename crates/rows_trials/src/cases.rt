@@ -11,7 +11,7 @@ pub struct Place {
 }
 
 impl Place {
-    /// Returns the least capacity of a region for so many bytes, but no more than 16777216.
+    /// Returns the least capacity of a region for `bytes` bytes, but no more than 16777216.
     pub fn new(bytes: u64, base: u64) -> Place {
         let capacity = bytes.clamp(16, 1 << 24).next_multiple_of(16);
         Place { capacity, base }
@@ -23,7 +23,7 @@ impl Place {
         is_region && self.capacity % 16 == 0 && self.base % 16 == 0
     }
 
-    /// Returns places where a segment of so many bytes lies usually: in a region that it fills, and among other bytes.
+    /// Returns places where a segment of `size` bytes lies usually: in a region that it fills, and among other bytes.
     pub fn usual(size: u64) -> [Place; 2] {
         [
             Place::new(size, 0),
@@ -108,7 +108,7 @@ impl<'a> Case<'a> {
         case
     }
 
-    /// Returns the case with another script, of which nothing is known but that it prints no more than so many bytes.
+    /// Returns the case with another script, of which nothing is known but that it prints no more than `room` bytes.
     pub fn unknown(&self, script: &'a [u8], room: usize) -> Case<'a> {
         let mut case = *self;
         case.script = script;
@@ -161,7 +161,7 @@ impl<'a> Case<'a> {
         case
     }
 
-    /// Returns the line of the file whose answer differs first, where another answer comes.
+    /// Returns the line of the file whose answer differs first, if another answer comes.
     pub fn differs_at(&self, wanted: &[u8], got: &[u8]) -> usize {
         let at = alike(wanted, got);
         let mut line = self.line;

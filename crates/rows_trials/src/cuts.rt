@@ -95,7 +95,7 @@ fn last_of(step: usize) -> EndBehaviour {
     }
 }
 
-/// Returns how many bytes decide that an image which says that it has so many is refused, whatever the reader does
+/// Returns how many bytes decide that an image which says that it has `size` is refused, whatever the reader does
 /// then. Most classes need all bytes, and that no more follow.
 fn bytes_of(size: u64, fault: &str) -> u64 {
     match fault {
@@ -107,7 +107,7 @@ fn bytes_of(size: u64, fault: &str) -> u64 {
     }
 }
 
-/// Tells whether a segment may have so many bytes. Where one that says so is of a wrong size, the first byte after it
+/// Tells whether a segment may have `size` bytes. If one that says so is of a wrong size, the first byte after it
 /// tells.
 fn is_size(size: u64) -> bool {
     size % 16 == 0 && (size == 144 || 176 <= size && size <= 1073741824)

@@ -64,7 +64,7 @@ impl<'a> Images<'a> {
         }
     }
 
-    /// Makes the image that some lines say: so many zeros, or another image, with changes.
+    /// Makes the image that some lines say: zeros alone, or another image, with changes.
     pub fn make(&mut self, notes: &Notes, first: &Line<'a>, changes: &[Line<'a>]) {
         let (name, made) = first.rest.split_once(' ').unwrap_or((first.rest, ""));
         let mut image = match made.strip_prefix("of ") {
@@ -110,7 +110,7 @@ impl Notes {
         }
     }
 
-    /// Puts the lowest bytes of a number, so many, at an offset: all three as a text says.
+    /// Puts some of the lowest bytes of a number at an offset, as a text says.
     pub fn put_at(&self, line: &Line<'_>, text: &str, image: &mut [u8]) {
         let (offset, rest) = text.split_once(' ').unwrap_or((text, ""));
         let (len, number) = self.pair(line, rest, ' ');

@@ -34,7 +34,7 @@ impl Requests {
     }
 }
 
-/// What a segment must have for requests: so many free bytes, as the command `free` prints them, and a fit for each.
+/// What a segment must have for requests: the free bytes that the command `free` prints, and a fit for each.
 #[derive(Drop)]
 struct Fit<'x> {
     free: &'x [u8],
@@ -74,7 +74,7 @@ impl<R: Runner> RowRunner<R> {
         }
     }
 
-    /// Makes the requests in a segment of so many bytes in two places and in pieces, where so many bytes are free then.
+    /// Makes the requests in a segment of `size` bytes, in two places and in pieces; `free` bytes are free then.
     fn check_fit(&self, line: &Line<'_>, size: u64, free: &[u8], requests: &Requests) {
         let places = Place::usual(size);
         let case = Case::new(line.number, Some(size), &[], &places);

@@ -32,7 +32,7 @@ pub struct RowRunner<R> {
     pub cuts: Cell<u64>,
 }
 
-/// Counts so many more.
+/// Adds `more` to a count.
 pub fn count(counted: &Cell<u64>, more: usize) {
     counted.set(counted.get().saturating_add(more as u64));
 }

@@ -107,7 +107,7 @@ impl Script {
     }
 }
 
-/// Returns the first bytes, so many, or all.
+/// Returns the first `len` bytes, or all.
 pub fn front_of(bytes: &[u8], len: usize) -> &[u8] {
     bytes.get(..len).unwrap_or(bytes)
 }

@@ -4,11 +4,11 @@ use Rattle.byteorder.specs.Endian.{big_number}
 use Rattle.seg_index.specs.declared.keys.Entry.{Entry}
 use Rattle.seg_index.specs.declared.keys.Entry.TheVariants.{Name, Code}
 
--- the first eight bytes of a name as one number, the first of them the highest, and zeros behind a shorter name
+-- the first eight bytes of a name as one number, the first of them the highest, and zeros after a shorter name
 abbrev pub front : List ℕ → ℕ
 front name = big_number 8 name
 
--- how the key begins that is looked up, where it is a name
+-- how the key begins that is looked up, if it is a name
 abbrev pub key_front : Entry → ℕ
 key_front (Name s) = front s.now
 key_front (Code n) = 0

@@ -7,13 +7,13 @@ use Rattle.offset_link.specs.Link.{link_at}
 use Rattle.best_fit.specs.Heap.{has_room, live_of}
 use Rattle.seg_index.specs.{declared.keys.Entry.Entry, Lookups.IsKeyReadable, Lookups.IsEntryLinkTo, Lookups.order}
 
--- the key that is compared where those from `low` on and below `high` are left
+-- the key that is compared if those from `low` on and below `high` are left
 abbrev pub middle : ℕ → ℕ → ℕ
 middle low high = low + (high - low) / 2
 
 -- How many keys are compared among those from `low` on and below `high`, where `stands` says of each how it stands to
--- the one that is looked up: the middle one, and then as many as among those behind it, if it stands before, or among
--- those before it, if it stands behind. The first number is at least as many as the keys that are left.
+-- the one that is looked up: the middle one, and then as many as among those after it, if it stands before, or among
+-- those before it, if it stands after. The first number is at least as many as the keys that are left.
 unfoldable pub comparisons_among : ℕ → (ℕ → Ordering) → ℕ → ℕ → ℕ
 comparisons_among zero stands low high = 0
 comparisons_among (suc most) stands low high =

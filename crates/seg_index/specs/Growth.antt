@@ -15,7 +15,7 @@ use Rattle.seg_index.specs.{Index.grown_capacity, declared.index_capacity.Growth
 abbrev pub grown_bytes : WindowState → ℕ → ℕ
 grown_bytes c at = 8 * grown_capacity (capacity_at c at)
 
--- a new block exactly where the index is full
+-- a new block exactly if the index is full
 abbrev pub PreparesOk : WindowState → WindowState → ℕ → Option ℕ → Type 0
 PreparesOk old new at None = (entry_count old at < capacity_at old at) × (new ≡ old)
 PreparesOk old new at (Some h) =
@@ -51,7 +51,7 @@ pub record KeepsOutsideIndex (old new : WindowState) (at : ℕ) (xs : List Exten
 abbrev pub beside_table : BackingArray → List Extent → List Extent
 beside_table t xs = elim t.extent [ None ↦ xs | Some x ↦ others (handle x) xs ]
 
--- a block in use that has so many places for an index
+-- a block in use that has this many places for an index
 pub record IsBlockFor (c : WindowState) (h places : ℕ) : Type 0 where
   pub extent : Extent
   pub found : extent_at (live_of c.bytes) h ≡ Some extent
@@ -64,7 +64,7 @@ without_link live link = elim link [ None ↦ live | Some h ↦ released live h 
 abbrev pub without_index_block : WindowState → ℕ → LiveSet
 without_index_block c at = without_link (live_of c.bytes) (link_at (bytes_of c.bytes) at)
 
--- a growth for an index as it is: none where there are places left, or a block of enough places that is not its own
+-- a growth for an index as it is: none if there are places left, or a block of enough places that is not its own
 abbrev pub CanGrow : WindowState → ℕ → Option ℕ → Type 0
 CanGrow c at None = entry_count c at < capacity_at c at
 CanGrow c at (Some h) =

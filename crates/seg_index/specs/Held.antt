@@ -34,7 +34,7 @@ pub record HasIndex (c : WindowState) (at : ℕ) : Type 0 where
   pub handles : List ℕ
   pub index : IsIndexOf c at table handles
 
--- the index has so many places in a block that was in use before
+-- the index has this many places in a block that was in use before
 abbrev pub InstallsBlock : WindowState → WindowState → ℕ → ℕ → ℕ → List ℕ → Type 0
 InstallsBlock old new at block places handles =
     IsIndexOf new at (record { capacity = places; extent = extent_at (live_of old.bytes) block }) handles

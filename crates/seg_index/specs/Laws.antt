@@ -18,7 +18,7 @@ use Rattle.seg_index.specs.Sorted.{AreSortedHandles, BelongsAt, HasSortKey, IsKe
 abbrev pub IsItsBlock : WindowState → Index → ℕ → Type 0
 IsItsBlock c i h = link_at (bytes_of c.bytes) (place_of i) ≡ Some h
 
--- the law: an index stays where a block is taken, and where a block that is not its own is released or written
+-- the law: an index stays if a block is taken, and if a block that is not its own is released or written
 pub record IndexesStay : Type 0 where
   pub taken : (i : Index) (a b : WindowState) (n : ℕ) (role : Role) (h : ℕ) (t : BackingArray) (handles : List ℕ)
       → IsIndexOf a (place_of i) t handles → AllocatesOk current a b n role h → IsIndexOf b (place_of i) t handles
@@ -29,8 +29,8 @@ pub record IndexesStay : Type 0 where
       → IsIndexOf a (place_of i) t handles → ChangesBytes current a b (h + at) n
       → IsTrue (has_room (live_of a.bytes) h (at + n)) → (IsItsBlock a i h → ⊥) → IsIndexOf b (place_of i) t handles
 
--- the law: entries stay sorted where a block is taken, where one that is none of their objects' is released or written,
--- and where the same blocks are in use again with their bytes
+-- the law: entries stay sorted if a block is taken, if one that is none of their objects' is released or written,
+-- and if the same blocks are in use again with their bytes
 pub record EntriesStaySorted : Type 0 where
   pub taken : (a b : WindowState) (n : ℕ) (role : Role) (h : ℕ) → AllocatesOk current a b n role h → KeepsSorted a b
   pub released : (i : Index) (a b : WindowState) (h : ℕ) (handles : List ℕ) → AreSortedHandles a i handles
@@ -54,7 +54,7 @@ KeysHaveOnePlace =
     (c : WindowState) (key : Entry) (handles : List ℕ) (r s : Lookup) → AreSortedHandles c (index_of key) handles
     → FindsPosition (bytes_of c.bytes) key handles r → FindsPosition (bytes_of c.bytes) key handles s → r ≡ s
 
--- the law: what `prepare` answers is what `add` wants, and stays so where a block is taken, and where another is
+-- the law: what `prepare` answers is what `add` wants, and stays so if a block is taken, and if another is
 -- released or one is written
 pub record GrowthsStay : Type 0 where
   pub prepared : (i : Index) (a b : WindowState) (g : Option ℕ) (t : BackingArray) (handles : List ℕ)
@@ -75,7 +75,7 @@ seven = 16 ∷ 32 ∷ 48 ∷ 64 ∷ 80 ∷ 96 ∷ 112 ∷ []
 
 -- The law: how the keys stand to the one that is looked up alone decides how many are compared, and these are at most
 -- as many as their number has binary digits. Counted by hand: of seven keys the fourth is compared first, then the
--- second or the sixth, then any other, and where the search ends between two keys it has compared three; of eight
+-- second or the sixth, then any other, and if the search ends between two keys it has compared three; of eight
 -- the fifth, the third, the second and the first.
 pub record SearchesHalve : Type 0 where
   pub decided : (count : ℕ) (p q : ℕ → Ordering) → ((i : ℕ) → i < count → p i ≡ q i)

@@ -33,7 +33,7 @@ FindsPosition m key handles (Absent i) =
 abbrev pub IsEntryLinkTo : Memory → ℕ → ℕ → ℕ → Type 0
 IsEntryLinkTo m block i h = link_at m (block + 8 * i) ≡ Some h
 
--- the first links of a block lead to keys, each of which stands before those behind it
+-- the first links of a block lead to keys, each of which stands before those after it
 pub record AreKeys (c : WindowState) (block count : ℕ) (key : Entry) : Type 0 where
   pub room : IsTrue (has_room (live_of c.bytes) block (8 * count))
   pub target : (i : ℕ) → i < count → (h : ℕ) × IsEntryLinkTo (bytes_of c.bytes) block i h

@@ -89,7 +89,7 @@ impl Index {
         Ok(())
     }
 
-    /// Makes the capacity the number of entries. Without entries the block is released; otherwise it is shortened where
+    /// Makes the capacity the number of entries. Without entries the block is released; otherwise it is shortened if
     /// it stands, as far as what is cut off can be free, also if the capacity is that already.
     pub fn shrink(self, heap: &mut Heap, steps: &mut Steps)
         requires index { HasIndex heap.old (place_of self) }

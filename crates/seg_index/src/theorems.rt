@@ -2,12 +2,12 @@
 ghost use Rattle.seg_index.specs.Laws.{AbsentKeysBelong, EntriesStaySorted, GrowthsStay, IndexesStay};
 ghost use Rattle.seg_index.specs.Laws.{KeysHaveOnePlace, SearchesHalve};
 
-/// States that an index stays where a block is taken, and where a block that is not its own is released or written.
+/// States that an index stays if a block is taken, and if a block that is not its own is released or written.
 pub fn indexes_stay()
     ensures { IndexesStay }
 {}
 
-/// Entries stay sorted if a block is taken, and where one that is none of their objects' is released or written.
+/// Entries stay sorted if a block is taken, and if one that is none of their objects' is released or written.
 pub fn entries_stay_sorted()
     ensures { EntriesStaySorted }
 {}

@@ -1,4 +1,4 @@
--- What changes where pairs are put and erased.
+-- What changes when pairs are put and erased.
 use Rattle.std.specs.Prelude.{◌≡◌, ℕ, ◌+◌, ◌*◌, ◌≤◌, Bool, true, false, Option, Some, None, Result, Ok, List, [], ◌∷◌}
 use Rattle.std.specs.Prelude.{MatchOption, MatchResult, length, map}
 use Rattle.raw_region.specs.Format.{current}
@@ -39,7 +39,7 @@ pub record InitsMap {K V : Type 0} (k : Plain K) (v : Plain V) (old new : Window
   pub change : ChangesBytes current old new (h + at) 24
   pub map : let none : List (Pair K V) = [] in HoldsMap k v new.bytes h at none
 
--- the root of the map's tree, the node of a pair of it, and where its removal begins: none where that is at the root
+-- the root of the map's tree, the node of a pair of it, and where its removal begins: none if that is at the root
 pub record CanUnlinkPair {K V : Type 0} (k : Plain K) (v : Plain V) (c : WindowState) (h at : ℕ) (root start : Option ℕ)
     (node : ℕ) : Type 0 where
   pub pairs : List (Pair K V)
@@ -63,7 +63,7 @@ abbrev pub UnlinksPair : {K V : Type 0} → Plain K → Plain V → WindowState 
     → K → Type 0
 UnlinksPair k v old new h at ps key = RewritesNodes k v old new h at (nodes_of_pairs ps) (remove_pair k.order ps key)
 
--- the steps of a call of the tree, and so many more
+-- the steps of a call of the tree, and this many more
 abbrev pub TreeSteps : {K V : Type 0} → Plain K → Plain V → WindowState → ℕ → ℕ → ℕ → ℕ → ℕ → Type 0
 TreeSteps {K} {V} k v old h at more before after = (ps : List (Pair K V)) → HoldsMap k v old.bytes h at ps
     → after ≤ before + 30 * bits (length ps + 1) + 32 + more
@@ -75,7 +75,7 @@ pub record ErasesPair {K V : Type 0} (k : Plain K) (v : Plain V) (old new : Wind
   pub beside : KeepsOutsideMap old new (h + at) (nodes_of_pairs ps)
   pub map : HoldsMap k v new.bytes h at (remove_pair k.order ps key)
 
--- a key that is there is erased, and else nothing changes
+-- a key that is there is erased, and otherwise nothing changes
 abbrev pub ErasesKey : {K V : Type 0} → Plain K → Plain V → WindowState → WindowState → ℕ → ℕ → K → Bool → Type 0
 ErasesKey {K} {V} k v old new h at key result =
     (ps : List (Pair K V)) → HoldsMap k v old.bytes h at ps
@@ -88,7 +88,7 @@ Drops {K} {V} k v old new h at node =
     (ps : List (Pair K V)) (key : K) (p : Pair K V) → HoldsMap k v old.bytes h at ps → pair_at k.order ps key ≡ Some p
     → pair_node p ≡ node → ErasesPair k v old new h at ps p key
 
--- all pairs are gone, and their blocks; of all other blocks no byte changes but the 24 of the map, and where there was
+-- all pairs are gone, and their blocks; of all other blocks no byte changes but the 24 of the map, and if there was
 -- no pair, nothing
 pub record FreesAllPairs {K V : Type 0} (k : Plain K) (v : Plain V) (old new : WindowState) (h at : ℕ)
     (ps : List (Pair K V)) : Type 0 where
@@ -174,7 +174,7 @@ pub record PutsNoSpace {K V : Type 0} (k : Plain K) (v : Plain V) (old new : Win
   pub none : place (live_of old.bytes) (node_len k.SIZE v.SIZE) Node ≡ None
   pub same : new ≡ old
 
--- a new key has a new pair, where there is space for it, and another key its new value
+-- a new key has a new pair, if there is space for it, and another key its new value
 abbrev pub PutsPair : {K V E : Type 0} → Plain K → Plain V → WindowState → WindowState → ℕ → ℕ → K → V
     → Result Bool E → Type 0
 PutsPair {K} {V} k v old new h at key value result =

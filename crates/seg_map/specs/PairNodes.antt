@@ -9,7 +9,7 @@ use Rattle.link_tree.specs.{Tree.Cell, Tree.Tree, Tree.nodes_of, Tree.tree_from,
 use Rattle.best_fit.specs.Extents.{Extent, LiveSet, handle, end_of, is_proper}
 use Rattle.best_fit.specs.{FreeTree.cells_of, Heap.is_live_in, Heap.live_of, Table.serves}
 
--- a node block in use that holds so many bytes has this handle
+-- a node block in use that holds this many bytes has this handle
 abbrev pub is_block_in : ℕ → LiveSet → ℕ → Bool
 is_block_in len live n = list_any (λ (x : Extent). (handle x == n) && serves x Node len) live.extents
 
@@ -23,7 +23,7 @@ is_good len ns c =
     is_proper (live_of c.bytes) && list_all (is_block_in len (live_of c.bytes)) ns && list_all
     (links_among (bytes_of c.bytes) ns) ns
 
--- where blocks and links are good, the list has the nodes
+-- if blocks and links are good, the list has the nodes
 unfoldable pub is_pair_node : ℕ → List ℕ → WindowState → ℕ → Bool
 is_pair_node len ns c n = is_good len ns c && is_in n ns
 
@@ -33,7 +33,7 @@ no_cell = record { left = None; right = None; red = false }
 unfoldable pub pair_cells : ℕ → List ℕ → WindowState → ℕ → Cell
 pair_cells len ns c n = if is_pair_node len ns c n then cells_of (bytes_of c.bytes) n else no_cell
 
--- the key stands behind the links: the value that the bytes there spell, or none
+-- the key stands after the links: the value that the bytes there spell, or none
 unfoldable pub key_at : {K : Type 0} → (List ℕ → Option K) → ℕ → Memory → ℕ → Option K
 key_at value size m n = value (read m (n + 16) size)
 
@@ -57,7 +57,7 @@ stands less past key (Some x) = if past then not (less key x) else less x key
 abbrev pub stands_before : {K : Type 0} → (K → K → Bool) → (ℕ → Option K) → Bool → K → ℕ → Bool
 stands_before less keys past key n = stands less past key (keys n)
 
--- a key and a value, where both are there
+-- a key and a value, if both are there
 abbrev pub both : {K V : Type 0} → Option K → Option V → Option (K × V)
 both None y = None
 both (Some x) None = None

@@ -18,13 +18,13 @@ abbrev pub reading_steps : {A : Type 0} → Option A → ℕ
 reading_steps None = 0
 reading_steps (Some x) = 1
 
--- a look-up takes the steps of a search, and one more where there is such a pair
+-- a look-up takes the steps of a search, and one more if there is such a pair
 abbrev pub LookupSteps : {K V : Type 0} → Plain K → Plain V → WindowState → Place → Bool → K → ℕ → ℕ → Type 0
 LookupSteps {K} {V} k v c at past key before after =
     (ps : List (Pair K V)) (s : HoldsMap k v c.bytes at.handle at.at ps)
     → after ≡ before + path_in k c past key s.map.tree.tree + reading_steps (first_pair k.order past key ps)
 
--- a call that looks a key up first takes these steps, and so many more at least
+-- a call that looks a key up first takes these steps, and this many more at least
 abbrev pub LooksUpFirst : {K V : Type 0} → Plain K → Plain V → WindowState → Place → K → ℕ → ℕ → ℕ → Type 0
 LooksUpFirst {K} {V} k v c at key more before after =
     (ps : List (Pair K V)) (s : HoldsMap k v c.bytes at.handle at.at ps)
@@ -53,7 +53,7 @@ item_at k v m n =
     both (value_in k.reading k.is_value k.spelling (read m (n + 16) k.SIZE))
     (value_in v.reading v.is_value v.spelling (read m (n + (16 + k.SIZE)) v.SIZE))
 
--- the node, where a key is not below that of its bytes
+-- the node, if a key is not below that of its bytes
 abbrev pub node_with : {K : Type 0} → Plain K → Memory → K → ℕ → Option ℕ
 node_with k m key n =
     option_and_then (λ x. if k.order key x then None else Some n)

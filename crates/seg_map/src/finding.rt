@@ -28,7 +28,7 @@ pub struct KeyCursor {
     pub root: Option<u64>,
     /// The node; none if the key is not there.
     pub node: Option<u64>,
-    /// Where the change begins; none where it begins at the root.
+    /// Where the change begins; none if it begins at the root.
     pub start: Option<u64>,
 }
 

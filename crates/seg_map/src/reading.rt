@@ -10,7 +10,7 @@ use seg_types::Plain;
 /// Where the key of a node stands.
 pub const KEY_OFFSET: u64 = 16;
 
-/// A key that is looked for: pairs below it stand before it, and where it is past, those that have it too.
+/// A key that is looked for: pairs below it stand before it, and if it is past, those that have it too.
 #[derive(Drop)]
 pub struct KeyProbe<K> {
     /// The key.

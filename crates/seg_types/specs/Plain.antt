@@ -2,7 +2,7 @@
 use Rattle.std.specs.Prelude.{◌≡◌, ◌≢◌, ℕ, Bool, true, false, ◌&&◌, Option, Some, None, List, [], ◌∷◌, ◌==◌}
 use Rattle.std.specs.Prelude.{if◌then◌else◌}
 
--- the value that the bytes spell, or none where they spell no value
+-- the value that the bytes spell, or none if they spell no value
 abbrev pub Decodes : {T : Type 0} → (T → Bool) → (T → List ℕ) → List ℕ → Option T → Type 0
 Decodes is_value spelling bytes (Some x) = (is_value x ≡ true) × (spelling x ≡ bytes)
 Decodes {T} is_value spelling bytes None = (x : T) → is_value x ≡ true → spelling x ≢ bytes

@@ -69,7 +69,7 @@ is_letter c = between 0x41 0x5A c || between 0x61 0x7A c
 abbrev pub is_digit : ℕ → Bool
 is_digit = between 0x30 0x39
 
--- may stand in a bare name, behind its first
+-- may stand in a bare name, after its first
 abbrev pub is_name_byte : ℕ → Bool
 is_name_byte c = is_letter c || is_digit c || (c == 0x5F) || (c == 0x2E)
 
@@ -77,7 +77,7 @@ abbrev pub is_bare_name : List ℕ → Bool
 is_bare_name [] = false
 is_bare_name (c ∷ cs) = (is_letter c || (c == 0x5F)) && list_all is_name_byte cs
 
--- bare where it can be
+-- bare if it can be
 abbrev pub name_text : List ℕ → List ℕ
 name_text name = if is_bare_name name then name else quoted_text name
 

@@ -34,7 +34,7 @@ scalar_of kind.I32 z = I32 z
 scalar_of kind.I64 z = I64 z
 scalar_of kind.U64 z = U64 (nat_abs z)
 
--- the value of a kind that the bytes spell, or none where they spell no value of the kind
+-- the value of a kind that the bytes spell, or none if they spell no value of the kind
 abbrev pub SpelledBy : ScalarKind → List ℕ → Option ScalarValue → Type 0
 SpelledBy k bytes (Some v) = (is_spelling k bytes ≡ true) × (kind_of_scalar v ≡ k)
     × (value_of_scalar v ≡ value_of k (little_number (size_of k) bytes))

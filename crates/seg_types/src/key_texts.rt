@@ -37,7 +37,7 @@ fn is_name_byte(byte: u8) -> bool
     byte.is_ascii_alphanumeric() || byte == b'_' || byte == b'.'
 }
 
-/// Bare where it can be spelled bare, otherwise as a text in quotes.
+/// Bare if it can be spelled bare, otherwise as a text in quotes.
 impl fmt::Display for Name<'_> {
     ghost output = { λ n. Some (name_text (name_seen n)) };
 

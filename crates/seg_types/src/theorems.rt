@@ -21,7 +21,7 @@ pub fn written_is_read<T: Plain>(value: T, bytes: &mut [u8]) -> Option<T>
     T::read(bytes)
 }
 
-/// Returns the `SIZE` bytes of `from` are read as the whole number that they say, exactly where they spell one of the
+/// Returns the `SIZE` bytes of `from` are read as the whole number that they say, exactly if they spell one of the
 /// kind.
 pub fn scalar_is_number<T: Scalar>(from: &[u8]) -> Option<T>
     requires { length from.now ≡ T.SIZE }

@@ -50,7 +50,7 @@ pub record ReservesStorageOk (old new : WindowState) (p : Place) (each n len : �
   pub stands : IsContainer new.bytes p each len table bytes
   pub enough : n ≤ t.capacity → new ≡ old
 
--- there is no space for so many places, and nothing changes
+-- there is no space for this many places, and nothing changes
 pub record LacksSpace (old new : WindowState) (each n : ℕ) (t : BackingArray) (e : Refusal) : Type 0 where
   pub refusal : e ≡ NoSpace
   pub none : grown_backing (live_of old.bytes) each n t ≡ None

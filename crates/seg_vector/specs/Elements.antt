@@ -49,13 +49,13 @@ ErasesElement old new p each i =
     (len : ℕ) (t : BackingArray) (bytes : List ℕ) → IsContainer old.bytes p each len t bytes
     → RewritesElements old new p each (len - 1) t (take (each * i) bytes ++ drop (each * i + each) bytes)
 
--- n elements more, behind the last one
+-- n elements more, after the last one
 abbrev pub Extends : WindowState → WindowState → Place → ℕ → ℕ → List ℕ → Type 0
 Extends old new p each n more =
     (len : ℕ) (t : BackingArray) (bytes : List ℕ) → IsContainer old.bytes p each len t bytes
     → RewritesElements old new p each (len + n) t (bytes ++ more)
 
--- where an element is put: behind the last one and before another one where there is a place more, and over one that is
+-- where an element is put: after the last one and before another one if there is a place more, and over one that is
 -- there
 abbrev pub HasSpot : List ℕ → Place → WritePos → Type 0
 HasSpot b p End = len_at b p < capacity_at b p
@@ -79,8 +79,8 @@ abbrev pub FreesStorage : WindowState → WindowState → Place → ℕ → Type
 FreesStorage old new p each = (len : ℕ) (t : BackingArray) (bytes : List ℕ) → IsContainer old.bytes p each len t bytes
     → FreesStorageOk old new p each t
 
--- the container has as many places as elements: its storage is shortened, or given back where there is no element;
--- where the block stays as it is, no byte of a gap changes
+-- the container has as many places as elements: its storage is shortened, or given back if there is no element;
+-- if the block stays as it is, no byte of a gap changes
 pub record ShrinksStorageOk (old new : WindowState) (p : Place) (each len : ℕ) (t : BackingArray) (bytes : List ℕ) :
     Type 0 where
   pub change : ExchangesBlocks current old new (place_at p) 24 (option_to_list t.extent)

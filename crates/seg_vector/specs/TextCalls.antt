@@ -16,7 +16,7 @@ abbrev pub IsSomeText : List ℕ → Place → Type 0
 IsSomeText b p = (bytes : List ℕ) × ((t : BackingArray) × IsText b p bytes t)
 
 -- The text with these bytes and this storage is in the place of the one with that storage. Of all blocks that stay no
--- byte changes but its own 24, and of gaps none where the storage is the block that it was.
+-- byte changes but its own 24, and of gaps none if the storage is the block that it was.
 pub record ReplacesText (old new : WindowState) (p : Place) (t : BackingArray) (bytes : List ℕ) (u : BackingArray) :
     Type 0 where
   pub change : ExchangesBlocks current old new (place_at p) 24 (option_to_list t.extent) (option_to_list u.extent)
@@ -50,7 +50,7 @@ GetsByte c p i result = (bytes : List ℕ) (t : BackingArray) → IsText c.bytes
 abbrev pub StartsText : WindowState → WindowState → Place → Type 0
 StartsText old new p = ReplacesText old new p no_backing [] no_backing
 
--- a text with just so many places, whatever stood there
+-- a text with just this many places, whatever stood there
 abbrev pub MakesText : WindowState → WindowState → Place → List ℕ → Result (Unit {0}) Refusal → Type 0
 MakesText old new p bytes result = MatchResult result (λ u. GrowsTextOk old new p no_backing (length bytes) bytes)
     (LacksSpace old new 1 (length bytes) no_backing)
@@ -69,7 +69,7 @@ ReservesBytes old new p n result =
     (bytes : List ℕ) (t : BackingArray) → IsText old.bytes p bytes t
     → MatchResult result (λ u. GrowsTextOk old new p t n bytes) (LacksSpace old new 1 n t)
 
--- where there are n places already, nothing changes
+-- if there are n places already, nothing changes
 abbrev pub ReservesNoBytes : WindowState → WindowState → Place → ℕ → Result (Unit {0}) Refusal → Type 0
 ReservesNoBytes old new p n result = (bytes : List ℕ) (t : BackingArray) → IsText old.bytes p bytes t → n ≤ t.capacity
     → (result ≡ Ok tt) × (new ≡ old)

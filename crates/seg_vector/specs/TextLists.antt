@@ -10,7 +10,7 @@ use Rattle.seg_vector.specs.TextParts.{IsServed, SwapsBlocks}
 use Rattle.seg_vector.specs.TextsCalls.{requested_texts, new_array, placed_texts, text_blocks}
 use Rattle.seg_vector.specs.Vector.{AreTextLinks, IsOwnedText, OwnedText}
 
--- The first n texts are laid out: each has its element in the block of an array, and a block of its own, where it is
+-- The first n texts are laid out: each has its element in the block of an array, and a block of its own, if it is
 -- not empty.
 pub record StoresFirstTexts (old now : WindowState) (y : Extent) (n : ℕ) (more : List (List ℕ)) : Type 0 where
   pub texts : List OwnedText
@@ -45,7 +45,7 @@ pub record StoresArrayOk (old new : WindowState) (more : List (List ℕ)) (array
   pub owned : AllByRecursion (IsOwnedText (bytes_of new.bytes)) texts
   pub served : AllByRecursion IsServed texts
 
--- one of them has no space; where it is the array, nothing changes
+-- one of them has no space; if it is the array, nothing changes
 pub record StoresArrayErr (old new : WindowState) (more : List (List ℕ)) (e : Refusal) : Type 0 where
   pub refusal : e ≡ NoSpace
   pub none : requested_texts (live_of old.bytes) more ≡ None

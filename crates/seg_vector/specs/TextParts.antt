@@ -82,7 +82,7 @@ pub record CarriesElements (old new : WindowState) (a b n : ℕ) : Type 0 where
   pub change : ChangesBytes current old new b (16 * n)
   pub carried : SameElements (bytes_of old.bytes) (bytes_of new.bytes) a b n
 
--- n elements of one block, and as many places for them in another, or in the same one, but not behind them in it
+-- n elements of one block, and as many places for them in another, or in the same one, but not after them in it
 pub record CanCarryDown (b : List ℕ) (from from_at to to_at n : ℕ) : Type 0 where
   pub heap : IsHeap current b
   pub from_whole : from_at % 8 ≡ 0
@@ -92,7 +92,7 @@ pub record CanCarryDown (b : List ℕ) (from from_at to to_at n : ℕ) : Type 0 
   pub even : AreEvenLinks (bytes_of b) (from + from_at) n
   pub apart : (to + to_at ≤ from + from_at) ⊎ (from + from_at + 16 * n ≤ to + to_at)
 
--- n elements in a block, and a place more behind them
+-- n elements in a block, and a place more after them
 pub record CanCarryUp (b : List ℕ) (array at n : ℕ) : Type 0 where
   pub heap : IsHeap current b
   pub whole : at % 8 ≡ 0
@@ -170,7 +170,7 @@ pub record IsArrayReserved (now : WindowState) (p : Place) (g n : ℕ) : Type 0 
   pub still : loose ≡ [] → now ≡ mid
 
 -- The vector has the array that was asked for, with n places. Its elements are the same, and the blocks taken since
--- stay. No byte of a gap changed where the array is the block that it was, and no other one was taken.
+-- stay. No byte of a gap changed if the array is the block that it was, and no other one was taken.
 pub record AdoptsOk (first old new : WindowState) (p : Place) (ps : List OwnedText) (t : BackingArray) (g n : ℕ)
     (loose : List Extent) : Type 0 where
   pub array : Extent

@@ -50,7 +50,7 @@ abbrev pub IsTextsContainer : List ℕ → Place → Type 0
 IsTextsContainer b p = (ps : List OwnedText) × ((t : BackingArray) × IsTexts b p ps t)
 
 -- The vector has these texts and this array. Some blocks are gone and others came; of all blocks that stay, those of
--- the other texts among them, no byte changes but its own 24, and of gaps none where the blocks are those that they
+-- the other texts among them, no byte changes but its own 24, and of gaps none if the blocks are those that they
 -- were.
 pub record ReplacesTexts (old new : WindowState) (p : Place) (gone come : List Extent) (ps : List OwnedText)
     (t : BackingArray) : Type 0 where
@@ -60,7 +60,7 @@ pub record ReplacesTexts (old new : WindowState) (p : Place) (gone come : List E
 
 -- ---- what is asked for
 
--- the live set in which the array is grown: the old array is in use still, where it is not the new one
+-- the live set in which the array is grown: the old array is in use still, if it is not the new one
 abbrev pub with_array : LiveSet → BackingArray → BackingArray → LiveSet
 with_array live t u =
     if nat_lt t.capacity u.capacity then elim u.extent [ None ↦ live | Some x ↦ resized live x ] else live
@@ -83,7 +83,7 @@ placed_texts live (bytes ∷ more) = elim (placed_text live bytes) [
   | Some q ↦ option_map (λ qs. q ∷ qs) (placed_texts (with_text live q) more)
 ]
 
--- an array of so many places, in a new block
+-- an array of this many places, in a new block
 abbrev pub new_array : LiveSet → ℕ → Option BackingArray
 new_array live n = if n == 0 then Some no_backing else option_map
     (λ (x : Extent). let u : BackingArray = record { capacity = n; extent = Some x } in u) (place live (16 * n) Storage)
@@ -100,7 +100,7 @@ ReadsTextsCapacity b p n = (ps : List OwnedText) (t : BackingArray) → IsTexts 
 abbrev pub InitsTexts : WindowState → WindowState → Place → Type 0
 InitsTexts old new p = ReplacesTexts old new p [] [] [] no_backing
 
--- the text with i others before it, or a refusal where there are no more
+-- the text with i others before it, or a refusal if there are no more
 abbrev pub GetsText : WindowState → Place → ℕ → Result (Bor (List ℕ)) Refusal → Type 0
 GetsText c p i result =
     (ps : List OwnedText) (t : BackingArray) → IsTexts c.bytes p ps t
@@ -146,7 +146,7 @@ requested_text live ps t bytes = elim (grown_backing live 16 (capacity_for_one (
   | Some u ↦ placed_text (with_array live t u) bytes
 ]
 
--- Where the block that is asked for first has no space, nothing changes: it is the text's where there is a place, and
+-- If the block that is asked for first has no space, nothing changes: it is the text's if there is a place, and
 -- else the array's.
 pub record RefusesFirstBlock (old new : WindowState) (ps : List OwnedText) (t : BackingArray) (bytes : List ℕ) :
     Type 0 where
@@ -211,7 +211,7 @@ ReservesTexts old new p n result =
     × ReplacesTexts old new p (option_to_list t.extent) (option_to_list w.extent) ps w)
     (LacksFit old new (grown_backing (live_of old.bytes) 16 n t))
 
--- where there are n places already, nothing changes
+-- if there are n places already, nothing changes
 abbrev pub ReservesNoTexts : WindowState → WindowState → Place → ℕ → Result (Unit {0}) Refusal → Type 0
 ReservesNoTexts old new p n result = (ps : List OwnedText) (t : BackingArray)
     → IsTexts old.bytes p ps t → n ≤ t.capacity → (result ≡ Ok tt) × (new ≡ old)
@@ -233,7 +233,7 @@ ReleasesTexts old new p =
     (ps : List OwnedText) (t : BackingArray) → IsTexts old.bytes p ps t
     → ReplacesTexts old new p (option_to_list t.extent ++ text_blocks ps) [] [] no_backing
 
--- one or more texts: a new array for just so many and then the texts, and then the old ones are released
+-- one or more texts: a new array for just this many and then the texts, and then the old ones are released
 pub record AssignsTextsOk (old new : WindowState) (p : Place) (ps : List OwnedText) (t : BackingArray)
     (more : List (List ℕ)) : Type 0 where
   pub table : BackingArray
@@ -259,7 +259,7 @@ AssignsTexts old new p (bytes ∷ more) result =
     → MatchResult result (λ u. AssignsTextsOk old new p ps t (bytes ∷ more))
     (UndoesRequests old new (requested_texts (live_of old.bytes) (bytes ∷ more)))
 
--- a vector of texts with just so many places, whatever stood there
+-- a vector of texts with just this many places, whatever stood there
 abbrev pub MakesTexts : WindowState → WindowState → Place → List (List ℕ) → Result (Unit {0}) Refusal → Type 0
 MakesTexts old new p [] result = (result ≡ Ok tt) × InitsTexts old new p
 MakesTexts old new p (bytes ∷ more) result = MatchResult result

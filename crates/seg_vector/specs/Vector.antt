@@ -13,7 +13,7 @@ use Rattle.seg_types.specs.{declared.kinds.ScalarKind.ScalarKind, Kinds.spelling
 abbrev pub capacity_for_one : ℕ → ℕ → ℕ
 capacity_for_one len capacity = if nat_lt len capacity then capacity else max 4 (2 * capacity)
 
--- the capacity that a vector of so many elements has for others behind them
+-- the capacity that a vector of this many elements has for others after them
 abbrev pub capacity_for_more : ℕ → ℕ → ℕ → ℕ
 capacity_for_more len more capacity =
     if nat_le (len + more) capacity then capacity else max (max 4 (2 * capacity)) (len + more)
@@ -22,7 +22,7 @@ capacity_for_more len more capacity =
 abbrev pub capacity_for_text : ℕ → ℕ → ℕ
 capacity_for_text len capacity = if nat_le len capacity then capacity else max (max 16 (2 * capacity)) len
 
--- the table with so many places: as it is where it has them, else its block regrown
+-- the table with this many places: as it is if it has them, otherwise its block regrown
 unfoldable pub grown_backing : LiveSet → ℕ → ℕ → BackingArray → Option BackingArray
 unfolding regrow
 grown_backing live each n t =
@@ -49,7 +49,7 @@ pub record IsContainerAt (m : Memory) (at len : ℕ) (t : BackingArray) (bytes :
 abbrev pub IsVectorOf : {T : Type 0} → (T → List ℕ) → Memory → ℕ → List T → BackingArray → Type 0
 IsVectorOf spelling_of m at items t = IsContainerAt m at (length items) t (flat_map spelling_of items)
 
--- there are no more elements than places of so many bytes, and each is a value of its type
+-- there are no more elements than places of this many bytes, and each is a value of its type
 abbrev pub is_vector : {T : Type 0} → ℕ → (T → Bool) → List T → BackingArray → Bool
 is_vector size is_value items t =
     nat_le (length items) t.capacity && has_backing Storage size t && list_all is_value items

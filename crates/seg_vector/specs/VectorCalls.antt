@@ -21,7 +21,7 @@ IsSomeVector {T} size is_value spelling b p =
     (xs : List T) × ((t : BackingArray) × IsVector size is_value spelling b p xs t)
 
 -- The vector with these elements and this storage is in the place of the one with that storage. Of all blocks that stay
--- no byte changes but its own 24, and of gaps none where the storage is the block that it was.
+-- no byte changes but its own 24, and of gaps none if the storage is the block that it was.
 pub record ReplacesVector {T : Type 0} (size : ℕ) (is_value : T → Bool) (spelling : T
     → List ℕ) (old new : WindowState) (p : Place) (t : BackingArray) (ys : List T) (u : BackingArray) : Type 0 where
   pub change : ExchangesBlocks current old new (place_at p) 24 (option_to_list t.extent) (option_to_list u.extent)
@@ -37,7 +37,7 @@ pub record GrowsVectorOk {T : Type 0} (size : ℕ) (is_value : T → Bool) (spel
 
 -- ---- refusals
 
--- the index is at the end or behind it, and nothing changes
+-- the index is at the end or after it, and nothing changes
 pub record RefusesIndex (old new : WindowState) (end i : ℕ) (e : Refusal) : Type 0 where
   pub refusal : e ≡ OutOfRange
   pub outside : end ≤ i
@@ -53,7 +53,7 @@ abbrev pub CountsPlaces : {T : Type 0} → ℕ → (T → Bool) → (T → List 
 CountsPlaces {T} size is_value spelling b p n = (xs : List T) (t : BackingArray)
     → IsVector size is_value spelling b p xs t → n ≡ t.capacity
 
--- the element with i others before it, or a refusal where there are no more
+-- the element with i others before it, or a refusal if there are no more
 abbrev pub Gets : {T : Type 0} → ℕ → (T → Bool) → (T → List ℕ) → WindowState → Place → ℕ → Result T Refusal → Type 0
 Gets {T} size is_value spelling c p i result =
     (xs : List T) (t : BackingArray) → IsVector size is_value spelling c.bytes p xs t
@@ -116,7 +116,7 @@ Pushes {T} size is_value spelling old new p x result =
     MatchResult result (λ u. GrowsVectorOk size is_value spelling old new p t n (xs ++ x ∷ []))
     (LacksSpace old new size n t)
 
--- where both could be refused, the index is
+-- if both could be refused, the index is
 abbrev pub InsertsInto : {T : Type 0} → ℕ → (T → Bool) → (T → List ℕ) → WindowState → WindowState → Place → ℕ → T
     → Result (Unit {0}) Refusal → Type 0
 InsertsInto {T} size is_value spelling old new p i x result =
@@ -131,7 +131,7 @@ ReservesVector {T} size is_value spelling old new p n result =
     (xs : List T) (t : BackingArray) → IsVector size is_value spelling old.bytes p xs t
     → MatchResult result (λ u. GrowsVectorOk size is_value spelling old new p t n xs) (LacksSpace old new size n t)
 
--- where there are n places already, nothing changes
+-- if there are n places already, nothing changes
 abbrev pub ReservesNothing : {T : Type 0} → ℕ → (T → Bool) → (T → List ℕ) → WindowState → WindowState → Place → ℕ
     → Result (Unit {0}) Refusal → Type 0
 ReservesNothing {T} size is_value spelling old new p n result =
@@ -145,7 +145,7 @@ Assigns {T} size is_value spelling old new p ys result =
     → MatchResult result (λ u. GrowsVectorOk size is_value spelling old new p t (length ys) ys)
     (LacksSpace old new size (length ys) t)
 
--- values put behind the last one, where there are places for all of them or more can be had
+-- values put after the last one, if there are places for all of them or more can be had
 abbrev pub ExtendsBy : {T : Type 0} → ℕ → (T → Bool) → (T → List ℕ) → WindowState → WindowState → Place → List T
     → Result (Unit {0}) Refusal → Type 0
 ExtendsBy {T} size is_value spelling old new p ys result =

@@ -123,7 +123,7 @@ pub fn capacity_for_one(len: u64, capacity: u64) -> u64
     }
 }
 
-/// Returns the capacity that a container has for so many elements more.
+/// Returns the capacity that a container has for `more` elements more.
 pub fn capacity_for_more(len: u64, more: u64, capacity: u64) -> u64
     requires no_overflow { len + more < 18446744073709551616 }
     requires max_value { 2 * capacity < 18446744073709551616 }

@@ -44,7 +44,7 @@ pub fn truncate(heap: &mut Heap, place: Place, each: u64, n: u64)
     heap.set_word(place.handle, place.at + LEN_OFFSET, n);
 }
 
-/// Writes `n` elements of `each` bytes after the last one, where the capacity allows.
+/// Writes `n` elements of `each` bytes after the last one, if the capacity allows.
 pub fn extend(heap: &mut Heap, place: Place, each: u64, n: u64, bytes: &[u8])
     requires container { IsStanding heap.old.bytes place each }
     requires space { len_at heap.old.bytes place + n ≤ capacity_at heap.old.bytes place }
@@ -79,9 +79,9 @@ pub fn erase_element(heap: &mut Heap, place: Place, each: u64, index: u64)
 pub enum WritePos {
     /// After the last one.
     End,
-    /// Over the one with so many others before it.
+    /// Over the one at this index.
     Over(u64),
-    /// Where so many others stand before it. Those from there on move up.
+    /// Before the one at this index. Those from there on move up.
     Before(u64),
 }
 
@@ -188,7 +188,7 @@ pub fn put_over<T: Plain>(heap: &mut Heap, place: Place, first: u64, values: &[T
     }
 }
 
-/// Spells values after the last element, one after another, where the capacity allows.
+/// Spells values after the last element, one after another, if the capacity allows.
 pub fn put_behind<T: Plain>(heap: &mut Heap, place: Place, values: &[T])
     requires container { IsStanding heap.old.bytes place T.SIZE }
     requires space { len_at heap.old.bytes place + length values.now ≤ capacity_at heap.old.bytes place }

@@ -49,7 +49,8 @@ impl SegString {
         SegString { place }
     }
 
-    /// Makes a text of bytes of the 24 bytes at a place, a multiple of 8 in a block in use, with just so many places.
+    /// Makes a text of bytes of the 24 bytes at a place, a multiple of 8 in a block in use, with just a place for each
+    /// byte.
     ///
     /// # Errors
     ///
@@ -93,7 +94,7 @@ impl SegString {
     ///
     /// # Errors
     ///
-    /// `OutOfRange` if there are not so many.
+    /// `OutOfRange` if `index` is not below the length.
     pub fn get(self, heap: &Heap, index: u64) -> Result<u8, Refusal>
         requires { IsSomeText heap.now.bytes self.place }
         ensures { GetsByte heap.now self.place index result }
@@ -106,7 +107,7 @@ impl SegString {
     ///
     /// # Errors
     ///
-    /// `OutOfRange` if there are not so many. Nothing changes.
+    /// `OutOfRange` if `index` is not below the length. Nothing changes.
     pub fn set(self, heap: &mut Heap, index: u64, byte: u8) -> Result<(), Refusal>
         requires { IsSomeText heap.old.bytes self.place }
         ensures { SetsByte heap.old heap.new self.place index byte result }
@@ -131,7 +132,7 @@ impl SegString {
         container_capacity::reserve(heap, self.place, 1, n)
     }
 
-    /// Leaves these bytes in place of those that there are. There are places for just so many, if there were fewer.
+    /// Leaves these bytes in place of those that there are. If there were fewer places, there is one for each then.
     ///
     /// # Errors
     ///

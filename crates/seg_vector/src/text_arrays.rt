@@ -42,7 +42,7 @@ pub fn carry_element(heap: &mut Heap, from: u64, from_at: u64, to: u64, to_at: u
 }
 
 /// Makes the `n` elements from `to_at` on in the block `to` those from `from_at` on in the block `from`, the first one
-/// first. It may be one block, where they move down.
+/// first. It may be one block, if they move down.
 pub fn move_elements_down(heap: &mut Heap, from: u64, from_at: u64, to: u64, to_at: u64, n: u64)
     requires { CanCarryDown heap.old.bytes from from_at to to_at n }
     ensures { CarriesElements heap.old heap.new (from + from_at) (to + to_at) n }
@@ -71,7 +71,7 @@ pub fn move_elements_up(heap: &mut Heap, array: u64, at: u64, n: u64)
 
 /// Asks for an array of `n` places for the vector of texts at a place, which has fewer, and returns the array's handle.
 /// It is the old one if that is long enough or can be lengthened in place, and otherwise a new block beside the old
-/// one. The vector's words stay. Where a new block is needed and no gap is long enough, it answers `NoSpace`, and
+/// one. The vector's words stay. If a new block is needed and no gap is long enough, it answers `NoSpace`, and
 /// nothing changes.
 pub fn reserve_array(heap: &mut Heap, place: Place, n: u64) -> Result<u64, Refusal>
     requires texts { IsTextsContainer heap.old.bytes place }
@@ -159,7 +159,7 @@ pub fn insert_within(heap: &mut Heap, place: Place, index: u64, text: &[u8]) -> 
 }
 
 /// Puts a text where `index` others stand before it, in an array of `n` places, since there is no place for it. The
-/// array is asked for first, and then the text's block, while the old array is in use. Where one of the two has no gap
+/// array is asked for first, and then the text's block, while the old array is in use. If one of the two has no gap
 /// that is long enough, it answers `NoSpace`: then the live set is as before, and all blocks with it.
 pub fn insert_growing(
     heap: &mut Heap,

@@ -42,7 +42,8 @@ impl SegTexts {
         SegTexts { place }
     }
 
-    /// Makes a vector of texts of the 24 bytes at a place, a multiple of 8 in a block in use, with just so many places.
+    /// Makes a vector of texts of the 24 bytes at a place, a multiple of 8 in a block in use, with just a place for
+    /// each text.
     ///
     /// # Errors
     ///
@@ -84,7 +85,7 @@ impl SegTexts {
     ///
     /// # Errors
     ///
-    /// `OutOfRange` if there are not so many.
+    /// `OutOfRange` if `index` is not below the length.
     #[tactic(auto, using(crate::proofs::storage::Storage::sizes, crate::proofs::texts::Puts::few_places))]
     pub fn get(self, heap: &Heap, index: u64) -> Result<&[u8], Refusal>
         requires { IsTextsContainer heap.now.bytes self.place }
@@ -111,8 +112,8 @@ impl SegTexts {
     ///
     /// # Errors
     ///
-    /// `OutOfRange` if there are not so many; otherwise `NoSpace` if no gap is long enough for the text. Nothing
-    /// changes.
+    /// `OutOfRange` if `index` is not below the length; otherwise `NoSpace` if no gap is long enough for the text.
+    /// Nothing changes.
     #[tactic(auto, using(crate::proofs::storage::Storage::sizes, crate::proofs::texts::Puts::few_places))]
     pub fn set(self, heap: &mut Heap, index: u64, text: &[u8]) -> Result<(), Refusal>
         requires { IsTextsContainer heap.old.bytes self.place }
@@ -134,7 +135,7 @@ impl SegTexts {
     ///
     /// # Errors
     ///
-    /// `OutOfRange` if there are not so many others: nothing changes. Otherwise `NoSpace` if the array or the text has
+    /// `OutOfRange` if `index` is above the length: nothing changes. Otherwise `NoSpace` if the array or the text has
     /// no gap that is long enough: the same blocks are in use as before, with the same bytes. Nothing changes if it is
     /// the block that is asked for first: the text's, or the array's if the vector is full.
     pub fn insert(self, heap: &mut Heap, index: u64, text: &[u8]) -> Result<(), Refusal>
@@ -176,7 +177,7 @@ impl SegTexts {
     ///
     /// # Errors
     ///
-    /// `OutOfRange` if there are not so many. Nothing changes.
+    /// `OutOfRange` if `index` is not below the length. Nothing changes.
     #[tactic(auto, using(crate::proofs::storage::Storage::sizes, crate::proofs::texts::Puts::few_places))]
     pub fn erase(self, heap: &mut Heap, index: u64) -> Result<(), Refusal>
         requires { IsTextsContainer heap.old.bytes self.place }
@@ -230,7 +231,7 @@ impl SegTexts {
         Ok(())
     }
 
-    /// Leaves these texts in place of those that there are. One or more get a new array of just so many places, and
+    /// Leaves these texts in place of those that there are. One or more get a new array with just a place for each, and
     /// then their blocks, all while the old ones are in use, which are given back then. If there are none, the array
     /// stays.
     ///

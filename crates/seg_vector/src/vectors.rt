@@ -76,7 +76,7 @@ impl<T: Plain> SegVec<T> {
     ///
     /// # Errors
     ///
-    /// `OutOfRange` if there are not so many.
+    /// `OutOfRange` if `index` is not below the length.
     pub fn get(self, heap: &Heap, index: u64) -> Result<T, Refusal>
         requires { IsSomeVector T.SIZE T.is_value T.spelling heap.now.bytes self.place }
         ensures { Gets T.SIZE T.is_value T.spelling heap.now self.place index result }
@@ -94,7 +94,7 @@ impl<T: Plain> SegVec<T> {
     ///
     /// # Errors
     ///
-    /// `OutOfRange` if there are not so many. Nothing changes.
+    /// `OutOfRange` if `index` is not below the length. Nothing changes.
     pub fn set(self, heap: &mut Heap, index: u64, value: T) -> Result<(), Refusal>
         requires { IsSomeVector T.SIZE T.is_value T.spelling heap.old.bytes self.place }
         ensures { Sets T.SIZE T.is_value T.spelling heap.old heap.new self.place index value result }
@@ -110,7 +110,7 @@ impl<T: Plain> SegVec<T> {
     ///
     /// # Errors
     ///
-    /// `OutOfRange` if there are not so many. Nothing changes.
+    /// `OutOfRange` if the last of them is not below the length. Nothing changes.
     pub fn overwrite(self, heap: &mut Heap, first: u64, values: &[T]) -> Result<(), Refusal>
         requires { IsSomeVector T.SIZE T.is_value T.spelling heap.old.bytes self.place }
         ensures sets { SetsAll T.SIZE T.is_value T.spelling heap.old heap.new self.place first values.now result }
@@ -146,7 +146,7 @@ impl<T: Plain> SegVec<T> {
     ///
     /// # Errors
     ///
-    /// `OutOfRange` if there are not so many. Nothing changes.
+    /// `OutOfRange` if `index` is not below the length. Nothing changes.
     pub fn erase(self, heap: &mut Heap, index: u64) -> Result<(), Refusal>
         requires { IsSomeVector T.SIZE T.is_value T.spelling heap.old.bytes self.place }
         ensures { ErasesFrom T.SIZE T.is_value T.spelling heap.old heap.new self.place index result }
@@ -178,7 +178,7 @@ impl<T: Plain> SegVec<T> {
     ///
     /// # Errors
     ///
-    /// `OutOfRange` if there are not so many others; otherwise `NoSpace` if the vector is full and its storage cannot
+    /// `OutOfRange` if `index` is above the length; otherwise `NoSpace` if the vector is full and its storage cannot
     /// be regrown. Nothing changes.
     pub fn insert(self, heap: &mut Heap, index: u64, value: T) -> Result<(), Refusal>
         requires { IsSomeVector T.SIZE T.is_value T.spelling heap.old.bytes self.place }
@@ -226,7 +226,7 @@ impl<T: Plain> SegVec<T> {
         container_capacity::reserve(heap, self.place, T::SIZE, n)
     }
 
-    /// Leaves these values in place of those that there are. There are places for just so many, if there were fewer.
+    /// Leaves these values in place of those that there are. If there were fewer places, there is one for each then.
     ///
     /// # Errors
     ///

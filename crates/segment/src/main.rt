@@ -27,7 +27,7 @@ use std::process::ExitCode;
 /// The command line is wrong.
 const USAGE: CommandFault = CommandFault::Program(ProgramFault::Usage);
 
-/// The status where the reader of standard output ended first, as of a program that SIGPIPE ends.
+/// The status if the reader of standard output ended first, as of a program that SIGPIPE ends.
 const CLOSED_PIPE: u8 = 141;
 
 /// Ends with the status of what came of the command line; if that is a fault, its line goes to standard error.
@@ -266,7 +266,7 @@ fn keeping_of(asked: &Invocation<'_>) -> FileOptions {
     }
 }
 
-/// Tells whether a command says nothing where the reader of standard output ended first, as other tools have it.
+/// Tells whether a command says nothing if the reader of standard output ended first, as other tools have it.
 fn ends_quietly(asked: &Invocation<'_>) -> bool {
     matches!(
         asked,
@@ -278,7 +278,7 @@ fn ends_quietly(asked: &Invocation<'_>) -> bool {
     )
 }
 
-/// The script of standard input. Where a person types it, and reads standard error, they are prompted for each line.
+/// The script of standard input. If a person types it, and reads standard error, they are prompted for each line.
 #[derive(Drop)]
 struct Prompted<'a, R> {
     inner: R,

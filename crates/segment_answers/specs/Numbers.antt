@@ -1,9 +1,9 @@
--- Lines behind their numbers: what stands in front of each line, up to a blank, is its number.
+-- Lines after their numbers: what stands in front of each line, up to a blank, is its number.
 use Rattle.std.specs.Prelude.{◌≡◌, ◌==◌, ℕ, Bool, true, false, not, List, [], ◌∷◌, fold, if◌then◌else◌}
 use Rattle.segment_answers.specs.declared.numbered_output.LineSpot.{LineSpot}
 use Rattle.segment_answers.specs.declared.numbered_output.LineSpot.TheVariants.{Front, Ahead, Inside, Broken}
 
--- whether the next byte is one of a line's text, behind this one
+-- whether the next byte is one of a line's text, after this one
 abbrev pub next_in_text : Bool → ℕ → Bool
 next_in_text true c = not (c == 0x0A)
 next_in_text false c = c == 0x20

@@ -8,7 +8,7 @@ abbrev pub HoldsSegment : Option SegmentState → (SegmentState → Type 0) → 
 HoldsSegment None P = ⊥
 HoldsSegment (Some s) P = P s
 
--- the call answers the code by which an argument is refused, where one is, and changes nothing
+-- the call answers the code by which an argument is refused, if one is, and changes nothing
 abbrev pub RefusesArgument : ℕ → ℕ → Option SegmentState → Option SegmentState → Type 0
 RefusesArgument wrong code old new = 1 ≤ wrong → (code ≡ wrong) × (new ≡ old)
 
@@ -36,7 +36,7 @@ pub record PerformsRead (wrong code : ℕ) (old new : Option SegmentState) (P : 
   pub told : (s : SegmentState) → wrong ≡ 0 → old ≡ Some s → P s
   pub same : new ≡ old
 
--- a call that makes an object leaves bytes of gaps where there was no space, and else changes nothing where it is
+-- a call that makes an object leaves bytes of gaps if there was no space, and otherwise changes nothing if it is
 -- refused
 abbrev pub UnchangedOnCode : ℕ → Option SegmentState → Option SegmentState → Type 0
 UnchangedOnCode code old new = 1 ≤ code → code ≢ 9 → new ≡ old

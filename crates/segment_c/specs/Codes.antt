@@ -4,7 +4,7 @@ use Rattle.seg_types.specs.declared.refusals.Refusal.TheVariants.{ReadOnly, Exis
 use Rattle.seg_types.specs.declared.refusals.Refusal.TheVariants.{NoSpace}
 use Rattle.segment_manager.specs.Answers.{Answer, Absent, Refused}
 
--- what a code answers of a command that answers a where it is 0
+-- what a code answers of a command that answers a if it is 0
 abbrev pub answer_for : ℕ → Answer → Answer
 answer_for code a =
     if code == 0 then a

@@ -1,4 +1,4 @@
--- Segments that become longer, in a larger region where their own has no room: what the call owes.
+-- Segments that become longer, in a larger region if their own has no room: what the call owes.
 use Rattle.std.specs.Prelude.{◌≡◌, ◌⊎◌, ℕ, ◌+◌, None, Some}
 use Rattle.segment_manager.specs.{declared.modes.Mode.Mode, Directory.Directory, blocks.Resized.grown}
 use Rattle.segment_manager.specs.State.{SegmentState, DenotesCurrent}
@@ -6,7 +6,7 @@ use Rattle.grow_shrink.specs.{declared.larger_region.GrowOrMoveError.GrowOrMoveE
 use Rattle.grow_shrink.specs.declared.larger_region.GrowOrMoveError.TheVariants.{Growth, OutOfMemory}
 use Rattle.segment_c.specs.Resizing.{size_code}
 
--- open as it was, and each directory has so many bytes more; the segment may lie in another region then
+-- open as it was, and each directory has this many bytes more; the segment may lie in another region then
 pub record GrowsSegment (s t : SegmentState) (extra : ℕ) : Type 0 where
   pub mode : t.mode ≡ s.mode
   pub denotes : (d : Directory) → DenotesCurrent s.cut.bytes d → DenotesCurrent t.cut.bytes (grown d extra)

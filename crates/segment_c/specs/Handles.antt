@@ -4,14 +4,14 @@ use Rattle.segment_manager.specs.State.{SegmentState}
 use Rattle.segment_c.specs.Calls.{PerformsCall, PerformsRead, UnchangedOnCode}
 use Rattle.segment_c.specs.{Marked.RaisesMoves, declared.segment_slot.SegmentSlot.SegmentSlot}
 
--- a call that changes the segment: where it is refused nothing changes
+-- a call that changes the segment: if it is refused nothing changes
 pub record ChangesHandle (wrong code : ℕ) (old new : SegmentSlot) (P : SegmentState → SegmentState → Type 0) :
     Type 0 where
   pub call : PerformsCall wrong code old.segment.value new.segment.value P
   pub unchanged_on_error : 1 ≤ code → new.segment.value ≡ old.segment.value
   pub marks : RaisesMoves code old.marks new.marks
 
--- a call that asks for several blocks: where there was no space for one, bytes of gaps may differ
+-- a call that asks for several blocks: if there was no space for one, bytes of gaps may differ
 pub record MakesInHandle (wrong code : ℕ) (old new : SegmentSlot) (P : SegmentState → SegmentState → Type 0) :
     Type 0 where
   pub call : PerformsCall wrong code old.segment.value new.segment.value P

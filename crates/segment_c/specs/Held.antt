@@ -1,4 +1,4 @@
--- What a handle owns: nothing where it is null, and else the box of a segment.
+-- What a handle owns: nothing if it is null, and otherwise the box of a segment.
 use base.Fml.{Fml, feq}
 use denote.RawPtr.{Ptr, null_ptr}
 use Rattle.std.specs.{declared.option.Option.Option, declared.alloc.Global.Global, Box.Ownership.box_owns}

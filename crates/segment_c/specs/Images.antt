@@ -15,7 +15,7 @@ mode_code Write = 0
 mode_code ReadOnly = 1
 mode_code CopyOnWrite = 2
 
--- the bytes stand at the front of a buffer, where it has room for them
+-- the bytes stand at the front of a buffer, if it has room for them
 abbrev pub CopiesOut : List ℕ → List ℕ → List ℕ → ℕ → Type 0
 CopiesOut bytes old new code =
     (length bytes ≤ length old → (code ≡ 0) × (new ≡ bytes ++ drop (length bytes) old))

@@ -4,7 +4,7 @@ use Rattle.raw_region.specs.Memory.{part, whole}
 use Rattle.segment_manager.specs.{declared.modes.Mode.Mode, State.IsSegment, State.SegmentState}
 use Rattle.segment_c.specs.{Opening.capacity_wrong, Passed.or_else}
 
--- the memory may be a region, and an image of so many bytes fits into it
+-- the memory may be a region, and an image of this many bytes fits into it
 abbrev pub memory_wrong : ℕ → ℕ → ℕ
 memory_wrong n len = or_else (capacity_wrong n) (if nat_le len n then 0 else 22)
 

@@ -18,7 +18,7 @@ pub record IsInfo (o : Object) (i : Info) : Type 0 where
   pub name_len : i.name_len ≡ length o.name
   pub at : i.handle ≡ handle o.extent
 
--- an object is told of, and its name stands at the front of the buffer, where that has room for it
+-- an object is told of, and its name stands at the front of the buffer, if that has room for it
 pub record WritesInfo (o : Object) (i : Info) (old new : List ℕ) (code : ℕ) : Type 0 where
   pub told : length o.name ≤ length old → (code ≡ 0) × IsInfo o i × (new ≡ o.name ++ drop (length o.name) old)
   pub short : length old < length o.name → code ≡ 24

@@ -10,14 +10,14 @@ use Rattle.image_check.specs.{EarlyTests.has_front, EarlyTests.size_word, Verdic
 abbrev pub capacity_wrong : ℕ → ℕ
 capacity_wrong n = if (n % 16 == 0) && nat_le 16 n && nat_le n 1099511627776 then 0 else 22
 
--- the image is the segment's, at the front of a region of so many bytes, of which the others are 0
+-- the image is the segment's, at the front of a region of this many bytes, of which the others are 0
 pub record IsImageOpened (image : List ℕ) (capacity : ℕ) (mode : Mode) (s : SegmentState) : Type 0 where
   pub bytes : s.cut.bytes ≡ image
   pub place : SameSurroundings (cut_at (zeros capacity) 0 (length image)) s.cut
   pub mode_is : s.mode ≡ mode
   pub denotes : IsSegment image
 
--- the first bytes say a size for which a region of so many bytes has no room
+-- the first bytes say a size for which a region of this many bytes has no room
 pub record IsTooLongForRegion (image : List ℕ) (capacity : ℕ) : Type 0 where
   pub read : 24 ≤ length image
   pub front : IsTrue (has_front current image)
@@ -27,7 +27,7 @@ pub record IsTooLongForRegion (image : List ℕ) (capacity : ℕ) : Type 0 where
 abbrev pub IsClassCode : List ℕ → ℕ → Type 0
 IsClassCode image code = (c : ImageClass) × (code ≡ 100 + number_of c) × (class_of current image ≡ Some c)
 
--- why the image is not opened in a region of so many bytes
+-- why the image is not opened in a region of this many bytes
 pub record IsWhyNotOpened (image : List ℕ) (capacity code : ℕ) : Type 0 where
   pub why : (code ≡ 26) ⊎ (((code ≡ 27) × IsTooLongForRegion image capacity) ⊎ IsClassCode image code)
   -- no class is looked for in an image that is too long

@@ -120,7 +120,7 @@ row_kind_wrong code = if code == 0 then 25 else scalar_kind_wrong code
 abbrev pub row_wrong : CScalars → ℕ
 row_wrong v = row_kind_wrong v.kind
 
--- the kind of scalars that a code says, where it says one
+-- the kind of scalars that a code says, if it says one
 abbrev pub scalar_kind_in : ℕ → ScalarKind
 scalar_kind_in code = elim (scalar_kind_of code) as (λ _. ScalarKind) [ None ↦ BoolKind | Some k ↦ k ]
 
@@ -146,6 +146,6 @@ many_of v U64 = length v.u64s.now
 abbrev pub row_count : CScalars → ℕ
 row_count v = many_of v (scalar_kind_in v.kind)
 
--- the kind of objects that a code says, where it says one
+-- the kind of objects that a code says, if it says one
 unfoldable pub object_kind_in : ℕ → Kind
 object_kind_in code = elim (kind_of_code code) as (λ _. Kind) [ None ↦ String | Some k ↦ k ]

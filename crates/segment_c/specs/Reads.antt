@@ -23,7 +23,7 @@ IsCoded P code (Err why) = code ≡ refusal_number why
 abbrev pub AreSizes : ℕ → ℕ → ℕ × ℕ → Type 0
 AreSizes len places sizes = (len ≡ sizes.0) × (places ≡ sizes.1)
 
--- bytes stand at the front of a buffer, where it has room for them, and how many they are goes out in any case
+-- bytes stand at the front of a buffer, if it has room for them, and how many they are goes out in any case
 pub record CopiesBytes (bytes old new : List ℕ) (len code : ℕ) : Type 0 where
   pub len_is : len ≡ length bytes
   pub saves : CopiesOut bytes old new code

@@ -13,7 +13,7 @@ size_code (Some BadGrow) = 28
 size_code (Some TooLarge) = 29
 size_code (Some RegionTooSmall) = 27
 
--- the segment with its bytes and its mode, at the front of a region of so many bytes, of which the others are 0
+-- the segment with its bytes and its mode, at the front of a region of this many bytes, of which the others are 0
 pub record MovesSegment (s t : SegmentState) (capacity : ℕ) : Type 0 where
   pub fits : length s.cut.bytes ≤ capacity
   pub bytes : t.cut.bytes ≡ s.cut.bytes

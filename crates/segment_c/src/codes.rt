@@ -41,9 +41,9 @@ pub const BAD_NAME: u32 = 18;
 pub const BAD_KIND: u32 = 19;
 /// The value's kind is no scalar's, or its number is outside that kind.
 pub const BAD_VALUE: u32 = 20;
-/// An object of scalars has not so many.
+/// No object of scalars has this count.
 pub const BAD_COUNT: u32 = 21;
-/// No segment, or no region, has so many bytes.
+/// No segment, or no region, has this size.
 pub const BAD_SIZE: u32 = 22;
 /// The mode is none.
 pub const BAD_MODE: u32 = 23;
@@ -55,9 +55,9 @@ pub const NULL_SLICE: u32 = 25;
 const NO_MEMORY: u32 = 26;
 /// The region has too little room.
 pub const SHORT_REGION: u32 = 27;
-/// A segment does not grow by so many bytes.
+/// No segment grows by this number of bytes.
 pub const BAD_GROWTH: u32 = 28;
-/// A segment has not so many bytes.
+/// No segment may be this long.
 pub const TOO_LARGE: u32 = 29;
 /// The bytes are no image: to this the number of its class is added.
 pub const BAD_IMAGE: u32 = 100;
@@ -142,7 +142,7 @@ pub fn done(done: Result<(), Refusal>, h: &mut SegmentSlot, segment: Box<Segment
     code_for!(done, () => {})
 }
 
-/// Returns the code where an object was made, or not. Its handle goes out.
+/// Returns the code of a call that makes an object. Its handle goes out.
 pub fn made(
     made: Result<u64, Refusal>,
     handle: &mut u64,
@@ -159,7 +159,7 @@ pub fn made(
     code_for!(made, at => *handle = at)
 }
 
-/// Returns the code where something holds, or not. Whether it does goes out.
+/// Returns the code of a test. Whether it holds goes out.
 pub fn truth(
     truth: Result<bool, Refusal>,
     holds: &mut bool,
@@ -176,7 +176,7 @@ pub fn truth(
     code_for!(truth, it => *holds = it)
 }
 
-/// Returns the code where an element was asked for, or not. It goes out.
+/// Returns the code of a call for an element. It goes out.
 pub fn element(
     element: Result<ScalarValue, Refusal>,
     value: &mut CScalar,
@@ -193,7 +193,7 @@ pub fn element(
     code_for!(element, it => *value = CScalar::of(it))
 }
 
-/// Returns the code where an object was found or made, or not. Its handle and how many elements it has go out.
+/// Returns the code of a call that finds or makes an object. Its handle and how many elements it has go out.
 pub fn found(
     found: Result<(u64, u32), Refusal>,
     handle: &mut u64,
@@ -230,7 +230,7 @@ pub fn found_or_absent(
     code_for!(found, Some((at, many)) => { *handle = at; *count = many; })
 }
 
-/// Returns the code where a value was looked for: it goes out if it is there.
+/// Returns the code of a look-up. The value goes out if it is there.
 pub fn value_found(
     found: Result<Option<ScalarValue>, Refusal>,
     value: &mut CScalar,

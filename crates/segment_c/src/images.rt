@@ -260,7 +260,7 @@ fn examine_in(alloc: Global, image: &[u8], region: RawRegion, place: &mut u64) -
     }
 }
 
-/// Returns the size that the first bytes say, or 0 where they say none.
+/// Returns the size that the first bytes say, or 0 if they say none.
 fn size_said(image: &[u8]) -> u64
     ensures { result ≡ size_said image.now }
 {

@@ -58,7 +58,7 @@ pub extern "C" fn zx_attach(
     }
 }
 
-/// Tells whether memory may be a region, and holds an image of so many bytes.
+/// Tells whether memory may be a region, and holds an image of `len` bytes.
 fn holds(memory: &LentMemory, len: u64) -> bool
     ensures error { memory_wrong (length memory.now.bytes.items) len ≡ (if result then 0 else 22) }
     ensures capacity { result ≡ true → IsCapacity (length memory.now.bytes.items) }

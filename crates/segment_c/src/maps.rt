@@ -62,7 +62,7 @@ pub extern "C" fn zx_map_put(
     truth(answer, is_new, h, segment)
 }
 
-/// Takes a key out of the map of a key, and says whether it was there. Where it was not, nothing changes.
+/// Takes a key out of the map of a key, and says whether it was there. If it was not, nothing changes.
 #[unsafe(no_mangle)]
 pub extern "C" fn zx_map_erase(
     alloc: Global,

@@ -30,7 +30,7 @@ use std::alloc::Global;
 /// The most scalars of an object.
 pub(crate) const MOST: u32 = MAX_ARRAY_LEN as u32;
 
-/// Returns the value of so many scalars.
+/// Returns the value of `count` scalars.
 fn scalars(value: &CScalar, count: u32) -> Result<ScalarValue, u32>
     ensures { MatchResult result (λ new. (scalar_in value.now ≡ Some (kind_of_scalar new, value_of_scalar new))
         × (1 ≤ count) × (count ≤ 1048576))

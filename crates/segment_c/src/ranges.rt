@@ -1,4 +1,4 @@
-//! Elements of arrays and vectors of scalars, so many read or written by one call.
+//! Elements of arrays and vectors of scalars, several read or written by one call.
 ghost use Rattle.std.specs.Prelude.{◌≡◌, ◌≤◌, OnErr, length, map, pos};
 ghost use Rattle.seg_types.specs.declared.kinds.ScalarKind.TheVariants.{Bool as BoolKind, I32 as I32Kind};
 ghost use Rattle.seg_types.specs.declared.kinds.ScalarKind.TheVariants.{I64 as I64Kind, U8 as U8Kind, U64 as U64Kind};

@@ -24,7 +24,7 @@ use std::alloc::Global;
 /// The most bytes of a region.
 const LARGEST_REGION: u64 = 1 << 40;
 
-/// Tells whether a region may have so many bytes: a multiple of 16, from 16 to 1099511627776.
+/// Tells whether a region may have this capacity in bytes: a multiple of 16, from 16 to 1099511627776.
 pub fn is_capacity(bytes: u64) -> bool
     ensures error { capacity_wrong bytes ≡ (if result then 0 else 22) }
     ensures capacity { result ≡ true → IsCapacity bytes }
@@ -121,7 +121,7 @@ fn relocate(alloc: Global, segment: &mut Segment, capacity: u64) -> u32
     DONE
 }
 
-/// Makes the segment longer by `extra` bytes, which are free, in a larger region where its own has no room. One in
+/// Makes the segment longer by `extra` bytes, which are free, in a larger region if its own has no room. One in
 /// memory that C lent stays there, with the code 27 if that has no room.
 #[unsafe(no_mangle)]
 pub extern "C" fn zx_grow(alloc: Global, h: &mut SegmentSlot, extra: u64) -> u32

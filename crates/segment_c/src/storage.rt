@@ -18,7 +18,7 @@ use crate::keys::ObjectKey;
 use crate::segment_slot::{SegmentSlot, put, take};
 use std::alloc::Global;
 
-/// Gives the vector or string of a key so many places, if it has fewer.
+/// Gives the vector or string of a key `places` places, if it has fewer.
 #[unsafe(no_mangle)]
 pub extern "C" fn zx_reserve(
     alloc: Global,

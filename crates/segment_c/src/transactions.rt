@@ -112,7 +112,7 @@ fn is_read_only(segment: &Segment) -> bool
     segment.mode() == Mode::ReadOnly
 }
 
-/// Tells whether a segment's region has room for so many bytes.
+/// Tells whether a segment's region has room for `len` bytes.
 fn has_room(segment: &Segment, len: u64) -> bool
     ensures { result ≡ nat_le len (room_of segment.now.cut) }
 {

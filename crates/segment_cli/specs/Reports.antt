@@ -34,7 +34,7 @@ growth_name growth.BadGrow = codes "BadGrow"
 growth_name growth.TooLarge = codes "TooLarge"
 growth_name growth.RegionTooSmall = codes "RegionTooSmall"
 
--- what stands behind `segment: `
+-- what stands after `segment: `
 abbrev pub session_words : SessionFault → List ℕ
 session_words (session.Image c) = codes "image refused: " ++ class_words c
 session_words session.BadSize = codes "size refused"

@@ -33,7 +33,7 @@ pub record SessionIo : Type 0 where
 
 -- ---- where a session begins
 
--- where a segment is made fresh, the image's reader is not asked
+-- if a segment is made fresh, the image's reader is not asked
 abbrev pub IsImageLeft : Start → ReadDelta → Type 0
 IsImageLeft (Fresh size) image = IsUntouched image
 IsImageLeft Image image = ⊤
@@ -63,7 +63,7 @@ IsTooSmall Image image base capacity = IsTooSmallFor current image base capacity
 
 -- ---- what a session prints and saves
 
--- in mode Write an image of the directory that is accepted again, and else nothing
+-- in mode Write an image of the directory that is accepted again, and otherwise nothing
 abbrev pub SavesImage : Mode → List ℕ → Directory → Type 0
 SavesImage Write saved d = IsSaved saved d
 SavesImage ReadOnlyMode saved d = saved ≡ []
@@ -168,7 +168,7 @@ pub record IsScriptTooLong (start : Start) (mode : Mode) (t : SessionIo) : Type 
   pub cut : AnswersEndedLines start mode t
   pub failed : failures t ≡ none_failed
 
--- the session ended before the script was asked for; the image's reader may have failed behind what decides the answer
+-- the session ended before the script was asked for; the image's reader may have failed after what decides the answer
 pub record IsRefusedBefore (t : SessionIo) (cause : Type 0) : Type 0 where
   pub why : cause
   pub silent : IsSilent t

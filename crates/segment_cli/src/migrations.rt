@@ -15,7 +15,7 @@ use std::alloc::Global;
 ///
 /// # Errors
 ///
-/// A class of the image where it denotes no directory by the format that it says. `RegionTooSmall` wherever the region
+/// A class of the image if it denotes no directory by the format that it says. `RegionTooSmall` wherever the region
 /// ends before base plus the size that is said. `ReadFault` and `WriteFault` if the reader or the writer failed.
 /// `OutOfMemory` if memory for the check was refused. Nothing is written then, but for a proper prefix of the new image
 /// if writing it failed.

@@ -100,7 +100,7 @@ fn save_segment<W: Sink>(segment: &Segment, image_out: &mut W) -> Result<(), Dev
 ///
 /// # Errors
 ///
-/// `BadSize` and `RegionTooSmall` wherever they apply. A class of the image where it denotes no directory. `ReadFault`
+/// `BadSize` and `RegionTooSmall` wherever they apply. A class of the image if it denotes no directory. `ReadFault`
 /// and `WriteFault` if a reader or a writer failed, and `ScriptTooLong` if the script has more than 16777216 bytes.
 /// `OutOfMemory` if memory for the check of the image was refused, which has a tile in use; never for a fresh segment.
 /// Nothing is saved after a fault, but for a proper prefix of the image if writing it failed.

@@ -66,7 +66,7 @@ worse = ord_max nat_cmp
 abbrev pub worst_status : List Checked → ℕ
 worst_status = fold (λ worst c. worse worst (status_in c.found)) 0
 
--- The files of these paths were checked one after another. Where the output took what was to be said, these are all of
+-- The files of these paths were checked one after another. If the output took what was to be said, these are all of
 -- them, and the answer is the worst status; else they are the first ones, and the answer is that the output failed.
 pub record ChecksAll {D O : Type 0} (step : D → Event → D → Type 0) (disk disk' : D) (history : O
     → WriterHistory) (flushes : O → Bool → O → Type 0) (out out' : O) (err err' : WriterHistory)

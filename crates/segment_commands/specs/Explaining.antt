@@ -38,7 +38,7 @@ verdict_text v = codes "at " ++ (decimal v.place ++ (codes ": " ++ (words_of v.c
 
 -- ---- `check --explain`
 
--- what is answered where a verdict went out, or not
+-- what is answered if a verdict went out, or not
 abbrev pub explained_as : {E : Type 0} → ImageClass → Result (Unit {0}) E → Result (Unit {0}) CommandFault
 explained_as class (Ok u) = Err (Session (Refused class))
 explained_as class (Err e) = Err (Session WriteFault)
@@ -53,7 +53,7 @@ module _ {D O : Type 0} (step : D → Event → D → Type 0) (old new : D) (pat
     pub silent : out' ≡ out
     pub refused : result ≡ Err (Session (session_fault (open_fault_error unfit)))
 
-  -- the image is refused, and the line of its verdict was said; the answer is its class where all of it went out
+  -- the image is refused, and the line of its verdict was said; the answer is its class if all of it went out
   pub record ExplainsVerdict : Type 0 where
     pub verdict : Verdict
     pub why : ExaminesFile step old new path (Err (Image verdict))

@@ -24,7 +24,7 @@ Session f = Program (program.Session f)
 
 -- ---- memory
 
--- a request for so many bytes was refused; for a region with room for so many
+-- a request for this many bytes was refused; for a region with room for this many
 abbrev pub bytes_refused : ℕ → SessionFault
 bytes_refused asked = OutOfMemory (Bytes (out_of_memory_of asked))
 

@@ -1,4 +1,4 @@
--- A command that writes a file takes the right to write it first, and is refused where another has it.
+-- A command that writes a file takes the right to write it first, and is refused if another has it.
 use Rattle.std.specs.Prelude.{◌≡◌, ◌⊎◌, ℕ, false, List, [], ◌∷◌, Result, Err}
 use Rattle.segment_commands.specs.declared.command_faults.CommandFault.{CommandFault}
 use Rattle.segment_commands.specs.declared.command_faults.CommandFault.TheVariants.{InUse}

@@ -67,7 +67,7 @@ load_fault needed load.RegionTooSmall = Session RegionTooSmall
 load_fault needed load.NoSpace = NoSpace needed
 load_fault needed load.LongText = NoSpace needed
 
--- whatever objects the text is the dump of, they need so many bytes
+-- whatever objects the text is the dump of, they need this many bytes
 pub record NeedsRoom (text : List ℕ) (needed : ℕ) : Type 0 where
   pub needs : (n : ℕ) (items : Items) → n < 2 ^ 64 → AreCountable items → without_notes text ≡ dump_text n items
       → needed ≡ (items_needs items).room
@@ -180,7 +180,7 @@ module _ {D : Type 0} (step : D → Event → D
   abbrev pub RunsLoad : Type 0
   RunsLoad = LoadsNothing ⊎ (LoadsToErr ⊎ LoadsToOk)
 
-  -- Where a dump was read that fits, of whatever segment, and with whatever notes, its segment is in the file, but for
+  -- If a dump was read that fits, of whatever segment, and with whatever notes, its segment is in the file, but for
   -- something that is there, memory that is not given, or a file that cannot be written.
   pub record LoadsWhatFits : Type 0 where
     pub loads : (text : List ℕ) → IsReadWhole (read_delta script script') text → IsFitting text size

@@ -27,7 +27,7 @@ as_checked (Ok done) = Ok done
 as_checked (Err unfit) = Err (session_fault (open_fault_error unfit))
 
 module _ {D : Type 0} (step : D → Event → D → Type 0) (old new : D) (path : List ℕ) where
-  -- the file was read as images of these versions are, to a region with room for so many bytes more, and nothing else
+  -- the file was read as images of these versions are, to a region with room for this many bytes more, and nothing else
   -- was asked
   pub record OpensWith (versions : AcceptedVersions) (mode : Mode) (more : ℕ)
       (result : Result SegmentState SessionFault) : Type 0 where

@@ -95,13 +95,13 @@ pub record IsAnsweredAct (act : Act) : Type 0 where
 abbrev pub first_place : Act → Directory → MachineState
 first_place act from = record { mode = act.mode; directory = from; zeros = false }
 
--- the run was to end behind none of the lines, from a directory that it begins with
+-- the run was to end after none of the lines, from a directory that it begins with
 pub record IsUnrefusedAct (act : Act) : Type 0 where
   pub from : Directory
   pub begins : StartsFrom act.start act.image from
   pub on : goes_on answer_line (stops_at act.until refuses_line) (first_place act from) (lines act.script.bytes) ≡ true
 
--- the run ended behind the first line that was refused, and the output took its answer and all before
+-- the run ended after the first line that was refused, and the output took its answer and all before
 pub record IsRefusedAct (act : Act) : Type 0 where
   pub from : Directory
   pub begins : StartsFrom act.start act.image from
@@ -131,7 +131,7 @@ module _ {D : Type 0} (step : D → Event → D
     pub unrefused : IsUnrefusedAct act
     pub flushed : Flushed true
 
-  -- the run ended behind a line that was refused, all answers went out, and the disk was not asked for anything
+  -- the run ended after a line that was refused, all answers went out, and the disk was not asked for anything
   pub record EndsRunRefused : Type 0 where
     pub asked : new ≡ old
     pub refused : IsRefusedAct act
@@ -251,7 +251,7 @@ module _ {D O : Type 0} (step : D → Event → D
   RunsFree mode = IsAnswerOf (RunsOpened step old new path mode how until script script' history flushes out out')
       result
 
-  -- a run that saves has the right to write the file from before it is read until it is written; where another has it,
+  -- a run that saves has the right to write the file from before it is read until it is written; if another has it,
   -- nothing was read or said
   abbrev pub RunsHeld : Type 0
   RunsHeld = HoldsLock step old new path ((script' ≡ script) × (out' ≡ out))
@@ -306,7 +306,7 @@ module _ {D : Type 0} (step : D → Event → D
     pub silent : out' ≡ out
     pub refused : result ≡ Err Exists
 
--- the path was looked at, where this was found, and then a run went on from there
+-- the path was looked at and this was found, and then a run went on from there
 pub record IsRunBehind {D : Type 0} (step : D → Event → D → Type 0) (old : D) (path : List ℕ) (IsWhere : Presence
     → Type 0) (goes_on : D → Type 0) : Type 0 where
   pub found : Presence

@@ -16,7 +16,7 @@ pub record FailsOutput {O : Type 0} (history : O → WriterHistory) (old new : O
   pub part : AppendsProperPrefix (history old).bytes (history new).bytes text
   pub failed : (history new).failures ≡ (history old).failures + 1
 
--- all of the text went out where the answer is Ok, and else the output failed
+-- all of the text went out if the answer is Ok, and otherwise the output failed
 abbrev pub WritesAndFlushes : {O E : Type 0} → (O → WriterHistory) → (O → Bool → O → Type 0) → O → O → List ℕ
     → Result (Unit {0}) E → Type 0
 WritesAndFlushes history flushes old new text result =

@@ -23,7 +23,7 @@ use std::alloc::Global;
 /// How the size of a segment changes.
 #[derive(Clone, Copy)]
 enum Resize {
-    /// By so many bytes more.
+    /// By this number of bytes.
     Grow(u64),
     /// To what its last block needs.
     Shrink,

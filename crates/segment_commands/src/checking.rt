@@ -111,7 +111,7 @@ fn status_in(found: Result<(), SessionFault>) -> u8
 ///
 /// # Errors
 ///
-/// `WriteFault` if the output fails: the files after are not checked then. Where standard error fails, nothing more is
+/// `WriteFault` if the output fails: the files after are not checked then. If standard error fails, nothing more is
 /// said there, and the status is the same.
 pub fn check_all<D: Disk, O: Output, E: Sink, F: Fn(&D) -> Option<FileProblem>>(
     alloc: Global,

@@ -31,7 +31,7 @@ pub enum CommandFault {
     /// A text is no dump.
     #[error("dump refused: {0}")]
     BadDump(BadDump),
-    /// The objects of a dump do not fit the size: they need so many bytes.
+    /// The objects of a dump do not fit the size: they need this number of bytes.
     #[error("no space: the objects need {0} bytes")]
     NoSpace(u64),
 }

@@ -30,7 +30,7 @@ fn wanted_size(text: &[u8], size: Option<u64>) -> u64
     }
 }
 
-/// Returns why a load is refused, as the program answers it, of a dump whose objects need so many bytes.
+/// Returns why a load is refused, as the program answers it, of a dump whose objects need `needed` bytes.
 fn fault_of(error: LoadError, needed: u64) -> CommandFault
     ensures { result ≡ load_fault needed error }
 {
@@ -96,7 +96,7 @@ fn load_dump<S: Source>(
 
 /// Makes a segment of the dump that a reader gives, in a file that is not there: of `size` bytes, or without a size
 /// with nothing free. Notes after the dump are left out, as those of its capacities. Whatever segment the dump is of,
-/// it is loaded where a segment of the size can have its objects and memory is given.
+/// it is loaded if a segment of the size can have its objects and memory is given.
 ///
 /// # Errors
 ///

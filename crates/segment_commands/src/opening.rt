@@ -20,7 +20,7 @@ pub(crate) fn session_fault(error: FileError) -> SessionFault
     }
 }
 
-/// Returns the segment in a file, of any of these versions, with room for so many bytes more. The file is closed.
+/// Returns the segment in a file, of any of these versions, with room for `more` bytes more. The file is closed.
 pub(crate) fn open_segment<D: Disk>(
     alloc: Global,
     disk: &mut D,

@@ -60,7 +60,7 @@ pub fn tell_segment<D: Disk, O: Output>(
     written(tell_report(out, &segment, what))
 }
 
-/// Writes the names of a segment that begin with a text, at most so many, and gives out all that was written.
+/// Writes the names of a segment that begin with a text, at most `most`, and gives out all that was written.
 fn tell_names<O: Output>(
     out: &mut O,
     segment: &Segment,
@@ -75,7 +75,7 @@ fn tell_names<O: Output>(
 }
 
 /// Says the names of the segment in a file that begin with a text, in the order of their bytes and a line each, at most
-/// so many. The file is opened for reading.
+/// `most`. The file is opened for reading.
 ///
 /// # Errors
 ///

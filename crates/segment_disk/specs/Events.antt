@@ -26,7 +26,7 @@ pub data Event : Type 0 where
   Held : List ℕ → Bool → Event
   -- the right that was given last was given back
   Released : Event
-  -- a file was to be opened for reading; it was, and has so many bytes, as far as that is known, or it was not
+  -- a file was to be opened for reading; it was, and has this many bytes, as far as that is known, or it was not
   Opened : List ℕ → Option ℕ → Event
   -- the file that was opened last was closed, which had given this
   Read : ReadDelta → Event

@@ -34,7 +34,7 @@ pub trait Disk {
     fn path_status(&mut self, path: &str) -> Presence
         ensures { step self.old (Looked path.now result) self.new };
 
-    /// Takes the right to write a file, which no other has until it is given back. Where another has it, the answer is
+    /// Takes the right to write a file, which no other has until it is given back. If another has it, the answer is
     /// `AlreadyLocked`, at once or after a wait that ends. A file that can't be held, or is not there, is nobody's, and
     /// the answer is Ok.
     fn lock(&mut self, path: &str) -> Result<Self::Hold, AlreadyLocked>
@@ -55,9 +55,9 @@ pub trait Disk {
     fn close(&mut self, reader: Self::Reader)
         ensures { step self.old (Read (read_delta nothing_given (Self.Reader.history reader))) self.new };
 
-    /// Compares the file of a path with the one that the right to write was given for. An error where another file has
-    /// taken its name, and where one has come since the right was given and nothing was there; Ok also where that one
-    /// can't be held, and where nothing is there.
+    /// Compares the file of a path with the one that the right to write was given for. An error if another file has
+    /// taken its name, and if one has come since the right was given and nothing was there; Ok also if that one
+    /// can't be held, and if nothing is there.
     fn compare(&mut self, path: &str, hold: &Self::Hold) -> Result<(), DeviceFault>
         ensures { step self.old (Compared path.now (is_ok result)) self.new };
 
@@ -67,9 +67,9 @@ pub trait Disk {
         ensures fresh { IfOk result (λ made. Self.Writer.history made.0 ≡ nothing_taken) };
 
     /// Empties a file, or makes one beside it, and opens it for writing. One that is made beside another is put in its
-    /// place or discarded when it is closed. Where another file has taken the name of the one that is held, or has come
+    /// place or discarded when it is closed. If another file has taken the name of the one that is held, or has come
     /// since the right was given and nothing was there, it is neither emptied nor replaced, and the answer is an error.
-    /// Where nothing is there, a file is made that is held from then on.
+    /// If nothing is there, a file is made that is held from then on.
     fn create(
         &mut self,
         path: &str,
@@ -86,7 +86,7 @@ pub trait Disk {
 
     /// Puts the file that was made beside this one, and is closed, in its place. At each moment the name leads to one
     /// of the two. Ok says that it leads to the new one, which is held from then on, and that this lasts. An error
-    /// where another file has taken the name of the one that is held.
+    /// if another file has taken the name of the one that is held.
     fn commit_replacement(&mut self, path: &str, hold: &mut Self::Hold) -> Result<(), DeviceFault>
         ensures { step self.old (Placed path.now (is_ok result)) self.new };
 

@@ -60,7 +60,7 @@ impl<'a, R: Files> HostDisk<'a, R> {
         }
     }
 
-    /// Returns what the system said last of a file that was to be opened or made, where that says why it can't be read
+    /// Returns what the system said last of a file that was to be opened or made, if that says why it can't be read
     /// or written.
     pub fn trouble(&self) -> Option<FileProblem> {
         self.trouble

@@ -1,4 +1,4 @@
-//! The right to write a file of the system: a lock on it, which the system takes away where its holder ends.
+//! The right to write a file of the system: a lock on it, which the system takes away when its holder ends.
 
 use crate::presence::AlreadyLocked;
 use std::fs::{self, File, Metadata, OpenOptions, TryLockError};

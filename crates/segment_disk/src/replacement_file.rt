@@ -20,7 +20,7 @@ pub(crate) struct ReplacementFile {
 }
 
 impl ReplacementFile {
-    /// Makes an empty file beside the one of a path, with its rights. Where one file may be written, the path leads to
+    /// Makes an empty file beside the one of a path, with its rights. If one file may be written, the path leads to
     /// it, and what an earlier run left there is removed before; otherwise nothing may be there.
     pub(crate) fn make<R: Files<File = File> + AllocGlobal + Clock>(
         rt: &R,

@@ -31,7 +31,7 @@ two-pieces : pieces_text (replicate 1001 0x61) ≡ line (codes " \"" ++ replicat
     ++ line (codes "    \"a\"")
 two-pieces = refl
 
--- behind a line end and two bytes
+-- after a line end and two bytes
 second-line : place_behind (0x61 ∷ 0x0A ∷ 0x62 ∷ 0x63 ∷ []) ≡ (2, 3)
 second-line = refl
 

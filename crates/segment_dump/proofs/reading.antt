@@ -1,4 +1,4 @@
--- Reading a dump part by part: its front (`FrontLines.front-some`), objects, elements, pieces, and the notes behind it.
+-- Reading a dump part by part: its front (`FrontLines.front-some`), objects, elements, pieces, and the notes after it.
 pub mod FrontLines
 pub mod FrontSteps
 pub mod FrontFaults

@@ -23,7 +23,7 @@ pub record AreAtMost (some most : Needs) : Type 0 where
 
 -- ---- the parts of a line, and lines
 
--- among the bytes so many can be those of a name
+-- among the bytes this many can be those of a name
 abbrev pub CanName : List ℕ → ℕ → Type 0
 CanName bytes len = len ≤ length bytes
 
@@ -36,13 +36,13 @@ pub record IsMeasured (bytes : List ℕ) (measure : Kind × ℕ) : Type 0 where
   pub kind_is : NamesKind word measure.0
   pub is : bytes ≡ word ++ (0x20 ∷ (number_text measure.1 ++ 0x0A ∷ []))
 
--- a text has so many lines
+-- a text has this many lines
 pub record IsLined (bytes : List ℕ) (count : ℕ) : Type 0 where
   pub lines : List (List ℕ)
   pub are : AreLines count lines
   pub is : bytes ≡ lines_text lines
 
--- the lines of a text of so many bytes
+-- the lines of a text of this many bytes
 pub record IsDumpText (bytes : List ℕ) (len : ℕ) : Type 0 where
   pub behind : List ℕ
   pub is : bytes ≡ length_text len ++ behind
@@ -55,7 +55,7 @@ pub record Asking : Type 0 where
   pub bytes : List ℕ
   pub needs : Needs
 
--- so many texts, one after another, ask for at least this
+-- this many texts, one after another, ask for at least this
 pub record AskTogether (Asks : List ℕ → Needs → Type 0) (count : ℕ) (bytes : List ℕ) (needs : Needs) : Type 0 where
   pub parts : List Asking
   pub many : length parts ≡ count
@@ -70,7 +70,7 @@ AsksText bytes needs = (len : ℕ) × IsDumpText bytes len × (needs ≡ record 
 abbrev pub AsksString : List ℕ → Needs → Type 0
 AsksString bytes needs = (len : ℕ) × IsDumpText bytes len × (needs ≡ only_room (block_room len))
 
--- so many lines ask for nothing
+-- this many lines ask for nothing
 abbrev pub AsksNothing : ℕ → List ℕ → Needs → Type 0
 AsksNothing count bytes needs = IsLined bytes count × (needs ≡ nothing)
 

@@ -127,7 +127,7 @@ pub record IsStarted {E : Type 0} (s : SegmentState) (site : Site) (done : List 
   pub stands : StandsFilling s site done (record { class = i.class; name = i.name; handle = handle })
       (bare (first_content (kind_of_content i.content) (count_of_content i.content))) (content_need i.content + more)
 
--- an object of a kind can have so many elements
+-- an object of a kind can have this many elements
 abbrev pub IsCountOf : Kind → ℕ → Type 0
 IsCountOf (kinds.Scalar k) n = (1 ≤ n) × (n ≤ 1048576)
 IsCountOf kinds.String n = Unit {0}
@@ -156,14 +156,14 @@ pub record ReadsKindAndCount {E : Type 0} (text : List ℕ) (result : Result Obj
 pub record AcceptsEnd {E : Type 0} (text : List ℕ) (result : Result (Unit {0}) E) : Type 0 where
   pub gone : text ≡ [] → result ≡ Ok tt
 
--- behind the words in front of its kind
+-- after the words in front of its kind
 pub record StartsUnder {E : Type 0} (old new : SegmentState) (key : Kind
     → Key) (words : List ℕ) (result : Result (ℕ × ObjectLine) E) : Type 0 where
   pub starts : (site : Site) (done : List DumpItem) (i : DumpItem) (more room : ℕ)
       → CanBuildItem old site done i more room → key (kind_of_content i.content) ≡ item_key i → words ≡ 0x20
       ∷ measure_words (kind_of_content i.content) (count_of_content i.content) → IsStarted new site done i more result
 
--- behind the word of its class
+-- after the word of its class
 pub record StartsNamed {E : Type 0} (old new : SegmentState) (words : List ℕ) (result : Result (ℕ × ObjectLine) E) :
     Type 0 where
   pub starts : (site : Site) (done : List DumpItem) (i : DumpItem) (more room : ℕ)
@@ -206,11 +206,11 @@ pub record BuildsAllObjects {E : Type 0} (old new : SegmentState) (text : List �
 
 -- ---- texts
 
--- so many pieces were read, and this is left of a text's lines and of what follows
+-- this many pieces were read, and this is left of a text's lines and of what follows
 abbrev pub PiecesLeft : List ℕ → List ℕ → ℕ → List ℕ → Type 0
 PiecesLeft bs a n rest = parts_until (piece_line bs) n ++ rest ≡ pieces_text bs ++ a
 
--- the piece that is alone in a line, behind what leads it
+-- the piece that is alone in a line, after what leads it
 pub record ReadsPiece {E : Type 0} (words : List ℕ) (result : Result (List ℕ) E) : Type 0 where
   pub reads : (i : ℕ) (bs : List ℕ) → IsByteList bs → words ≡ piece_lead i ++ quoted_text bs → result ≡ Ok bs
 
@@ -219,7 +219,7 @@ pub record ReadsLength {E : Type 0} (text rest : List ℕ) (result : Result (Lis
   pub reads : (bs a : List ℕ) → IsCounted (length bs) → text ≡ text_lines bs ++ a
       → (result ≡ Ok (piece_lead 0 ++ quoted_text (piece_of bs 0), length bs)) × PiecesLeft bs a 1 rest
 
--- a piece goes behind so many bytes of the room
+-- a piece goes after this many bytes of the room
 pub record CopiesPiece {E : Type 0} (words old new : List ℕ) (from : ℕ) (result : Result ℕ E) : Type 0 where
   pub copies : (i : ℕ) (bs : List ℕ) → IsByteList bs → words ≡ piece_lead i ++ quoted_text bs → from
       + length bs ≤ length old → (result ≡ Ok (from + length bs)) × (take (from + length bs) new ≡ take from old ++ bs)
@@ -229,7 +229,7 @@ pub record Collects {E : Type 0} (text rest old new : List ℕ) (result : Result
   pub collects : (bs a : List ℕ) → IsByteList bs → IsCounted (length bs) → length bs ≤ length old
       → text ≡ text_lines bs ++ a → (result ≡ Ok (length bs)) × (take (length bs) new ≡ bs) × (rest ≡ a)
 
--- a piece goes behind the bytes of a string, which has places for it
+-- a piece goes after the bytes of a string, which has places for it
 pub record AppendsPiece {E : Type 0} (old new : SegmentState) (h : ℕ) (words : List ℕ)
     (result : Result (Unit {0}) E) : Type 0 where
   pub appends : (site : Site) (done : List DumpItem) (class : Class) (name front : List ℕ) (t : BackingArray)

@@ -1,4 +1,4 @@
--- A segment that is being built: its objects so far, and room for the rest behind all its blocks.
+-- A segment that is being built: its objects so far, and room for the rest after all its blocks.
 use Rattle.std.specs.Prelude.{◌≡◌, ◌⊎◌, ℕ, ◌+◌, ◌≤◌, ⊤, Bool, true, false, ◌&&◌, ◌==◌, nat_lt, List, [], ◌∷◌, ◌++◌}
 use Rattle.std.specs.Prelude.{codes, length, map, filter, flat_map}
 use Rattle.std.specs.{List.AllByRecursion, Cmp.Lexicographic.slice_cmp, Ordering.nat_cmp, Ordering.is_lt}
@@ -10,7 +10,7 @@ use Rattle.segment_manager.specs.Directory.{Directory, Object, Value, extents_of
 use Rattle.segment_dump.specs.Items.{DumpItem, count_of_content, item_of_object, kind_of_content}
 use Rattle.segment_lang.specs.Texts.{kind_text, name_text, number_text}
 
--- ---- blocks one behind another
+-- ---- blocks one after another
 
 -- all their bytes
 unfoldable pub total : List Extent → ℕ
@@ -21,7 +21,7 @@ total (x ∷ xs) = x.len + total xs
 abbrev pub EndBy : ℕ → List Extent → Type 0
 EndBy e = AllByRecursion (λ (x : Extent). end_of x ≤ e)
 
--- Extents fill all from 128 on up to where the last one ends, since they have as many bytes as there are; and behind
+-- Extents fill all from 128 on up to where the last one ends, since they have as many bytes as there are; and after
 -- it, up to the end tag, is room for the rest.
 pub record HasExactRoom (xs : List Extent) (size rest : ℕ) : Type 0 where
   pub end : ℕ
@@ -112,7 +112,7 @@ name_less i j = is_lt (slice_cmp nat_cmp i.name j.name)
 abbrev pub kind_less : DumpItem → DumpItem → Bool
 kind_less i j = nat_lt (code_of (kind_of_content i.content)) (code_of (kind_of_content j.content))
 
--- each comes before all behind it
+-- each comes before all after it
 abbrev pub AreSortedItems : (DumpItem → DumpItem → Bool) → List DumpItem → Type 0
 AreSortedItems lt [] = ⊤
 AreSortedItems lt (i ∷ is) = AllByRecursion (λ j. lt i j ≡ true) is × AreSortedItems lt is

@@ -1,4 +1,4 @@
--- The capacities of a segment: which there are, and how they are told behind its dump, each in a note.
+-- The capacities of a segment: which there are, and how they are told after its dump, each in a note.
 use Rattle.std.specs.Prelude.{ℕ, List, [], ◌∷◌, ◌++◌, Option, Some, None, Result, Ok, Err, codes, map, option_to_list}
 use Rattle.std.specs.List.{flat_map}
 use Rattle.seg_types.specs.{declared.kinds.Class.Class, declared.kinds.Kind.Kind, Names.Key}

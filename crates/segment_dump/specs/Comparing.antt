@@ -16,7 +16,7 @@ pub record Compared : Type 0 where
 abbrev pub taken : Compared → List ℕ
 taken a = take a.at a.text ++ option_to_list a.other
 
--- What it did so far, said behind its text: so whoever writes to it leaves it its text.
+-- What it did so far, said after its text: so whoever writes to it leaves it its text.
 abbrev pub compared : Compared → WriterHistory
 compared a = record { bytes = length a.text ∷ a.text ++ taken a; failures = a.failures }
 

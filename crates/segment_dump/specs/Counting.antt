@@ -10,12 +10,12 @@ use Rattle.segment_dump.specs.Texts.{dump_text, end_text, front_text, items_text
 
 -- ---- what it has
 
--- so many texts fit a segment
+-- this many texts fit a segment
 pub record AreTexts (count : ℕ) (ts : List (List ℕ)) : Type 0 where
   pub many : length ts ≡ count
   pub small : IsSmall (all_needs text_needs ts).room
 
--- a content has so many elements of a kind, whose texts fit
+-- a content has this many elements of a kind, whose texts fit
 pub record HasContentShape (kind : Kind) (count : ℕ) (c : ValueContent) : Type 0 where
   pub kind_is : kind_of_content c ≡ kind
   pub many : count_of_content c ≡ count
@@ -39,7 +39,7 @@ pub record IsFront (f : Front) : Type 0 where
   pub named : IsSmall f.named
   pub unique : IsSmall f.unique
 
--- objects of which each has a name only where it is named, and that fit a segment
+-- objects of which each has a name only if it is named, and that fit a segment
 pub record AreCountable (items : Items) : Type 0 where
   pub named : AllByRecursion IsNameless items.named
   pub unique : AllByRecursion IsNameless items.unique

@@ -28,7 +28,7 @@ where_anonymous text o = if is_class Anonymous o then text o else []
 abbrev pub objects_text : List Object → List ℕ
 objects_text = flat_map object_text
 
--- what comes behind the first lines
+-- what comes after the first lines
 abbrev pub all_text : Directory → List ℕ
 all_text d =
     objects_text (named_objects d)

@@ -26,7 +26,7 @@ IsByteList = AllByRecursion (λ b. b < 256)
 abbrev pub IsTypedPair : ScalarKind → ScalarKind → ℤ × ℤ → Type 0
 IsTypedPair k v p = (is_value k p.0 ≡ true) × (is_value v p.1 ≡ true)
 
--- each key is less than all behind it
+-- each key is less than all after it
 abbrev pub AreRising : List (ℤ × ℤ) → Type 0
 AreRising [] = ⊤
 AreRising (p ∷ ps) = AllByRecursion (λ (q : ℤ × ℤ). int_lt p.0 q.0 ≡ true) ps × AreRising ps
@@ -69,7 +69,7 @@ pub record StandsFilling (s : SegmentState) (site : Site) (done : List DumpItem)
   pub mode : s.mode ≡ Write
   pub filling : IsFilling directory site done head v rest
 
--- ---- so many elements of a content: the value, what is left of the text, and the bytes that the others need
+-- ---- this many elements of a content: the value, what is left of the text, and the bytes that the others need
 
 -- how a content is filled: what its elements are of those in the segment, the value that has some and lacks the others,
 -- the lines of one, and the bytes that the others need
@@ -138,7 +138,7 @@ IsPartialValue (String bs) = λ n v text need. ⊥
 IsPartialValue (Map k w ps) = HasFirstElements (map_course k w) ps
 IsPartialValue (Strings ts) = HasReservedPlaces strings_course ts
 
--- what is being filled, what the objects behind it need, and the text behind it
+-- what is being filled, what the objects after it need, and the text after it
 pub record FillState : Type 0 where
   pub site : Site
   pub done : List DumpItem
@@ -154,7 +154,7 @@ head_of p h = record { class = p.class; name = p.name; handle = h }
 abbrev pub filled_item : FillState → DumpItem
 filled_item p = record { class = p.class; name = p.name; content = p.content }
 
--- the object has so many elements so far
+-- the object has this many elements so far
 pub record FillsAt (s : SegmentState) (text : List ℕ) (p : FillState) (h n : ℕ) : Type 0 where
   pub value : Value
   pub left : List ℕ

@@ -10,7 +10,7 @@ use Rattle.segment_manager.specs.{Directory.Directory, Directory.Object, Directo
 use Rattle.segment_dump.specs.Items.{ValueContent, Scalars, Vector, String, Map, Strings, DumpItem, Items}
 use Rattle.segment_dump.specs.{Items.item_of_object, Items.kind_of_content, Layouts.Spelling, Layouts.laid_from}
 
--- ---- texts: a string where the bytes are UTF-8, and else an object with their base64
+-- ---- texts: a string if the bytes are UTF-8, and otherwise an object with their base64
 
 -- a byte of a string
 abbrev pub string_byte : ℕ → List ℕ
@@ -31,7 +31,7 @@ base64_letter n =
     else if n == 62 then 0x2B
     else 0x2F
 
--- three bytes as four letters, of which there are as many in a last group as have bits of its bytes, and '=' behind
+-- three bytes as four letters, of which there are as many in a last group as have bits of its bytes, and '=' after
 abbrev pub base64_text : List ℕ → List ℕ
 base64_text [] = []
 base64_text (a ∷ []) = base64_letter (a / 4) ∷ base64_letter (a % 4 * 16) ∷ 0x3D ∷ 0x3D ∷ []

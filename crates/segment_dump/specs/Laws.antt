@@ -12,7 +12,7 @@ abbrev pub DumpsTellObjects : Type 0
 DumpsTellObjects = (b c : List ℕ) (d e : Directory) (m n : ℕ) → DenotesCurrent b d → DenotesCurrent c e
     → dump_text m (portable d) ≡ dump_text n (portable e) → portable d ≡ portable e
 
--- where each dump says the size of its own segment, the segments have one size
+-- if each dump says the size of its own segment, the segments have one size
 abbrev pub DumpsTellSizes : Type 0
 DumpsTellSizes = (b c : List ℕ) (d e : Directory) → DenotesCurrent b d → DenotesCurrent c e
     → dump_text d.size (portable d) ≡ dump_text e.size (portable e) → d.size ≡ e.size
@@ -21,7 +21,7 @@ DumpsTellSizes = (b c : List ℕ) (d e : Directory) → DenotesCurrent b d → D
 abbrev pub SegmentsHaveRoom : Type 0
 SegmentsHaveRoom = (b : List ℕ) (d : Directory) → DenotesCurrent b d → (items_needs (portable d)).room ≤ d.size
 
--- ---- notes behind a dump
+-- ---- notes after a dump
 
 -- a line that begins with '#'
 pub record IsNote (line : List ℕ) : Type 0 where
@@ -29,7 +29,7 @@ pub record IsNote (line : List ℕ) : Type 0 where
   pub begins : line ≡ 0x23 ∷ words
   pub one : HasNoEnd words
 
--- whatever notes stand behind a dump, the dump is what is left without them
+-- whatever notes stand after a dump, the dump is what is left without them
 abbrev pub NotesAreLeftOut : Type 0
 NotesAreLeftOut = (n : ℕ) (items : Items) (notes : List (List ℕ)) → AllByRecursion IsNote notes
     → without_notes (dump_text n items ++ lines_text notes) ≡ dump_text n items

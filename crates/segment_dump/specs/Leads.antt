@@ -10,7 +10,7 @@ use Rattle.segment_dump.specs.Texts.{kind_and_count_text}
 abbrev pub IsSmall : ℕ → Type 0
 IsSmall n = n ≤ 1073741824
 
--- bytes in quotes, behind the first quote
+-- bytes in quotes, after the first quote
 abbrev pub closed_text : List ℕ → List ℕ
 closed_text bs = flat_map byte_text bs ++ 0x22 ∷ []
 

@@ -11,7 +11,7 @@ use Rattle.segment_dump.specs.{Counting.IsCounted, declared.faults.BadDump.BadDu
 use Rattle.segment_dump.specs.{declared.faults.LoadRefused.LoadRefused, declared.faults.LoadError.TheVariants.LongText}
 use Rattle.segment_dump.specs.declared.faults.LoadError.TheVariants.{BadDump as Bad, BadSize, RegionTooSmall, NoSpace}
 
--- the segment has the size that was asked for, or, where none was, nothing in it is free
+-- the segment has the size that was asked for, or, if none was, nothing in it is free
 abbrev pub HasSize : SegmentState → Option ℕ → Type 0
 HasSize s None = (d : Directory) → DenotesCurrent s.cut.bytes d → free_bytes (live d) ≡ 0
 HasSize s (Some size) = (d : Directory) → DenotesCurrent s.cut.bytes d → d.size ≡ size
@@ -42,7 +42,7 @@ pub record IsTextPosition (text : List ℕ) (bad : BadDump) : Type 0 where
   pub inside : at ≤ length text
   pub place : (bad.line, bad.column) ≡ place_behind (take at text)
 
--- the size that was asked for, or else that of the text
+-- the size that was asked for, or otherwise that of the text
 abbrev pub IsRequestedSize : Option ℕ → ℕ → Type 0
 IsRequestedSize None n = ⊤
 IsRequestedSize (Some size) n = n ≡ size
@@ -108,14 +108,14 @@ abbrev pub cause_in : Result SegmentState LoadRefused → Option LoadError
 cause_in (Ok s) = None
 cause_in (Err refused) = cause_but_bad refused.cause
 
--- Whatever segment the text is the dump of, but for a place of the text a load is refused exactly where something is
+-- Whatever segment the text is the dump of, but for a place of the text a load is refused exactly if something is
 -- lacking for its objects, and for that.
 pub record IsExact (text : List ℕ) (capacity base : ℕ) (size : Option ℕ) (room : ℕ) (cause : Option LoadError) :
     Type 0 where
   pub exact : (b : List ℕ) (d : Directory) (n : ℕ) → DenotesCurrent b d → n < 2 ^ 64 → text ≡ dump_text n (portable d)
       → cause ≡ refusal_for capacity base size room (record { size = n; needs = items_needs (portable d) })
 
--- where nothing is lacking, or the objects were not counted, only a place of the text is a reason
+-- if nothing is lacking, or the objects were not counted, only a place of the text is a reason
 abbrev pub LoadsUnlessLacking : ℕ → ℕ → Option ℕ → ℕ → Result Count ℕ → Option LoadError → Type 0
 LoadsUnlessLacking capacity base size room (Ok count) cause = refusal_for capacity base size room count ≡ None
     → cause ≡ None
@@ -129,7 +129,7 @@ pub record IsLacking (text : List ℕ) (capacity base : ℕ) (size : Option ℕ)
   pub counts : CountsDump text (Ok count)
   pub lacks : refusal_for capacity base size room count ≡ Some cause
 
--- the region comes back as it was, but that it may be let go where the text is wrong
+-- the region comes back as it was, but that it may be let go if the text is wrong
 abbrev pub IsBack : LoadError → List ℕ → Option (List ℕ) → Type 0
 IsBack (Bad bad) region None = ⊤
 IsBack (Bad bad) region (Some back) = back ≡ region

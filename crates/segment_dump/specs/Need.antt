@@ -10,11 +10,11 @@ use Rattle.segment_dump.specs.Items.{ValueContent, Scalars, Vector, String, Map,
 
 -- ---- blocks
 
--- the bytes of a block for so many, and none where there are none
+-- the bytes of a block for this many, and none if there are none
 unfoldable pub block_room : ℕ → ℕ
 block_room n = if n == 0 then 0 else room n
 
--- the bytes of the value of an object of a kind: the spellings of so many scalars, or the three words of a container
+-- the bytes of the value of an object of a kind: the spellings of this many scalars, or the three words of a container
 abbrev pub body_len : Kind → ℕ → ℕ
 body_len (kinds.Scalar k) n = size_of k * n
 body_len kinds.String n = 24
@@ -22,7 +22,7 @@ body_len (kinds.Vector k) n = 24
 body_len (kinds.Map k v) n = 24
 body_len kinds.Strings n = 24
 
--- the bytes of its storage or of its nodes, for so many elements
+-- the bytes of its storage or of its nodes, for this many elements
 abbrev pub elements_room : Kind → ℕ → ℕ
 elements_room (kinds.Scalar k) n = 0
 elements_room kinds.String n = 0
@@ -66,7 +66,7 @@ item_needs i =
     both (only_room (object_room (length i.name) (kind_of_content i.content) (count_of_content i.content)))
     (texts_needs i.content)
 
--- the header and the end tag, and the blocks of the two indexes, of so many entries
+-- the header and the end tag, and the blocks of the two indexes, of this many entries
 unfoldable pub front_room : ℕ → ℕ → ℕ
 front_room named unique = 144 + block_room (8 * named) + block_room (8 * unique)
 

@@ -1,4 +1,4 @@
--- Notes behind a dump, which a load leaves out: lines that begin with '#', at the end of a text.
+-- Notes after a dump, which a load leaves out: lines that begin with '#', at the end of a text.
 use Rattle.std.specs.Prelude.{◌≡◌, ◌<◌, ◌≤◌, ℕ, Bool, true, false, ◌&&◌, not, List, [], ◌∷◌, ◌==◌, length, take, drop}
 use Rattle.std.specs.Prelude.{if◌then◌else◌}
 
@@ -20,12 +20,12 @@ without_notes text = before_notes true text
 
 -- ---- the last line of a text
 
--- behind these bytes a line starts, where one started before them or not
+-- after these bytes a line starts, if one started before them or not
 abbrev pub ends_line : Bool → List ℕ → Bool
 ends_line start [] = start
 ends_line start (c ∷ cs) = ends_line (c == 0x0A) cs
 
--- no line ends in these bytes but behind the last one
+-- no line ends in these bytes but after the last one
 abbrev pub is_line : List ℕ → Bool
 is_line [] = true
 is_line (c ∷ []) = true

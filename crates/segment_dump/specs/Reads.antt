@@ -1,8 +1,8 @@
--- What is read from the front of a text, where it stands there as it is written.
+-- What is read from the front of a text, if it stands there as it is written.
 use Rattle.std.specs.Prelude.{◌≡◌, ◌≢◌, ◌<◌, ◌≤◌, ⊤, ℕ, List, [], ◌∷◌, ◌++◌, Option, Some, length, option_map}
 use Rattle.std.specs.{Borrow.Bor, List.AllByRecursion, List.flat_map}
 
--- bytes behind the blank
+-- bytes after the blank
 abbrev pub IsWord : List ℕ → Type 0
 IsWord = AllByRecursion (λ c. 0x20 < c)
 
@@ -10,7 +10,7 @@ IsWord = AllByRecursion (λ c. 0x20 < c)
 pub record Breaks (a : List ℕ) : Type 0 where
   pub low : (c : ℕ) (cs : List ℕ) → a ≡ c ∷ cs → c ≤ 0x20
 
--- a line has no end in it, but behind it
+-- a line has no end in it, but after it
 abbrev pub HasNoEnd : List ℕ → Type 0
 HasNoEnd = AllByRecursion (λ c. c ≢ 0x0A)
 
@@ -20,7 +20,7 @@ ended line = line ++ 0x0A ∷ []
 abbrev pub lines_text : List (List ℕ) → List ℕ
 lines_text = flat_map ended
 
--- a text has so many lines
+-- a text has this many lines
 abbrev pub AreLines : ℕ → List (List ℕ) → Type 0
 AreLines n lines = AllByRecursion HasNoEnd lines × (length lines ≡ n)
 

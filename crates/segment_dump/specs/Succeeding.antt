@@ -1,4 +1,4 @@
--- What the calls promise that make a segment of a dump, where nothing is lacking for its objects.
+-- What the calls promise that make a segment of a dump, if nothing is lacking for its objects.
 use Rattle.std.specs.Prelude.{◌≡◌, ◌<◌, ◌≤◌, ◌+◌, ◌^◌, ⊤, ℕ, Bool, true, List, [], ◌∷◌, ◌++◌, codes, decimal, Option}
 use Rattle.std.specs.Prelude.{Some, None, Result, Ok, length, MatchResult}
 use Rattle.std.specs.List.{AllByRecursion}
@@ -18,7 +18,7 @@ use Rattle.segment_dump.specs.Need.{all_needs, front_room, item_needs, items_nee
 
 -- ---- the first lines
 
--- a line that begins with the word is read up to behind it
+-- a line that begins with the word is read up to after it
 pub record ReadsLead {E : Type 0} (word text rest : List ℕ) (result : Result (List ℕ) E) : Type 0 where
   pub reads : (line tail a : List ℕ) → HasNoEnd line → IsShortLine line → next_word line ≡ Some (Bare word, tail)
       → text ≡ ended line ++ a → (result ≡ Ok tail) × (rest ≡ a)
@@ -49,7 +49,7 @@ entries_said p = ended (entries_line p)
 abbrev pub IsNumber : ℕ → Type 0
 IsNumber n = n < 2 ^ 64
 
--- what is left of a text whose first two lines are a dump's is what stands behind them
+-- what is left of a text whose first two lines are a dump's is what stands after them
 pub record LeavesThird (text : List ℕ) (left : ℕ) : Type 0 where
   pub leaves : (n : ℕ) (rest : List ℕ) → IsNumber n → text ≡ version_said tt ++ (size_said n ++ rest)
       → left ≡ length rest
@@ -86,7 +86,7 @@ pub record AreOrderedItems (items : Items) : Type 0 where
 abbrev pub IsOk : {A E : Type 0} → Result A E → Type 0
 IsOk result = MatchResult result (λ a. ⊤) (λ e. ⊥)
 
--- the size that was asked for, or, where none was, nothing free
+-- the size that was asked for, or, if none was, nothing free
 abbrev pub HasRequestedSize : Directory → Option ℕ → Type 0
 HasRequestedSize d None = free_bytes (live d) ≡ 0
 HasRequestedSize d (Some size) = d.size ≡ size
@@ -101,7 +101,7 @@ pub record JudgesDump (s : SegmentState) (text : List ℕ) (said : ℕ) (size : 
 
 -- ---- all of it
 
--- Whatever segment the text is the dump of, a load gives one where nothing is lacking for its objects.
+-- Whatever segment the text is the dump of, a load gives one if nothing is lacking for its objects.
 pub record Succeeds (text : List ℕ) (capacity base : ℕ) (size : Option ℕ) (room : ℕ)
     (result : Result SegmentState LoadRefused) : Type 0 where
   pub succeeds : (b : List ℕ) (d : Directory) (n : ℕ) → DenotesCurrent b d → n < 2 ^ 64
@@ -115,7 +115,7 @@ pub record SucceedsOf (text : List ℕ) (capacity base : ℕ) (size : Option ℕ
       → text ≡ dump_text n (portable d) → counted ≡ Ok (record { size = n; needs = items_needs (portable d) })
       → refusal_for capacity base size room (record { size = n; needs = items_needs (portable d) }) ≡ None → IsOk result
 
--- without the gap at the end, where no size was asked for
+-- without the gap at the end, if no size was asked for
 abbrev pub trimmed : Directory → Option ℕ → Directory
 trimmed d None = shrunk d
 trimmed d (Some size) = d

@@ -8,7 +8,7 @@ use Rattle.segment_dump.specs.Items.{ValueContent, Scalars, Vector, String, Map,
 use Rattle.segment_dump.specs.Items.{kind_of_content, count_of_content}
 use Rattle.segment_manager.specs.Parts.{parts_until}
 
--- ---- lines of elements: each behind two blanks
+-- ---- lines of elements: each after two blanks
 
 abbrev pub element_line : ScalarKind → ℤ → List ℕ
 element_line k z = 0x20 ∷ 0x20 ∷ value_text k z ++ 0x0A ∷ []
@@ -19,7 +19,7 @@ pair_line k v (x, y) = 0x20 ∷ 0x20 ∷ value_text k x ++ 0x20 ∷ value_text v
 -- ---- a text: its length, and its bytes in pieces of 1000, of which the first stands in the same line and each other
 -- in its own
 
--- how many pieces so many bytes are: one where there are none
+-- how many pieces this many bytes are: one if there are none
 abbrev pub pieces_in : ℕ → ℕ
 pieces_in n = 1 + (n - 1) / 1000
 
@@ -56,13 +56,13 @@ content_text (Strings ts) = flat_map text_lines ts
 abbrev pub kind_and_count_text : Kind → ℕ → List ℕ
 kind_and_count_text kind n = kind_text kind ++ 0x20 ∷ number_text n ++ 0x0A ∷ []
 
--- the line of an object: its class, its name where it has one, its kind, and how many elements there are
+-- the line of an object: its class, its name if it has one, its kind, and how many elements there are
 abbrev pub head_line : Class → List ℕ → Kind → ℕ → List ℕ
 head_line Named name kind n = codes "named " ++ name_text name ++ 0x20 ∷ kind_and_count_text kind n
 head_line Unique name kind n = codes "unique " ++ kind_and_count_text kind n
 head_line Anonymous name kind n = codes "anonymous " ++ kind_and_count_text kind n
 
--- a line that tells an object: some bytes, its name where it has one, its kind, more bytes, and a number
+-- a line that tells an object: some bytes, its name if it has one, its kind, more bytes, and a number
 abbrev pub info_line : List ℕ → Class → List ℕ → Kind → List ℕ → ℕ → List ℕ
 info_line lead Named name kind between n =
     lead ++ (name_text name ++ (0x20 ∷ (kind_text kind ++ (between ++ (number_text n ++ 0x0A ∷ [])))))

@@ -30,7 +30,7 @@ const CAPACITY: usize = 16;
 ///
 /// # Errors
 ///
-/// Where the sink fails. It has taken a part of the text then, from the first byte on, and not all.
+/// If the sink fails. It has taken a part of the text then, from the first byte on, and not all.
 pub fn dump_with_capacities<W: Sink>(segment: &Segment, out: &mut W) -> Result<(), DeviceFault>
     requires { (W.history out.old).failures < 2 ^ 64 - 1 }
     ensures { WritesOf segment.now (W.history out.old) (W.history out.new) result (λ d.
@@ -129,7 +129,7 @@ fn count_places(segment: &Segment, object: Object) -> Option<u64>
     }
 }
 
-/// Writes the note of an object that said this of itself, and has so many places.
+/// Writes the note of an object that said this of itself, and has `places` places.
 fn put_note<W: Sink>(said: Instance<'_>, places: u64, out: &mut W) -> Result<(), DeviceFault>
     requires { (W.history out.old).failures < 2 ^ 64 - 1 }
     ensures { Writes (W.history out.old) (W.history out.new) result

@@ -49,7 +49,7 @@ fn text_len(text: &[u8]) -> Option<(u64, &[u8])>
     Some((len, behind_lines(rest, pieces_in(len as usize) as u64)?))
 }
 
-/// Returns what so many texts need, and what is after their lines.
+/// Returns what `count` texts need, and what is after their lines.
 fn count_texts(text: &[u8], count: u64) -> Option<(Needs, &[u8])>
     ensures value { ParsesPrefix (flat_map text_lines) (AreTexts count) Any (all_needs text_needs) text.now
         (seen result) }
@@ -65,7 +65,7 @@ fn count_texts(text: &[u8], count: u64) -> Option<(Needs, &[u8])>
     Some((needs, rest))
 }
 
-/// Returns what a text of so many bytes in a vector of strings needs.
+/// Returns what a text of `len` bytes in a vector of strings needs.
 fn text_needs(len: u64) -> Needs
     requires { IsSmall len }
     ensures { result ≡ record { room = block_room len; longest = len } }
@@ -90,7 +90,7 @@ fn count_content(text: &[u8], kind: Kind, count: u64) -> Option<(Needs, &[u8])>
     }
 }
 
-/// Returns what is after so many lines, which need nothing.
+/// Returns what is after `count` lines, which need nothing.
 fn skip(text: &[u8], count: u64) -> Option<(Needs, &[u8])>
     ensures value { ParsesPrefix lines_text (AreLines count) Any (λ lines. nothing) text.now (seen result) }
     ensures questions { IfSome result (λ r. Begins (AsksNothing count) text.now r.0 r.1.now) }

@@ -25,7 +25,7 @@ pub enum DumpFault {
     /// These bytes are no name.
     #[error("bad name")]
     BadName,
-    /// No object has so many elements.
+    /// No object has this number of elements.
     #[error("bad count")]
     BadCount,
     /// The value is none of the kind.
@@ -85,7 +85,7 @@ pub struct SyntaxError {
 #[derive(Drop, Error)]
 #[error("{cause}")]
 pub struct LoadRefused {
-    /// The region that was handed in, as it was; nothing where a segment was begun in it.
+    /// The region that was handed in, as it was; nothing if a segment was begun in it.
     pub region: Option<RawRegion>,
     /// Why.
     pub cause: LoadError,

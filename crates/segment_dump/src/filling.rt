@@ -53,7 +53,7 @@ fn fill_reserved(
     }
 }
 
-/// Adds so many elements to an object.
+/// Adds to an object the elements that its line counts.
 fn fill_elements(
     segment: &mut Segment,
     object: Object,

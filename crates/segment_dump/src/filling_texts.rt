@@ -136,7 +136,7 @@ fn copy_piece(
     Ok(from + bytes.len())
 }
 
-/// Puts bytes into the room, after so many.
+/// Puts bytes into the room, from `from` on.
 fn put_at(room: &mut [u8], from: usize, bytes: &[u8])
     requires { from + length bytes.now ≤ length room.old }
     ensures { take (from + length bytes.now) room.new ≡ take from room.old ++ bytes.now }

@@ -36,7 +36,7 @@ fn behind_line(text: &[u8]) -> Option<&[u8]>
     None
 }
 
-/// Returns what is after so many lines.
+/// Returns what is after `count` lines.
 pub fn behind_lines(text: &[u8], count: u64) -> Option<&[u8]>
     ensures skip_count { Skips lines_text (AreLines count) text.now (seen_rest result) }
     ensures line { IfSome result (λ r. Begins IsLined text.now count r.now) }

@@ -28,7 +28,7 @@ use segment_values::{Layout, count_of, put_content};
 ///
 /// # Errors
 ///
-/// Where the sink fails. It has taken a part of the text then, from the first byte on, and not all.
+/// If the sink fails. It has taken a part of the text then, from the first byte on, and not all.
 pub fn dump_json<W: Sink>(segment: &Segment, out: &mut W) -> Result<(), DeviceFault>
     requires { (W.history out.old).failures < 2 ^ 64 - 1 }
     ensures { WritesOf segment.now (W.history out.old) (W.history out.new) result (λ d. json_dump (portable d)) }

@@ -34,7 +34,7 @@ use segment_manager::{CreateRefused, Mode, Segment};
 ///
 /// # Errors
 ///
-/// `BadDump` says where the text is no dump, and why; where its lines cannot be counted, it is the only cause.
+/// `BadDump` says where the text is no dump, and why; if its lines cannot be counted, it is the only cause.
 /// `BadSize` and `RegionTooSmall` are as they are called. `NoSpace`: whatever segment the text is the dump of, its
 /// objects need more bytes than the size, and so it was longer itself. `LongText`: it has a vector of strings with a
 /// text that is longer than the room. The region comes back as it was if no segment was begun, as for these four, and
@@ -270,7 +270,7 @@ fn bad_dump(text: &[u8], misfit: SyntaxError) -> LoadError
     })
 }
 
-/// Returns why building stopped. Where objects or a text ask for more than was counted, lines are wrong: those that
+/// Returns why building stopped. If objects or a text ask for more than was counted, lines are wrong: those that
 /// could not be counted, or else those that were built.
 fn cause_of(text: &[u8], stop: BuildError, counted: Result<Count, usize>) -> LoadError
     ensures { IsWrong text.now result }
@@ -282,7 +282,7 @@ fn cause_of(text: &[u8], stop: BuildError, counted: Result<Count, usize>) -> Loa
     }
 }
 
-/// Returns the first line that could not be counted, or another place where all could.
+/// Returns the first line that could not be counted, or another place if all could.
 fn uncounted(text: &[u8], at: usize, counted: Result<Count, usize>) -> SyntaxError {
     let at = match counted {
         Ok(_) => at,
@@ -314,7 +314,7 @@ fn make_objects(
     build(segment, lines, room, most)
 }
 
-/// Takes a segment as it is where the text is its dump, and it is open and as long as it should be.
+/// Takes a segment as it is if the text is its dump, and it is open and as long as it should be.
 fn judge(
     mut segment: Segment,
     text: &[u8],

@@ -41,7 +41,7 @@ pub fn only_room(room: u64) -> Needs
     Needs { room, longest: 0 }
 }
 
-/// Returns the bytes of a block for so many, and none if there are none.
+/// Returns the bytes of a block for `bytes` bytes, and 0 for none.
 #[tactic(auto, unfolding(crate::specs::Need::block_room))]
 pub fn block_room(bytes: u64) -> u64
     requires { bytes < 2 ^ 40 }
@@ -54,7 +54,7 @@ pub fn block_room(bytes: u64) -> u64
     ((bytes + 31) / 16 * 16).max(32)
 }
 
-/// Returns the bytes of the value of an object of a kind with so many elements.
+/// Returns the bytes of the value of an object of a kind with `count` elements.
 fn body_len(kind: Kind, count: u64) -> u64
     requires { count ≤ 1073741824 }
     ensures value { result ≡ body_len kind count }
@@ -74,7 +74,7 @@ fn node_room(keys: ScalarKind, values: ScalarKind) -> u64
     block_room(16 + keys.size() + values.size())
 }
 
-/// Returns the bytes of the storage or of the nodes of an object of a kind with so many elements.
+/// Returns the bytes of the storage or of the nodes of an object of a kind with `count` elements.
 fn elements_room(kind: Kind, count: u64) -> u64
     requires { count ≤ 1073741824 }
     ensures value { result ≡ elements_room kind count }
@@ -100,7 +100,7 @@ pub fn object_room(name_len: u64, kind: Kind, count: u64) -> u64
     block_room(16 + name + body_len(kind, count)) + elements_room(kind, count)
 }
 
-/// Returns the bytes of the ends of a segment and of the blocks of its indexes, of so many entries.
+/// Returns the bytes of the ends of a segment and of the blocks of its indexes, of `named` and `unique` entries.
 #[tactic(auto, unfolding(crate::specs::Need::front_room))]
 pub fn front_room(named: u64, unique: u64) -> u64
     requires named { named ≤ 1073741824 }

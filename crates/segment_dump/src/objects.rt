@@ -82,7 +82,7 @@ pub(crate) fn put_anonymous<T: ObjectWriter, W: Sink>(
     Ok(())
 }
 
-/// Tells an object where it is anonymous.
+/// Tells an object if it is anonymous.
 fn put_if_anonymous<T: ObjectWriter, W: Sink>(
     telling: &T,
     segment: &Segment,

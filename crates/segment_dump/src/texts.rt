@@ -38,7 +38,7 @@ fn put_all_pieces<W: Sink>(text: &[u8], out: &mut W) -> Result<(), DeviceFault>
     Ok(())
 }
 
-/// Returns how many pieces so many bytes are. An empty text is one.
+/// Returns how many pieces `len` bytes are. An empty text is one.
 pub fn pieces_in(len: usize) -> usize
     requires { len < 2 ^ 63 }
     ensures { result ≡ pieces_in len }

@@ -16,7 +16,7 @@ pub fn segments_have_room()
     ensures { SegmentsHaveRoom }
 {}
 
-/// States that where notes stand after a dump, what is left without them is the dump, and so it is of a dump with
+/// States that if notes stand after a dump, what is left without them is the dump, and so it is of a dump with
 /// capacities, and of a dump alone. Of any text only notes are left out, at its end.
 pub fn notes_are_left_out()
     ensures after { NotesAreLeftOut }

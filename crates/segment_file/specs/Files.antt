@@ -10,7 +10,7 @@ use Rattle.segment_disk.specs.Events.{Event, Opened, Read, Compared, Made, Wrote
 
 -- ---- a file that is read
 
--- the events of a file that was opened, had so many bytes by what the disk told, gave this and was closed
+-- the events of a file that was opened, had this many bytes by what the disk told, gave this and was closed
 abbrev pub open_events : List ℕ → ℕ → ReadDelta → List Event
 open_events path len image = Opened path (Some len) ∷ Read image ∷ []
 
@@ -130,7 +130,7 @@ pub record MakesImage {D E : Type 0} (step : D → Event → D
   pub fate : MatchResult result (λ u. written ≡ whole_outcome how image) (λ e. IsUnwritten how image written)
   pub accepted : IsMade written → (d : Directory) → DenotesCurrent image d → IsSaved image d
 
--- An image was written to a file, and nothing else was asked of the disk. It is whole there and lasts where the answer
+-- An image was written to a file, and nothing else was asked of the disk. It is whole there and lasts if the answer
 -- is Ok. A file that was made or emptied was so for an image that a check accepts.
 pub record WritesImage {D E : Type 0} (step : D → Event → D
     → Type 0) (old new : D) (how : CreateMode) (path image : List ℕ) (result : Result (Unit {0}) E) : Type 0 where

@@ -38,7 +38,7 @@ use Rattle.segment_file.specs.Files.{open_events, failed_open_events}
 -- ---- how much room a segment has
 
 -- the capacity of its region: for as many bytes as the disk tells of its file, or as its image says if these are more,
--- and for so many bytes more
+-- and for this many bytes more
 abbrev pub file_region : ℕ → ℕ → List ℕ → ℕ
 file_region len more image = region_len (max len (size_word image) + more)
 
@@ -77,7 +77,7 @@ abbrev pub IsOpenedBy : AcceptedVersions → ReadDelta → List ℕ → Mode →
 IsOpenedBy Current image region mode s = OpensOk current image region 0 mode s
 IsOpenedBy All image region mode s = IsOpenedAny image region 0 mode s
 
--- the segment of the image stands at the front of a region with room for it, and for so many bytes more
+-- the segment of the image stands at the front of a region with room for it, and for this many bytes more
 pub record OpensImageOk (versions : AcceptedVersions) (len more : ℕ) (mode : Mode) (image : ReadDelta)
     (s : SegmentState) : Type 0 where
   pub region : List ℕ
@@ -119,7 +119,7 @@ module _ {D A E : Type 0} (step : D → Event → D → Type 0) (old new : D) (p
     pub asked : After step old (failed_open_events path) new
     pub refused : result ≡ Err fault
 
-  -- the file was opened, and had so many bytes by what the disk told, was read and closed, and nothing else was asked
+  -- the file was opened, and had this many bytes by what the disk told, was read and closed, and nothing else was asked
   pub record ReadsFileAs (answers : ℕ → ReadDelta → Result A E → Type 0) (result : Result A E) : Type 0 where
     pub len : ℕ
     pub image : ReadDelta
@@ -142,7 +142,7 @@ ExaminesFile step old new path result = ReadsFile step old new path Unreadable E
 
 -- ---- the parts of an opening
 
--- what a call of `image_check` answers where images of these versions are read to the front of a region
+-- what a call of `image_check` answers if images of these versions are read to the front of a region
 abbrev pub OpensAt : AcceptedVersions → ReadDelta → List ℕ → Mode → Result SegmentState OpenRefused → Type 0
 OpensAt Current image region mode result = Opens current image region 0 mode result
 OpensAt All image region mode result = OpensAny image region 0 mode result
@@ -152,7 +152,7 @@ pub record KeepsRegion (len : ℕ) (old new : SegmentState) : Type 0 where
   pub few : length old.cut.bytes ≤ len
   pub same : new ≡ old
 
--- the file has more bytes, and the segment stands in a region of its own, with room for so many bytes more
+-- the file has more bytes, and the segment stands in a region of its own, with room for this many bytes more
 pub record WidensRegion (len more : ℕ) (old new : SegmentState) : Type 0 where
   pub many : len < length old.cut.bytes
   pub region : List ℕ
@@ -170,7 +170,7 @@ abbrev pub WidensIfNeeded : ℕ → ℕ → SegmentState → Result SegmentState
 WidensIfNeeded len more old result =
     MatchResult result (λ new. KeepsRegion len old new ⊎ WidensRegion len more old new) (IsCramped len more old)
 
--- why an image is not opened, where that is not for want of room
+-- why an image is not opened, if that is not for want of room
 abbrev pub file_error : OpenError → Option FileError
 file_error (NoImage c) = Some (Image c)
 file_error NoRoom = None

@@ -25,10 +25,10 @@ pub data WriteTarget : Type 0 where
 pub record FileState : Type 0 where
   pub named : PathContents
   pub target : WriteTarget
-  -- what the file that was made beside holds, where all of it lasts
+  -- what the file that was made beside holds, if all of it lasts
   pub beside : Option (List ℕ)
 
--- all that a file took, where no write failed and all of it lasts
+-- all that a file took, if no write failed and all of it lasts
 abbrev pub lasting : WriteDelta → Bool → Option (List ℕ)
 lasting taken lasts = if lasts && not taken.failed then Some taken.bytes else None
 
@@ -74,7 +74,7 @@ after_event path s (Placed p placed) =
     if bytes_eq p path then record s { named = in_place_of s.named s.beside placed } else s
 after_event path s (Discarded p) = if bytes_eq p path then record s { beside = None } else s
 
--- what stands under the path behind these events, where a whole file stood there before
+-- what stands under the path after these events, if a whole file stood there before
 abbrev pub standing : List ℕ → List ℕ → List Event → PathContents
 standing path old events = (fold (after_event path) (record { named = Whole old; target = Neither; beside = None })
     events).named

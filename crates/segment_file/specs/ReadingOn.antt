@@ -52,7 +52,7 @@ pub record IsWhole (said : ℕ) (gave : ReaderHistory) (text : List ℕ) : Type 
   pub ended : gave.ended ≡ true
   pub long : length text ≡ said
 
--- more bytes stand behind them
+-- more bytes stand after them
 pub record GaveMoreThan (said : ℕ) (gave : ReaderHistory) : Type 0 where
   pub sound : gave.failures ≡ 0
   pub long : said < length gave.bytes
@@ -66,7 +66,7 @@ IsWhyNotWhole said gave ReadFault = IsBroken said gave
 
 -- ---- as the front says it
 
--- the bytes begin as an image of a format, of so many bytes
+-- the bytes begin as an image of a format, of this many bytes
 pub record Says (format : ℕ) (b : List ℕ) (said : ℕ) : Type 0 where
   pub long : 24 ≤ length b
   pub front : has_front format b ≡ true

@@ -33,7 +33,7 @@ use Rattle.segment_file.specs.Opening.{ExaminesFile, OpensFile, open_fault_error
 abbrev pub saved : Result (Unit {0}) FileError
 saved = Ok tt
 
--- a request for so many bytes was refused; for a region with room for so many
+-- a request for this many bytes was refused; for a region with room for this many
 abbrev pub bytes_refused : ℕ → FileError
 bytes_refused n = OutOfMemory (Bytes (out_of_memory_of n))
 
@@ -75,7 +75,7 @@ module _ {D : Type 0} (step : D → Event → D → Type 0) (old new : D) (path 
   MakesSegmentFile result = MatchResult result MakesSegmentFileOk (λ why. MakesSegmentFileErr why
       ⊎ MakesSegmentFileUnwritten why)
 
--- the path was looked at, where this was found, and then what is done went on from there
+-- the path was looked at and this was found, and then what is done went on from there
 pub record IsBehindLook {D : Type 0} (step : D → Event → D → Type 0) (old : D) (path : List ℕ) (IsWhere : Presence
     → Type 0) (goes_on : D → Type 0) : Type 0 where
   pub found : Presence
@@ -96,7 +96,7 @@ module _ {D : Type 0} (step : D → Event → D → Type 0) (old new : D) (path 
   abbrev pub HoldsFile : (D → D → Type 0) → Result (Unit {0}) FileError → Type 0
   HoldsFile does result = RefusesFileInUse result ⊎ RunsLocked step old new path does
 
-  -- the right was taken before the file was read, and is kept where there is a segment, and else given back
+  -- the right was taken before the file was read, and is kept if there is a segment, and otherwise given back
   pub record OpensHeldOk (result : Result SegmentState FileError) : Type 0 where
     pub held : D
     pub taken : step old (Held path true) held

@@ -21,7 +21,7 @@ use segment_disk::{Disk, OpenedFile};
 use segment_manager::{Mode, Segment};
 use std::alloc::Global;
 
-/// Returns a region with room for a segment of so many bytes, and for more.
+/// Returns a region with room for a segment of `bytes` bytes, and for `more` bytes.
 #[tactic(auto, using(crate::proofs::opening::Rooms::region_capped))]
 pub(crate) fn file_region(alloc: Global, bytes: u64, more: u64) -> Result<RawRegion, OutOfMemory>
     ensures len { IfOk result (λ region. length region ≡ region_len (bytes + more)) }
@@ -91,7 +91,7 @@ fn with_room(alloc: Global, segment: Segment, len: u64, more: u64) -> Result<Seg
     Ok(copy_into(&segment, region))
 }
 
-/// Returns the segment of an image that says more bytes than there was room for, with room for so many bytes more. The
+/// Returns the segment of an image that says more bytes than there was room for, with room for `more` bytes more. The
 /// image is read first, so that it takes no more memory than it has bytes.
 fn open_behind<S: Source>(
     alloc: Global,
@@ -117,7 +117,7 @@ fn open_behind<S: Source>(
     }
 }
 
-/// Returns the segment of the image of a reader that was told to give `len` bytes, with room for so many bytes more.
+/// Returns the segment of the image of a reader that was told to give `len` bytes, with room for `more` bytes more.
 fn open_image<S: Source>(
     alloc: Global,
     versions: AcceptedVersions,
@@ -139,12 +139,12 @@ fn open_image<S: Source>(
     }
 }
 
-/// Returns the segment in a file, of any of these versions, in a region with room for so many bytes more. The file is
+/// Returns the segment in a file, of any of these versions, in a region with room for `more` bytes more. The file is
 /// closed.
 ///
 /// # Errors
 ///
-/// `Image` with the class where the bytes of the file denote no directory. `ReadFault` if the file can't be opened or
+/// `Image` with the class if the bytes of the file denote no directory. `ReadFault` if the file can't be opened or
 /// read, and `OutOfMemory`.
 pub fn open_file<D: Disk>(
     alloc: Global,

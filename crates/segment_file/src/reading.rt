@@ -20,7 +20,7 @@ use std::alloc::Global;
 ///
 /// # Errors
 ///
-/// `Image` with the class where the bytes of the file denote no directory. `ReadFault` if the file can't be opened or
+/// `Image` with the class if the bytes of the file denote no directory. `ReadFault` if the file can't be opened or
 /// read, and `OutOfMemory`.
 pub fn read<D: Disk>(
     alloc: Global,

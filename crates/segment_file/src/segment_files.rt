@@ -159,14 +159,14 @@ impl<H: Drop> SegmentFile<H> {
         })
     }
 
-    /// Writes the image of the segment to its file, which is emptied for it, or made if it is gone. Where that fails,
+    /// Writes the image of the segment to its file, which is emptied for it, or made if it is gone. If that fails,
     /// the old image is lost; see [`replace`](SegmentFile::replace).
     ///
     /// `crates/examples/src/shop.rt` has an example.
     ///
     /// # Errors
     ///
-    /// `WriteFault` if the file can't be emptied, takes not the whole image, or need not last, and where another file
+    /// `WriteFault` if the file can't be emptied, takes not the whole image, or need not last, and if another file
     /// has taken its name, which is left alone.
     pub fn save<D: Disk<Hold = H>>(&mut self, disk: &mut D) -> Result<(), FileError>
         ensures save { SavesFile D.step disk.old disk.new (string_bytes self.old.path) self.old.segment result
@@ -224,7 +224,7 @@ impl<H: Drop> SegmentFile<H> {
         disk.unlock(self.hold);
     }
 
-    /// Makes the segment longer by `extra` bytes, which are free: a multiple of 16, at least 32. Where its region has
+    /// Makes the segment longer by `extra` bytes, which are free: a multiple of 16, at least 32. If its region has
     /// no room, and only there, it moves into a larger one. Every object keeps its handle and its value. The file is as
     /// it was until `save` or `replace`.
     ///

@@ -46,7 +46,7 @@ fn put_in_place<D: Disk>(disk: &mut D, path: &str, hold: &mut D::Hold) -> Result
 }
 
 /// Writes the image of a segment to a file that is made beside the old one, closes it, and puts it in the place of the
-/// old one. Where that fails, the new file is removed, if it can be.
+/// old one. If that fails, the new file is removed, if it can be.
 fn replace_image<D: Disk>(
     disk: &mut D,
     path: &str,

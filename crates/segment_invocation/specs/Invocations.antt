@@ -40,7 +40,7 @@ use Rattle.segment_invocation.specs.declared.usage.UsageError.TheVariants.{Size,
 
 -- ---- the command line, as clap reads it
 
--- a value behind `--NAME`, which may be left out; help has a word for it
+-- a value after `--NAME`, which may be left out; help has a word for it
 abbrev pub option : Text → Rule
 option name = record (new_rule name) { long = Some name; action = Some Set; value_names = 1 }
 
@@ -48,7 +48,7 @@ option name = record (new_rule name) { long = Some name; action = Some Set; valu
 abbrev pub flag : Text → Rule
 flag name = record (new_rule name) { long = Some name; action = Some SetTrue }
 
--- a value behind `-` and this letter, as often as there are values
+-- a value after `-` and this letter, as often as there are values
 abbrev pub lines : Text → ℕ → Rule
 lines name letter = record (new_rule name) { short = Some letter; action = Some Append; value_names = 1 }
 
@@ -72,7 +72,7 @@ kept = flag (codes "replace") ∷ option (codes "wait") ∷ []
 abbrev pub taking : Text → List Rule → Shape
 taking name rules = record (new_shape name) { rules = rules ++ (flag (codes "verbose") ∷ []) }
 
--- the program, without its subcommands: it wants one, gives help where no word stands behind its name, and has clap's
+-- the program, without its subcommands: it wants one, gives help if no word stands after its name, and has clap's
 -- `help`
 abbrev pub program : App
 program = record {
@@ -162,7 +162,7 @@ origin_by script.Input = input
 origin_by (script.File path) = from_file path.now
 origin_by (script.Lines texts) = from_lines (map (λ s. s.now) texts.items)
 
--- the script of these lines: a line end stands behind each
+-- the script of these lines: a line end stands after each
 abbrev pub script_text : List (Bor Text) → Text
 script_text = flat_map (λ line. line.now ++ 0x0A ∷ [])
 
@@ -208,7 +208,7 @@ wants_size CreateOnly = true
 wants_size OpenOrCreate = true
 wants_size _ = false
 
--- the mode of a word, `open_only` where there is none
+-- the mode of a word, `open_only` if there is none
 abbrev pub mode_of : Option Text → Option ModeName
 mode_of None = Some OpenOnly
 mode_of (Some word) = mode_called word
@@ -248,13 +248,13 @@ abbrev pub is_plain_run : Origin → SaveMode → ℕ → Bool → Bool → Bool
 is_plain_run input saving wait strict numbered = is_plain saving wait && (not strict && not numbered)
 is_plain_run origin saving wait strict numbered = false
 
--- a run, with its options where there are some
+-- a run, with its options if there are some
 abbrev pub ran : Text → ModeName → Option ℕ → Origin → SaveMode → ℕ → Bool → Bool → InvocationValue
 ran file mode size origin saving wait strict numbered =
     if is_plain_run origin saving wait strict numbered then run file mode size
     else run_with file mode size origin saving wait strict numbered
 
--- a change without options, and one with its options where there are some
+-- a change without options, and one with its options if there are some
 abbrev pub plain_change : Text → FileChange → InvocationValue
 plain_change file (change.Grow bytes) = grow file bytes
 plain_change file change.Shrink = shrink file
@@ -407,7 +407,7 @@ abbrev pub asked_of : Option (Text × List Row) → Option InvocationValue
 asked_of None = None
 asked_of (Some found) = asked_in found.0 found.1
 
--- the words, the program's name first, ask for this: by their subcommand, where clap finds no fault, or they want the
+-- the words, the program's name first, ask for this: by their subcommand, if clap finds no fault, or they want the
 -- version to be shown
 abbrev pub IsAskedBy : List Text → InvocationValue → Type 0
 IsAskedBy words a = ((fault_of command_line words ≡ []) × (asked_of (subcommand_of command_line words) ≡ Some a))
@@ -470,7 +470,7 @@ abbrev pub wrong_of : Option (Text × List Row) → Wrong
 wrong_of None = no_command
 wrong_of (Some found) = wrong_in found.0 found.1
 
--- an error tells what is wrong with the words, the program's name first: a fault that clap finds, or, where it finds
+-- an error tells what is wrong with the words, the program's name first: a fault that clap finds, or, if it finds
 -- none, why they ask for nothing
 abbrev pub IsWrongBy : List Text → UsageError → Type 0
 IsWrongBy words (Words misread) = IsAmong (kind_of misread) (fault_of command_line words)
@@ -493,7 +493,7 @@ abbrev pub IsNumberPart : Text → List Text → Option ℕ → Type 0
 IsNumberPart name words None = words ≡ []
 IsNumberPart name words (Some n) = (digits : Text) × (number_of digits ≡ Some n) × (words ≡ name ∷ digits ∷ [])
 
--- `--size N`, which may be left out where the mode wants none
+-- `--size N`, which may be left out if the mode wants none
 abbrev pub IsSizePart : List Text → ModeName → Option ℕ → Type 0
 IsSizePart words mode size = IsNumberPart (codes "--size") words size × (lacks_size mode size ≡ false)
 
@@ -502,7 +502,7 @@ abbrev pub IsWaitPart : List Text → ℕ → Type 0
 IsWaitPart words wait = (seconds : Option ℕ) × IsNumberPart (codes "--wait") words seconds
     × (wait ≡ unwrap_or seconds 0)
 
--- `--replace`, which is left out where the file is emptied
+-- `--replace`, which is left out if the file is emptied
 abbrev pub saving_part : SaveMode → List Text
 saving_part InPlace = []
 saving_part Replacing = codes "--replace" ∷ []
@@ -516,12 +516,12 @@ abbrev pub flag_words : SaveMode → Bool → Bool → List Text
 flag_words saving strict numbered =
     saving_part saving ++ (flag_part (codes "--strict") strict ++ flag_part (codes "--numbered") numbered)
 
--- the lines of a script, each behind `-c`
+-- the lines of a script, each after `-c`
 abbrev pub line_words : List Text → List Text
 line_words [] = []
 line_words (line ∷ rest) = codes "-c" ∷ line ∷ line_words rest
 
--- what stands for the script of a run, behind the file
+-- what stands for the script of a run, after the file
 abbrev pub IsOriginPart : List Text → Origin → Type 0
 IsOriginPart words input = words ≡ []
 IsOriginPart words (from_file path) = IsTrue (is_path path) × (words ≡ path ∷ [])
@@ -534,7 +534,7 @@ abbrev pub IsPart : Text → List Text → Text → Type 0
 IsPart name words [] = words ≡ []
 IsPart name words (c ∷ cs) = IsTrue (is_path (c ∷ cs)) × (words ≡ name ∷ (c ∷ cs) ∷ [])
 
--- a run, with its script from standard input, or else with no other word than the script
+-- a run, with its script from standard input, or otherwise with no other word than the script
 abbrev pub IsRunWritten : Text → ModeName → Option ℕ → Origin → SaveMode → ℕ → Bool → Bool → List Text → Type 0
 IsRunWritten file mode size input saving wait strict numbered words = (modes : List Text) × (sizes : List Text)
     × (waits : List Text)
@@ -545,7 +545,7 @@ IsRunWritten file mode size origin saving wait strict numbered words =
     × (mode ≡ OpenOnly) × (size ≡ None) × (saving ≡ InPlace) × (wait ≡ 0) × (strict ≡ false) × (numbered ≡ false)
     × (words ≡ codes "run" ∷ file ∷ origins)
 
--- a change and its file, and behind them its options
+-- a change and its file, and after them its options
 abbrev pub IsChangePart : List Text → Text → FileChange → Type 0
 IsChangePart words file (change.Grow bytes) = (digits : Text) × (number_of digits ≡ Some bytes)
     × (words ≡ codes "grow" ∷ file ∷ digits ∷ [])
@@ -565,7 +565,7 @@ report_words Dump file = codes "dump" ∷ file ∷ []
 report_words Capacities file = codes "dump" ∷ file ∷ codes "--capacities" ∷ []
 report_words Json file = codes "dump" ∷ file ∷ codes "--json" ∷ []
 
--- the words behind the program's name say what is asked for
+-- the words after the program's name say what is asked for
 abbrev pub IsWritten : InvocationValue → List Text → Type 0
 IsWritten (create file size) words = IsTrue (is_path file) × (digits : Text) × (number_of digits ≡ Some size)
     × (words ≡ codes "create" ∷ file ∷ digits ∷ [])

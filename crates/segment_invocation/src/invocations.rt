@@ -109,7 +109,7 @@ pub enum Report {
 /// How the segment in a file changes without a script.
 #[derive(Clone, Copy)]
 pub enum FileChange {
-    /// The segment becomes larger by so many bytes.
+    /// The segment becomes larger by this number of bytes.
     Grow(u64),
     /// The segment becomes as small as its last block lets it be.
     Shrink,
@@ -228,9 +228,9 @@ pub enum Invocation<'a> {
     /// To check that of several files, or of one, and to name those that hold none; of the others nothing if the second
     /// is true.
     CheckAll(Vec<&'a str>, bool),
-    /// To check the same, and where it holds none to tell in words why, and which byte shows it.
+    /// To check the same, and if it holds none to tell in words why, and which byte shows it.
     Explain(&'a str),
-    /// To make the segment in a file larger by so many bytes.
+    /// To make the segment in a file larger by a number of bytes.
     Grow(&'a str, u64),
     /// To make the segment in a file as small as its last block lets it be.
     Shrink(&'a str),
@@ -240,7 +240,7 @@ pub enum Invocation<'a> {
     ChangeWith(&'a str, FileChange, FileOptions),
     /// To tell something of the segment in a file.
     Tell(&'a str, Report),
-    /// To print the names of the segment in a file that begin with a text, in their order, at most so many.
+    /// To print the names of the segment in a file that begin with a text, in their order, at most this number.
     Names(&'a str, &'a str, Option<u64>),
     /// To make a segment of such a text: of this size, or as long as the text says and cut after its last block. It is
     /// made in a file that is not there, or is to take the place of the one that is.

@@ -60,7 +60,7 @@ changed : Means (
 unfolding reading current
 changed = (refl, (refl, (refl, (refl, (refl, (refl, (refl, (refl, (refl, tt)))))))))
 
--- other words than a command has behind it
+-- other words than a command has after it
 wrong : AllByRecursion (λ line. reading (whole_language current) line ≡ BadSyntax) (
     codes "append s b" ∷ codes "construct string[2] s \"a\"" ∷ codes "construct map<i64,i64> m 1"
     ∷ codes "construct map<string,i64> m" ∷ codes "construct map<i64,i64>[2] m" ∷ codes "put m 4" ∷ codes "put m 4 x"

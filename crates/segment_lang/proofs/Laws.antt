@@ -2,7 +2,7 @@
 
 -- words stand for no more bytes than they are spelled by
 pub use Rattle.segment_lang.proofs.words.Lengths.{words_room}
--- what stands behind a command word: nothing, one word, two, three
+-- what stands after a command word: nothing, one word, two, three
 pub use Rattle.segment_lang.proofs.commands.Words.{alone_at_end, of_key, of_key_literal, of_key_number, of_putting}
--- bytes of which no more than so many are kept
+-- bytes of which no more than this many are kept
 pub use Rattle.segment_lang.proofs.words.LineFronts.{at_most_or_more, kept_more}

@@ -1,4 +1,4 @@
--- Command words and what stands behind them (`Words`).
+-- Command words and what stands after them (`Words`).
 pub mod Words
 pub mod Forms
 pub mod KindTables

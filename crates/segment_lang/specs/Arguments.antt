@@ -1,4 +1,4 @@
--- What stands behind a command word, read one word after another.
+-- What stands after a command word, read one word after another.
 use Rattle.std.specs.Prelude.{ℕ, ℤ, Option, Some, None, List, [], ◌∷◌, length, map, ◌==◌, option_and_then}
 use Rattle.std.specs.Prelude.{unwrap_or, if◌then◌else◌}
 use Rattle.raw_region.specs.Format.{current}
@@ -15,7 +15,7 @@ use Rattle.segment_lang.specs.Reading.{Reader, all, content, counted_kind, for_k
 use Rattle.segment_lang.specs.Reading.{value_for}
 use Rattle.segment_lang.specs.Tokens.{◌>>=◌, next_two, next_word, only_word, two_words, three_words}
 
--- the kind of the elements, where they are scalars
+-- the kind of the elements, if they are scalars
 abbrev pub scalar_kind_of : Kind → Option ScalarKind
 scalar_kind_of (Scalar k) = Some k
 scalar_kind_of k = None
@@ -57,7 +57,7 @@ pub record TypedNumbers : Type 0 where
   pub kind : ScalarKind
   pub numbers : List ℤ
 
--- the values of a kind that the words are, which is none where a word is no such value
+-- the values of a kind that the words are, which is none if a word is no such value
 abbrev pub values_in : ScalarKind → List ℕ → TypedNumbers
 values_in k bytes = record { kind = k; numbers = unwrap_or (numbers_at k bytes) [] }
 
@@ -65,7 +65,7 @@ values_in k bytes = record { kind = k; numbers = unwrap_or (numbers_at k bytes) 
 abbrev pub typed_numbers : ScalarKind → List ℤ → TypedNumbers
 typed_numbers k zs = record { kind = k; numbers = zs }
 
--- the values of a kind that all words are, where they are as many
+-- the values of a kind that all words are, if they are as many
 abbrev pub counted_values : ScalarKind → ℕ → List ℕ → Option TypedNumbers
 counted_values k n bytes =
     option_and_then (λ zs. if length zs == n then Some (typed_numbers k zs) else None) (numbers_at k bytes)
@@ -88,7 +88,7 @@ making_each_at bytes = do
 unfoldable pub literals_at : List ℕ → Option (List Literal)
 literals_at bytes = option_and_then (all literal_of_word) (words bytes)
 
--- the values that the words are, which is none where a word is no value
+-- the values that the words are, which is none if a word is no value
 abbrev pub literals_in : List ℕ → List Literal
 literals_in bytes = unwrap_or (literals_at bytes) []
 
@@ -104,7 +104,7 @@ assigning_at bytes = do
 unfoldable pub texts_at : List ℕ → Option (List (List ℕ))
 texts_at bytes = option_and_then (all quoted_of) (words bytes)
 
--- the texts that the words are, which is none where a word is no text
+-- the texts that the words are, which is none if a word is no text
 abbrev pub texts_in : List ℕ → List (List ℕ)
 texts_in bytes = unwrap_or (texts_at bytes) []
 

@@ -12,18 +12,18 @@ use Rattle.segment_lang.specs.Language.{Language}
 use Rattle.segment_lang.specs.Reading.{kind_named, name_key, reading}
 use Rattle.segment_lang.specs.Tokens.{at_end, ends_word, next_word, text_at}
 
--- A word has a number exactly where it is the number's decimal text, and the number is below 2 ^ 64.
+-- A word has a number exactly if it is the number's decimal text, and the number is below 2 ^ 64.
 abbrev pub NumbersAreDecimals : Type 0
 NumbersAreDecimals = (word : List ℕ) (n : ℕ) → (number_of word ≡ Some n) ↔ ((n < 2 ^ 64) × (word ≡ decimal n))
 
--- A word has a whole number exactly where it is the number's decimal text, and the number is in the range.
+-- A word has a whole number exactly if it is the number's decimal text, and the number is in the range.
 abbrev pub WholesAreDecimals : Type 0
 WholesAreDecimals =
     (word : List ℕ) (z : ℤ)
     → (whole_of word ≡ Some z) ↔ ((negsuc 9223372036854775807 ≤ℤ z) × (z ≤ℤ pos 18446744073709551615) ×
     (word ≡ signed_decimal z))
 
--- An item of a text stands for a byte: for itself, behind a backslash, or as two digits.
+-- An item of a text stands for a byte: for itself, after a backslash, or as two digits.
 abbrev pub IsItem : List ℕ → ℕ → Type 0
 IsItem item b =
     ((is_plain b ≡ true) × (item ≡ b ∷ [])) ⊎
@@ -35,7 +35,7 @@ abbrev pub Spells : List ℕ → List ℕ → Type 0
 Spells items [] = items ≡ []
 Spells items (b ∷ bs) = (item : List ℕ) × (more : List ℕ) × IsItem item b × Spells more bs × (items ≡ item ++ more)
 
--- A text is read exactly where items spell it, a quote closes it, and the word ends behind the quote.
+-- A text is read exactly if items spell it, a quote closes it, and the word ends after the quote.
 abbrev pub TextsAreSpelled : Type 0
 TextsAreSpelled =
     (bytes bs rest : List ℕ)
@@ -46,7 +46,7 @@ TextsAreSpelled =
 abbrev pub PrintedTextsAreRead : Type 0
 PrintedTextsAreRead = (bs : List ℕ) → AllByRecursion (λ b. b < 256) bs → words (quoted_text bs) ≡ Some (Text bs ∷ [])
 
--- All words of the bytes are none at their end, and else the next word and those behind it.
+-- All words of the bytes are none at their end, and otherwise the next word and those after it.
 abbrev pub WordsFollow : Type 0
 WordsFollow =
     (bytes : List ℕ) → words bytes
@@ -59,7 +59,7 @@ room [] = 0
 room (Bare bs ∷ ws) = 1 + length bs + room ws
 room (Text bs ∷ ws) = 1 + length bs + room ws
 
--- Words stand for no more bytes than they are spelled by, one byte behind each counted.
+-- Words stand for no more bytes than they are spelled by, one byte after each counted.
 abbrev pub WordsHaveRoom : Type 0
 WordsHaveRoom = (bytes : List ℕ) (ws : List Word) → words bytes ≡ Some ws → room ws ≤ length bytes + 1
 

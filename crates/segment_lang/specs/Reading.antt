@@ -26,7 +26,7 @@ abbrev pub kind_of_word : Language → Word → Option Kind
 kind_of_word l (Bare w) = kind_named l w
 kind_of_word l (word.Text bs) = None
 
--- a kind, and how many: a scalar kind may have `[k]` behind it
+-- a kind, and how many: a scalar kind may have `[k]` after it
 abbrev pub counted : Kind → Option ℕ → Option (Kind × ℕ)
 counted (Scalar k) (Some n) = if nat_le 1 n && nat_le n 1048576 then Some (Scalar k, n) else None
 counted k n = None
@@ -61,7 +61,7 @@ abbrev pub new_key : Language → Word → Option Key
 new_key l (word.Text bs) = name_key l (word.Text bs)
 new_key l (Bare w) = if is_word w (codes "-") then Some NoKey else name_key l (Bare w)
 
--- where a line has a kind and `@KIND`, they are the same
+-- if a line has a kind and `@KIND`, they are the same
 abbrev pub agrees : Kind → Key → Bool
 agrees k (ByKind l) = same_kind k l
 agrees k (ByName name) = true
@@ -96,7 +96,7 @@ content (Map k v) n [] = Some (asked.NoPairs k v)
 content Strings n ws = option_map asked.Strings (all quoted_of ws)
 content k n ws = None
 
--- what the words behind a command word ask for
+-- what the words after a command word ask for
 abbrev pub Reader : Type 0
 Reader = Language → List Word → Option Command
 
@@ -172,7 +172,7 @@ destroying_ptr l ws = None
 
 -- ---- the commands
 
--- a command word, and the form of what stands behind it
+-- a command word, and the form of what stands after it
 abbrev pub Form : Type 0
 Form = List ℕ × Reader
 
@@ -215,7 +215,7 @@ forms =
     ∷ (codes "all_deallocated", alone asked.AllDeallocated)
     ∷ []
 
--- what stands behind a command word
+-- what stands after a command word
 abbrev pub form_of : List ℕ → Option Form
 form_of w = find (λ (f : Form). is_word w f.0) forms
 

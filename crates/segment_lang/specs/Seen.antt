@@ -51,7 +51,7 @@ literal_of (Whole z) = asked.Whole z
 literal_of (Truth b) = asked.Truth b
 literal_of (Quoted t) = asked.Quoted t
 
--- a text of it has room where a line keeps one
+-- a text of it has room if a line keeps one
 abbrev pub HasLineRoom : asked.Literal → Type 0
 HasLineRoom (asked.Quoted bs) = length bs ≤ 4096
 HasLineRoom l = ⊤
@@ -115,7 +115,7 @@ is_wrong asked.Nothing = false
 is_wrong (asked.Asked c) = false
 is_wrong r = true
 
--- the form of what stands behind the word of a deed
+-- the form of what stands after the word of a deed
 abbrev pub deed_reader_of : DeedForm → Reader
 deed_reader_of deed.Construct = making asked.Construct new_key
 deed_reader_of deed.ConstructIt = making_each
@@ -148,7 +148,7 @@ deed_reader_of deed.ZeroFree = alone asked.ZeroFree
 deed_reader_of deed.Sanity = alone asked.Sanity
 deed_reader_of deed.AllDeallocated = alone asked.AllDeallocated
 
--- the form of what stands behind a command word
+-- the form of what stands after a command word
 abbrev pub reader_of : CommandForm → Reader
 reader_of form.Size = alone asked.Size
 reader_of form.Get = with_key_number asked.Get
@@ -157,7 +157,7 @@ reader_of form.Put = putting
 reader_of form.Pop = with_key asked.Pop key_of
 reader_of (form.Deed d) = deed_reader_of d
 
--- what a command word of a form asks for, with what stands behind it
+-- what a command word of a form asks for, with what stands after it
 abbrev pub reading_by : CommandForm → List ℕ → asked.Reading
 reading_by form rest = as_reading (option_and_then (reader_of form (whole_language current)) (words rest))
 
@@ -166,7 +166,7 @@ reading_led lead.Nothing = asked.Nothing
 reading_led (lead.Form form rest) = reading_by form rest.now
 reading_led (lead.Wrong e) = wrong_reading e
 
--- what a line's first word is the word of, with what is behind it
+-- what a line's first word is the word of, with what is after it
 abbrev pub with_rest : {A : Type 0} → List ℕ → Option A → Option (A × List ℕ)
 with_rest {A} line x = option_map (λ (a : A). (a, behind_word line)) x
 

@@ -8,7 +8,7 @@ pub use Rattle.seg_types.specs.Texts.{digit_text, item_text, kind_text, name_tex
 abbrev pub number_text : ℕ → List ℕ
 number_text n = decimal n
 
--- ---- errors: 1 to 3 where a line is no command, 4 to 9 where a command is refused
+-- ---- errors: 1 to 3 if a line is no command, 4 to 9 if a command is refused
 
 abbrev pub error_text : ℕ → List ℕ → List ℕ
 error_text n words = codes "error " ++ number_text n ++ 0x20 ∷ words

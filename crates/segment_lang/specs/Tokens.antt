@@ -13,7 +13,7 @@ o >>= f = option_and_then f o
 abbrev pub at_end : List ℕ → Bool
 at_end bytes = length (skip_blanks bytes) == 0
 
--- the bytes up to a blank, and what is behind them
+-- the bytes up to a blank, and what is after them
 abbrev pub up_to_blank : List ℕ → List ℕ
 up_to_blank bytes = take_while (λ c. not (is_blank c)) bytes
 
@@ -36,7 +36,7 @@ digits_at [] = None
 digits_at (h ∷ []) = None
 digits_at (h ∷ l ∷ cs) = option_map (λ c. (c, cs)) (byte_of_digits h l)
 
--- what stands behind a backslash
+-- what stands after a backslash
 unfoldable pub escape_at : List ℕ → Option (ℕ × List ℕ)
 escape_at [] = None
 escape_at (c ∷ cs) = if (c == 0x22) || (c == 0x5C) then Some (c, cs) else if c == 0x78 then digits_at cs else None
@@ -59,7 +59,7 @@ abbrev pub quote_at : List ℕ → Option (List ℕ × List ℕ)
 quote_at [] = None
 quote_at (c ∷ cs) = if c == 0x22 then closed_at cs else None
 
--- what is behind the quote that closes a text
+-- what is after the quote that closes a text
 abbrev pub behind_quote : List ℕ → Option (List ℕ)
 behind_quote [] = None
 behind_quote (c ∷ cs) = if c == 0x22 then (if ends_word cs then Some cs else None) else None
@@ -68,7 +68,7 @@ behind_quote (c ∷ cs) = if c == 0x22 then (if ends_word cs then Some cs else N
 abbrev pub longer : ℕ → Option (List ℕ × List ℕ) → Option (List ℕ × List ℕ)
 longer c text = option_map (λ (bs, rest). (c ∷ bs, rest)) text
 
--- A text behind the quote that opens it: items up to the quote that closes it.
+-- A text after the quote that opens it: items up to the quote that closes it.
 unfoldable mutual
   pub text_at : List ℕ → Option (List ℕ × List ℕ)
   text_at [] = None
@@ -86,19 +86,19 @@ unfoldable mutual
   high_digit_at (h ∷ []) = None
   high_digit_at (h ∷ l ∷ cs) = option_and_then (λ c. longer c (text_at cs)) (byte_of_digits h l)
 
--- the bytes that a text stands for, and what is behind it
+-- the bytes that a text stands for, and what is after it
 abbrev pub text_in : List ℕ → List ℕ
 text_in bytes = (unwrap_or (text_at bytes) ([], [])).0
 
 abbrev pub behind_text : List ℕ → Option (List ℕ)
 behind_text bytes = option_map (λ x. x.1) (text_at bytes)
 
--- what is behind the quote that opens a text
+-- what is after the quote that opens a text
 abbrev pub behind_opening : List ℕ → Option (List ℕ)
 behind_opening [] = None
 behind_opening (c ∷ cs) = if c == 0x22 then Some cs else None
 
--- the bytes that a text stands for: itself; or if the quote that opens it is in front, what stands behind this quote
+-- the bytes that a text stands for: itself; or if the quote that opens it is in front, what stands after this quote
 abbrev pub spelled_bytes : List ℕ → List ℕ
 spelled_bytes bytes = unwrap_or (option_map text_in (behind_opening bytes)) bytes
 
@@ -111,7 +111,7 @@ word_at (c ∷ cs) =
     if c == 0x22 then option_map (λ (bs, rest). (Text bs, rest)) (text_at cs)
     else option_map (λ (bs, rest). (Bare bs, rest)) (bare_at (c ∷ cs))
 
--- the next word, behind the blanks in front of it
+-- the next word, after the blanks in front of it
 unfoldable pub next_word : List ℕ → Option (Word × List ℕ)
 next_word bytes = word_at (skip_blanks bytes)
 
@@ -135,7 +135,7 @@ three_words bytes = do
   y ← two_words x.1
   Some (x.0, y.0, y.1)
 
--- the next two words, and what is behind them
+-- the next two words, and what is after them
 unfoldable pub next_two : List ℕ → Option (Word × Word × List ℕ)
 next_two bytes = do
   x ← next_word bytes

@@ -29,7 +29,7 @@ digit_of c = if between 0x30 0x39 c then Some (c - 0x30) else if between 0x61 0x
 abbrev pub byte_of_digits : ℕ → ℕ → Option ℕ
 byte_of_digits h l = option_and_then (λ x. option_map (λ y. 16 * x + y) (digit_of l)) (digit_of h)
 
--- what is left to read of a word, and the words behind it
+-- what is left to read of a word, and the words after it
 abbrev pub WordRest : Type 0
 WordRest = Option (List ℕ × List Word)
 
@@ -46,7 +46,7 @@ text_word rest = option_map (λ (bs, ws). Text bs ∷ ws) rest
 abbrev pub ended : Option (List Word) → WordRest
 ended ws = option_map (λ ws. ([], ws)) ws
 
--- The words of a line, or nothing where a byte does not fit. The three functions stand between words, inside a bare
+-- The words of a line, or nothing if a byte does not fit. The three functions stand between words, inside a bare
 -- word, and inside a text.
 abbrev mutual
   pub words : List ℕ → Option (List Word)
@@ -70,7 +70,7 @@ abbrev mutual
   after_text [] = Some ([], [])
   after_text (c ∷ cs) = if is_blank c then ended (words cs) else None
 
-  -- behind a backslash
+  -- after a backslash
   pub escaped : List ℕ → WordRest
   escaped [] = None
   escaped (c ∷ cs) =

@@ -50,7 +50,7 @@ fn agrees(kind: Kind, key: &IndexKey<'_>) -> bool
     }
 }
 
-/// Returns the entry that a word is, where it may hold an object of the kind.
+/// Returns the entry that a word is, if it may hold an object of the kind.
 pub fn index_key_for<'a>(
     kind: Kind,
     word: Word<'a>,

@@ -20,7 +20,7 @@ pub enum Piece<'a> {
     Value(ScalarValue),
     /// A text in quotes.
     Text(&'a [u8]),
-    /// A name, bare where it can be.
+    /// A name, bare if it can be.
     Name(&'a [u8]),
     /// A kind.
     Kind(Kind),

@@ -199,7 +199,7 @@ pub fn only_number(bytes: &[u8]) -> Option<u64>
     number(word)
 }
 
-/// Returns the deed, where nothing stands after its word.
+/// Returns the deed, if nothing stands after its word.
 pub fn read_alone<'a>(deed: Deed<'a>, bytes: &[u8]) -> Option<Deed<'a>>
     ensures { option_map deed_of result ≡ (if at_end bytes.now then Some (deed_of deed.entry) else None) }
 {

@@ -151,7 +151,7 @@ pub fn put_text<S: Sink>(out: &mut S, text: &[u8]) -> Result<(), DeviceFault>
     write_all(out, b"\"")
 }
 
-/// Writes a name: bare where it can be spelled bare, otherwise as a text in quotes.
+/// Writes a name: bare if it can be spelled bare, otherwise as a text in quotes.
 pub fn put_name<S: Sink>(out: &mut S, name: &[u8]) -> Result<(), DeviceFault>
     requires { (S.history out.old).failures < 2 ^ 64 - 1 }
     ensures { Writes (S.history out.old) (S.history out.new) result (name_text name.now) }

@@ -16,7 +16,7 @@ pub fn wholes_are_decimals()
     ensures { WholesAreDecimals }
 {}
 
-/// States that a text is read exactly where items spell it, a quote closes it, and the word ends after the quote.
+/// States that a text is read exactly if items spell it, a quote closes it, and the word ends after the quote.
 pub fn texts_are_spelled()
     ensures { TextsAreSpelled }
 {}

@@ -16,7 +16,7 @@ use crate::buffer::LineBuffer;
 use seg_types::Name;
 use std::marker::Model;
 
-/// The bytes that a text in quotes stands for. Where the line escapes one, they are read from it when they are asked
+/// The bytes that a text in quotes stands for. If the line escapes one, they are read from it when they are asked
 /// for.
 #[derive(Drop)]
 pub struct Quoted<'a> {
@@ -39,7 +39,7 @@ impl<'a> Model for Quoted<'a> {
 impl<'a> Quoted<'a> {
     ghost use Rattle.seg_types.specs.Keys.{name_seen};
 
-    /// Returns the bytes. They are lent from the line, or decoded into `scratch` where the line escapes one, whatever
+    /// Returns the bytes. They are lent from the line, or decoded into `scratch` if the line escapes one, whatever
     /// it held.
     pub fn bytes(&self, scratch: &'a mut LineBuffer) -> &'a [u8]
         requires { length self.now ≤ 4096 }
@@ -52,7 +52,7 @@ impl<'a> Quoted<'a> {
     }
 
     /// Returns the name that the bytes are, or `None` if they are none. It is lent from the line, or decoded into
-    /// `scratch` where the line escapes a byte of it.
+    /// `scratch` if the line escapes a byte of it.
     pub fn to_name(&self, scratch: &'a mut LineBuffer) -> Option<Name<'a>>
         ensures { option_map name_seen result ≡ (if is_name current self.now then Some self.now else None) }
     {
@@ -241,7 +241,7 @@ fn skip_items(bytes: &[u8]) -> &[u8]
     rest
 }
 
-/// Returns what is after the quote that opens a text, where it stands in front.
+/// Returns what is after the quote that opens a text, if it stands in front.
 fn open_text(bytes: &[u8]) -> Option<&[u8]>
     ensures value { option_map (λ x. x.now) result ≡ behind_opening bytes.now }
     ensures shrinking { IfSome result (λ x. length x.now < length bytes.now) }
@@ -255,7 +255,7 @@ fn open_text(bytes: &[u8]) -> Option<&[u8]>
     Some(rest)
 }
 
-/// Returns what is after the quote that closes a text, where it stands in front and the word ends there.
+/// Returns what is after the quote that closes a text, if it stands in front and the word ends there.
 fn close_text(bytes: &[u8]) -> Option<&[u8]>
     ensures value { option_map (λ x. x.now) result ≡ behind_quote bytes.now }
     ensures shrinking { IfSome result (λ x. length x.now < length bytes.now) }
@@ -286,7 +286,7 @@ fn read_text(bytes: &[u8]) -> Option<(Quoted<'_>, &[u8])>
     Some((Quoted { spelled: bytes }, rest))
 }
 
-/// Returns the next word, after the blanks in front of it, and what is after it. There is none at the end, and where a
+/// Returns the next word, after the blanks in front of it, and what is after it. There is none at the end, and if a
 /// byte does not fit.
 #[tactic(auto, unfolding(crate::specs::Tokens::next_word, crate::specs::Tokens::word_at))]
 pub fn next_word(bytes: &[u8]) -> Option<(Word<'_>, &[u8])>

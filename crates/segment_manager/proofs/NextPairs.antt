@@ -35,7 +35,7 @@ pub no-pair : {X : Type 0} (o : Option X) → ((x : X) → o ≡ Some x → ⊥)
 no-pair None n = refl
 no-pair (Some x) n = absurd (n x refl)
 
--- nor behind that place
+-- nor after that place
 none-behind : (ps : List NumberPair) (i : ℕ) → slice_get ps i ≡ None → slice_get ps (suc i) ≡ None
 none-behind [] i e = refl
 none-behind (p ∷ ps) zero e = absurd (cc)
@@ -52,13 +52,13 @@ module _ (s : SegmentState) (h : ℕ) (k v : ScalarKind) (i : ℕ) where
   abbrev part : (KindedPair → List ℕ) → Directory → List ℕ
   part text d = part_of (λ p. text (item_of_kinds k v (item_of p))) (slice_get (pairs_at d (ByHandle h)) i)
 
-  -- nothing is written where there is none, and then there is none behind
+  -- nothing is written where there is none, and then there is none after
   pub none-text : IsNext s h k v None i → (text : KindedPair → List ℕ) (d : Directory) → DenotesCurrent s.cut.bytes d
       → [] ≡ part text d
   none-text n text d l = ap (part_of (λ p. text (item_of_kinds k v (item_of p))))
       (sym (none-if k v (slice_get (pairs_at d (ByHandle h)) i) (n d l)))
 
-  -- behind the last pair none follows
+  -- after the last pair none follows
   pub next-none : IsNext s h k v None i → IsNext s h k v None (i + 1)
   next-none n d l =
       let ps = pairs_at d (ByHandle h) in let more : suc i ≡ i + 1 = omega arith in

@@ -1,5 +1,5 @@
--- Texts of numbered parts, for the crates that write what a segment holds: the text of so many parts, and what has gone
--- out of it.
+-- Texts of numbered parts, for the crates that write what a segment holds: the text of this many parts, and what has
+-- gone out of it.
 use Rattle.segment_manager.proofs.Common.{◌≡◌, ℕ, zero, suc, ◌+◌, ◌<◌, Bool, true, false, List, [], ◌∷◌, ◌++◌, length}
 use Rattle.segment_manager.proofs.Common.{take, nat_lt, Option, Some, None, Result, Ok, Err, slice_get, refl, sym, ap}
 use Rattle.segment_manager.proofs.Common.{subst, ◌∙◌, append_assoc, arith, flat_map, ltb-true, ltb-false, take_all}
@@ -35,7 +35,7 @@ split-if {part} {i} {n} false e h k =
           ap (λ x. parts_until part x ++ part x) same ∙ ap (λ l. parts_until part i ++ l) (sym (append-nil (part i)));
     }
 
--- the text of so many parts is one part and the others
+-- the text of this many parts is one part and the others
 pub split : (part : ℕ → List ℕ) (i n : ℕ) → i < n → IsSplit part i n
 split part i zero h = absurd (omega arith)
 split part i (suc n) h = split-if (nat_lt i n) refl h (split part i n)

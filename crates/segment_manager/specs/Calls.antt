@@ -72,7 +72,7 @@ scalar_reply mode d key c = elim (elements_at d key) [ Err r ↦ Refused r | Ok 
 abbrev pub as_span : TileInfo → LiveSpan
 as_span s = record { offset = s.offset; len = s.len; use_of = s.use_of }
 
--- what stands at an index among the tiles of a segment, where as many stand: a block or gap of the directory
+-- what stands at an index among the tiles of a segment, if as many stand: a block or gap of the directory
 pub record IsTileOfIndex (s : SegmentState) (index : ℕ) (result : Option Tile) : Type 0 where
   pub tile : result ≡ slice_get (tiles_of (bytes_of s.cut.bytes) (length s.cut.bytes)) index
   pub span : AnswersWith s (λ d. slice_get (spans (live d)) index) (option_map span_of result)

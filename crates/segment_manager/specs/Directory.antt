@@ -161,7 +161,7 @@ rises lt [] = true
 rises lt (o ∷ []) = true
 rises lt (o ∷ p ∷ ps) = lt o p && rises lt (p ∷ ps)
 
--- a block exactly where there are bytes
+-- a block exactly if there are bytes
 abbrev pub has_own_block : OwnedText → Bool
 has_own_block p =
     elim p.extent

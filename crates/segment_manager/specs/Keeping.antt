@@ -12,7 +12,7 @@ use Rattle.seg_vector.specs.Vector.{OwnedText, capacity_for_one, grown_backing}
 use Rattle.segment_manager.specs.Directory.{Object, Directory, Texts, live, object_at}
 use Rattle.segment_manager.specs.State.{SegmentState, DenotesCurrent}
 
--- the call changes nothing where this holds of the directory
+-- the call changes nothing if this holds of the directory
 abbrev pub UnchangedWhere : SegmentState → SegmentState → (Directory → Type 0) → Type 0
 UnchangedWhere old new holds = (d : Directory) → DenotesCurrent old.cut.bytes d → holds d → new ≡ old
 
@@ -24,7 +24,7 @@ IsBoundKey key d = (o : Object) × (object_at d key ≡ Some o)
 abbrev pub LacksKey : Key → Directory → Type 0
 LacksKey key d = object_at d key ≡ None
 
--- the vector or string of the key has so many places
+-- the vector or string of the key has this many places
 pub record HasPlaces (key : Key) (n : ℕ) (d : Directory) : Type 0 where
   pub len : ℕ
   pub capacity : ℕ
@@ -35,8 +35,8 @@ pub record HasPlaces (key : Key) (n : ℕ) (d : Directory) : Type 0 where
 abbrev pub LacksPair : Key → ℤ → Directory → Type 0
 LacksPair key x d = pair_at int_lt (pairs_at d key) x ≡ None
 
--- The vector of strings of the key has no space for what is asked for first where a text joins it: for the text's block
--- where it has a place more, and else for its array.
+-- The vector of strings of the key has no space for what is asked for first if a text joins it: for the text's block
+-- if it has a place more, and otherwise for its array.
 pub record LacksFirst (key : Key) (bytes : List ℕ) (d : Directory) : Type 0 where
   pub object : Object
   pub is : object_at d key ≡ Some object
@@ -46,7 +46,7 @@ pub record LacksFirst (key : Key) (bytes : List ℕ) (d : Directory) : Type 0 wh
   pub none : ((length texts < table.capacity) × (placed_text (live d) bytes ≡ None))
       ⊎ (grown_backing (live d) 16 (capacity_for_one (length texts) table.capacity) table ≡ None)
 
--- there is no space for an array of so many texts
+-- there is no space for an array of this many texts
 abbrev pub LacksArray : ℕ → Directory → Type 0
 LacksArray n d = new_array (live d) n ≡ None
 
@@ -56,11 +56,11 @@ ChangesElement old new key k i = (d : Directory) → DenotesCurrent old.cut.byte
     → IfOk (place_at d key k i) (λ (p : Place).
     SameBytesExcept (bytes_of old.cut.bytes) (bytes_of new.cut.bytes) (p.handle + p.at) (size_of k))
 
--- where the same blocks are in use, no byte of a gap changes
+-- if the same blocks are in use, no byte of a gap changes
 abbrev pub KeepsUnused : SegmentState → SegmentState → Type 0
 KeepsUnused old new = live_of new.cut.bytes ≡ live_of old.cut.bytes → KeepsGaps old.cut new.cut
 
--- where the map of the key has such a key, no byte changes but those of its value
+-- if the map of the key has such a key, no byte changes but those of its value
 abbrev pub ChangesValue : SegmentState → SegmentState → Key → ScalarKind → ℤ → ScalarKind → Type 0
 ChangesValue old new key k x v = (d : Directory) → DenotesCurrent old.cut.bytes d → (p : NumberPair)
     → pair_at int_lt (pairs_at d key) x ≡ Some p

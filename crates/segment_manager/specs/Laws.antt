@@ -43,7 +43,7 @@ abbrev pub StepsLeadOn : Type 0
 StepsLeadOn = (old new : SegmentState) (c : Command) (answer : Answer) → TakesStep old new c answer
     → StepsWithoutAnswer old new c (refusal_of answer)
 
--- for one: a call that takes the last text away and does not answer it, where the text would be a step's answer
+-- for one: a call that takes the last text away and does not answer it, if the text would be a step's answer
 abbrev pub PoppedTextsLeadOn : Type 0
 PoppedTextsLeadOn = (old new : SegmentState) (key : Key) (result : Result (List ℕ) Refusal)
     → TakesStep old new (Pop key) (answer_of TextElement result)

@@ -30,7 +30,7 @@ header_len = 128
 
 -- ---- an object's head
 
--- the length of the name and the class, behind the kind and the count
+-- the length of the name and the class, after the kind and the count
 abbrev pub name_class_at : ℕ
 name_class_at = 8
 

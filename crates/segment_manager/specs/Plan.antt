@@ -32,7 +32,7 @@ abbrev pub met : LiveSet → Need → Option Extent
 met l (New role n) = place l n role
 met l (Regrown old n) = regrow l old n
 
--- Blocks are taken in order. Where one has no fit nothing changes.
+-- Blocks are taken in order. If one has no fit nothing changes.
 abbrev pub perform : Directory → LiveSet → Plan → Answer × Directory
 perform d l (Refuse r) = (Refused r, d)
 perform d l (Reply answer after) = (answer, after)
@@ -46,12 +46,12 @@ with (Err r) next = Refuse r
 
 -- ---- the blocks that commands ask for
 
--- an index of so many places in a new block
+-- an index of this many places in a new block
 abbrev pub with_new_index : ℕ → (BackingArray → Plan) → Plan
 with_new_index capacity next = Request (New Index (8 * capacity))
     (λ x. next (record { capacity = capacity; extent = Some x }))
 
--- an index that has so many entries, with a place for one more
+-- an index that has this many entries, with a place for one more
 abbrev pub with_place : BackingArray → ℕ → (BackingArray → Plan) → Plan
 with_place t count next = if nat_lt count t.capacity then next t else with_new_index (grown_capacity t.capacity) next
 
@@ -66,7 +66,7 @@ abbrev pub with_storage : ℕ → ℕ → (BackingArray → Plan) → Plan
 with_storage each n next = if n == 0 then next no_backing else Request (New Storage (each * n))
     (λ x. next (record { capacity = n; extent = Some x }))
 
--- storage for as many as the capacity says: as it is where there are so many places, else regrown
+-- storage for as many as the capacity says: as it is if there are this many places, otherwise regrown
 abbrev pub with_capacity : ℕ → ℕ → BackingArray → (BackingArray → Plan) → Plan
 with_capacity each capacity t next =
     if nat_le capacity t.capacity then next t
@@ -94,7 +94,7 @@ bare (asked.Bytes bs) = Bytes bs no_backing
 bare (asked.NoPairs k v) = Pairs k v []
 bare (asked.Strings bss) = Texts [] no_backing
 
--- texts in blocks of their own, where they are not empty
+-- texts in blocks of their own, if they are not empty
 abbrev pub with_owned_text : List ℕ → (OwnedText → Plan) → Plan
 with_owned_text bs next =
     if length bs == 0 then next (record { bytes = bs; extent = None })

@@ -42,7 +42,7 @@ TakesStep old new c answer = Transitions old new answer (λ d. step old.mode d c
 abbrev pub TakesStepOfKind : SegmentState → SegmentState → Key → Kind → Command → Answer → Type 0
 TakesStepOfKind old new key kind c answer = Transitions old new answer (λ d. step_of_kind old.mode d key kind c)
 
--- The call is refused exactly where the step is, for the same reason, and else it is not; it leads to the step's
+-- The call is refused exactly if the step is, for the same reason, and otherwise it is not; it leads to the step's
 -- directory. This is for a call that answers less than the machine.
 abbrev pub StepsWithoutAnswer : SegmentState → SegmentState → Command → Option Refusal → Type 0
 StepsWithoutAnswer old new c refusal =

@@ -1,4 +1,4 @@
-//! The blocks and gaps of the heap below: told, walked over, asked for, and moved where a segment's end moves.
+//! The blocks and gaps of the heap below: told, walked over, asked for, and moved when a segment's end moves.
 pub(crate) mod requesting;
 pub(crate) mod sizing;
 pub(crate) mod tiles;

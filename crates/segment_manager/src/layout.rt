@@ -38,7 +38,7 @@ pub const HEAD_LEN: u64 = 16;
 /// The bytes of a container in its object: a link to its storage or its root, and two words more.
 pub const CONTAINER_LEN: u64 = 24;
 
-/// What a word is in parts of: the upper half of a word counts so many.
+/// What one in the upper half of a word counts.
 pub const HALF: u64 = 0x1_0000_0000;
 
 /// Returns a number of bytes, up to the next multiple of 8.
@@ -49,7 +49,7 @@ pub fn padded(len: u64) -> u64
     (len + 7) / 8 * 8
 }
 
-/// Returns where the value of an object stands, after a name of so many bytes.
+/// Returns where the value of an object stands, after a name of `name_len` bytes.
 pub fn value_at(name_len: u64) -> u64
     requires { name_len < 2 ^ 32 }
     ensures { result ≡ head_len + padded_of name_len }

@@ -27,7 +27,7 @@ longest_in ss = fold (λ n (s : Span). max n s.len) 0 (spans_of None ss)
 abbrev pub free_len : Span → ℕ
 free_len s = elim s.use_of [ None ↦ s.len | Some r ↦ 0 ]
 
--- the gap behind all blocks
+-- the gap after all blocks
 abbrev pub end_gap_in : List Span → ℕ
 end_gap_in ss = fold (λ n s. free_len s) 0 ss
 

@@ -12,19 +12,19 @@ begins_with name prefix = starts_with ◌==◌ name prefix
 abbrev pub name_line : List ℕ → List ℕ
 name_line name = name_text name ++ 0x0A ∷ []
 
--- the first names that begin with the text, at most so many, in their order
+-- the first names that begin with the text, at most this many, in their order
 abbrev pub names_text : List ℕ → ℕ → Directory → List ℕ
 names_text prefix most d = flat_map name_line (take most (filter (λ name. begins_with name prefix) (names_of d)))
 
 -- ---- name by name
 
--- the name is one of them, where so many more are to come
+-- the name is one of them, if this many more are to come
 abbrev pub is_listed : List ℕ → ℕ → List ℕ → Bool
 is_listed prefix left name = not (left == 0) && begins_with name prefix
 
 abbrev pub listed_line : List ℕ → ℕ → List ℕ → List ℕ
 listed_line prefix left name = if is_listed prefix left name then name_line name else []
 
--- how many more are to come behind it
+-- how many more are to come after it
 abbrev pub left_after : List ℕ → ℕ → List ℕ → ℕ
 left_after prefix left name = if is_listed prefix left name then left - 1 else left

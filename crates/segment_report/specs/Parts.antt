@@ -5,7 +5,7 @@ use Rattle.seg_types.specs.Texts.{kind_text}
 use Rattle.segment_report.specs.declared.parts.Part.{Part}
 use Rattle.segment_report.specs.declared.parts.Part.TheVariants.{Bytes, Number, Escaped, Kind}
 
--- A byte behind two others: a control character as `?`, and of U+FFFE and U+FFFF, which are no characters of XML, the
+-- A byte after two others: a control character as `?`, and of U+FFFE and U+FFFF, which are no characters of XML, the
 -- last byte as that of U+FFFD.
 abbrev pub plain_byte : ℕ → ℕ → ℕ → List ℕ
 plain_byte before last b =
@@ -23,7 +23,7 @@ xml_byte before last b =
     else if b == 0x27 then codes "&apos;"
     else plain_byte before last b
 
--- bytes behind two others, and a text
+-- bytes after two others, and a text
 abbrev pub xml_from : ℕ → ℕ → List ℕ → List ℕ
 xml_from before last [] = []
 xml_from before last (b ∷ bs) = xml_byte before last b ++ xml_from last b bs

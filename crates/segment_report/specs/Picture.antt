@@ -1,5 +1,5 @@
 -- The picture of a segment, a text of SVG. Its bytes go through 16 rows from left to right, to scale: each block, each
--- gap, the header and the end tag is a shape of its own, over several rows where it is longer than one. An object has
+-- gap, the header and the end tag is a shape of its own, over several rows if it is longer than one. An object has
 -- its name and kind in it.
 use Rattle.std.specs.Prelude.{◌≡◌, ℕ, ◌+◌, ◌-◌, ◌*◌, ◌/◌, ◌%◌, max, true, Option, Some, None, List, [], ◌++◌, codes}
 use Rattle.std.specs.Prelude.{decimal, flat_map, ◌==◌, if◌then◌else◌}
@@ -34,7 +34,7 @@ top_of per at = 72 + at / per * 32
 
 -- ---- shapes
 
--- bytes that lie in one row: the line round them, and behind it where they begin, how many they are, and of what sort
+-- bytes that lie in one row: the line round them, and after it where they begin, how many they are, and of what sort
 abbrev pub box_text : ℕ → ℕ → ℕ → ℕ → ℕ → List ℕ → List ℕ
 box_text left right top from len sort =
     codes "<path class='" ++ (sort
@@ -57,7 +57,7 @@ abbrev pub outline_text : ℕ → ℕ → ℕ → ℕ → ℕ → ℕ → List �
 outline_text left right top last from len sort =
     if top == last then box_text left right top from len sort else rows_text left right top last from len sort
 
--- the shape of so many bytes from an offset on, of a sort that has a style
+-- the shape of this many bytes from an offset on, of a sort that has a style
 abbrev pub shape_text : ℕ → ℕ → ℕ → List ℕ → List ℕ
 shape_text per from len sort =
     outline_text (left_of per from) (right_of per (from + len - 1)) (top_of per from) (top_of per (from + len - 1))
@@ -99,7 +99,7 @@ abbrev pub object_label : ℕ → ℕ → ℕ → Option Object → List ℕ
 object_label per from len None = []
 object_label per from len (Some o) = label_text per from len (called o.class o.name (handle o.extent)) (kind_of o.value)
 
--- the object that stands in a block, where it is an object's
+-- the object that stands in a block, if it is an object's
 abbrev pub object_in : Directory → Option Role → ℕ → Option Object
 object_in d (Some ObjectRole) from = object_at d (ByHandle (from + 16))
 object_in d (Some Index) from = None

@@ -12,7 +12,7 @@ use Rattle.segment_report.specs.Usages.{tally_of}
 
 -- what is counted once: the size, the bytes of all gaps, how many gaps there are and the longest of them; of each role
 -- how many blocks there are, and their bytes; how many objects there are of each class; how many entries each index has
--- places for; and how many bytes the segment would lose if it ended behind its last block
+-- places for; and how many bytes the segment would lose if it ended after its last block
 abbrev pub figures_text : ℕ → Tally → ObjectTally → ℕ → ℕ → List ℕ
 figures_text size t o named unique =
     entry_line (codes "size") size

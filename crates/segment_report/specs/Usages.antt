@@ -27,11 +27,11 @@ usage_of role xs = record {
 abbrev pub gap_usage : List Gap → Usage
 gap_usage gs = record { count = length gs; bytes = sum_by (λ (g : Gap). g.len) gs }
 
--- the bytes of the longest, 0 where there is none
+-- the bytes of the longest, 0 if there is none
 abbrev pub longest : List Gap → ℕ
 longest gs = fold (λ n (g : Gap). max n g.len) 0 gs
 
--- all of a directory; and by how many bytes a segment that ends behind its last block is shorter
+-- all of a directory; and by how many bytes a segment that ends after its last block is shorter
 abbrev pub tally_of : Directory → Tally
 tally_of d = record {
   gaps = gap_usage (gaps (live d));

@@ -169,7 +169,7 @@ fn put_kind_lines<W: Sink>(
     Ok(())
 }
 
-/// Writes the line of a kind that so many objects have, if there are some.
+/// Writes the line of a kind that `count` objects have, if there are some.
 fn put_kind<W: Sink>(out: &mut W, kind: Kind, count: u64) -> Result<(), DeviceFault>
     requires { (W.history out.old).failures < 2 ^ 64 - 1 }
     ensures { Writes (W.history out.old) (W.history out.new) result (kind_line kind count) }

@@ -8,7 +8,7 @@ use raw_region::{DeviceFault, Sink};
 use segment_lang::{Piece, put_pieces};
 use segment_manager::Segment;
 
-/// Writes the names that begin with a text, in the order of their bytes and a line each, at most so many. A name stands
+/// Writes the names that begin with a text, in the order of their bytes and a line each, at most `most`. A name stands
 /// there as in a script.
 ///
 /// Returns `DeviceFault` if the writer failed: what went out is then a proper prefix of the text.
@@ -28,7 +28,7 @@ pub fn put_names<W: Sink>(
     Ok(())
 }
 
-/// Writes a name that begins with the text, where so many more are to be written, and returns how many more are then.
+/// Writes a name that begins with the text, if `left` more may be written, and returns how many may then.
 fn put_listed<W: Sink>(
     out: &mut W,
     name: &[u8],

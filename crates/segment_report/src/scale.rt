@@ -25,7 +25,7 @@ pub struct Corners {
 }
 
 impl Scale {
-    /// Returns the scale of the picture of a segment of so many bytes: 16 rows hold all of them.
+    /// Returns the scale of the picture of a segment of `size` bytes: 16 rows hold all of them.
     pub fn of(size: u64) -> Scale
         requires { size ≤ 2 ^ 30 }
         ensures { result.row ≡ bytes_in_row size }

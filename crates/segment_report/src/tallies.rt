@@ -68,7 +68,7 @@ impl Tally {
         }
     }
 
-    /// Counts one block or gap more, of so many bytes.
+    /// Counts one block or gap more, of `len` bytes.
     fn add(&mut self, use_of: Option<Role>, len: u64)
         requires count { total_count self.old + 1 < 2 ^ 64 }
         requires bytes { total_bytes self.old + len < 2 ^ 64 }

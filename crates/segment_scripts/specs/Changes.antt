@@ -18,7 +18,7 @@ abbrev pub ReadsInto : {T : Type 0} → ScalarKind → (T → ℤ) → List Lite
 ReadsInto k whole ls row (Ok u) = (values_of k ls ≡ Ok (map whole row)) × IsTrue (list_all (is_value k) (map whole row))
 ReadsInto k whole ls row (Err why) = values_of k ls ≡ Err why
 
--- The command is executed: the directory is the one behind its step, and nothing changes where it is refused before it
+-- The command is executed: the directory is the one after its step, and nothing changes if it is refused before it
 -- asks for a block.
 pub record Executes (old new : SegmentState) (c : Command) : Type 0 where
   pub stays : KeepsModeAndPlace old new

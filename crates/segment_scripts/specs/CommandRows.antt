@@ -7,7 +7,7 @@ abbrev pub row_text : CommandRow → List ℕ
 row_text row = row.usage.now ++ (codes " -> "
     ++ (row.answer.now ++ (codes "\n    " ++ (row.does.now ++ (codes "\n" ++ [])))))
 
--- the words of the command that begins with this word, where there is one
+-- the words of the command that begins with this word, if there is one
 abbrev pub usage_of : List CommandRow → List ℕ → List ℕ
 usage_of [] word = []
 usage_of (row ∷ rows) word = if bytes_eq row.word.now word then row.usage.now else usage_of rows word

@@ -16,11 +16,11 @@ whole_lines (c ∷ cs) = if (c == 0x0A) || nat_lt 0 (length (whole_lines cs)) th
 unfoldable pub ended_lines : List ℕ → List (List ℕ)
 ended_lines bytes = lines (whole_lines bytes)
 
--- the bytes behind the last line end
+-- the bytes after the last line end
 unfoldable pub open_line : List ℕ → List ℕ
 open_line bytes = drop (length (whole_lines bytes)) bytes
 
--- the lines that may be executed: those that ended within the limit and, where the script ended within it, the last one
+-- the lines that may be executed: those that ended within the limit and, if the script ended within it, the last one
 abbrev pub executable : ReadDelta → List (List ℕ)
 executable script =
     if script.ended && nat_le (length script.bytes) script_limit then lines script.bytes

@@ -19,7 +19,7 @@ abbrev pub same : Bool → Bool → Bool
 same true b = b
 same false b = not b
 
--- what is left behind the blanks in front, or behind the word in front
+-- what is left after the blanks in front, or after the word in front
 abbrev pub behind : Bool → List ℕ → List ℕ
 behind blanks [] = []
 behind blanks (c ∷ cs) = if same blanks (is_blank c) then behind blanks cs else c ∷ cs
@@ -32,7 +32,7 @@ abbrev pub arguments : List ℕ → List ℕ
 arguments line = behind true (behind false (behind true line))
 
 -- the column, counted in bytes from 1: of the command word, of the first byte that is too many, or of what stands
--- behind the command word
+-- after the command word
 abbrev pub column_of : LineError → List ℕ → ℕ
 column_of wrong.UnknownCommand line = length line - length (behind true line) + 1
 column_of wrong.LineTooLong line = 4097
@@ -77,7 +77,7 @@ respond at line UnknownCommand = tells at wrong.UnknownCommand line
 respond at line LineTooLong = tells at wrong.LineTooLong line
 respond at line BadSyntax = tells at wrong.BadSyntax line
 
--- what is told of a line: nothing where it is a command or means nothing
+-- what is told of a line: nothing if it is a command or means nothing
 abbrev pub lint_line : LintState → List ℕ → List ℕ × LintState
 lint_line at line = respond (record at { line = min (at.line + 1) 18446744073709551615 }) line
     (reading (whole_language current) line)

@@ -1,4 +1,4 @@
--- A text of numbered parts, one behind another.
+-- A text of numbered parts, one after another.
 use Rattle.std.specs.Prelude.{ℕ, List, [], ◌∷◌}
 use Rattle.segment_lang.specs.Texts.{kind_text, number_text}
 use Rattle.segment_manager.specs.declared.objects.instance_info.Instance.{Instance}

@@ -15,7 +15,7 @@ abbrev pub was_refused : Answered → Bool
 was_refused Done = false
 was_refused Refused = true
 
--- where all of the answer went out, the call tells whether the line was refused
+-- if all of the answer went out, the call tells whether the line was refused
 abbrev pub Tells : {E : Type 0} → Result Answered E → Bool → Type 0
 Tells result refused = IfOk result (λ answered. was_refused answered ≡ refused)
 

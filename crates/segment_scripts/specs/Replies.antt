@@ -49,7 +49,7 @@ text_in (Some o) i = text_of o.value i
 abbrev pub text_at : Directory → Key → ℕ → Answer
 text_at d key i = text_in (object_at d key) i
 
--- The answer that a reply stands for: itself where it is short, and else what the directory says of it.
+-- The answer that a reply stands for: itself if it is short, and otherwise what the directory says of it.
 abbrev pub answer_seen : Directory → Reply → Answer
 answer_seen d said.Done = Done
 answer_seen d said.Absent = Absent
@@ -67,7 +67,7 @@ answer_seen d (said.Refused r) = Refused r
 
 -- ---- what a line can ask for
 
--- how many bytes of a line texts take at the least, with one behind each
+-- how many bytes of a line texts take at the least, with one after each
 abbrev pub texts_taken : List (List ℕ) → ℕ
 texts_taken [] = 0
 texts_taken (bs ∷ bss) = 1 + length bs + texts_taken bss
@@ -80,7 +80,7 @@ IsLineContent key (asked.Bytes bs) = (length bs ≤ 4096) × IsTrue (agrees Stri
 IsLineContent key (asked.NoPairs k v) = IsTrue (agrees (Map k v) key)
 IsLineContent key (asked.Strings bss) = (texts_taken bss ≤ 4097) × IsTrue (agrees StringsKind key)
 
--- how many bytes of a line values take at the least, with one behind each
+-- how many bytes of a line values take at the least, with one after each
 abbrev pub bytes_taken : List Literal → ℕ
 bytes_taken [] = 0
 bytes_taken (asked.Whole z ∷ ls) = 2 + bytes_taken ls
@@ -98,8 +98,8 @@ IsMeant (asked.Assign key ls) = bytes_taken ls ≤ 4097
 IsMeant (asked.Append key bs) = length bs ≤ 4096
 IsMeant c = ⊤
 
--- The call is one step of the directory machine, and the reply stands for its answer in the directory behind it.
--- Nothing changes where the command only reads, finds that there is nothing to do or is refused before it asks for a
+-- The call is one step of the directory machine, and the reply stands for its answer in the directory after it.
+-- Nothing changes if the command only reads, finds that there is nothing to do or is refused before it asks for a
 -- block, and gaps that were made zero are.
 pub record Replies (old new : SegmentState) (c : Command) (reply : Reply) : Type 0 where
   pub stays : KeepsModeAndPlace old new

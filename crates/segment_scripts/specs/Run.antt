@@ -17,7 +17,7 @@ abbrev pub onto_first : ℕ → List (List ℕ) → List (List ℕ)
 onto_first c [] = (c ∷ []) ∷ []
 onto_first c (l ∷ ls) = (c ∷ l) ∷ ls
 
--- the lines of a script, without their ends; behind the last end there is a line only where bytes follow
+-- the lines of a script, without their ends; after the last end there is a line only if bytes follow
 abbrev pub lines : List ℕ → List (List ℕ)
 lines [] = []
 lines (c ∷ cs) = if c == 0x0A then [] ∷ lines cs else onto_first c (lines cs)

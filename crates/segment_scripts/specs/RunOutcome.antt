@@ -92,8 +92,8 @@ failed_writes (Err WriteFault) = 1
 failed_writes (Err ScriptTooLong) = 0
 failed_writes (Ok x) = 0
 
--- what a run did with its devices, wherever it began: the script was read no further than one byte behind its limit,
--- and asked no more behind its end; and each failure is the one that the run answers
+-- what a run did with its devices, wherever it began: the script was read no further than one byte after its limit,
+-- and asked no more after its end; and each failure is the one that the run answers
 pub record UsesDevices {A : Type 0} (given given' : ReaderHistory) (taken taken' : WriterHistory)
     (result : Result A RunFault) : Type 0 where
   pub reads : ReadsSource given given' (failed_reads result)

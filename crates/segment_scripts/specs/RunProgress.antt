@@ -48,11 +48,11 @@ pub record IsStoppedAtLast {P : Type 0} (respond : P → List ℕ
   pub parts : lines read ≡ ended_lines read ++ open_line read ∷ []
   pub stopped : HasStopped respond start before (ended_lines read) (open_line read) Stands taken
 
--- ---- where a run may end behind a line
+-- ---- where a run may end after a line
 
 module _ {P : Type 0} (respond : P → List ℕ → List ℕ × P) (stops : P → List ℕ
     → Bool) (start : P) (before : List ℕ) where
-  -- the run was not to end behind one of the lines that ended
+  -- the run was not to end after one of the lines that ended
   pub record IsOn (read : List ℕ) (Stands : P → Type 0) (line taken : List ℕ) : Type 0 where
     pub behind : HasRunTo respond start before read Stands line taken
     pub on : goes_on respond stops start (ended_lines read) ≡ true
@@ -83,7 +83,7 @@ module _ {P : Type 0} (respond : P → List ℕ → List ℕ × P) (stops : P �
   LeavesPiece read piece Stands line taken Whole = IsOn (read ++ piece) Stands line taken
   LeavesPiece read piece Stands line taken Refused = EndsIn read piece Stands taken
 
-  -- all lines were answered, and behind none of them the run was to end
+  -- all lines were answered, and after none of them the run was to end
   pub record IsThrough (read : List ℕ) (Stands : P → Type 0) (taken : List ℕ) : Type 0 where
     pub answered : HasAnswered respond start before (lines read) Stands taken
     pub on : goes_on respond stops start (lines read) ≡ true
@@ -97,14 +97,14 @@ module _ {P : Type 0} (respond : P → List ℕ → List ℕ × P) (stops : P �
   LeavesLast read Stands taken Whole = IsThrough read Stands taken
   LeavesLast read Stands taken Refused = EndsAtLast read Stands taken
 
--- the script ended within its limit, and the run was not to end behind a line that ended in it
+-- the script ended within its limit, and the run was not to end after a line that ended in it
 pub record IsOnAtEnd {P : Type 0} (respond : P → List ℕ → List ℕ × P) (stops : P → List ℕ
     → Bool) (start : P) (before : List ℕ) (script : ReadDelta) (Stands : P
     → Type 0) (line taken : List ℕ) : Type 0 where
   pub end : IsAtEnd respond start before script Stands line taken
   pub on : goes_on respond stops start (ended_lines script.bytes) ≡ true
 
--- what the lines that end in a script leave: it was read to its end, or the run ended behind one of them
+-- what the lines that end in a script leave: it was read to its end, or the run ended after one of them
 abbrev pub LeavesEnded : {P : Type 0} → (P → List ℕ → List ℕ × P) → (P → List ℕ → Bool) → P → List ℕ → ReadDelta
     → (P → Type 0) → List ℕ → List ℕ → WriteDelta → End → Type 0
 LeavesEnded respond stops start before script Stands line taken out Whole =

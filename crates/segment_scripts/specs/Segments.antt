@@ -20,7 +20,7 @@ use Rattle.segment_scripts.specs.ZeroGaps.{zeros_after}
 pub record MachineState : Type 0 where
   pub mode : Mode
   pub directory : Directory
-  -- its gaps are zero; where this is false they may be anything
+  -- its gaps are zero; if this is false they may be anything
   pub zeros : Bool
 
 pub record IsMachineAt (s : SegmentState) (at : MachineState) : Type 0 where

@@ -6,19 +6,19 @@ use Rattle.seg_types.specs.declared.kinds.Kind.{Kind}
 use Rattle.seg_types.specs.declared.kinds.Kind.TheVariants.{Scalar}
 use Rattle.segment_lang.specs.Texts.{kind_text, name_text, number_text, quoted_text, value_text}
 use Rattle.segment_values.specs.Layouts.{Spelling}
--- the length of a container, where there is one
+-- the length of a container, if there is one
 pub use Rattle.segment_values.specs.Asked.{length_in}
 
--- a kind, and how many there are where there is not one alone
+-- a kind, and how many there are if there is not one alone
 abbrev pub counted_text : Kind → ℕ → List ℕ
 counted_text kind n = kind_text kind ++ (if n == 1 then [] else 0x5B ∷ number_text n ++ 0x5D ∷ [])
 
--- a kind, and how many elements there are where they are scalars and not one alone
+-- a kind, and how many elements there are if they are scalars and not one alone
 abbrev pub front_text : Kind → ℕ → List ℕ
 front_text (Scalar k) n = counted_text (Scalar k) n
 front_text kind n = kind_text kind
 
--- elements as an answer has them, each behind a blank
+-- elements as an answer has them, each after a blank
 abbrev pub in_line : Spelling
 in_line = record {
   scalar = λ i k z. 0x20 ∷ value_text k z;
@@ -26,12 +26,12 @@ in_line = record {
   pair = λ i k v p. 0x20 ∷ value_text k p.0 ++ 0x3D ∷ value_text v p.1;
 }
 
--- a number, where there is one
+-- a number, if there is one
 abbrev pub number_words : Option ℕ → List (List ℕ)
 number_words None = []
 number_words (Some n) = number_text n ∷ []
 
--- a number behind a blank, where there is one
+-- a number after a blank, if there is one
 abbrev pub behind_text : Option ℕ → List ℕ
 behind_text None = []
 behind_text (Some n) = 0x20 ∷ number_text n

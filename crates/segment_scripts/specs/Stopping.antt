@@ -1,5 +1,5 @@
 -- What a run owes that ends with the first line that is refused, over anything that answers lines: `stops place line`
--- says whether the run ends behind a line.
+-- says whether the run ends after a line.
 use Rattle.std.specs.Prelude.{◌≡◌, ◌&&◌, ℕ, Bool, true, false, not, List, [], ◌∷◌, ◌++◌, take, Result, Ok, Err}
 use Rattle.raw_region.specs.Device.{ReadDelta, WriteDelta}
 use Rattle.segment_scripts.specs.declared.answered.Answered.{Answered}
@@ -22,7 +22,7 @@ may_stop Refusal = true
 abbrev pub is_stop : Until → Answered → Bool
 is_stop until answered = may_stop until && was_refused answered
 
--- behind which lines a run ends, where these are refused
+-- after which lines a run ends, if these are refused
 abbrev pub stops_at : {P : Type 0} → Until → (P → List ℕ → Bool) → P → List ℕ → Bool
 stops_at until refuses place line = may_stop until && refuses place line
 
@@ -33,12 +33,12 @@ goes_on respond stops place (l ∷ ls) = not (stops place l) && goes_on respond 
 
 module _ {P : Type 0} (respond : P → List ℕ → List ℕ × P) (stops : P → List ℕ
     → Bool) (start : P) (script : ReadDelta) (out : WriteDelta) (Stands : P → Type 0) where
-  -- all lines of the script were answered, and behind none of them the run was to end
+  -- all lines of the script were answered, and after none of them the run was to end
   pub record RunsToTheEnd : Type 0 where
     pub ran : RunsWhole respond start script out Stands
     pub on : goes_on respond stops start (lines script.bytes) ≡ true
 
-  -- the first line behind which the run was to end was answered, and none behind it was executed
+  -- the first line after which the run was to end was answered, and none after it was executed
   pub record IsStoppedAt : Type 0 where
     pub before : List (List ℕ)
     pub last : List ℕ
@@ -56,7 +56,7 @@ module _ {P : Type 0} (respond : P → List ℕ → List ℕ × P) (stops : P �
   answered_before WriteFault left = left.answers.answered
   answered_before ScriptTooLong left = ended_lines (take script_limit script.bytes)
 
-  -- the run failed, and behind none of the lines before the run was to end
+  -- the run failed, and after none of the lines before the run was to end
   pub record FailsOnTheWay (fault : RunFault) : Type 0 where
     pub left : LeavesFault respond start script out fault Stands
     pub on : goes_on respond stops start (answered_before fault left) ≡ true

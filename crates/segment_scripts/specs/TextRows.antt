@@ -1,4 +1,4 @@
--- Texts that stand one behind another, by how many bytes each has.
+-- Texts that stand one after another, by how many bytes each has.
 use Rattle.std.specs.Prelude.{ℕ, ◌+◌, List, [], ◌∷◌, drop, take}
 
 abbrev pub parts : List ℕ → List ℕ → List (List ℕ)

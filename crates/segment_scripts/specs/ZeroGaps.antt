@@ -1,4 +1,4 @@
--- Whether the gaps of a segment are known to be zero behind the lines of a script.
+-- Whether the gaps of a segment are known to be zero after the lines of a script.
 use Rattle.std.specs.Prelude.{ℕ, Bool, true, false, not, ◌||◌, List, [], ◌∷◌, if◌then◌else◌, is_some, nat_le, Result}
 use Rattle.std.specs.Prelude.{Ok, Err}
 use Rattle.seg_types.specs.Commands as asked
@@ -18,7 +18,7 @@ abbrev pub is_zero_free : Command → Bool
 is_zero_free ZeroFree = true
 is_zero_free c = false
 
--- whether a container has so many places
+-- whether a container has this many places
 abbrev pub has_places : Result (ℕ × ℕ) Refusal → ℕ → Bool
 has_places (Ok (len, capacity)) n = nat_le n capacity
 has_places (Err why) n = false

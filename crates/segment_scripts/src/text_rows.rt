@@ -13,7 +13,7 @@ use std::marker::Model;
 /// The most texts that a line can be taken for: each takes a byte and those that it stands for.
 const MOST: usize = 4097;
 
-/// For so many texts short room does: room is cleared if it is made.
+/// The number of texts for which short room does: room is cleared when it is made.
 pub const FEW: usize = 32;
 
 /// Texts, as many and as long as a line may have.

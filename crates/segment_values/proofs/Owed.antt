@@ -1,4 +1,4 @@
--- What a call writes, one text behind another, said of the places for which it is owed.
+-- What a call writes, one text after another, said of the places for which it is owed.
 use Rattle.std.proofs.Common.{◌≡◌, ℕ, ◌+◌, ◌<◌, List, [], ◌++◌, refl, sym, ap, subst, ◌∙◌, arith, Result, Ok, Err}
 use Rattle.std.proofs.lemmas.List.{append-nil}
 use Rattle.std.specs.Result.{IsErr}
@@ -54,7 +54,7 @@ module _ {P : Type 0} {Stands : P → Type 0} where
         arith;
   }
 
-  -- one behind another
+  -- one after another
   pub of-then : {A B E F : Type 0} {old mid new : WriterHistory} {x : A} {result : Result B F} {a b : P → List ℕ}
       → WritesFor {E = E} old mid (Ok x) Stands a
       → WritesFor mid new result Stands b → WritesFor old new result Stands (λ d. a d ++ b d)
@@ -63,7 +63,7 @@ module _ {P : Type 0} {Stands : P → Type 0} where
     counted = omega (arith, first.counted, more.counted);
   }
 
-  -- the writer failed, whatever was to be written behind
+  -- the writer failed, whatever was to be written after
   pub of-cut : {A B E F : Type 0} {old new : WriterHistory} {x : E} {result : Result B F} {a : P → List ℕ}
       (b : P → List ℕ) → IsErr result
       → WritesFor {A = A} old new (Err x) Stands a → WritesFor old new result Stands (λ d. a d ++ b d)
@@ -99,7 +99,7 @@ module _ {P : Type 0} {Stands : P → Type 0} where
       → WritesFor old old well Stands (λ d. parts_until (part d) 0)
   of-start part = of-none (λ d st. refl)
 
-  -- so many parts are all
+  -- this many parts are all
   pub of-all : {B F : Type 0} (part : P → ℕ → List ℕ) (i n : ℕ) {old new : WriterHistory} {y : B}
       → WritesFor old new well Stands (λ d. parts_until (part d) i) → i ≡ n
       → WritesFor {E = F} old new (Ok y) Stands (λ d. parts_until (part d) n)

@@ -10,7 +10,7 @@ use Rattle.segment_manager.specs.containers.Walks.{KindedPair, pairs_at}
 use Rattle.segment_manager.specs.Parts.{part_of}
 use Rattle.segment_values.specs.Layouts.{Spelling}
 
--- a length, where there is one
+-- a length, if there is one
 abbrev pub length_in : Result (ℕ × ℕ) Refusal → ℕ
 length_in (Ok (len, capacity)) = len
 length_in (Err r) = 0

@@ -13,7 +13,7 @@ pub record Spelling : Type 0 where
   pub text : ℕ → List ℕ → List ℕ
   pub pair : ℕ → ScalarKind → ScalarKind → ℤ × ℤ → List ℕ
 
--- the texts of elements, one behind another, the first of which has this place
+-- the texts of elements, one after another, the first of which has this place
 abbrev pub laid_from : {X : Type 0} → (ℕ → X → List ℕ) → ℕ → List X → List ℕ
 laid_from f n [] = []
 laid_from f n (x ∷ xs) = f n x ++ laid_from f (suc n) xs
@@ -41,7 +41,7 @@ count_at d key = elim (object_at d key) [ None ↦ 0 | Some o ↦ object_count o
 
 -- ---- one element
 
--- the text of the element at a place, and nothing where there is none
+-- the text of the element at a place, and nothing if there is none
 abbrev pub content_part : Spelling → ValueContent → ℕ → List ℕ
 content_part s (Scalars k zs) i = part_of (s.scalar i k) (slice_get zs i)
 content_part s (Vector k zs) i = part_of (s.scalar i k) (slice_get zs i)

@@ -1,4 +1,4 @@
--- Elements of an array or a vector of scalars that are read by one call: so many from a place on.
+-- Elements of an array or a vector of scalars that are read by one call: this many from a place on.
 use Rattle.std.specs.Prelude.{◌≡◌, ◌≤◌, ℕ, ◌+◌, ◌*◌, ℤ, IsTrue, Result, Ok, Err, List}
 use Rattle.std.specs.Prelude.{length, map}
 use Rattle.std.specs.List.{list_all}

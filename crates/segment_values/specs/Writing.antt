@@ -1,4 +1,4 @@
--- What a call writes where that depends on what a machine or a segment stands for.
+-- What a call writes if that depends on what a machine or a segment stands for.
 use Rattle.std.specs.Prelude.{◌≡◌, ◌+◌, List, ℕ, Result}
 use Rattle.raw_region.specs.Answers.{failures_in}
 use Rattle.raw_region.specs.Device.{WriterHistory, Writes}

@@ -1,4 +1,4 @@
-//! Elements of arrays and vectors of scalars, so many read by one call.
+//! Elements of arrays and vectors of scalars, several read by one call.
 ghost use Rattle.std.specs.Prelude.{◌≡◌, ◌+◌, ◌*◌, ◌≤◌, OnErr, drop, length, map, nat_le, take, true, List, ℤ};
 ghost use Rattle.seg_types.specs.Kinds.{is_value, spelling};
 ghost use Rattle.seg_types.specs.Names.{ByHandle};
@@ -16,7 +16,7 @@ use segment_manager::{ElementRun, Object, ObjectRef, Segment, locate};
 ///
 /// # Errors
 ///
-/// `NotFound` if no object has the key, `WrongKind` if it is of another kind, `OutOfRange` if it has not so many
+/// `NotFound` if no object has the key, `WrongKind` if it is of another kind, `OutOfRange` if it has too few
 /// elements there. The row is as it was.
 pub fn read_elements<T: Scalar, O: ObjectRef>(
     segment: &Segment,
@@ -76,7 +76,7 @@ fn is_row<T: Scalar>(kind: Kind) -> bool
     Kind::Vector(T::kind()).code() == kind.code() || Kind::Scalar(T::kind()).code() == kind.code()
 }
 
-/// Copies elements of such an object, which has so many, from where they stand.
+/// Copies elements of such an object, which has them, from where they stand.
 fn copy_row<T: Scalar>(
     segment: &Segment,
     _object: &Object,
@@ -116,7 +116,7 @@ fn value_or<T: Scalar>(bytes: &[u8], other: T) -> T
     }
 }
 
-/// Tells whether so many elements have `count` from `first` on.
+/// Tells whether `len` elements have `count` from `first` on.
 fn has_range(len: u64, first: u64, count: u64) -> bool
     ensures { result ≡ nat_le (first + count) len }
 {

@@ -19,7 +19,7 @@ use segment_manager::{Object, Segment};
 pub enum InsertSpot {
     /// After the last element.
     End,
-    /// Where so many others stand before it.
+    /// Before the one at this index.
     Before(u64),
 }
 
@@ -28,8 +28,8 @@ pub enum InsertSpot {
 /// # Errors
 ///
 /// `ReadOnly` if the segment is open for reading. Otherwise `NotFound` if no object has the key, `WrongKind` if it is
-/// no vector or the value has not the form of its elements, `OutOfRange` if the value is not in their range or there
-/// are not so many others, and nothing changes; `NoSpace` if the vector is full and its storage cannot be regrown, or a
+/// no vector or the value has not the form of its elements, `OutOfRange` if the value is not in their range or the spot
+/// is above the length, and nothing changes; `NoSpace` if the vector is full and its storage cannot be regrown, or a
 /// text has no fit: the objects are as before, and nothing changes if the value is no text.
 #[inline(never)]
 pub fn add<L: WrittenValue>(

@@ -41,7 +41,7 @@ last_between start end ps = slice_get (range_of start end (reverse ps)) 0
 
 -- ---- an iterator over them
 
--- of a map the bounds of the pairs that are left, which are so many at most
+-- of a map the bounds of the pairs that are left, which are this many at most
 pub record PairWalk : Type 0 where
   pub segment : SegmentState
   pub key : Key
@@ -53,7 +53,7 @@ pub record PairWalk : Type 0 where
 abbrev pub pairs_left : ScalarKind → ScalarKind → Directory → PairWalk → List (ℤ × ℤ)
 pairs_left k v d w = range_of w.start w.end (pairs_at_kinds d w.key k v)
 
--- what comes is the first of a list, and the others are left; nothing comes where the list is empty
+-- what comes is the first of a list, and the others are left; nothing comes if the list is empty
 abbrev pub TakesFirst : {A B : Type 0} → (A → B) → Option A → List B → List B → Type 0
 TakesFirst seen None before after = (before ≡ []) × (after ≡ [])
 TakesFirst seen (Some x) before after = before ≡ seen x ∷ after
@@ -79,14 +79,14 @@ pub record GoesBackPairs {A : Type 0} (k v : ScalarKind) (seen : A
   pub pairs : (d : Directory) → DenotesCurrent old.segment.cut.bytes d
       → TakesLast seen item (pairs_left k v d old) (pairs_left k v d new)
 
--- the object is there, and so many pairs are left at most
+-- the object is there, and this many pairs are left at most
 pub record IsPairWalk (k v : ScalarKind) (o : Located) (w : PairWalk) : Type 0 where
   pub live : IsObject o w.segment
   pub few : (d : Directory) → DenotesCurrent w.segment.cut.bytes d → length (pairs_left k v d w) ≤ w.left
 
 -- ---- what is read
 
--- a pair, or none where the reading is refused
+-- a pair, or none if the reading is refused
 abbrev pub pair_or_none : {A : Type 0} → Result (Option A) Refusal → Option A
 pair_or_none (Ok r) = r
 pair_or_none (Err why) = None

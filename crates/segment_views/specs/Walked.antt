@@ -22,13 +22,13 @@ pub record GoesOnElements {A B : Type 0} (elements : Directory → Key → List 
   pub place : new.at ≡ place_behind old.at item
   pub says : AnswersWith old.segment (λ d. slice_get (elements d old.key) old.at) (option_map seen item)
 
--- the object is there, and has so many elements
+-- the object is there, and has this many elements
 pub record IsWalkOver {B : Type 0} (elements : Directory
     → List B) (s : SegmentState) (o : Located) (len : ℕ) : Type 0 where
   pub live : IsObject o s
   pub length_is : AnswersWith s (λ d. length (elements d)) len
 
--- the element that is read, as it is seen; none where the reading is refused
+-- the element that is read, as it is seen; none if the reading is refused
 abbrev pub element_of : {A B : Type 0} → (A → B) → Result A Refusal → Option B
 element_of seen (Ok a) = Some (seen a)
 element_of seen (Err why) = None

@@ -103,7 +103,7 @@ impl<'a> View<'a, Texts> {
     /// # Errors
     ///
     /// `ReadOnly` if the segment is open for reading. Otherwise `WrongKind` if the object is no vector of strings,
-    /// `OutOfRange` if there are not so many others, and nothing changes; `NoSpace` if its array cannot be regrown or
+    /// `OutOfRange` if `index` is above the length, and nothing changes; `NoSpace` if its array cannot be regrown or
     /// the bytes have no fit: what the segment holds does not change.
     pub fn insert(&mut self, index: u64, text: &[u8]) -> Result<(), Refusal>
         ensures unchanged { SameView self.old self.new }

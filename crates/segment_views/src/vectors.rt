@@ -105,7 +105,7 @@ impl<'a, T: Scalar> View<'a, Row<T, Vector>> {
     /// # Errors
     ///
     /// `ReadOnly` if the segment is open for reading. Otherwise `WrongKind` if the object is no vector of the type,
-    /// `OutOfRange` if there are not so many others, `NoSpace` if it is full and its storage cannot be regrown. Nothing
+    /// `OutOfRange` if `index` is above the length, `NoSpace` if it is full and its storage cannot be regrown. Nothing
     /// changes.
     pub fn insert(&mut self, index: u64, value: T) -> Result<(), Refusal>
         ensures unchanged { SameView self.old self.new }

@@ -109,7 +109,7 @@ names-has_room from (x ∷ xs) to h p t =
 
 -- ---- the other blocks
 
--- the extents of a proper list stand behind what lies before it
+-- the extents of a proper list stand after what lies before it
 behind_beside : (from : ℕ) (xs : List Extent) (to h n : ℕ) → IsTrue (proper_from from xs to) → h + n ≤ from
     → AllByRecursion (IsBeside h n) xs
 behind_beside from [] to h n p l = tt

@@ -53,7 +53,7 @@ same_init : (ts us : List Tile) → map plain us ≡ map plain ts → gaps_of (w
 same_init ts us e = same_gaps (without_last ts) (without_last us)
     (init-plain us ∙ ap without_last e ∙ sym (init-plain ts))
 
--- lists that differ in colours alone have the same gaps behind their first tile
+-- lists that differ in colours alone have the same gaps after their first tile
 pub same_rest : (ts us : List Tile) → map plain us ≡ map plain ts → gaps_of (rest_of us) ≡ gaps_of (rest_of ts)
 same_rest ts us e = same_gaps (rest_of ts) (rest_of us) (rest-plain us ∙ ap rest_of e ∙ sym (rest-plain ts))
 
@@ -105,7 +105,7 @@ module _ (w : WindowState) (at : ℕ) (heap : IsHeap current w.bytes) (b : Block
   abbrev tail : List Gap
   tail = gaps_of (rest_of b.back)
 
-  -- the next tile of a block is the first of those behind
+  -- the next tile of a block is the first of those after
   pub next_is : next_in (b.front ++ (b.tile ∷ b.back)) at ≡ first_in b.back
   next_is = next_in-around at b.tile b.back begins b.front away
 
@@ -129,7 +129,7 @@ module _ (w : WindowState) (at : ℕ) (heap : IsHeap current w.bytes) (b : Block
   pub first_tree : HasGapTree w ((init ++ last) ++ (first ++ tail))
   first_tree = subst (λ (hs : List Gap). HasGapTree w hs) all_gaps (heap_tree w heap)
 
-  -- the gap behind has left the tree, after so many touches from so many on
+  -- the gap after has left the tree, after this many touches from this many on
   pub record HalfUprooted (d : WindowState) (start count : ℕ) : Type 0 where
     pub tree : HasGapTree d (init ++ (last ++ tail))
     pub rest : ChangesGapTree w d

@@ -1,4 +1,4 @@
--- A block that is given back becomes one gap with those before and behind it.
+-- A block that is given back becomes one gap with those before and after it.
 use Rattle.best_fit.proofs.Common.{◌≡◌, refl, sym, ap, subst, ◌∙◌, ℕ, ◌+◌, ◌-◌, Bool, true, false, List, [], ◌∷◌}
 use Rattle.best_fit.proofs.Common.{◌++◌, length, append_assoc, if◌then◌else◌, inl, inr, ◌⊎◌, Option, Some, None}
 use Rattle.best_fit.proofs.Common.{both_ways, cond-true, cond-false, WindowState, Role, Tile, previous_in, last_in}
@@ -172,7 +172,7 @@ module _ (mid : WindowState) (front : List Tile) (x : Tile) (left : List Tile)
 
 -- ---- the four steps
 
--- a tile behind the first is in the list
+-- a tile after the first is in the list
 pub in_rest : (u : Tile) (ts : List Tile) → In u (rest_of ts) → In u ts
 in_rest u [] h = absurd h
 in_rest u (t ∷ ts) h = inr h
@@ -192,7 +192,7 @@ in_parts_wide u xs ys front mid back f g h =
     ]
 
 -- what is known once the block at an offset, which stands between these tiles, is one gap with those before and
--- behind it
+-- after it
 pub record Freed (old new : WindowState) (at : ℕ) (front0 back0 : List Tile) : Type 0 where
   pub whole : Tile
   pub says : SaysHeap new (tiles_in new)

@@ -1,4 +1,4 @@
--- A block is put behind all others: the window is longer, and the bytes that it has more are a tile in use.
+-- A block is put after all others: the window is longer, and the bytes that it has more are a tile in use.
 use Rattle.best_fit.proofs.Common.{◌≡◌, refl, sym, ap, subst, ◌∙◌, ℕ, ◌+◌, ◌-◌, ◌%◌, ◌<◌, ◌≤◌, inl, inr, false, List}
 use Rattle.best_fit.proofs.Common.{[], ◌∷◌, ◌++◌, length, arith, IsTrue, ◌==◌, Some, list_any, append-nil, false≢true}
 use Rattle.best_fit.proofs.Common.{eq-eqb, or_left, or_right, WindowState, SameBytes, bytes_of, whole, current, Object}
@@ -27,7 +27,7 @@ use Rattle.best_fit.proofs.tags.TileRows.{Apart, Row, extents_of, gaps_of-append
 use Rattle.best_fit.proofs.tags.UnchangedTags.{In, in_front, inside, low_beside, tag_in}
 use Rattle.best_fit.proofs.tags.Writes.{laid-heap}
 
--- the size is legal where it is that of a segment and so many bytes more
+-- the size is legal where it is that of a segment and this many bytes more
 longer_legal : (n extra : ℕ) → IsLegal n → 32 ≤ extra → extra % 16 ≡ 0 → n + extra ≤ 1073741824
     → IsTrue (is_legal_size (n + extra))
 longer_legal n extra g long whole most =
@@ -298,7 +298,7 @@ live-last [] y = or_left (handle y == handle y) false (eq-eqb (handle y) (handle
 live-last (x ∷ xs) y = or_right (handle x == handle y)
     (list_any (λ (z : Extent). handle z == handle y) (xs ++ y ∷ [])) (live-last xs y)
 
--- what laid out the block behind all others lays out the others once it is given back
+-- what laid out the block after all others lays out the others once it is given back
 module _ (old mid : WindowState) (extra at : ℕ) (b : AppendsBlock current old mid extra)
     (is : at + 16 ≡ length old.bytes) where
   abbrev live_mid : LiveSet
@@ -317,11 +317,11 @@ module _ (old mid : WindowState) (extra at : ℕ) (b : AppendsBlock current old 
   handle_is : handle (block_behind (length old.bytes) extra) ≡ at + 16
   handle_is = omega arith
 
-  -- the window with a block behind all others is a heap
+  -- the window with a block after all others is a heap
   pub behind_heap : IsHeap current mid.bytes
   behind_heap = laid-heap mid.bytes live_mid b.live
 
-  -- the block behind all others is in use
+  -- the block after all others is in use
   pub behind_live : IsTrue (is_live_in (live_of mid.bytes) (at + 16))
   behind_live =
       rw mid_is (subst (λ h. IsTrue (list_any (λ (x : Extent). handle x == h) live_mid.extents)) handle_is

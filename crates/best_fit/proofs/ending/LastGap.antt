@@ -96,7 +96,7 @@ module _ (w : WindowState) (heap : IsHeap current w.bytes) (at : ℕ) (l : LastG
   pub last_node : at + 16 ≡ node_of (gap_of l.tile)
   last_node = ap (λ k. k + 16) (sym l.offset)
 
-  -- and no block ends behind it
+  -- and no block ends after it
   pub not_least : least_size (live_of w.bytes) ≡ length w.bytes → ⊥
   not_least e =
       let row = subst (λ (ts : List Tile). Row 128 ts (length w.bytes - 16)) l.list
@@ -127,7 +127,7 @@ module _ (w : WindowState) (heap : IsHeap current w.bytes) (at : ℕ) (l : LastG
     live_same : live_of d.bytes ≡ live_of w.bytes
     live_same = regrown_live w d r
 
-    -- a window cut behind its last block ends there
+    -- a window cut after its last block ends there
     pub end_cut : (e : WindowState) → MovesEnd current d e (least_size (live_of d.bytes))
         → MovesEnd current w e (least_size (live_of w.bytes))
     end_cut e m =

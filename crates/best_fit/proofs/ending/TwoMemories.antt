@@ -75,7 +75,7 @@ module _ (m m' : Memory) (ts : List Tile) (end : ℕ) (c : Carries m m' ts end) 
 
 -- ---- a window that ends elsewhere
 
--- the bytes behind the base are the window's, and then those behind it
+-- the bytes after the base are the window's, and then those after it
 in_three : (c : WindowState) → whole c ≡ c.before ++ (c.bytes ++ c.after)
 in_three c = append_assoc c.before c.bytes c.after
 

@@ -56,7 +56,7 @@ last-first xs ys = record {
       inserted-append xs ys zs ∙ inserted-comm xs ys zs a ∙ sym (inserted-append ys xs zs);
 }
 
--- the same ones behind others
+-- the same ones after others
 pub spread-behind : (xs ys ws : List Extent) → SameSpread ys ws → SameSpread (xs ++ ys) (xs ++ ws)
 spread-behind xs ys ws p = record {
   same = λ zs r.

@@ -394,7 +394,7 @@ regrow-serves-if l x y n r true e f = subst (λ (w : Extent). IsTrue (serves w S
     (serves-of x n r (leb-true (n + 16) x.len e))
 regrow-serves-if l x y n r false e f = regrow-serves-longer l x y n r (longer l x n) refl f
 
--- it serves as storage for so many bytes
+-- it serves as storage for this many bytes
 pub regrow-serves : (l : LiveSet) (o : Option Extent) (y : Extent) (n : ℕ)
     → IfSome o (λ x. IsTrue (same_role x.role Storage)) → regrow l o n ≡ Some y → IsTrue (serves y Storage n)
 unfolding regrow

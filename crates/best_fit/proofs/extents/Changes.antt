@@ -151,7 +151,7 @@ same_block y x b at len =
     let long = b.long in
     let whole = b.len in record { offset = omega arith; long = omega arith; len = omega arith }
 
--- it is a block, and a hole lies behind it up to a multiple of 16
+-- it is a block, and a hole lies after it up to a multiple of 16
 pub record IsAmong (x : Extent) (next : ℕ) : Type 0 where
   pub block : IsBlock x
   pub hole : IsHole (end_of x) next
@@ -192,7 +192,7 @@ pub record IsNeighbour (live : LiveSet) (x : Extent) (next : ℕ) : Type 0 where
   pub whole : next % 16 ≡ 0
   pub gap : end_of x + gap_after live x ≡ next
 
--- where the extent behind x begins, or the end
+-- where the extent after x begins, or the end
 unfoldable pub next_to : LiveSet → Extent → ℕ
 next_to live x = next_of (behind (handle x) live.extents) (live.size - 16)
 
@@ -238,7 +238,7 @@ long_share available wanted len w share = let enough = share.enough in omega ari
 whole_sum : (at len gap next : ℕ) → at % 16 ≡ 0 → next % 16 ≡ 0 → at + len + gap ≡ next → (len + gap) % 16 ≡ 0
 whole_sum at len gap next a n e = omega arith
 
--- behind a share lies a hole
+-- after a share lies a hole
 longer_hole : (at len gap next wanted s : ℕ) → at + len + gap ≡ next
     → IsShare (len + gap) wanted s → IsHole (at + s) next
 longer_hole at len gap next wanted s joins share =

@@ -17,7 +17,7 @@ pub record IsGap (a b : ℕ) (g : Gap) : Type 0 where
   pub end : g.offset + g.len ≡ b
   pub some : a < b
 
--- a gap is all that lies between two neighbours, before the first extent or behind the last
+-- a gap is all that lies between two neighbours, before the first extent or after the last
 abbrev pub LiesIn : ℕ → List Extent → ℕ → Gap → Type 0
 LiesIn from [] to g = IsGap from to g
 LiesIn from (y ∷ ys) to g = IsGap from y.offset g ⊎ LiesIn (end_of y) ys to g
@@ -86,7 +86,7 @@ LiesIn-IsFree from (z ∷ zs) to g x y p (inr i) =
 
 -- ---- a new extent in a gap
 
--- a proper list stays proper with a block within a gap, if before and behind it nothing is left or enough for a free
+-- a proper list stays proper with a block within a gap, if before and after it nothing is left or enough for a free
 -- block
 pub proper_from-insert : (from : ℕ) (xs : List Extent) (to : ℕ) (g : Gap) (x : Extent)
     → IsTrue (proper_from from xs to) → LiesIn from xs to g
@@ -116,7 +116,7 @@ proper_from-insert from (y ∷ ys) to g x p (inr i) before block left =
       rest = proper_from-insert (end_of y) ys to g x f.rest i before block left;
     }))
 
--- ---- the gap behind an extent
+-- ---- the gap after an extent
 
 -- the length of a gap, or 0
 abbrev pub gap_len : Option Gap → ℕ
@@ -148,7 +148,7 @@ gap_at-none at (g ∷ gs) n =
     gap_at-past at g gs (All-head (λ g. g.offset ≡ at → ⊥) g gs n)
     ∙ gap_at-none at gs (All-tail (λ g. g.offset ≡ at → ⊥) g gs n)
 
--- the gaps of a list that begins behind a place begin elsewhere
+-- the gaps of a list that begins after a place begin elsewhere
 gaps_elsewhere : (at from : ℕ) (xs : List Extent) (to : ℕ) → at < from → IsTrue (proper_from from xs to)
     → All (λ g. g.offset ≡ at → ⊥) (gaps_from from xs to)
 gaps_elsewhere at from xs to l p =
@@ -186,7 +186,7 @@ abbrev pub HasExtent : Extent → List Extent → Type 0
 HasExtent x [] = ⊥
 HasExtent x (y ∷ ys) = ((handle y ≡ handle x) × (y.len ≡ x.len)) ⊎ ((handle y ≡ handle x → ⊥) × HasExtent x ys)
 
--- it ends behind the beginning of a proper list
+-- it ends after the beginning of a proper list
 pub HasExtent-ends : (from : ℕ) (xs : List Extent) (to : ℕ) (x : Extent) → IsTrue (proper_from from xs to)
     → HasExtent x xs → from < end_of x
 HasExtent-ends from [] to x p has = absurd has
@@ -207,7 +207,7 @@ not_before from b e l =
     All-weaker (IsGap from b) (λ g. g.offset ≡ e → ⊥) (λ g i same. let at = i.offset in omega arith)
     (gap_between from b) (gap_between-IsGap from b)
 
--- the gap behind an extent of a proper list reaches to the next extent
+-- the gap after an extent of a proper list reaches to the next extent
 pub gap_at-behind : (from : ℕ) (xs : List Extent) (to : ℕ) (x : Extent)
     → IsTrue (proper_from from xs to) → HasExtent x xs
     → end_of x + gap_len (gap_at (end_of x) (gaps_from from xs to)) ≡ next_of (behind (handle x) xs) to

@@ -16,7 +16,7 @@ pub record IsBetween (from : ℕ) (xs : List Extent) (to a b : ℕ) : Type 0 whe
   pub high : b ≤ to
   pub apart : All (λ x. IsOutsideRange x a b) xs
 
--- all extents of a proper list stand behind its beginning
+-- all extents of a proper list stand after its beginning
 behind_start : (from : ℕ) (xs : List Extent) (to a b : ℕ) → b ≤ from → IsTrue (proper_from from xs to)
     → All (λ x. IsOutsideRange x a b) xs
 behind_start from [] to a b l p = All-nil (λ x. IsOutsideRange x a b)
@@ -60,7 +60,7 @@ meets_none from (y ∷ ys) to g p (inr i) =
       apart = All-cons (λ x. IsOutsideRange x g.offset (g.offset + g.len)) y ys (inl begins) rest.apart;
     }
 
--- such an interval lies behind the first extent if a gap that it covers does
+-- such an interval lies after the first extent if a gap that it covers does
 widest_step : (from : ℕ) (y : Extent) (ys : List Extent) (to : ℕ) (g : Gap) (a b : ℕ) → IsFirst from y ys to
     → end_of y ≤ g.offset → g.offset < b → b ≤ to → a < b
     → All (λ x. IsOutsideRange x a b) ys → (end_of y ≤ a) ⊎ (b ≤ y.offset) → IsBetween (end_of y) ys to a b
@@ -91,7 +91,7 @@ widest from (y ∷ ys) to g a b p (inr i) begins ends between =
 
 -- ---- each interval that meets no extent lies in a gap
 
--- a gap of the list that reaches from a or before to b or behind
+-- a gap of the list that reaches from a or before to b or after
 pub record IsCovered (gs : List Gap) (a b : ℕ) : Type 0 where
   pub gap : Gap
   pub listed : Contains gs gap

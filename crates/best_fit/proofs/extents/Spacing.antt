@@ -24,7 +24,7 @@ Differs x = AllByRecursion (λ (y : Extent). x.offset ≢ y.offset)
 abbrev pub Apart : List Extent → List Extent → Type 0
 Apart xs ys = AllByRecursion (λ x. Differs x ys) xs
 
--- each begins behind where the one before begins, and the first at n or behind
+-- each begins after where the one before begins, and the first at n or after
 abbrev pub Rising : ℕ → List Extent → Type 0
 Rising n [] = ⊤
 Rising n (x ∷ xs) = (n ≤ x.offset) × Rising (x.offset + 1) xs
@@ -141,12 +141,12 @@ apart-inserted n (x ∷ xs) ys zs h =
 
 -- ---- apart
 
--- each begins where the one before ends, or behind, and the first at n or behind
+-- each begins where the one before ends, or after, and the first at n or after
 abbrev pub Spaced : ℕ → List Extent → Type 0
 Spaced n [] = ⊤
 Spaced n (x ∷ xs) = (n ≤ x.offset) × Spaced (end_of x) xs
 
--- extents of a proper live set stand one behind the other
+-- extents of a proper live set stand one after the other
 pub proper-spaced : (from : ℕ) (xs : List Extent) (to : ℕ) → IsTrue (proper_from from xs to) → Spaced from xs
 proper-spaced from [] to h = tt
 proper-spaced from (x ∷ xs) to h =
@@ -160,7 +160,7 @@ live-spaced l h = proper-spaced 128 l.extents (l.size - 16) (and_parts (is_legal
 
 -- the second ends where the first begins, or before, or the other way round
 pub data LiesBeside (x y : Extent) : Type 0 where
-  -- an extent that begins behind another lies beside it
+  -- an extent that begins after another lies beside it
   above : end_of y ≤ x.offset → LiesBeside x y
   -- an extent that ends before another lies beside it
   below : end_of x ≤ y.offset → LiesBeside x y

@@ -85,7 +85,7 @@ module _ (c : WindowState) (xs : List Gap) (g : Gap) (node : ℕ) (is : node ≡
         };
       }
 
-  -- it has its place behind the gaps of the tree
+  -- it has its place after the gaps of the tree
   pub next_place : is_ordered_with (comes_before (gaps_in c)) node (nodes_of n.tree.tree.tree) ≡ true
   unfolding before_it
   next_place = grown_place c c c xs g [] node is with_next before_it

@@ -43,7 +43,7 @@ turn c P ahead w tile is =
       meets = meets c w.passed tile h.back said;
     }
 
--- The tile at an offset is passed: what is left of the walk are the tiles behind it. Its colour may have changed.
+-- The tile at an offset is passed: what is left of the walk are the tiles after it. Its colour may have changed.
 pub record Passed (c : WindowState) (P : List Tile → List Tile → Type 0) (at : ℕ) : Type 0 where
   pub passed : List Tile
   pub tile : Tile
@@ -61,14 +61,14 @@ pub passed_in : (P : WindowState → List Tile → List Tile → Type 0) (at : �
     → Passed c (P c) at → Passed d (P d) at
 passed_in P at c d e p = let Q : WindowState → Type 0 = λ (x : WindowState). Passed x (P x) at in subst Q (sym e) p
 
--- the tile behind it is the next one
+-- the tile after it is the next one
 behind_it : (c : WindowState) (P : List Tile → List Tile → Type 0) (at : ℕ) → (p : Passed c P at) → (next : Option Tile)
     → ((ts : List Tile) → EncodesTiles c ts → next ≡ next_in ts at) → next ≡ first_in p.back
 behind_it c P at p next is =
     next_here c p.passed p.tile p.back p.said next
     (subst (λ k. (ts : List Tile) → EncodesTiles c ts → next ≡ next_in ts k) (sym p.offset) is)
 
--- the walk goes on behind the tile that was passed
+-- the walk goes on after the tile that was passed
 pub passed_goes_on : (c : WindowState) (P : List Tile → List Tile → Type 0) (at : ℕ) → Passed c P at
     → (next : Option Tile)
     → ((ts : List Tile) → EncodesTiles c ts → next ≡ next_in ts at) → Walk c P next

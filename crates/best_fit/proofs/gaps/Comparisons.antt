@@ -13,7 +13,7 @@ as_long k l a b p q e f h same =
     sym (ap (λ (x : Bool). x || ((k == l) && nat_lt a b)) (le-ltb k l (omega arith))
     ∙ ap (λ (x : Bool). x && nat_lt a b) (eq-eqb k l (omega arith)))
 
--- a longer gap stands behind a shorter one
+-- a longer gap stands after a shorter one
 pub longer : (k l a b p q : ℕ) → p ≡ k → q ≡ l → q ≤ p → (p ≡ q → ⊥)
     → (p == q) ≡ (nat_lt k l || ((k == l) && nat_lt a b))
 longer k l a b p q e f h other =

@@ -76,7 +76,7 @@ in_tile [] k h = absurd (false≢true h)
 in_tile (t ∷ ts) k h = tile_step t ts k (in_tile ts k)
     (or_cases (nat_le (own_from t) k && nat_lt k (t.offset + t.len)) (lies_behind ts k) h)
 
--- it stands behind the tag
+-- it stands after the tag
 behind_tag : (b : Bool) (o k : ℕ) → o + (if b then 32 else 16) ≤ k → o + 16 ≤ k
 behind_tag true o k l = omega arith
 behind_tag false o k l = l

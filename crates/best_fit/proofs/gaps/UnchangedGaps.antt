@@ -16,7 +16,7 @@ use Rattle.best_fit.proofs.tags.UnchangedTags.{all_joined}
 abbrev SameGap : Memory → Memory → Gap → Type 0
 SameGap m m' g = SameBytes m m' g.offset (g.offset + g.len)
 
--- what lies between two offsets stays where bytes below or behind it change
+-- what lies between two offsets stays where bytes below or after it change
 between : (m m' : Memory) (at n a b : ℕ) → SameBytesExcept m m' at n → (at + n ≤ a) ⊎ (b ≤ at)
     → AllByRecursion (SameGap m m') (gap_between a b)
 between m m' at n a b same beside = by_test (nat_lt a b) refl beside
@@ -29,7 +29,7 @@ between m m' at n a b same beside = by_test (nat_lt a b) refl beside
     by_test true e (inr l) =
         let less = ltb-true a b e in (record { at = λ k low high. same.at k (inl (omega arith)) }, tt)
 
--- the gaps behind the bytes that change
+-- the gaps after the bytes that change
 above : (m m' : Memory) (at n from : ℕ) (xs : List Extent) (to : ℕ) → SameBytesExcept m m' at n → at + n ≤ from
     → IsTrue (proper_from from xs to) → AllByRecursion (SameGap m m') (gaps_from from xs to)
 above m m' at n from [] to same l p = between m m' at n from to same (inl l)

@@ -1,4 +1,4 @@
--- A block takes the gap behind it, which leaves the tree, and what is cut off enters it.
+-- A block takes the gap after it, which leaves the tree, and what is cut off enters it.
 use Rattle.best_fit.proofs.Common.{◌≡◌, refl, sym, ap, subst, ◌∙◌, ℕ, ◌+◌, ◌-◌, ◌*◌, ◌≤◌, Bool, true, false, List, []}
 use Rattle.best_fit.proofs.Common.{◌∷◌, ◌++◌, length, arith, nat_le, Option, Some, map, min, Memory, WindowState}
 use Rattle.best_fit.proofs.Common.{bytes_of}
@@ -47,7 +47,7 @@ front_block m m' x k l s = record {
   colour = s.colour;
 }
 
--- What is known once the block has taken the gap behind it and is cut, or not: if it is, the gap that is cut off is to
+-- What is known once the block has taken the gap after it and is cut, or not: if it is, the gap that is cut off is to
 -- be put into the tree of the others.
 pub record Recut (w new : WindowState) (at wanted : ℕ) (is_cut : Bool) : Type 0 where
   pub front : List Gap
@@ -68,7 +68,7 @@ module _ (w : WindowState) (at : ℕ) (heap : IsHeap current w.bytes) (b : Block
   away = subst (λ k. Away k b.front) begins (away_front 128 b.front b.tile b.back (length w.bytes - 16)
       (said_row w (b.front ++ (b.tile ∷ b.back)) b.said))
 
-  -- the next tile is the first of those behind
+  -- the next tile is the first of those after
   pub behind_is : next_in (b.front ++ (b.tile ∷ b.back)) at ≡ first_in b.back
   behind_is = next_in-around at b.tile b.back begins b.front away
 
@@ -93,13 +93,13 @@ module _ (w : WindowState) (at : ℕ) (heap : IsHeap current w.bytes) (b : Block
     role = b.role;
   }
 
-  -- the gap behind has left the tree, after this many touches of some before
+  -- the gap after has left the tree, after this many touches of some before
   pub record TailUprooted (d : WindowState) (before count : ℕ) : Type 0 where
     pub tree : HasGapTree d (gaps_of b.front ++ gaps_of (rest_of b.back))
     pub rest : ChangesGapTree w d
     pub steps : count ≤ before + 32 * bits (length (gaps_in w) + 1) + 34
 
-  -- the gap behind is taken out of the tree
+  -- the gap after is taken out of the tree
   pub tail_uprooted : (d : WindowState) (before n count : ℕ)
       → HasGapTree d (gaps_of b.front ++ gaps_of (rest_of b.back))
       → ChangesGapTree w d → n ≤ before + 1

@@ -21,7 +21,7 @@ use Rattle.best_fit.proofs.extents.Spacing.{Differs, IsAmong, IsFresh, Rising, f
 use Rattle.best_fit.proofs.extents.Spacing.{others-insert}
 use Rattle.best_fit.proofs.extents.Spacing.{rising-insert}
 
--- ---- what stands behind a block of another length
+-- ---- what stands after a block of another length
 
 behind-if : (h : ℕ) (b : Bool) (x y z : Extent) (zs us ws : List Extent) → handle x ≡ h → handle y ≡ h
     → (handle z ≡ h → ⊥) → behind h us ≡ behind h ws

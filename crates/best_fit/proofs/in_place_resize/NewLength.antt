@@ -1,4 +1,4 @@
--- A block that is lengthened or shortened where it stands, by what is read of its tile and the one behind it.
+-- A block that is lengthened or shortened where it stands, by what is read of its tile and the one after it.
 use Rattle.best_fit.proofs.Common.{List, ◌≡◌, refl, sym, ap, subst, ◌∙◌, ℕ, ◌+◌, ◌-◌, ◌<◌, ◌≤◌, ◌⊎◌, inl, inr, Bool}
 use Rattle.best_fit.proofs.Common.{true, false, ◌&&◌, ◌||◌, ◌∷◌, ◌++◌, length, arith, nat_lt, nat_le, none-some}
 use Rattle.best_fit.proofs.Common.{same_Some, Option, Some, None, min, lt-leb, and_from, cases_lt, cond-true}
@@ -26,7 +26,7 @@ false_last false b e = refl
 
 -- ---- longer
 
--- there is no longer one where the block is long enough, or not even with the gap behind it
+-- there is no longer one where the block is long enough, or not even with the gap after it
 pub longer_none : (live : LiveSet) (x : Extent) (n : ℕ) → (room n ≤ x.len) ⊎ (x.len + gap_after live x < room n)
     → longer live x n ≡ None
 unfolding longer
@@ -162,7 +162,7 @@ share_all : (available wanted : ℕ) → available < wanted + 32 → share avail
 share_all available wanted l = cond-true (nat_lt available (wanted + 32)) available wanted
     (lt-ltb available (wanted + 32) l)
 
--- what is cut of a block with the gap behind it is what `shorter` gives
+-- what is cut of a block with the gap after it is what `shorter` gives
 cut_cases : (live : LiveSet) (x : Extent) (n : ℕ) → room n < x.len → (gap_after live x ≡ 0) ⊎ (32 ≤ gap_after live x)
     → (x.len < room n + 32) ⊎ (room n + 32 ≤ x.len)
     → record x { len = share (x.len + gap_after live x) (room n) } ≡ shorter live x n
@@ -271,13 +271,13 @@ not_cut old h n heap b e = block_stays old h n heap b (shorter_kept (live_of old
 
 -- ---- what is read before a block is made longer or shorter
 
--- the length of the block, and that of the gap behind it
+-- the length of the block, and that of the gap after it
 pub record Measured (w : WindowState) (h : ℕ) (b : Block w h) (len gap : ℕ) : Type 0 where
   pub len_is : len ≡ b.tile.len
   pub gap_is : gap ≡ gap_after (live_of w.bytes) (extent_of b.tile b.role)
   pub high : b.tile.len + gap_after (live_of w.bytes) (extent_of b.tile b.role) ≤ 1073741824
 
--- what is read of a block and of the gap behind it, as the live set says it
+-- what is read of a block and of the gap after it, as the live set says it
 pub measured : (w : WindowState) (at : ℕ) (heap : IsHeap current w.bytes) (b : Block w (at + 16)) (t : Tile)
     → ((ts : List Tile) → EncodesTiles w ts → tile_in ts at ≡ Some t)
     → (gap : ℕ) → ((ts : List Tile) → EncodesTiles w ts → gap ≡ free_behind at ts) → Measured w (at + 16) b t.len gap

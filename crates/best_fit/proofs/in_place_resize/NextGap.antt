@@ -1,4 +1,4 @@
--- A block that takes the gap behind it and is cut.
+-- A block that takes the gap after it and is cut.
 use Rattle.best_fit.proofs.Common.{◌≡◌, refl, sym, ap, subst, ◌∙◌, ℕ, ◌+◌, ◌-◌, ◌≤◌, inl, Bool, true, false, List, []}
 use Rattle.best_fit.proofs.Common.{◌∷◌, ◌++◌, length, arith, ◌==◌, IsTrue, Option, Some, None, find, min, eq-eqb}
 use Rattle.best_fit.proofs.Common.{both_ways, WindowState, bytes_of, Role, Tile, current, tile_in, is_free}
@@ -25,9 +25,9 @@ use Rattle.best_fit.proofs.gaps.LinksOnly.{step_cell}
 use Rattle.best_fit.proofs.deallocation.OneGap.{in_parts_wide, in_rest}
 use Rattle.best_fit.proofs.tags.Writes.{Block}
 
--- ---- the gap behind a tile
+-- ---- the gap after a tile
 
--- behind a free tile, and where nothing else lies between, the next extent begins
+-- after a free tile, and where nothing else lies between, the next extent begins
 next_at : (at : ℕ) (ts : List Tile) (end : ℕ) → Row at ts end → Apart true ts → next_of (extents_of ts) end ≡ at
 next_at at [] end row a = sym row
 next_at at (t ∷ ts) end row a =
@@ -36,7 +36,7 @@ next_at at (t ∷ ts) end row a =
       | used role e ↦ ap (λ xs. next_of xs end) (extents_of-used t ts role e) ∙ row.0
     ]
 
--- the extents behind a tile in use
+-- the extents after a tile in use
 behind_between : (at : ℕ) (front : List Tile) (t : Tile) (back : List Tile) (end : ℕ) (role : Role)
     → Row at (front ++ (t ∷ back)) end → t.use_of ≡ Some role
     → behind (t.offset + 16) (extents_of (front ++ (t ∷ back))) ≡ extents_of back
@@ -51,11 +51,11 @@ behind_between at (u ∷ front) t back end role r e =
           ∙ behind-past (t.offset + 16) (extent_of u q) (extents_of (front ++ (t ∷ back))) (λ g. omega arith) ∙ rest
     ]
 
--- ---- the block and the gap behind it
+-- ---- the block and the gap after it
 
 module _ (old : WindowState) (heap : IsHeap current old.bytes) (h at : ℕ) (b : Block old h)
     (o : b.tile.offset ≡ at) (wanted : ℕ) where
-  -- what the block becomes with the gap behind it
+  -- what the block becomes with the gap after it
   pub joins : JoinsTo b.tile b.back
   joins = joins_to b.tile b.back
 
@@ -110,7 +110,7 @@ module _ (old : WindowState) (heap : IsHeap current old.bytes) (h at : ℕ) (b :
       ∙ next_at (b.tile.offset + b.tile.len + joins.gap) joins.left (length old.bytes - 16) left_row
       (joins.apart (is_free b.tile) apart.1)
 
-  -- the gap behind it is what it is joined with
+  -- the gap after it is what it is joined with
   pub gap_is : gap_after (live_of old.bytes) (extent_of b.tile b.role) ≡ joins.gap
   gap_is =
       let n = is_extent-IsNeighbour (live_of old.bytes) (extent_of b.tile b.role)
@@ -133,7 +133,7 @@ module _ (old : WindowState) (heap : IsHeap current old.bytes) (h at : ℕ) (b :
       (length old.bytes - 16) left_row in
       let size = b.size in let is = gap_is in omega arith
 
--- ---- the two steps, in a window in which the gap behind has left the tree
+-- ---- the two steps, in a window in which the gap after has left the tree
 
 module _ (old : WindowState) (says : SaysHeap old (tiles_in old)) (at : ℕ) (front0 : List Tile) (tile0 : Tile)
     (back0 : List Tile) (role : Role) (list0 : tiles_in old ≡ front0 ++ (tile0 ∷ back0))
@@ -141,7 +141,7 @@ module _ (old : WindowState) (says : SaysHeap old (tiles_in old)) (at : ℕ) (fr
   said0 : EncodesTiles old (front0 ++ (tile0 ∷ back0))
   said0 = subst (EncodesTiles old) list0 says.said
 
-  -- what the tile becomes with the gap behind it
+  -- what the tile becomes with the gap after it
   pub t_joins : JoinsTo tile0 back0
   t_joins = joins_to tile0 back0
 

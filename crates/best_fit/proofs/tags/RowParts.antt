@@ -13,7 +13,7 @@ abbrev pub row_end : ℕ → List Tile → ℕ
 row_end at [] = at
 row_end at (t ∷ ts) = row_end (at + t.len) ts
 
--- a row is one row behind another
+-- a row is one row after another
 pub row_front : (at : ℕ) (ts us : List Tile) (end : ℕ) → Row at (ts ++ us) end → Row at ts (row_end at ts)
 row_front at [] us end r = refl
 row_front at (t ∷ ts) us end r = (r.0, r.1, r.2, row_front (at + t.len) ts us end r.3)
@@ -56,7 +56,7 @@ module _ (at : ℕ) (t : Tile) (behind : List Tile) (o : t.offset ≡ at) where
   tile_in-around (u ∷ us) a = cond-false (u.offset == at) (Some u) (tile_in (us ++ (t ∷ behind)) at)
       (ne_eqb u.offset at a.0) ∙ tile_in-around us a.1
 
-  -- the tile behind it is the first of those behind it
+  -- the tile after it is the first of those after it
   pub next_in-around : (before : List Tile) → Away at before → next_in (before ++ (t ∷ behind)) at ≡ first_in behind
   next_in-around [] a = cond-true (t.offset == at) (first_in behind) (next_in behind at) (eq-eqb t.offset at o)
   next_in-around (u ∷ us) a = cond-false (u.offset == at) (first_in (us ++ (t ∷ behind)))

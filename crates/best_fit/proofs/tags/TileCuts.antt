@@ -1,4 +1,4 @@
--- What a list becomes where a tile is cut, or joined with a free one behind it, by what is read of that tile.
+-- What a list becomes where a tile is cut, or joined with a free one after it, by what is read of that tile.
 use Rattle.best_fit.proofs.Common.{◌≡◌, refl, sym, ap, subst, ◌∙◌, ℕ, ◌+◌, ◌-◌, ◌<◌, ◌≤◌, List, [], ◌∷◌, ◌++◌, length}
 use Rattle.best_fit.proofs.Common.{append_assoc, arith, nat_lt, Option, Some, None, cond-true, cond-false, lt-ltb}
 use Rattle.best_fit.proofs.Common.{le-ltb, WindowState, Tile, first_in, in_two, next_in, previous_in, tile_in, is_free}
@@ -29,7 +29,7 @@ kept_list ts at len t e l =
     (cond-true (nat_lt t.len (len + 32)) (t ∷ s.back) (in_two len t s.back) (lt-ltb t.len (len + 32) l))
     ∙ sym s.is
 
--- ---- the tile behind
+-- ---- the tile after
 
 join_cases : (t : Tile) (back : List Tile) → 0 < free_len (first_in back) → with_free_behind t back ≡ in_one t back
 join_cases t [] l = absurd (omega arith)
@@ -40,7 +40,7 @@ join_cases t (u ∷ back) l =
           (used-not_free u role e) in absurd (omega arith)
     ]
 
--- a free tile behind this one is joined with it
+-- a free tile after this one is joined with it
 pub joined_list : (ts : List Tile) (at : ℕ) (t : Tile) → tile_in ts at ≡ Some t → 0 < free_behind at ts
     → joined_free_at at ts ≡ joined_at at ts
 joined_list ts at t e l =
@@ -90,7 +90,7 @@ free_next_cases c at ts t said e (Some u) next l =
           absurd (omega arith)
     ]
 
--- a free tile stands behind
+-- a free tile stands after
 pub free_next : (c : WindowState) (at : ℕ) → (h : HasTileAt c at) → 0 < free_behind at h.tiles → HasFreeNext c at
 free_next c at h l = free_next_cases c at h.tiles h.tile h.said h.stands (next_in h.tiles at) refl l
 

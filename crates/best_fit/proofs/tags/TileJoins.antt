@@ -11,21 +11,21 @@ use Rattle.best_fit.proofs.tags.TileRows.{Row, Apart, Apart-weaker, unused, used
 use Rattle.best_fit.proofs.tags.TileRows.{extents_of, extent_of, extents_of-free, extents_of-used, gaps_of-used}
 use Rattle.best_fit.proofs.tags.UnchangedTags.{In}
 
--- a tile of a row begins behind those before it
+-- a tile of a row begins after those before it
 pub row_before : (at : ℕ) (u : Tile) (front : List Tile) (t : Tile) (back : List Tile) (end : ℕ)
     → Row at (u ∷ (front ++ (t ∷ back))) end → u.offset + u.len ≤ t.offset
 row_before at u [] t back end r = let o = r.0 in let o' = r.3.0 in omega arith
 row_before at u (v ∷ front) t back end r =
     let on = row_before (at + u.len) v front t back end r.3 in let o = r.0 in let o' = r.3.0 in omega arith
 
--- ---- a tile and the free one behind it
+-- ---- a tile and the free one after it
 
--- the tiles behind the first
+-- the tiles after the first
 abbrev pub rest_of : List Tile → List Tile
 rest_of [] = []
 rest_of (t ∷ ts) = ts
 
--- what a tile becomes with the free one behind it, and what is left behind it
+-- what a tile becomes with the free one after it, and what is left after it
 pub record JoinsTo (t : Tile) (back : List Tile) : Type 0 where
   pub gone : List Tile
   pub left : List Tile
@@ -48,7 +48,7 @@ same_row at ts end r = let e : at ≡ at + 0 = omega arith in subst (λ k. Row k
 true_is_used : (u : Tile) (role : Role) → u.use_of ≡ Some role → IsTrue true → IsTrue (is_free u) → ⊥
 true_is_used u role e behind free = both_ways (is_free u) (used-not_free u role e) free
 
--- what a tile becomes with the free one behind it
+-- what a tile becomes with the free one after it
 pub joins_to : (t : Tile) (back : List Tile) → JoinsTo t back
 joins_to t [] =
     record {
@@ -101,7 +101,7 @@ joins_to t (u ∷ back) =
 
 -- ---- a tile that is cut
 
--- what a tile becomes that is cut, and what is free behind it then
+-- what a tile becomes that is cut, and what is free after it then
 pub record CutsTo (len : ℕ) (t : Tile) (back : List Tile) : Type 0 where
   pub left : List Tile
   pub is : cut_to len t back ≡ record t { len = share t.len len } ∷ (left ++ back)
@@ -160,7 +160,7 @@ insert_before at (t ∷ ts) end x r l =
           (omega arith) ∙ ap (λ xs. x ∷ xs) (sym (extents_of-used t ts role e))
     ]
 
--- an extent that begins where a tile does is put in between those before the tile and those behind it
+-- an extent that begins where a tile does is put in between those before the tile and those after it
 pub insert_between : (at : ℕ) (front : List Tile) (t : Tile) (back : List Tile) (end : ℕ) (x : Extent)
     → Row at (front ++ (t ∷ back)) end → x.offset ≡ t.offset
     → insert x (extents_of front ++ extents_of back) ≡ extents_of front ++ (x ∷ extents_of back)

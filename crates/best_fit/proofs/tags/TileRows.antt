@@ -64,7 +64,7 @@ Apart-is_merged b (t ∷ u ∷ ts) a =
     and_from (not (is_free t && is_free u)) (is_merged (u ∷ ts)) (from_not_both (is_free t) (is_free u) a.1.0)
     (Apart-is_merged (is_free t) (u ∷ ts) a.1)
 
--- what is apart behind a free tile is apart behind any
+-- what is apart after a free tile is apart after any
 pub Apart-weaker : (b : Bool) (ts : List Tile) → Apart b ts → Apart false ts
 Apart-weaker b [] a = tt
 Apart-weaker b (t ∷ ts) a = (λ no. absurd (false≢true no), a.1)
@@ -144,7 +144,7 @@ free_span t e long =
     span_between-some t.offset (t.offset + t.len) (omega arith)
     ∙ (λ i. record { offset = t.offset; len = len i; use_of = sym e i } ∷ [])
 
--- nothing lies before a row that is behind no free tile
+-- nothing lies before a row that is after no free tile
 here_behind : (from at : ℕ) (t : Tile) → IsTrue (is_free t) → (b : Bool) → (IsTrue b → IsTrue (is_free t) → ⊥)
     → Before b from at → from ≡ at
 here_behind from at t free b clash (inl e) = e.1

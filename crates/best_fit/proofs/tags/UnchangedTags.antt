@@ -208,7 +208,7 @@ pub all_joined : {A : Type 0} (P : A → Type 0) (xs ys : List A) → AllByRecur
 all_joined P [] ys a b = b
 all_joined P (x ∷ xs) ys a b = (a.0, all_joined P xs ys a.1 b)
 
--- the blocks before and behind some tiles that become others stay
+-- the blocks before and after some tiles that become others stay
 pub around_stays : (front olds news back : List Tile)
     → AllByRecursion (Stays (front ++ (olds ++ back)) (front ++ (news ++ back))) (extents_of front ++ extents_of back)
 around_stays front olds news back =

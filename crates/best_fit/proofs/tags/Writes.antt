@@ -167,7 +167,7 @@ live_block c h heap live =
     let p = passing (λ (x : Extent). handle x == h) (tiles_in c) live in
     block_from c h (λ (x : Extent). handle x == h) heap p (eqb-true (handle (extent_of p.tile p.role)) h p.passes)
 
--- so many bytes lie in the payload of a block
+-- this many bytes lie in the payload of a block
 pub record Room (c : WindowState) (h n : ℕ) : Type 0 where
   pub block : Block c h
   pub enough : n + 16 ≤ block.tile.len
@@ -394,7 +394,7 @@ tile_in_list c at h ts said =
     ap (λ (us : List Tile). tile_in us at) (sym (tiles_are_read_off c ts said)
     ∙ tiles_are_read_off c h.tiles h.said) ∙ h.stands
 
--- the role of a block, and the bytes behind its tag
+-- the role of a block, and the bytes after its tag
 pub block_role : (c : WindowState) (h : ℕ) → (b : Block c h)
     → option_map (λ (x : Extent). x.role) (extent_at (live_of c.bytes) h) ≡ Some b.role
 block_role c h b = ap (option_map (λ (x : Extent). x.role)) b.extent

@@ -82,7 +82,7 @@ skip_tile h t ts n =
           (ne_eqb (t.offset + 16) h n)
     ]
 
--- nor do those before a tile that does not stand behind it
+-- nor do those before a tile that does not stand after it
 skip_front : (h at : ℕ) (front : List Tile) (t : Tile) (back : List Tile) (end : ℕ)
     → Row at (front ++ (t ∷ back)) end → t.offset + 16 ≤ h
     → list_any (λ (x : Extent). handle x == h) (extents_of (front ++ (t ∷ back))) ≡ list_any
@@ -92,7 +92,7 @@ skip_front h at (u ∷ us) t back end r l =
     let ends = row_before at u us t back end r in let long = r.1 in
     skip_tile h u (us ++ (t ∷ back)) (λ e. omega arith) ∙ skip_front h (at + u.len) us t back end r.3 l
 
--- nor those behind it
+-- nor those after it
 none_behind : (h at : ℕ) (ts : List Tile) (end : ℕ) → Row at ts end → h < at + 16
     → list_any (λ (x : Extent). handle x == h) (extents_of ts) ≡ false
 none_behind h at [] end r l = refl
@@ -107,7 +107,7 @@ row_left c passed t back said =
     let r = row_back 128 passed (t ∷ back) (length c.bytes - 16) (said_row c (passed ++ (t ∷ back)) said) in
     subst (λ k. Row (k + t.len) back (length c.bytes - 16)) (sym r.0) r.3
 
--- what a tile at or behind a handle tells of it
+-- what a tile at or after a handle tells of it
 pub names_told : (c : WindowState) (h : ℕ) (t : Tile) → (n : Next c (StillNames c h) t) → h ≤ t.offset + 16
     → (answer : Bool)
     → ((t.offset + 16 ≡ h) → answer ≡ is_some t.use_of) → ((t.offset + 16 ≡ h → ⊥) → answer ≡ false)
@@ -129,7 +129,7 @@ names_told c h t n l answer same other =
       | inr d ↦ other d ∙ sym none ∙ sym (skip_tile h t n.back d) ∙ n.holds
     ]
 
--- a walk that looks for a handle may begin at a block that does not stand behind it
+-- a walk that looks for a handle may begin at a block that does not stand after it
 pub left_from : (c : WindowState) (h known : ℕ) → IsHeap current c.bytes → IsTrue (is_live_in (live_of c.bytes) known)
     → known ≤ h → (t : Tile) → ((ts : List Tile) → EncodesTiles c ts → tile_in ts (known - 16) ≡ Some t)
     → Left c (Some t) (StillNames c h)
@@ -178,13 +178,13 @@ used_is_live c P t n some =
     (sym (live_extents c ∙ ap extents_of (tiles_are_read_off c (n.passed ++ (t ∷ n.back)) n.said)))
     (any_used n.passed t n.back some)
 
--- ---- the tiles behind a block
+-- ---- the tiles after a block
 
--- they begin behind this offset
+-- they begin after this offset
 abbrev pub Beyond : WindowState → ℕ → List Tile → Type 0
 Beyond c k ts = (at : ℕ) × Row at ts (length c.bytes - 16) × (k ≤ at)
 
--- what a walk has left behind a block
+-- what a walk has left after a block
 pub left_behind : (c : WindowState) (h : ℕ) → IsHeap current c.bytes → IsTrue (is_live_in (live_of c.bytes) h)
     → (next : Option Tile) → ((ts : List Tile) → EncodesTiles c ts → next ≡ next_in ts (h - 16))
     → Left c next (Beyond c h)
@@ -210,7 +210,7 @@ beyond_other c k t back y = let l = y.2 in let o = y.1.0 in λ e. omega arith
 
 -- ---- the nearest way-point
 
--- it leads to a block that does not stand behind the handle
+-- it leads to a block that does not stand after the handle
 pub record Nearest (c : WindowState) (h known : ℕ) : Type 0 where
   pub live : IsTrue (is_live_in (live_of c.bytes) known)
   pub block : Block c known

@@ -93,7 +93,7 @@ module _ (c : WindowState) (passed : List Tile) (tile : Tile) (back : List Tile)
   pub passed_on : EncodesTiles c ((passed ++ (tile ∷ [])) ++ back)
   passed_on = subst (EncodesTiles c) (sym (append_assoc passed (tile ∷ []) back)) said
 
-  -- the one behind it
+  -- the one after it
   pub next_here : (next : Option Tile) → ((ts : List Tile) → EncodesTiles c ts → next ≡ next_in ts tile.offset)
       → next ≡ first_in back
   next_here next is = is (passed ++ (tile ∷ back)) said ∙ next_stands_behind c passed tile back said
@@ -106,7 +106,7 @@ module _ (c : WindowState) (passed : List Tile) (tile : Tile) (back : List Tile)
       (nearer tile back (length c.bytes - 16) (length c.bytes) rows
       (let low = (legal_size (length c.bytes) said.size).low in omega arith))
 
--- what holds of the tile at hand and those behind it
+-- what holds of the tile at hand and those after it
 pub record Next (c : WindowState) (P : List Tile → Type 0) (tile : Tile) : Type 0 where
   pub passed : List Tile
   pub back : List Tile
@@ -114,7 +114,7 @@ pub record Next (c : WindowState) (P : List Tile → Type 0) (tile : Tile) : Typ
   pub holds : P (tile ∷ back)
   pub meets : Meets c tile
 
--- the tile ahead: what is left behind it
+-- the tile ahead: what is left after it
 pub left_next : (c : WindowState) (ahead : Option Tile) (P : List Tile → Type 0) → Left c ahead P → (tile : Tile)
     → ahead ≡ Some tile → Next c P tile
 left_next c ahead P l tile is =
@@ -175,7 +175,7 @@ StillNames c h rest = list_any (λ (x : Extent). handle x == h) (extents_of rest
 pub names_start : (c : WindowState) (h : ℕ) → StillNames c h (tiles_in c)
 names_start c h = ap (λ xs. list_any (λ (x : Extent). handle x == h) xs) (sym (live_extents c))
 
--- behind a tile that is not the handle's the others may
+-- after a tile that is not the handle's the others may
 pub names_passed : (c : WindowState) (h : ℕ) (t : Tile) (back : List Tile) → StillNames c h (t ∷ back)
     → (t.offset + 16 ≡ h → ⊥) → StillNames c h back
 names_passed c h t back s n =
@@ -262,7 +262,7 @@ index_found c ahead before index l left =
     let none : index - before ≡ 0 = omega arith in left.here ∙ first_in-slice_get left.rest
     ∙ sym (ap (slice_get left.rest) none) ∙ left.holds
 
--- ---- the tile of an index, and the one behind it
+-- ---- the tile of an index, and the one after it
 
 pub record TileAt (ts : List Tile) (i : ℕ) (t : Tile) : Type 0 where
   pub front : List Tile
@@ -329,7 +329,7 @@ module _ (c d : WindowState) (heap : IsHeap current c.bytes) (e : d ≡ c) where
   pub heap_has : (t : Tile) → IsTileOf d.bytes t → HasTileAt c t.offset
   heap_has t is = index_has c heap is.index t (heap_stands is.index t is.stands)
 
-  -- the tile behind one of the heap
+  -- the tile after one of the heap
   pub heap_next : (t : Tile) (r : Option Tile) → ((ts : List Tile) → EncodesTiles c ts → r ≡ next_in ts t.offset)
       → (i : ℕ) → slice_get (tiles_in d) i ≡ Some t → r ≡ slice_get (tiles_in d) (i + 1)
   heap_next t r is i stands = index_next c heap i t (heap_stands i t stands) r is

@@ -82,7 +82,7 @@ all_split : (P : Gap → Type 0) (xs ys : List Gap) → AllByRecursion P (xs ++ 
 all_split P [] ys h = (tt, h)
 all_split P (x ∷ xs) ys h = let rest = all_split P xs ys h.1 in ((h.0, rest.0), rest.1)
 
--- it is passed: what is left of the walk are the tiles behind it
+-- it is passed: what is left of the walk are the tiles after it
 pub record Passed (old new : WindowState) (tile : Tile) : Type 0 where
   pub passed : List Tile
   pub back : List Tile
@@ -93,7 +93,7 @@ pub record Passed (old new : WindowState) (tile : Tile) : Type 0 where
 pub passed_has : (old new : WindowState) (tile : Tile) → Passed old new tile → HasTileAt new tile.offset
 passed_has old new tile p = (meets new p.passed tile p.back p.said).has
 
--- the walk goes on behind the tile that was passed
+-- the walk goes on after the tile that was passed
 pub passed_goes_on : (old new : WindowState) (tile : Tile) → Passed old new tile → (next : Option Tile)
     → ((ts : List Tile) → EncodesTiles new ts → next ≡ next_in ts tile.offset)
     → Zeroing old new next

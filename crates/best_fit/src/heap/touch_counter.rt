@@ -273,7 +273,7 @@ impl<'a> TouchCounter<'a> {
         self.gaps.window.resize(size);
     }
 
-    /// Adds a free tile where the tags fill the first `old_size` bytes of the window: it reaches to the window's end.
+    /// Adds a free tile if the tags fill the first `old_size` bytes of the window: it reaches to the window's end.
     pub fn append_free(&mut self, old_size: u64)
         requires fits { CanAppend self.old.gaps.now.window old_size }
         requires no_overflow { self.old.count + 1 < 2 ^ 64 }

@@ -101,7 +101,7 @@ module _ (c c1 c2 c3 d : WindowState) (size : IsTrue (is_legal_size (length c.by
     ];
   }
 
--- ---- a free tile behind the others
+-- ---- a free tile after the others
 appended : (m m' : Memory) (at before : ℕ) (ts : List Tile) (end len : ℕ) → AreTags current m at before ts end
     → SameBytes m m' at (end + 8) → 32 ≤ len → len % 16 ≡ 0
     → word_at m' (end + 8) ≡ len → word_at m' (end + len) ≡ len → word_at m' (end + len + 8) ≡ 1

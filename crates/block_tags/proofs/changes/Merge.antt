@@ -1,4 +1,4 @@
--- What the tags say where a tile is joined to the one behind it.
+-- What the tags say where a tile is joined to the one after it.
 use Rattle.std.proofs.Common.{◌≡◌, sym, ap, subst, ◌∙◌, ℕ, ◌+◌, ◌-◌, ◌%◌, ◌<◌, ◌≤◌, ◌⊎◌, inl, inr, Some, None, List, []}
 use Rattle.std.proofs.Common.{◌∷◌, length, arith}
 use Rattle.std.specs.Prelude.{Option}
@@ -18,7 +18,7 @@ use Rattle.block_tags.proofs.changes.WrittenTags.{changed_says, changed_rest}
 use Rattle.block_tags.proofs.changes.Split.{beside_word}
 
 -- ---- two words are written
--- the tile behind, where the list has one
+-- the tile after, where the list has one
 pub next_there : (o : Option Tile) (behind : List Tile) (u : Tile) → o ≡ Some u → o ≡ first_in behind
     → (us : List Tile) × (behind ≡ u ∷ us)
 next_there o [] u g f = absurd (none-some u (sym f ∙ g))
@@ -29,7 +29,7 @@ module _ (c : WindowState) (at : ℕ) (h : HasFreeNext c at) (t : Tile) (e : t �
   pub there_to_join : HasTileAt c at
   there_to_join = record { tiles = h.tiles; said = h.said; tile = h.tile; stands = h.stands }
 
-  -- the tile behind it
+  -- the tile after it
   pub record Joins (v : Tile) (ts : List Tile) : Type 0 where
     pub stands : tile_in ts at ≡ Some t
     pub s : Standing current (bytes_of c.bytes) 128 0 None ts (length c.bytes - 16) at t
@@ -42,7 +42,7 @@ module _ (c : WindowState) (at : ℕ) (h : HasFreeNext c at) (t : Tile) (e : t �
     pub room : at + t.len + v.len + 16 ≤ length c.bytes
     pub size : length c.bytes ≤ 1073741824
 
-  -- two tiles that can be joined stand one behind the other
+  -- two tiles that can be joined stand one after the other
   pub joins : (v : Tile) → v ≡ tile_at (bytes_of c.bytes) (at + t.len) → (ts : List Tile) → EncodesTiles c ts
       → Joins v ts
   joins v q ts said =

@@ -15,7 +15,7 @@ use Rattle.block_tags.proofs.changes.WrittenWords.{put-word, put-SameBytes}
 use Rattle.block_tags.proofs.tiles.TileInList.{Standing, is_tile-made, head_word, retag}
 use Rattle.block_tags.proofs.tiles.TagsSayTiles.{reads, stands_in, stood}
 
--- ---- the list where the tile at an offset changes, once its own tags and those behind it are known
+-- ---- the list where the tile at an offset changes, once its own tags and those after it are known
 module _ (c d : WindowState) (ts : List Tile) (at : ℕ) (t : Tile) (said : EncodesTiles c ts) (stands : tile_in ts at
     ≡ Some t)
     (change : Tile → List Tile → List Tile) (size : length d.bytes ≡ length c.bytes) where

@@ -95,7 +95,7 @@ next more m at end b = elim b [
       in t ∷ tiles_from more m (at + t.len) end
 ]
 
--- tiles that the tags say are read off, if there may be so many
+-- tiles that the tags say are read off, if there may be this many
 pub tiles_from-AreTags : (format : ℕ) (m : Memory) (more at before : ℕ) (ts : List Tile) (end : ℕ)
     → AreTags format m at before ts end → end < at + 32 * more + 32 → tiles_from more m at end ≡ ts
 tiles_from-AreTags format m zero at before [] end h few = refl

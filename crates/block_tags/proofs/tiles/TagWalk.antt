@@ -17,7 +17,7 @@ use Rattle.std.proofs.lemmas.Bool.{and_parts}
 use Rattle.block_tags.proofs.tiles.ReadOff.{is_tile-IsWhole}
 use Rattle.block_tags.proofs.tiles.TagsSayTiles.{legal}
 
--- no two free tiles side by side, behind one that is free or not
+-- no two free tiles side by side, after one that is free or not
 merged_after : Bool → List Tile → Bool
 merged_after free [] = true
 merged_after free (t ∷ ts) = not (free && is_free t) && merged_after (is_free t) ts
@@ -32,7 +32,7 @@ unfolding merged_after
 is_merged-after [] = refl
 is_merged-after (t ∷ ts) = merged_behind t ts
 
--- the test of all tiles from an offset on, at most so many
+-- the test of all tiles from an offset on, at most this many
 from_here : ℕ → ℕ → Memory → ℕ → ℕ → Bool → ℕ → Bool
 from_here format more m at before free end =
     are_tags format m at before (tiles_from more m at end) end && merged_after free (tiles_from more m at end)
@@ -113,7 +113,7 @@ one_more_tile more m at end h =
           more m (at + t.len) end
     ] in length ts) l
 
--- the count behind one test, as `good_tiles_from` has it
+-- the count after one test, as `good_tiles_from` has it
 abbrev counted_if : ℕ → ℕ → Memory → ℕ → ℕ → Bool → ℕ
 counted_if format more m at end b =
     elim b [
@@ -146,7 +146,7 @@ one_more_good format more m at before free end h g =
     ap (λ (b : Bool). counted_if format more m at end (b && is_good_tile format m at before free end)) l
     ∙ ap (counted_if format more m at end) g
 
--- ---- where the loop stands, with so many tags read or to be read next
+-- ---- where the loop stands, with this many tags read or to be read next
 pub record Walking (format : ℕ) (m : Memory) (size end at before : ℕ) (free : Bool) (tags : ℕ) : Type 0 where
   pub is : end ≡ size - 16
   pub reach : at ≤ end
@@ -272,7 +272,7 @@ onward format (suc more) m size end at before free tags is enough leads same til
       good = omega arith;
     }
 
--- a tile that passes its test: the test goes on behind it
+-- a tile that passes its test: the test goes on after it
 pub goes_on : (format : ℕ) (m : Memory) (size end at before : ℕ) (free : Bool) (tags : ℕ)
     → Walking format m size end at before free tags → at < end → is_good_tile format m at before free end ≡ true
     → (t : Tile) → t ≡ tile_at m at → GoesOn format m size end at t tags

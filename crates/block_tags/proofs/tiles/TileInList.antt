@@ -62,7 +62,7 @@ abbrev pub IsBefore : Memory → ℕ → ℕ → Option Tile → Type 0
 IsBefore m at before None = before ≡ 0
 IsBefore m at before (Some p) = (before ≡ p.len) × (p.offset + p.len ≡ at) × (32 ≤ p.len) × (tile_at m p.offset ≡ p)
 
--- a tile in the list that the tags say: those before and behind it, and its tags
+-- a tile in the list that the tags say: those before and after it, and its tags
 pub record Standing (format : ℕ) (m : Memory) (from first : ℕ) (last : Option Tile) (ts : List Tile) (end at : ℕ)
     (tile : Tile) : Type 0 where
   pub before : ℕ

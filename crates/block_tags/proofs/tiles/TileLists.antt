@@ -194,7 +194,7 @@ pub one_tile_at_an_offset : OneTileAtAnOffset
 one_tile_at_an_offset c front t back said =
     one_at current 128 front t back (length c.bytes - 16) (tiles_fill_the_window c (front ++ t ∷ back) said)
 
--- the tile behind it
+-- the tile after it
 next_at : (format from : ℕ) (front : List Tile) (t : Tile) (back : List Tile) (to : ℕ)
     → AreContiguous format from (front ++ t ∷ back) to → next_in (front ++ t ∷ back) t.offset ≡ first_in back
 next_at format from [] t back to h =
@@ -206,7 +206,7 @@ next_at format from (u ∷ us) t back to h =
     ap (λ (v : Bool). cond v (first_in (us ++ t ∷ back)) (next_in (us ++ t ∷ back) t.offset)) other
     ∙ next_at format (from + u.len) us t back to h.2
 
--- the next tile is the first of those behind
+-- the next tile is the first of those after
 pub next_stands_behind : (c : WindowState) (front : List Tile) (t : Tile) (back : List Tile)
     → EncodesTiles c (front ++ t ∷ back) → next_in (front ++ t ∷ back) t.offset ≡ first_in back
 next_stands_behind c front t back said =

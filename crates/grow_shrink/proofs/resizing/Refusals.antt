@@ -95,7 +95,7 @@ not-large size extra e = at_least 1073741824 (size + extra) e
 pub stands-size : (b : List ℕ) (d : Directory) → DenotesCurrent b d → d.size ≡ length b
 stands-size b d h = sym (h.denotes.heap.size ∙ live-size d)
 
--- more bytes than the region has behind the segment
+-- more bytes than the region has after the segment
 pub past_region : (c : WindowState) (d : Directory) (extra : ℕ) → DenotesCurrent c.bytes d → room_behind c < extra
     → nat_lt (room_of c) (d.size + extra) ≡ true
 past_region c d extra h l =

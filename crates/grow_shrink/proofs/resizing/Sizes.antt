@@ -25,7 +25,7 @@ larger-is_legal size whole low high =
 
 -- ---- holes and blocks
 
--- the same extent, and others behind it
+-- the same extent, and others after it
 with_rest : (from : ℕ) (x : Extent) (xs : List Extent) (to to' : ℕ) → IsFirst from x xs to
     → IsTrue (proper_from (end_of x) xs to') → IsTrue (proper_from from (x ∷ xs) to')
 with_rest from x xs to to' f rest =
@@ -130,7 +130,7 @@ grown-directory format d extra is more whole most =
       unique = is.unique;
     }
 
--- the size that ends behind the last extent
+-- the size that ends after the last extent
 least-is_legal : (end : ℕ) → end % 16 ≡ 0 → (end ≡ 128) ⊎ (160 ≤ end) → end + 16 ≤ 1073741824
     → IsTrue (is_legal_size (end + 16))
 least-is_legal end whole (inl e) most =

@@ -80,7 +80,7 @@ rises-push es n b r h i j x y l f g =
     in absurd (omega arith)) (pushed es (n, b) i x f))
     (pushed es (n, b) j y g)
 
--- blocks stay sorted with a later one behind them
+-- blocks stay sorted with a later one after them
 pub order-push : (es : Blocks) (n : ℕ) (b : Block) → n < 2 ^ 32 → AreSortedBlocks es → AreBelow es n
     → AreSortedBlocks (es ++ (n, b) ∷ [])
 order-push es n b s o h = record {

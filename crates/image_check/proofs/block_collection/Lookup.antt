@@ -1,4 +1,4 @@
--- The blocks of tiles that stand one behind the other are looked up by payload.
+-- The blocks of tiles that stand one after the other are looked up by payload.
 use Rattle.image_check.proofs.Common.{AreBelow, AreBlocks, Block, Blocks, HasTiles, Index, IsBlockAt, IsMarkingOf}
 use Rattle.image_check.proofs.Common.{IsTileAt, IsTrue, IsUnmarked, List, Node, None, Option, Owner, Role, Row, Some}
 use Rattle.image_check.proofs.Common.{Storage, Tile, WindowState, [], and_from, and_parts, ap, arith, block_at}
@@ -387,7 +387,7 @@ pub record Gathering (seen visits room spared : ℕ) (es : Blocks) (front : List
   pub more : seen + length front ≤ visits
   pub most : visits ≤ seen + (length front + length front)
 
--- all tiles are those passed, this one and those behind
+-- all tiles are those passed, this one and those after
 pub at-all : (c : WindowState) (Kept : List Tile → Type 0) (here : Tile) → (a : WalksAt c Kept here)
     → tiles_in c.bytes ≡ a.front ++ here ∷ a.back
 at-all c Kept here a = tiles_are_read_off c (a.front ++ here ∷ a.back) a.said

@@ -29,7 +29,7 @@ same_role-refl Node = refl
 
 -- ---- tiles begin at different places
 
--- a tile of a row begins where the row does or behind
+-- a tile of a row begins where the row does or after
 pub from-there : (at : ℕ) (ts : List Tile) (end : ℕ) (t : Tile) → Row at ts end → Mem t ts → at ≤ t.offset
 from-there at [] end t a h = absurd h
 from-there at (u ∷ ts) end t a (inl e) =
@@ -123,7 +123,7 @@ used-IsMember at ts end role x a h s =
 
 -- ---- rows of extents that rise
 
--- what stands in a row stands behind its beginning
+-- what stands in a row stands after its beginning
 pub rising-from : (n : ℕ) (xs : List Extent) (x : Extent) → Rising n xs → Mem x xs → n ≤ x.offset
 rising-from n [] x r h = absurd h
 rising-from n (y ∷ ys) x r (inl e) = let f = ap (λ (z : Extent). z.offset) e in let l = r.0 in omega arith

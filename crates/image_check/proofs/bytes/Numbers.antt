@@ -15,7 +15,7 @@ use mathlib.Core.Logic.{⊎_elim}
 pub record AreSmall (m : Memory) : Type 0 where
   pub at : (k : ℕ) → m k < 256
 
--- a byte of a list of bytes, or 0 behind its end
+-- a byte of a list of bytes, or 0 after its end
 slice_index-small : (b : List ℕ) (k : ℕ) → IsTrue (are_bytes b) → slice_index b k < 256
 slice_index-small [] k h = omega arith
 slice_index-small (x ∷ b) zero h = ltb-true x 256 (and_parts (nat_lt x 256) (are_bytes b) h).0
@@ -62,7 +62,7 @@ bytes_low_first-number_at m at n s =
 pub AreZero-none : (m : Memory) (at : ℕ) → AreZero m at (at + 0)
 AreZero-none m at = record { at = λ k f g. absurd (omega arith) }
 
--- a zero and zeros behind it
+-- a zero and zeros after it
 pub AreZero-cons : (m : Memory) (at n : ℕ) → m at ≡ 0 → AreZero m (at + 1) (at + 1 + n) → AreZero m at (at + suc n)
 AreZero-cons m at n e z = record {
   at = λ k f g.

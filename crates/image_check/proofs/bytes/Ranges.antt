@@ -5,7 +5,7 @@ use Rattle.image_check.proofs.Common.{◌∙◌, ◌∷◌, ◌≡◌}
 use Rattle.std.proofs.Common.{Bool}
 use mathlib.Core.Logic.{inl, inr}
 
--- what stands behind the one of a number
+-- what stands after the one of a number
 pub record IsSplit {X : Type 0} (f : ℕ → X) (a i n j : ℕ) : Type 0 where
   pub back : List X
   pub all : map f (range_with_len a n) ≡ map f (range_with_len a i) ++ f j ∷ back

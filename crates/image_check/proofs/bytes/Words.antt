@@ -6,7 +6,7 @@ use Rattle.image_check.proofs.bytes.Numbers.{AreSmall, number_at, number_at-smal
 
 -- ---- a word is two half words
 
--- the number in some bytes, and above it that in the bytes behind
+-- the number in some bytes, and above it that in the bytes after
 number_at-split : (m : Memory) (at n k j : ℕ) → j ≡ n + k
     → number_at m at j ≡ number_at m at n + 256 ^ n * number_at m (at + n) k
 number_at-split m at zero k j e =

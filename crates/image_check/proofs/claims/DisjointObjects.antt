@@ -298,7 +298,7 @@ module _ (ts : List Tile) (end : ℕ) (a : Row 128 ts end) (m : Memory) (os : Li
       subst Distinct (value-targets m ts o.value at p.good p.tree)
       (subst Distinct (sym (map-append target_in ss (es ++ ns))) all)
 
-  -- ---- its claims stand behind the header
+  -- ---- its claims stand after the header
 
   home-tile : (o : Object) (k : Mem o os) (x : ℕ) → Home o x → 128 ≤ x
   home-tile o k x (at_place e f) =
@@ -320,6 +320,6 @@ module _ (ts : List Tile) (end : ℕ) (a : Row 128 ts end) (m : Memory) (os : Li
   part-high o k f (home x) = home-tile o k f.at x
   part-high o k f (node x) = node-tile-home o k f.at (node-home o k f x)
 
-  -- a field of an object stands behind the header
+  -- a field of an object stands after the header
   pub claim-high : (o : Object) (k : Mem o os) (f : Field) → Mem f (claims_of m ts o) → 128 ≤ f.at
   claim-high o k f h = part-high o k f (part-of o k f h)

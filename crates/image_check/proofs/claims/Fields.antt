@@ -38,7 +38,7 @@ option_claims at (Some x) = field at (handle x) ∷ []
 abbrev pub table_claims : ℕ → BackingArray → List Field
 table_claims at t = option_claims at t.extent
 
--- the fields of texts that stand one behind the other, 16 bytes each
+-- the fields of texts that stand one after the other, 16 bytes each
 abbrev pub text_claims : ℕ → List OwnedText → List Field
 text_claims at [] = []
 text_claims at (p ∷ ps) = option_claims at p.extent ++ text_claims (at + 16) ps

@@ -18,7 +18,7 @@ use Rattle.image_check.proofs.containers.MapMeaning.{map-from, map-if}
 use Rattle.image_check.proofs.containers.MapTests.{pair-node, tree-pairs}
 use Rattle.image_check.proofs.containers.TreeCells.{is_sorted-from, is_sorted-next, nodes-good, same-cells}
 
--- the tree over the pairs, and the two words behind the root link
+-- the tree over the pairs, and the two words after the root link
 pub record MapFound (c : WindowState) (es : Blocks) (k v : ScalarKind) (at : ℕ) : Type 0 where
   pub tree : Tree
   pub root : leads (is_pair c es at k v) (link_at (bytes_of c.bytes) at) ≡ true

@@ -1,4 +1,4 @@
--- What the tests mean, of tiles that stand one behind the other: the free tree, blocks that are shared, and orphans.
+-- What the tests mean, of tiles that stand one after the other: the free tree, blocks that are shared, and orphans.
 use Rattle.image_check.proofs.Common.{Field, IsCountedLink, IsTrue, List, Memory, Row, Tile, [], and_from, and_parts}
 use Rattle.image_check.proofs.Common.{both_ways, cases_Bool, counted_fields, eq-eqb, eqb-true, false≢true}
 use Rattle.image_check.proofs.Common.{has_free_tree, is_orphaned, is_shared, leads_there, list_any, needs_owner, not}

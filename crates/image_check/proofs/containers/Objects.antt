@@ -41,7 +41,7 @@ container-room format m t k h e s =
       | Some j ↦ is_value_in m j (count_at m at) (value_offset m at) (t.offset + t.len)
     ]) e) ∙ one.0) s
 
--- a value stands behind the words of its head
+-- a value stands after the words of its head
 pub value-behind : (m : Memory) (at : ℕ) → at + 16 ≤ value_offset m at
 value-behind m at = omega arith
 

@@ -242,7 +242,7 @@ module _ (t u : Tile) (e : t.offset ≡ u.offset) (f : t.len ≡ u.len) (g : t.u
   pub pays-same : (es : Blocks) (before after : ℕ) → PaysFor es t before after → PaysFor es u before after
   pays-same es before after p = subst (λ (x : Tile). PaysFor es x before after) (recoloured t u e f g) p
 
--- behind the last tile: what was spent
+-- after the last tile: what was spent
 pub paid-end : (format : ℕ) (c : WindowState) (es : Blocks) (old now : ℕ)
     → IsPaid format c es old now (tiles_in c.bytes)
     → (old ≤ now) × (now ≤ old + (weigh container_walk_rates (tiles_in c.bytes) + weigh_blocks es))

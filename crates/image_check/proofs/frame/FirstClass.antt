@@ -70,7 +70,7 @@ first-reserved format w h e =
     ∙ find-here (holds format w.bytes) BadReserved (BadTag ∷ BadFreeTree ∷ late)
     (not_from_false (has_reserved w.bytes) e)
 
--- wrong tags are the class behind it
+-- wrong tags are the class after it
 pub first-tag : (format : ℕ) (w : WindowState) → HasFront format w → has_reserved w.bytes ≡ true
     → is_tiled format w.bytes ≡ false → class_of format w.bytes ≡ Some BadTag
 first-tag format w h r e =
@@ -79,7 +79,7 @@ first-tag format w h r e =
     (not_from_true (has_reserved w.bytes) r)
     ∙ find-here (holds format w.bytes) BadTag (BadFreeTree ∷ late) (not_from_false (is_tiled format w.bytes) e)
 
--- a wrong free tree is the class behind that
+-- a wrong free tree is the class after that
 pub first-tree : (format : ℕ) (w : WindowState) → HasFront format w → has_reserved w.bytes ≡ true
     → is_tiled format w.bytes ≡ true → IsTrue (holds format w.bytes BadFreeTree)
     → class_of format w.bytes ≡ Some BadFreeTree
@@ -90,7 +90,7 @@ first-tree format w h r t e =
     ∙ find-past (holds format w.bytes) BadTag (BadFreeTree ∷ late) (not_from_true (is_tiled format w.bytes) t)
     ∙ find-here (holds format w.bytes) BadFreeTree late e
 
--- ---- behind a right frame, the tests of the blocks
+-- ---- after a right frame, the tests of the blocks
 
 -- the eight classes before them do not hold
 past-frame : (format : ℕ) (b : List ℕ) → IsEarlyClean format b → class_of format b ≡ find (holds format b) late

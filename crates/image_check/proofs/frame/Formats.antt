@@ -251,7 +251,7 @@ clean-framed format b s c =
 abbrev pub live_in : List ℕ → LiveSet
 live_in b = record { size = length b; extents = used (tiles_in b) }
 
--- the tiles stand one behind the other from 128 to the end tag
+-- the tiles stand one after the other from 128 to the end tag
 pub framed-tiles : (format : ℕ) (b : List ℕ) → IsFramed format b → Row 128 (tiles_in b) (length b - 16)
 framed-tiles format b f = (has_tags-AreWholeTiles format (bytes_of b) (length b) f.tags).row
 

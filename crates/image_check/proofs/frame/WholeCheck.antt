@@ -119,17 +119,17 @@ module _ (format : ℕ) (b : List ℕ) where
   unfolding late_class
   late-index e = ap (λ x. late_by x o s c r) e
 
-  -- wrong objects are the class behind it
+  -- wrong objects are the class after it
   pub late-object : i ≡ true → o ≡ false → class ≡ Some BadObject
   unfolding late_class
   late-object d e = λ k. late_by (d k) (e k) s c r
 
-  -- shared blocks are the class behind those
+  -- shared blocks are the class after those
   pub late-shared : i ≡ true → o ≡ true → not s ≡ false → class ≡ Some SharedBlock
   unfolding late_class
   late-shared d e f = λ k. late_by (d k) (e k) (shares s f k) c r
 
-  -- wrong containers are the class behind those
+  -- wrong containers are the class after those
   pub late-container : i ≡ true → o ≡ true → not s ≡ true → c ≡ false → class ≡ Some BadContainer
   unfolding late_class
   late-container d e f g = λ k. late_by (d k) (e k) (unshared s f k) (g k) r
@@ -171,7 +171,7 @@ no-memory-used b r e h n = elim (cases_Bool (has_block b)) [
 
 -- ---- the whole
 
--- behind a right frame, the first class of the blocks is that of the image
+-- after a right frame, the first class of the blocks is that of the image
 module _ (format : ℕ) (b : List ℕ) (h : IsTrue (has_frame format b)) where
   -- the first late class is the image's class, if its frame is right
   pub blocks-class : (o : Option ImageClass) → late_class format (bytes_of b) (tiles_in b) ≡ o → class_of format b ≡ o

@@ -9,7 +9,7 @@ use Rattle.link_tree.proofs.Laws.{tree_limit}
 use Rattle.image_check.specs.FreeNodes.{place_cells}
 use Rattle.image_check.specs.FreeLaws.{before_transitive, places_left, places_right}
 
--- so many places from the first on
+-- this many places from the first on
 places : ℕ → List ℕ
 places zero = []
 places (suc k) = (144 + 16 * k) ∷ places k

@@ -76,7 +76,7 @@ targets_of links = flat_map option_to_list links
 
 -- ---- one entry more
 
--- the objects before and behind one link
+-- the objects before and after one link
 pub targets-split : (front back : List (Option ℕ)) (link : Option ℕ) (n : ℕ) → link ≡ Some n
     → targets_of (front ++ link ∷ back) ≡ targets_of front ++ n ∷ targets_of back
 targets-split front back link n e =

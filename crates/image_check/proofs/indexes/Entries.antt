@@ -112,7 +112,7 @@ mem-of-ordered c lt os o h =
 
 -- ---- objects by offset
 
--- an object of a list that rises stands behind its begin
+-- an object of a list that rises stands after its begin
 pub object-from : (n : ℕ) (os : List Object) (o : Object) → IsTrue (rises_from n os) → Mem o os → n ≤ o.extent.offset
 object-from n [] o r h = absurd h
 object-from n (p ∷ ps) o r (inl e) =

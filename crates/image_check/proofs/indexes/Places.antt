@@ -57,7 +57,7 @@ in-row at (u ∷ ts) end t r (inr h) =
 
 -- ---- the block of an index
 
--- the tile whose payload begins at a block of an index, with room for so many entries
+-- the tile whose payload begins at a block of an index, with room for this many entries
 pub record IsIndexRoom (ts : List Tile) (block count : ℕ) : Type 0 where
   pub tile : Tile
   pub mem : Mem tile ts

@@ -12,14 +12,14 @@ last_of [] = None
 last_of (x ∷ []) = Some x
 last_of (x ∷ y ∷ xs) = last_of (y ∷ xs)
 
--- the handle put behind a list is its last
+-- the handle put after a list is its last
 pub last-of-more : (xs : List ℕ) (h : ℕ) → last_of (xs ++ h ∷ []) ≡ Some h
 last-of-more [] h = refl
 last-of-more (x ∷ []) h = refl
 last-of-more (x ∷ y ∷ xs) h = last-of-more (y ∷ xs) h
 
 module _ (lt : ℕ → ℕ → Bool) where
-  -- a number stands behind the last one, if there is one
+  -- a number stands after the last one, if there is one
   abbrev behind : Option ℕ → ℕ → Bool
   behind last h = elim last [ None ↦ true | Some g ↦ lt g h ]
 

@@ -19,7 +19,7 @@ element-spelled b k start i count size bytes h l e p =
     ap (is_spelling k) (p ∙ ap (λ n. part b (start + n * i) n) e
     ∙ sym (read-part b (start + size_of k * i) (size_of k) within))
 
--- the bytes behind the name
+-- the bytes after the name
 pub padding-read : (b : List ℕ) (at len : ℕ) (bytes : List ℕ) → len ≡ name_len_at (bytes_of b) at
     → value_offset (bytes_of b) at ≤ length b → bytes ≡ part b (at + 16 + len) ((len + 7) / 8 * 8 - len)
     → bytes ≡ padding_at (bytes_of b) at

@@ -27,7 +27,7 @@ value-parts m (Vector k) count at end = sym (and-true ((count == 1) && nat_le (a
 value-parts m (Map k v) count at end = sym (and-true ((count == 1) && nat_le (at + 24) end))
 value-parts m Strings count at end = sym (and-true ((count == 1) && nat_le (at + 24) end))
 
--- a value that has room lies behind its start
+-- a value that has room lies after its start
 pub record HasRoom (start end : ℕ) : Type 0 where
   pub behind : start ≤ end
 

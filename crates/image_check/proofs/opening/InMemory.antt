@@ -34,7 +34,7 @@ use Rattle.image_check.proofs.reading.Places.{front-shown}
 
 -- ---- why it is not put there
 
--- what a decided class is of bytes behind which nothing follows
+-- what a decided class is of bytes after which nothing follows
 whole-class : (format : ℕ) (b : List ℕ) (c : ImageClass) → class_of format (b ++ []) ≡ Some c
     → class_of format b ≡ Some c
 whole-class format b c e = subst (λ (x : List ℕ). class_of format x ≡ Some c) (append-nil b) e

@@ -1,4 +1,4 @@
--- A whole image in its place in a region: its first 24 bytes are written, and the others are read behind them.
+-- A whole image in its place in a region: its first 24 bytes are written, and the others are read after them.
 use Rattle.image_check.proofs.Common.{HasFront, IsHandedBack, IsImageRead, IsNotRead, List, OpenError, SameSurroundings}
 use Rattle.image_check.proofs.Common.{Stops, WindowState, added, ap, arith, both_added, drop, false, le-ltb, legal_size}
 use Rattle.image_check.proofs.Common.{length, length-drop, length-take, nat_lt, part, patched, subst, sym, take, true}

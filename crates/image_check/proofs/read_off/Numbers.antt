@@ -29,7 +29,7 @@ use Rattle.image_check.proofs.read_off.GoodValues.{mul-next, mul-none}
 pub HasBytesAt-read : (m : Memory) (at n : ℕ) → HasBytesAt m at (read m at n)
 HasBytesAt-read m at n = ap (read m at) (read-length m at n)
 
--- two lists that stand one behind the other stand as one
+-- two lists that stand one after the other stand as one
 pub HasBytesAt-append : (m : Memory) (at : ℕ) (xs ys : List ℕ) → HasBytesAt m at xs
     → HasBytesAt m (at + length xs) ys → HasBytesAt m at (xs ++ ys)
 HasBytesAt-append m at [] ys h k = let here : at + 0 ≡ at = omega arith in subst (λ a. HasBytesAt m a ys) here k
@@ -102,7 +102,7 @@ one-good m k at h = (and_parts (is_value k (number_from m k at)) true (numbers-g
 
 -- ---- tests that guard one another
 
--- both parts of a test that is made only behind another
+-- both parts of a test that is made only after another
 pub unguarded : (p q : Bool) → IsTrue (if p then q else false) → IsTrue p × IsTrue q
 unguarded true q h = (refl, h)
 unguarded false q h = absurd (false≢true h)
@@ -190,7 +190,7 @@ linked-if ts role each capacity link false e h =
     not-none zero e = absurd (false≢true (sym e))
     not-none (suc n) e = omega arith
 
--- a link of a block that has so many places is null where there are none, and else leads to its extent
+-- a link of a block that has this many places is null where there are none, and else leads to its extent
 pub linked : (ts : List Tile) (role : Role) (each capacity : ℕ) (link : Option ℕ)
     → IsTrue (is_table_link ts role link each capacity) → IsLinked ts role each capacity link
 linked ts role each capacity link h =
@@ -199,7 +199,7 @@ linked ts role each capacity link h =
 
 -- ---- what stands in the block of a link
 
--- the content behind a link that is there
+-- the content after a link that is there
 pub content-some : {A : Type 0} (f : ℕ → ℕ → List A) (m : Memory) (at : ℕ) (x : Extent)
     → link_at m at ≡ Some (handle x) → content f m at ≡ f (handle x) (word_at m (at + 8))
 content-some f m at x e = ap (λ l. elim l [ None ↦ [] | Some block ↦ f block (word_at m (at + 8)) ]) e

@@ -27,9 +27,9 @@ use Rattle.image_check.proofs.read_off.Directory.{block_for, bytes_at, elements_
 use Rattle.image_check.proofs.read_off.Directory.{or_nothing, pair_from, pairs_at, table_at, texts_at, texts_from}
 use Rattle.image_check.proofs.read_off.Directory.{tree_at, value_from}
 
--- ---- bytes one behind the other
+-- ---- bytes one after the other
 
--- and what is behind it stands behind it
+-- and what is after it stands after it
 pub HasBytesAt-behind : (m : Memory) (at : ℕ) (xs ys : List ℕ) → HasBytesAt m at (xs ++ ys)
     → HasBytesAt m (at + length xs) ys
 HasBytesAt-behind m at [] ys h =
@@ -70,7 +70,7 @@ pub nothing-left : {A : Type 0} (xs : List A) → length xs ≤ 0 → xs ≡ []
 nothing-left [] l = refl
 nothing-left (x ∷ xs) l = absurd (omega arith)
 
--- what stands in the block of a link, so many
+-- what stands in the block of a link, this many
 abbrev pub content : {A : Type 0} → (ℕ → ℕ → List A) → Memory → ℕ → List A
 content f m at = elim (link_at m at) [ None ↦ [] | Some block ↦ f block (word_at m (at + 8)) ]
 
@@ -89,7 +89,7 @@ content-read f m at items (Some x) link len none some =
 abbrev pub IsStored : Memory → List ℕ → Option Extent → Type 0
 IsStored m bytes e = elim e [ None ↦ bytes ≡ [] | Some x ↦ HasBytesAt m (handle x) bytes ]
 
--- texts stand one behind the other in a block
+-- texts stand one after the other in a block
 abbrev pub AreStored : Memory → List OwnedText → Option Extent → Type 0
 AreStored m ps e = elim e [ None ↦ ps ≡ [] | Some x ↦ AreTextLinks m (handle x) ps ]
 

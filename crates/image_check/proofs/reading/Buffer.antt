@@ -1,4 +1,4 @@
--- A window whose first 24 bytes stand, and whose others are read behind them.
+-- A window whose first 24 bytes stand, and whose others are read after them.
 use Rattle.image_check.proofs.Common.{Err, HasFront, IfErr, IsShort, List, Ok, OpenError, ReadsPastEnd, Result, Stops}
 use Rattle.image_check.proofs.Common.{WindowState, [], and_parts, ap, arith, both_added, drop, eqb-true, failed_reads}
 use Rattle.image_check.proofs.Common.{has_magic, has_version, is_legal_size, legal_size, length, length-take, part}

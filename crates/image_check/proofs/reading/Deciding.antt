@@ -29,7 +29,7 @@ pub find-past : (p : ImageClass → Bool) (c : ImageClass) (cs : List ImageClass
     → find p (c ∷ cs) ≡ find p cs
 find-past p c cs e = cond-false (p c) (Some c) (find p cs) e
 
--- what is found by the first test or behind it
+-- what is found by the first test or after it
 found_if : (p : ImageClass → Bool) (b : Bool) (d c : ImageClass) (cs : List ImageClass) → p d ≡ b
     → find p (d ∷ cs) ≡ Some c → (find p cs ≡ Some c → p c ≡ true) → p c ≡ true
 found_if p true d c cs e f k = let same : d ≡ c = cc (find-here p d cs e) in subst (λ x. p x ≡ true) same e
@@ -40,7 +40,7 @@ find-holds : (p : ImageClass → Bool) (c : ImageClass) (cs : List ImageClass) �
 find-holds p c [] f = absurd (cc)
 find-holds p c (d ∷ cs) f = found_if p (p d) d c cs refl f (find-holds p c cs)
 
--- the classes behind the first four
+-- the classes after the first four
 abbrev later : List ImageClass
 later = BadReserved ∷ BadTag ∷ BadFreeTree ∷ BadIndex ∷ BadObject ∷ SharedBlock ∷ BadContainer ∷ OrphanBlock ∷ []
 
@@ -149,7 +149,7 @@ magic-decides format b l e rest h =
     (not_truncated-front format (b ++ rest) (longer b rest 144 l) (front-magic format (b ++ rest) f))
     (not_from_false (has_magic (b ++ rest)) f)
 
--- a wrong version behind a right magic decides class 3
+-- a wrong version after a right magic decides class 3
 version-decides : (format : ℕ) (b : List ℕ) → 144 ≤ length b → has_magic b ≡ true → has_version format b ≡ false
     → DecidesClass format b UnsupportedVersion
 version-decides format b l e f rest h =
@@ -159,7 +159,7 @@ version-decides format b l e f rest h =
     (not_truncated-front format (b ++ rest) (longer b rest 144 l) (front-version format (b ++ rest) v))
     (not_from_true (has_magic (b ++ rest)) m) (not_from_false (has_version format (b ++ rest)) v)
 
--- a size class behind a right magic and version
+-- a size class after a right magic and version
 size-class : (format : ℕ) (b : List ℕ) → has_magic b ≡ true → has_version format b ≡ true
     → holds format b Truncated ≡ false → has_size b ≡ false → class_of format b ≡ Some BadSize
 size-class format b m v t s = fourth_class (holds format b) t (not_from_true (has_magic b) m)
@@ -217,11 +217,11 @@ long_cases format b l (inl e) = let most = is_legal_size-most (size_word b) e
     in not_truncated-size format b (omega arith) (omega arith)
 long_cases format b l (inr e) = not_truncated-front format b (omega arith) (front-size format b e)
 
--- with nothing behind it, the front has the class
+-- with nothing after it, the front has the class
 alone : (format : ℕ) (b : List ℕ) (c : ImageClass) → DecidesClass format b c → class_of format b ≡ Some c
 alone format b c d = subst (λ x. class_of format x ≡ Some c) (append-nil b) (d [] refl)
 
--- a front that is too short alone, and not with some bytes behind it, decides nothing
+-- a front that is too short alone, and not with some bytes after it, decides nothing
 not_both : (format : ℕ) (b rest : List ℕ) (c : ImageClass) → holds format b Truncated ≡ true
     → IsTrue (are_bytes rest) → holds format (b ++ rest) Truncated ≡ false → DecidesClass format b c → ⊥
 not_both format b rest c t h n d =

@@ -16,7 +16,7 @@ pub short-roomy : (ended : Bool) (cause : OpenError) → IsShort ended cause →
 short-roomy ended cause (inl e) t = cc
 short-roomy ended cause (inr e) t = let is = e.0 in cc
 
--- or goes on behind the image
+-- or goes on after the image
 goes-roomy : (old new : List ℕ) (cause : OpenError) → ReadsPastEnd old new cause → cause ≡ TooSmall → ⊥
 goes-roomy old new cause (inl e) t = let is = e.0 in cc
 goes-roomy old new cause (inr e) t = let is = e.0 in cc

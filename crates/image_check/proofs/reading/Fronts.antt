@@ -130,7 +130,7 @@ IsRight-has_front format b size r =
     and_from (has_magic b && has_version format b) (is_legal_size (size_word b))
     (and_from (has_magic b) (has_version format b) r.magic r.version) (ap is_legal_size r.says ∙ r.legal)
 
--- a right front stays right with more bytes behind it
+-- a right front stays right with more bytes after it
 pub IsRight-append : (format : ℕ) (b rest : List ℕ) (size : ℕ) → IsRight format b size → IsRight format (b ++ rest) size
 IsRight-append format b rest size r =
     let long = r.long in

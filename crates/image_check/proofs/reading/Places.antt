@@ -61,7 +61,7 @@ module _ (format : ℕ) (front more : List ℕ) (long : 24 ≤ length front) whe
   front-shown BadContainer at p = absurd p
   front-shown OrphanBlock at p = absurd p
 
--- ---- behind the whole image
+-- ---- after the whole image
 
 module _ (w : WindowState) (old mid new ws : List ℕ) (n : ℕ) (is : n ≡ length w.bytes) (rest : mid ≡ old ++ ws) where
   one-behind : (format : ℕ) → HasFront format w → (start : List ℕ) → old ≡ start ++ take 24 w.bytes → (byte : ℕ)

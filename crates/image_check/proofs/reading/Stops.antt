@@ -167,14 +167,14 @@ wrong_front_decides format old mid new front xs ended f f' base capacity c l k e
       early = front-early format front c w;
     })
 
--- ---- behind a right front
+-- ---- after a right front
 
 -- there is room for the size that is said
 room_for : (format : ℕ) (b : List ℕ) (size : ℕ) (ended : Bool) (f f' base capacity : ℕ) → IsRight format b size
     → base + size ≤ capacity → IsTooSmallFor format (given b ended f f') base capacity → ⊥
 room_for format b size ended f f' base capacity r l t = let says = r.says in let small = t.small in omega arith
 
--- too few bytes behind the front: the reading stops
+-- too few bytes after the front: the reading stops
 pub rest_stops : (format : ℕ) (old mid new front xs : List ℕ) (size : ℕ) (ended : Bool) (f f' base capacity : ℕ)
     (cause : OpenError) → IsRight format front size → length front + length xs ≡ size → base + size ≤ capacity
     → mid ≡ old ++ front → AppendsProperPrefix mid new xs → IsShort ended cause → f' ≡ f + rise cause

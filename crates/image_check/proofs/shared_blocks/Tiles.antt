@@ -1,4 +1,4 @@
--- The links behind all values, noted in a walk over the tiles.
+-- The links after all values, noted in a walk over the tiles.
 use Rattle.image_check.proofs.Common.{Blocks, Contains, HasTiles, Index, IsCountedLink, IsMarkingOf, IsTileGrown}
 use Rattle.image_check.proofs.Common.{IsTrue, IsValueGrown, IsValueReady, Kind, List, Map, Memory, Node, None}
 use Rattle.image_check.proofs.Common.{NotesValues, Option, Owner, Rates, Role, Row, Scalar, Some, Storage, String, Tile}
@@ -411,7 +411,7 @@ value-if m t kind at (Some k) e =
     let f : (k, value_offset m (payload t)) ≡ (kind, at) = cc in
     (ap (λ (p : Kind × ℕ). Some p.0) f, ap (λ (p : Kind × ℕ). p.1) f)
 
--- behind the last tile all values are noted
+-- after the last tile all values are noted
 pub noting-end : (format : ℕ) (b : List ℕ) (old : Blocks) (owed seen : ℕ) (es : Blocks) (pending : Option ℕ)
     (waiting visits : ℕ) → Noting format b old owed seen es pending waiting visits (tiles_in b)
     → NotesValues format b old es pending waiting

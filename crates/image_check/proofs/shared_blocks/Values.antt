@@ -1,4 +1,4 @@
--- The links behind a value, noted one after another.
+-- The links after a value, noted one after another.
 use Rattle.image_check.proofs.Common.{AreElementsNoted, AreTextsNoted, Blocks, Err, HasTiles, IsCountedLink}
 use Rattle.image_check.proofs.Common.{IsMarkedLink, IsMarkingOf, IsStorageNoted, IsTrue, IsValueGrown, IsValueReady}
 use Rattle.image_check.proofs.Common.{Kind, List, Map, MarksLink, MatchResult, MayCount, Node, None, Ok, Option, Result}

@@ -1,4 +1,4 @@
--- What is counted of tiles, with one more behind them.
+-- What is counted of tiles, with one more after them.
 use Rattle.image_check.proofs.Common.{AreCounted, IsTrue, List, None, Option, Role, Some, Tile, WindowState, [], ap}
 use Rattle.image_check.proofs.Common.{arith, false, is_legal_size, is_none, is_some, length, refl, small_size, sym, ℕ}
 use Rattle.image_check.proofs.Common.{◌++◌, ◌+◌, ◌<◌, ◌^◌, ◌∙◌, ◌∷◌, ◌≡◌}

@@ -11,7 +11,7 @@ use Rattle.image_check.specs.Passes.{tiles_in}
 use Rattle.image_check.proofs.block_collection.Lookup.{count-free, count-push, count-used}
 use Rattle.image_check.proofs.walks.Tiles.{WalksAt}
 
--- so many tiles in use are passed, and what is kept of all tiles before the next
+-- this many tiles in use are passed, and what is kept of all tiles before the next
 pub record RowWalks (c : WindowState) (Kept : List Tile → Type 0) (number : ℕ) : Type 0 where
   pub front : List Tile
   pub rest : List Tile
@@ -133,7 +133,7 @@ module _ (c : WindowState) (Kept : List Tile → Type 0) (gaps : PassesGaps c Ke
             len = ap (λ (f : ℕ × Role × ℕ). f.2) same;
           }
 
-  -- behind the last row all tiles are free
+  -- after the last row all tiles are free
   pass-all : (front rest : List Tile) → EncodesTiles c (front ++ rest) → Kept front → length (entries_of rest) ≡ 0
       → Kept (tiles_in c.bytes)
   pass-all front [] said kept none = subst Kept (sym (tiles_are_read_off c (front ++ []) said ∙ append-nil front)) kept
@@ -161,7 +161,7 @@ module _ (c : WindowState) (Kept : List Tile → Type 0) (gaps : PassesGaps c Ke
         ∙ sym (ap (λ (ts : List Tile). slice_get (frames (entries_of ts)) number) tiles-all)
         ∙ sym (ap (λ (fs : List (ℕ × Role × ℕ)). slice_get fs number) f) ∙ frame-there es number x e)
 
-    -- behind the last row all tiles were passed
+    -- after the last row all tiles were passed
     pub rows-end : length es ≤ number → Kept (tiles_in c.bytes)
     rows-end l =
         let same = few-rows c.bytes es f in

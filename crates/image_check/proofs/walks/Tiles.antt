@@ -1,4 +1,4 @@
--- A walk over the tiles of a window, from the first by `next`, that keeps something of the tiles behind it.
+-- A walk over the tiles of a window, from the first by `next`, that keeps something of the tiles after it.
 use Rattle.image_check.proofs.Common.{EncodesTiles, IsFirstWrongTile, IsTrue, List, None, Option, Row, Some, Tile}
 use Rattle.image_check.proofs.Common.{WindowState, [], and_from, and_parts, ap, arith, bytes_of, cases_Bool, cond-false}
 use Rattle.image_check.proofs.Common.{cond-true, false, has_tags, inl, inr, is_legal_size, length, list_all}
@@ -56,7 +56,7 @@ pub walk-start : (c : WindowState) (Kept : List Tile → Type 0) (tile : Option 
 walk-start c Kept tile tiled first kept =
     record { front = []; rest = tiled.tiles; said = tiled.said; is = first tiled.tiles tiled.said; kept = kept }
 
--- a tile that is looked at, with those behind it
+-- a tile that is looked at, with those after it
 pub record WalksAt (c : WindowState) (Kept : List Tile → Type 0) (here : Tile) : Type 0 where
   pub front : List Tile
   pub back : List Tile
@@ -75,7 +75,7 @@ walk-at c Kept tile here w e =
       kept = w.kept;
     }
 
--- the tile lies behind those passed
+-- the tile lies after those passed
 pub at-lies : (c : WindowState) (Kept : List Tile → Type 0) (here : Tile) → (a : WalksAt c Kept here)
     → LiesIn 128 a.front here
 at-lies c Kept here a = row-lies 128 a.front here a.back (length c.bytes - 16)
@@ -152,7 +152,7 @@ all-fails test (t ∷ front) here back h = elim (cases_Bool (test t)) [
   | inr e ↦ ap (λ b. b && list_all test (front ++ here ∷ back)) e
 ]
 
--- the first that fails it, behind those that pass it
+-- the first that fails it, after those that pass it
 pub first-fails : (test : Tile → Bool) (front : List Tile) (here : Tile) (back : List Tile)
     → list_all test front ≡ true → test here ≡ false
     → find (λ t. not (test t)) (front ++ here ∷ back) ≡ Some here

@@ -58,7 +58,7 @@ fn set_version(format: u64, heap: &mut Heap)
     }
 }
 
-/// Returns the heap of a window that is one by a format, without way-points, and with room for them. From format 0 the
+/// Returns the heap of a window that is one by a format, without block hints, and with room for them. From format 0 the
 /// gaps get a tree; otherwise no byte changes.
 fn as_heap(alloc: Global, format: u64, window: Window) -> Heap
     requires { IsHeap format window.bytes }

@@ -45,7 +45,7 @@ module _ (c : WindowState) (ts : List Tile) (said : EncodesTiles c ts) where
   can_split at len t e long whole room =
       record { tiles = ts; said = said; tile = t; stands = e; long = long; whole = whole; room = room }
 
-  -- a tile has a free one behind it
+  -- a tile has a free one after it
   pub has_free_next : (at : ℕ) (t u : Tile) → tile_in ts at ≡ Some t → next_in ts at ≡ Some u → IsTrue (is_free u)
       → HasFreeNext c at
   has_free_next at t u e f free =

@@ -23,7 +23,7 @@ find_none before (n ∷ ns) a =
     let e = not_from_true (before n) p.0 in
     rw e (find_none before ns p.1)
 
--- a node that is before the probe, like all in front of it: the first that is not stands behind
+-- a node that is before the probe, like all in front of it: the first that is not stands after
 pub first_not_before-right : (before : ℕ → Bool) (xs : List ℕ) (n : ℕ) (ys : List ℕ) → list_all before xs ≡ true
     → before n ≡ true → first_not_before before (xs ++ n ∷ ys) ≡ first_not_before before ys
 first_not_before-right before xs n ys a b =

@@ -91,7 +91,7 @@ module _ (f : ℕ → ℕ → ℕ → ℕ) where
         ap (λ (l : List ℕ). word_at (bytes_of l) a) e
         ∙ word-before b to T (omega (arith, length-reworded (bytes_of b) source to n)) a (omega (arith, below, high))
 
-    -- and so are those behind words that moved towards the start
+    -- and so are those after words that moved towards the start
     pub words-after : (from r : ℕ) → to + 8 * n ≤ from → from + 8 * r ≤ length b → (a : ℕ) → from ≤ a
         → a + 8 ≤ from + 8 * r → word_at (bytes_of cur) a ≡ word_at (bytes_of b) a
     words-after from r above inside a low high =
@@ -176,7 +176,7 @@ module _ (f : ℕ → ℕ → ℕ → ℕ) where
       e ∙ ap (λ (x : ℕ). patched b to (word_bytes x)) g
       ∙ ap (λ (l : List ℕ). patched b to l) (sym (append-nil (one m from to)))
 
-  -- one word more is written behind the others
+  -- one word more is written after the others
   pub put_next : (m : Memory) (b cur new : List ℕ) (from to k w : ℕ) → to + 8 * k + 8 ≤ length b
       → cur ≡ patched b to (reworded f m from to k)
       → new ≡ patched cur (to + 8 * k) (word_bytes w) → w ≡ f (from + 8 * k) (to + 8 * k) (word_at m (from + 8 * k))
@@ -303,7 +303,7 @@ non_null-part m at n from i r e few set = record {
       set.each (i + k) (omega arith) (subst (λ (a : ℕ). link_at m a ≡ None) f null);
 }
 
--- two runs of links that are not null, one behind the other
+-- two runs of links that are not null, one after the other
 pub non_null-join : (m : Memory) (at r n : ℕ) → HasNoNullLink m at r → HasNoNullLink m (at + 8 * r) n
     → HasNoNullLink m at (r + n)
 non_null-join m at r n front back = record { each = λ k h. by_place k h (cases_lt k r) }

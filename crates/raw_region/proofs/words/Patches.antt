@@ -52,7 +52,7 @@ module _ (b : List ℕ) (from : ℕ) (ws : List ℕ) (within : from + length ws 
       ∙ get_or-append_right (take from b) ws from (from + k) 0 (omega (arith, length-take from b)) (omega arith)
       ∙ ap (λ (i : ℕ). slice_index ws i) at_k
 
-  -- a byte behind the part stays
+  -- a byte after the part stays
   pub patched-after : (k : ℕ) → from + length ws ≤ k → slice_index (patched b from ws) k ≡ slice_index b k
   patched-after k h =
       let at_k : from + length ws + (k - (from + length ws)) ≡ k = omega arith in
@@ -114,7 +114,7 @@ module _ (b : List ℕ) (from : ℕ) (ws : List ℕ) (within : from + length ws 
       take-append-le m (take from b ++ ws) (drop (from + length ws) b) (omega (arith, long_rewritten))
       ∙ take-append-le m (take from b) ws (omega (arith, length-take from b)) ∙ take-take m from b h
 
-  -- what is behind a patch stays
+  -- what is after a patch stays
   pub drop-patched : (m : ℕ) → from + length ws ≤ m → drop m (patched b from ws) ≡ drop m b
   drop-patched m h =
       let n = from + length ws in let e : m ≡ n + (m - n) = omega arith in
@@ -131,7 +131,7 @@ module _ (b : List ℕ) (from : ℕ) (ws : List ℕ) (within : from + length ws 
       ∙ ap (λ (l : List ℕ). P ++ l) (sym (drop-take n j b) ∙ ap (λ (k : ℕ). drop n (take k b)) e')
       ∙ ap (λ (l : List ℕ). (l ++ ws) ++ drop n (take m b)) (sym (take-take from m b (omega arith)))
 
--- the same bytes behind the first ones
+-- the same bytes after the first ones
 pub behind-patched : (b : List ℕ) (base from : ℕ) (ws : List ℕ) → base + from + length ws ≤ length b
     → drop base (patched b (base + from) ws) ≡ patched (drop base b) from ws
 behind-patched b base from ws within =
@@ -279,7 +279,7 @@ patched-prepend b from ws ts within =
     ∙ ap (λ (l : List ℕ). l ++ D) (append_assoc (take from b) ws ts)
     ∙ ap (λ (k : ℕ). (take from b ++ (ws ++ ts)) ++ drop k b) end
 
--- two patches, the second right behind the first, are one
+-- two patches, the second right after the first, are one
 pub patched-append : (b : List ℕ) (from : ℕ) (ws ts : List ℕ) → from + length ws + length ts ≤ length b
     → patched (patched b from ws) (from + length ws) ts ≡ patched b from (ws ++ ts)
 patched-append b from ws ts within =

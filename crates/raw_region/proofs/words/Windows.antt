@@ -25,7 +25,7 @@ module _ (region : List ℕ) (base size : ℕ) (w : WindowState) (view_is : cut_
   pub size_is : length w.bytes ≡ size
   size_is = ap (λ (l : List ℕ). length l) (sym bytes_are) ∙ length-part region base size window.inside
 
-  -- the region is the window between what is before and behind it
+  -- the region is the window between what is before and after it
   pub is_whole : region ≡ whole w
   is_whole = sym (whole-cut_at region base size) ∙ ap whole view_is
 

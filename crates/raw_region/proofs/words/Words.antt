@@ -190,7 +190,7 @@ module _ (b : List ℕ) (from : ℕ) (ws : List ℕ) (within : from + length ws 
   word-before at h = SameBytesExcept-word_below (bytes_of b) (bytes_of (patched b from ws)) from (length ws) at
       patched-SameBytesExcept h
 
-  -- a word behind a patch stays
+  -- a word after a patch stays
   pub word-after : (at : ℕ) → from + length ws ≤ at
       → word_at (bytes_of (patched b from ws)) at ≡ word_at (bytes_of b) at
   word-after at h = SameBytesExcept-word_above (bytes_of b) (bytes_of (patched b from ws)) from (length ws) at
@@ -239,7 +239,7 @@ word-first x rest h =
     read-part (ws ++ rest) 0 (length ws) (omega (arith, length-append ws rest)) ∙ take_front ws rest (length ws) refl in
     HasBytesAt-word (bytes_of (ws ++ rest)) 0 x h own
 
--- a word behind a front is the word of the rest
+-- a word after a front is the word of the rest
 pub word-behind : (ws rest : List ℕ) (n at k : ℕ) → length ws ≡ n → at ≡ n + k
     → word_at (bytes_of (ws ++ rest)) at ≡ word_at (bytes_of rest) k
 word-behind ws rest n at k long e = word_moved (bytes_of rest) (bytes_of (ws ++ rest)) k at (λ i a c l f g.

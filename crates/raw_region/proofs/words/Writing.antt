@@ -21,7 +21,7 @@ front_of_longer old new a b h =
       added = h.added ∙ ap (λ l. old ++ l) (sym (take-append-le n a b fits));
     }
 
--- a front of a text that is written behind another is a front of both
+-- a front of a text that is written after another is a front of both
 front_behind : (old mid new a b : List ℕ) → mid ≡ old ++ a → AppendsProperPrefix mid new b
     → AppendsProperPrefix old new (a ++ b)
 front_behind old mid new a b e h =
@@ -32,7 +32,7 @@ front_behind old mid new a b e h =
           ∙ ap (λ l. old ++ l) (sym (take-append-add a b h.count));
     }
 
--- a text that is written behind another
+-- a text that is written after another
 pub writes-behind : {A E : Type 0} (old mid new : WriterHistory) (result : Result A E) (a b : List ℕ)
     → mid.bytes ≡ old.bytes ++ a → mid.failures ≡ old.failures
     → Writes mid new result b → Writes old new result (a ++ b)
@@ -54,7 +54,7 @@ pub writes-then : {A B E F : Type 0} (old mid new : WriterHistory) (x : A) (resu
 writes-then old mid new x result a b first more =
     writes-behind old mid new result a b first.ok (omega (arith, first.counted)) more
 
--- a text that is cut is so whatever was to be written behind it
+-- a text that is cut is so whatever was to be written after it
 pub writes-cut : {A B E F : Type 0} (old new : WriterHistory) (x : E) (result : Result B F) (a b : List ℕ)
     → IsErr result → Writes {A = A} old new (Err x) a → Writes old new result (a ++ b)
 writes-cut old new x (Ok y) a b h w = absurd (cc h)

@@ -48,7 +48,7 @@ pub found_handle : (c : WindowState) (h : ℕ) (x : Extent)
     → IsHeap current c.bytes → extent_at (live_of c.bytes) h ≡ Some x → handle x ≡ h
 found_handle c h x heap e = let l = live_of c.bytes in (among 128 h x l.extents (live-rises l heap.proper) e).at
 
--- a block lies behind the header, and behind it are 16 bytes more
+-- a block lies after the header, and after it are 16 bytes more
 pub record Inside (c : WindowState) (h n : ℕ) : Type 0 where
   pub low : 144 ≤ h
   pub ends : h + n + 16 ≤ length c.bytes
@@ -154,7 +154,7 @@ insert_all P hs i h within a p =
     λ k l. all_at P hs k (get_or hs k 0) a (slice_get-get_or hs k 0 l) in
     all_from P (insert hs i h) (insert_each (λ k x. P x) hs i h within (λ k l. each k (omega arith)) p (λ k l. each k))
 
--- the links behind a place make way for a new one
+-- the links after a place make way for a new one
 pub insert_links : {m m' : Memory} (from to i h : ℕ) (hs : List ℕ) → AreLinksTo m from hs → i ≤ length hs
     → ((k : ℕ) → k < i → link_at m' (to + 8 * k) ≡ link_at m (from + 8 * k)) → link_at m' (to + 8 * i) ≡ Some h
     → KeepTargets m m' (from + 8 * i) (to + 8 * i + 8) (length hs - i) → AreLinksTo m' to (insert hs i h)
@@ -184,7 +184,7 @@ remove_all P hs i within a =
     λ k l. all_at P hs k (get_or hs k 0) a (slice_get-get_or hs k 0 l) in
     all_from P (remove hs i) (remove_each (λ k x. P x) hs i within (λ k l. each k (omega arith)) (λ k f. each (k + 1)))
 
--- the links behind a place close up
+-- the links after a place close up
 pub remove_links : {m m' : Memory} (at i : ℕ) (hs : List ℕ) → AreLinksTo m at hs → i < length hs
     → ((k : ℕ) → k < i → link_at m' (at + 8 * k) ≡ link_at m (at + 8 * k))
     → KeepTargets m m' (at + (8 * i + 8)) (at + 8 * i) (length hs - i - 1) → AreLinksTo m' at (remove hs i)
@@ -202,7 +202,7 @@ pub place_small : (i : Index) → place_of i + 24 ≤ 128
 place_small Named = omega arith
 place_small Unique = omega arith
 
--- the words of an index lie behind those of the heap
+-- the words of an index lie after those of the heap
 pub place_behind : (i : Index) → 32 ≤ place_of i
 place_behind Named = omega arith
 place_behind Unique = omega arith

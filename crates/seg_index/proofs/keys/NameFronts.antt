@@ -168,7 +168,7 @@ module _ (b : List ℕ) (bytes : AreBytes b) (h len word : ℕ)
         ∙ ap (λ (n : ℕ). n % 2 ^ (8 * rest)) parts
         ∙ mod_low (big_from 0 len eight) (8 * rest) (big_from len rest eight) small
 
-    -- the word of a short name, without the bytes behind it, is its front
+    -- the word of a short name, without the bytes after it, is its front
     pub short_front : word - bit_and word ((2 ^ 64 - 1) / 2 ^ (8 * len)) ≡ front name
     short_front =
         let whole = is ∙ split eight in let own = split name in

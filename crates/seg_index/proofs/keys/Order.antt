@@ -155,7 +155,7 @@ few_comparisons (suc most) stands low high = elim (cases_lt low high) [
     by_order l up down Greater e =
         omega (arith, half l (middle low high - low) (omega arith), one_turn most stands low high Greater l e)
 
--- ---- what a search knows of the keys before and behind those that are left, and of its comparisons
+-- ---- what a search knows of the keys before and after those that are left, and of its comparisons
 
 -- a link leads to one handle, of which it is known how its key stands
 one_order : (m : Memory) (key : Entry) (block i j h : ℕ) (x : Ordering) → j ≡ i → IsEntryLinkTo m block j h

@@ -219,7 +219,7 @@ module _ {K V : Type 0} (less : K → K → Bool) where
               ≡ true) qs key (rising_below on q qs r)) (removed_rising qs key rest))
         ]
 
--- behind a pair all nodes have greater keys
+-- after a pair all nodes have greater keys
 none_behind : {K V : Type 0} (less : K → K → Bool) → IsStrict less
     → (keys : ℕ → Option K) (q : Pair K V) (qs : List (Pair K V)) → keys (pair_node q) ≡ Some q.key → HaveKeys keys qs
     → Below less q.key qs → is_in (pair_node q) (nodes_of_pairs qs) ≡ false
@@ -346,7 +346,7 @@ module _ {K V : Type 0} (less : K → K → Bool) where
   -- ---- a pair in the place of another
 
   module _ (on : Chains less) (p p' : Pair K V) (same : p'.key ≡ p.key) where
-    -- the pair with the key stands behind this one, or is it
+    -- the pair with the key stands after this one, or is it
     later : (q : Pair K V) (qs : List (Pair K V)) → is_rising less (q ∷ qs) ≡ true
         → pair_at less (q ∷ qs) p'.key ≡ Some p → less p'.key q.key ≡ false
     later q qs r e =

@@ -60,7 +60,7 @@ module _ {K V : Type 0} {kp : Plain K} {vp : Plain V} (kl : Laws kp) (vl : Laws 
 
 -- ---- what a search finds
 
--- the node of a pair, or none, after so many steps
+-- the node of a pair, or none, after this many steps
 pub record Finds {K V : Type 0} (k : Plain K) (v : Plain V) (c : WindowState) (at : Place)
     (pair : List (Pair K V) → Option (Pair K V)) (path : Tree → ℕ) (found : Option ℕ) (taken : ℕ) : Type 0 where
   pub keys : ℕ → Option K

@@ -90,7 +90,7 @@ grows-nothing {old} each n t f p = record {
   same = p.same;
 }
 
--- where there are so many places there is no such refusal
+-- where there are this many places there is no such refusal
 pub not-refused : {old new : WindowState} {each n : ℕ} {t : BackingArray} {e : Refusal} → n ≤ t.capacity
     → LacksSpace old new each n t e → ⊥
 not-refused {old} {each} {n} {t} f r = let none = sym (grown-same (live_of old.bytes) each n t f) ∙ r.none in cc
@@ -584,7 +584,7 @@ too-many c {p} {each} n {t} s some f =
 
 -- ---- elements more
 
--- elements written behind the last one are appended
+-- elements written after the last one are appended
 pub extended : {old s1 new : WindowState} {p : Place} {each len g : ℕ} (n : ℕ) {t : BackingArray} {bytes : List ℕ}
     (more : List ℕ) → IsContainer old.bytes p each len t bytes → len + n ≤ t.capacity → length more ≡ each * n
     → link_at (bytes_of old.bytes) (place_at p) ≡ Some g → ChangesBytes current old s1 (g + each * len) (length more)
@@ -630,7 +630,7 @@ pub none-free : {b : List ℕ} {p : Place} {each len k : ℕ} (n : ℕ) {o : Opt
 none-free {k = k} n {o = None} s f link = let none = eqb-true k 0 s.table in omega (arith, f, none)
 none-free n {o = Some x} s f link = none-some link s.words.link
 
--- ---- how many bytes there are before and behind an element
+-- ---- how many bytes there are before and after an element
 
 record Pieces (each len i : ℕ) (bytes : List ℕ) : Type 0 where
   front : length (take (each * i) bytes) ≡ each * i
@@ -730,7 +730,7 @@ put_in {old} {s1} {s2} {each} {len} {g} i {t} {bytes} more s f room e link c1 mo
 
 -- ---- what the calls of the heap ask for
 
--- the storage has room for an element, those before it and n bytes behind it
+-- the storage has room for an element, those before it and n bytes after it
 pub record Fitting (l : LiveSet) (each i n g : ℕ) : Type 0 where
   pub small : each * i + each + n < 1073741824
   pub room : IsTrue (has_room l g (each * i + each + n))

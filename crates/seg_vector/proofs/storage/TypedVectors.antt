@@ -69,7 +69,7 @@ has-element [] i f = absurd (omega arith)
 has-element (x ∷ xs) zero f = (x, refl)
 has-element (x ∷ xs) (suc i) f = has-element xs i (omega arith)
 
--- an element that is set, with what is before and behind it
+-- an element that is set, with what is before and after it
 pub set-pieces : {T : Type 0} → (xs : List T) (i : ℕ) (y : T) → i < length xs
     → slice_set xs i y ≡ take i xs ++ (y ∷ drop (suc i) xs)
 set-pieces [] i y f = absurd (omega arith)
@@ -91,7 +91,7 @@ module _ {T : Type 0} (size : ℕ) (test : T → Bool) (sp : T → List ℕ)
       length-append (sp x) (flat_map sp xs) ∙ ap (λ k. length (sp x) + k) (flat-long xs both.1)
       ∙ sym (one-more (length xs) x both.0)
 
-  -- one more that is spelled behind others
+  -- one more that is spelled after others
   pub spelled-next : (row : List ℕ) (from : ℕ) (front : List T) (y : T) → IsTrue (list_all test front) → test y ≡ true
       → from + size * length front + size ≤ length row
       → patched (patched row from (flat_map sp front)) (from + size * length front) (sp y)
@@ -186,7 +186,7 @@ module _ {T : Type 0} (size : ℕ) (test : T → Bool) (sp : T → List ℕ)
 
 -- ---- vectors of values, from what is known of their bytes
 
--- what stands has so many elements, and they are these values
+-- what stands has this many elements, and they are these values
 pub vector-now : {T : Type 0} → {size : ℕ} (test : T → Bool) (sp : T
     → List ℕ) {old new : WindowState} {p : Place} {n : ℕ}
     {t : BackingArray} {bytes : List ℕ} (ys : List T) → RewritesElements old new p size n t bytes
@@ -287,7 +287,7 @@ text-grown-then s g w = record {
 
 -- ---- what the calls on bytes do, for vectors. Their element size is the type's.
 
--- what is done where the storage is grown, to so many places as the length and the capacity say
+-- what is done where the storage is grown, to this many places as the length and the capacity say
 abbrev pub HasGrown : WindowState → WindowState → Place → ℕ → (ℕ → ℕ → ℕ) → Type 0
 HasGrown old mid p k n = (len : ℕ) (t : BackingArray) (bytes : List ℕ) → IsContainer old.bytes p k len t bytes
     → ReservesStorageOk old mid p k (n len t.capacity) len t bytes
@@ -315,7 +315,7 @@ module _ {T : Type 0} {size : ℕ} {test : T → Bool} {sp : T
   element-spells i out spells f h = h (length xs) t (flat_map sp xs) stands-at
       ∙ ap (λ j. part (flat_map sp xs) (j * i) j) e ∙ flat-element size test sp spells xs i v.values f
 
-  -- so many places as are asked for
+  -- this many places as are asked for
   pub reserved-of : (n : ℕ) (r : Result (Unit {0}) Refusal) → ReservesStorage old mid p k n r
       → MatchResult r (λ u. GrowsVectorOk size test sp old mid p t n xs) (LacksSpace old mid size n t)
   reserved-of n (Ok u) h = vector-grown v (grown-of (λ len capacity. n) h)
@@ -502,7 +502,7 @@ module _ (old mid : WindowState) {p : Place} {bytes : List ℕ} {t : BackingArra
       → ReplacesText old mid p t (bytes ++ more) t
   text-extended more h = text-now (bytes ++ more) (h (length bytes) t bytes v) (sym (length-append bytes more)) refl
 
-  -- places for bytes behind the last one
+  -- places for bytes after the last one
   pub text-space : (more : List ℕ) → length bytes + length more ≤ t.capacity → word_at (bytes_of old.bytes)
       (p.handle + p.at + 8) + length more ≤ word_at (bytes_of old.bytes) (p.handle + p.at + 16)
   text-space more f = omega (arith, f, v.words.len_word, v.words.capacity)

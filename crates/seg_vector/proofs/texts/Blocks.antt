@@ -44,7 +44,7 @@ pub fresh-none : (xs : List Extent) → AllByRecursion (λ (x : Extent). IsNone 
 fresh-none [] d = refl
 fresh-none (x ∷ xs) d = absurd (d.0.0 refl)
 
--- the block of an array, and others behind it
+-- the block of an array, and others after it
 pub behind-array : (o : Option Extent) {xs ys : List Extent} → option_to_list o ++ xs ≡ option_to_list o ++ ys → xs ≡ ys
 behind-array None e = e
 behind-array (Some x) e = cc
@@ -533,7 +533,7 @@ links-moved m m' a b (q ∷ qs) l s =
     let e : SameElement m m' a b = same-at (omega arith) (omega arith) (s 0 (omega arith)) in
     (e.link ∙ l.0, e.len_word ∙ l.1, links-moved m m' (a + 16) (b + 16) qs l.2 (later m m' a b (length qs) s))
 
--- the links of two runs of strings stand one behind the other
+-- the links of two runs of strings stand one after the other
 pub links-join : (m : Memory) (at : ℕ) (xs ys : List OwnedText) → AreTextLinks m at xs
     → AreTextLinks m (at + 16 * length xs) ys → AreTextLinks m at (xs ++ ys)
 links-join m at [] ys l r = let e : at + 16 * 0 ≡ at = omega arith in subst (λ k. AreTextLinks m k ys) e r

@@ -449,7 +449,7 @@ loose-kept {a} {b} bytes o heap x f n s w = (
   all-found-kept (option_to_list o) x f n,
 )
 
--- its block is none of those behind it
+-- its block is none of those after it
 pub others-front : (o : Option Extent) (xs : List Extent) → AreDistinct (option_to_list o ++ xs)
     → AllByRecursion (λ (y : Extent). AllByRecursion (λ (z : Extent). handle y ≢ handle z) xs) (option_to_list o)
 others-front None xs d = tt

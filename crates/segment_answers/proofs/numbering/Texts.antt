@@ -41,7 +41,7 @@ line-text (suc (suc k)) (b ∷ bs) one =
 
 module _ (old new line : List ℕ) (n : ℕ) (begun : is_in_text false old ≡ true) (some : 0 < n) (within : n ≤ length line)
     (one : (k : ℕ) → k < n → is_in_text true (take k line) ≡ true) (took : new ≡ old ++ take n line) where
-  -- the text of a line behind another
+  -- the text of a line after another
   pub line_text : text_part false new ≡ text_part false old ++ take n line
   line_text = ap (text_part false) took ∙ text-append false old (take n line)
       ∙ ap (λ (t : Bool). text_part false old ++ text_part t (take n line)) begun

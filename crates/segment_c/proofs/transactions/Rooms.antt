@@ -19,7 +19,7 @@ region-len c =
 pub fits-within : (c : WindowState) (len : ℕ) → len ≤ length c.bytes → nat_le len (room_of c) ≡ true
 fits-within c len h = let all = region-len c in le-leb len (room_of c) (omega (arith, all, h))
 
--- and more does, where there is room behind it
+-- and more does, where there is room after it
 pub fits-beyond : (c : WindowState) (len left : ℕ) → left ≡ length (whole c) - (length c.before + length c.bytes)
     → length c.bytes < len → nat_le (len - length c.bytes) left ≡ nat_le len (room_of c)
 fits-beyond c len left e h = same-test (nat_le (len - length c.bytes) left) refl

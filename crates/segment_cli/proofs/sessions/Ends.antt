@@ -53,7 +53,7 @@ not_written took = record {
   failed = none_failed took.failures took.failures refl;
 }
 
--- bytes that were added come behind those before
+-- bytes that were added come after those before
 pub appended : (old new b : List ℕ) → new ≡ old ++ b → AppendsBytes old new
 appended old new b e = e ∙ ap (λ (l : List ℕ). old ++ l) (sym (added old new b e))
 
@@ -84,7 +84,7 @@ front_added old new image h =
           omega (arith, h.fewer),
     )
 
--- an image that is accepted, written in mode Write behind the bytes that a writer took before
+-- an image that is accepted, written in mode Write after the bytes that a writer took before
 pub image_saved : (mode : Mode) (old new image : List ℕ) (d : Directory) → mode ≡ Write → new ≡ old ++ image
     → IsSaved image d → SavesImage mode (drop (length old) new) d
 image_saved mode old new image d writes e s = subst (λ (m : Mode). SavesImage m (drop (length old) new) d) (sym writes)

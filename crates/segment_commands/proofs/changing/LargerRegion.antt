@@ -23,7 +23,7 @@ use Rattle.segment_commands.specs.Opening.{OpensWith}
 use Rattle.segment_commands.specs.Resizing.{more_by, refusal_by}
 use Rattle.segment_commands.proofs.running.Start.{no_error, was_read}
 
--- what was read, behind an answer
+-- what was read, after an answer
 record IsReadIn (more : ℕ) (s : SegmentState) : Type 0 where
   len : ℕ
   image : ReadDelta

@@ -164,7 +164,7 @@ module _ {D O E : Type 0} (step : D → Event → D → Type 0) (history : O →
           );
         }
 
-  -- behind the last file
+  -- after the last file
   module _ (disk' : D) (err' : WriterHistory) (out' out'' : O) (said : Result (Unit {0}) E) (files : List (List ℕ))
       (worst : ℕ) (going : Going disk' err' out' said files worst) (same : history out'' ≡ history out') where
     all_told : (ok : Bool) → flushes out' ok out''

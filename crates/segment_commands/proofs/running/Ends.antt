@@ -115,7 +115,7 @@ module _ {D : Type 0} (step : D → Event → D
     zeros = λ z. absurd (cc);
   })
 
-  -- it ended behind a line that was refused
+  -- it ended after a line that was refused
   refused_act : (ok : Bool) → AnswersScript until s s' script out Flushed Refused ok → IsRefusedAct act
   refused_act ok answered = record {
     from = h.answers.from;

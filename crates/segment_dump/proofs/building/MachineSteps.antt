@@ -75,7 +75,7 @@ replace-last new (p ∷ os) o e a =
 behind-test : (m n : ℕ) → m ≤ n → nat_lt n m ≡ false
 behind-test m n h = grind (arith, nat_tests)
 
--- an object behind all others is the last
+-- an object after all others is the last
 pub put-last : (o : Object) (os : List Object)
     → AllByRecursion (λ (p : Object). p.extent.offset ≤ o.extent.offset) os → put_object o os ≡ os ++ o ∷ []
 put-last o [] a = refl
@@ -124,7 +124,7 @@ module _ (d : Directory) (site : Site) (done : List DumpItem) (head : Head) (v :
     room = r;
   }
 
-  -- the blocks in front of those of the value, and those behind
+  -- the blocks in front of those of the value, and those after
   abbrev lead_extents : List Extent
   lead_extents = flat_map extents_of f.before
 

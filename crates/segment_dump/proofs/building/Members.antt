@@ -11,7 +11,7 @@ use Rattle.segment_dump.proofs.{texts.AllElements.all-kept, texts.Options.none-s
 
 -- ---- a list that rises by offset has each handle once
 
--- the first stands at n or behind it, and the others behind the first
+-- the first stands at n or after it, and the others after the first
 rises-front : (n : ℕ) (o : Object) (os : List Object) → IsTrue (rises_from n (o ∷ os)) → n ≤ o.extent.offset
 rises-front n o os h = leb-true n o.extent.offset
     (and_parts (nat_le n o.extent.offset) (rises_from (o.extent.offset + 1) os) h).0

@@ -158,7 +158,7 @@ new-object old new site done i more room called next moved =
           (bare content) rest) class (stands-filling u.stands u.mode u.holds));
     }
 
--- ---- behind its kind and its count
+-- ---- after its kind and its count
 
 module _ {E F : Type 0} (old new : SegmentState) (key : Kind → Key) (words : List ℕ) where
   -- no shape: no object is started

@@ -119,7 +119,7 @@ insert-last lt s o [] a = refl
 insert-last lt s o (p ∷ ps) a = ap (λ b. if b then o ∷ p ∷ ps else p ∷ insert_by lt o ps) (s.asym p o a.0)
     ∙ ap (λ l. p ∷ l) (insert-last lt s o ps a.1)
 
--- each is behind all before it
+-- each is after all before it
 abbrev AreOrdered : (Object → Object → Bool) → List Object → List Object → Type 0
 AreOrdered lt acc [] = ⊤
 AreOrdered lt acc (o ∷ os) = AllLess lt o acc × AreOrdered lt (acc ++ o ∷ []) os
@@ -143,12 +143,12 @@ AreItemsOrdered lt acc (i ∷ is) = LessAll lt i acc × AreItemsOrdered lt (acc 
 abbrev pub LessThan : (DumpItem → DumpItem → Bool) → List DumpItem → DumpItem → Type 0
 LessThan lt is j = AllByRecursion (λ k. lt j k ≡ true) is
 
--- the first object is behind those before it
+-- the first object is after those before it
 pub heads-less : (lt : DumpItem → DumpItem → Bool) (i : DumpItem) (is acc : List DumpItem)
     → AllByRecursion (LessThan lt (i ∷ is)) acc → LessAll lt i acc
 heads-less lt i is acc a = all-by (LessThan lt (i ∷ is)) (λ j. lt j i ≡ true) acc a (λ j h. h.0)
 
--- the other objects are behind those before them
+-- the other objects are after those before them
 pub tails-less : (lt : DumpItem → DumpItem → Bool) (i : DumpItem) (is acc : List DumpItem)
     → AllByRecursion (LessThan lt (i ∷ is)) acc → LessThan lt is i → AllByRecursion (LessThan lt is) (acc ++ i ∷ [])
 tails-less lt i is acc a h = AllByRecursion-append (LessThan lt is) acc (i ∷ [])

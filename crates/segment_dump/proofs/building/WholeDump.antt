@@ -1,4 +1,4 @@
--- What was built of a dump is what the dump says, and nothing is free behind it once the end is cut off.
+-- What was built of a dump is what the dump says, and nothing is free after it once the end is cut off.
 use Rattle.segment_dump.proofs.Common.{◌≡◌, ℕ, ◌+◌, ◌-◌, ◌≤◌, ◌==◌, true, cond, List, [], ◌∷◌, ◌++◌, length, map, refl}
 use Rattle.segment_dump.proofs.Common.{sym, ap, subst, ◌∙◌, arith, IsTrue, filter, and_parts, nat_tests, append-nil}
 use Rattle.segment_dump.proofs.Common.{is_legal_size, last_end, Gap, end_of, free_bytes, gap_between, is_proper}
@@ -75,16 +75,16 @@ portable-sorted b d s =
       by_kind = unique-in_order b d s;
     }
 
--- ---- the text behind its first lines
+-- ---- the text after its first lines
 
--- a dump is its front and the objects behind it
+-- a dump is its front and the objects after it
 pub text-behind : (n : ℕ) (items : Items) → dump_text n items
     ≡ front_text n (length items.named) (length items.unique) ++ (items_text (all_items items) ++ end_text)
 text-behind n items = ap (λ l. front_text n (length items.named) (length items.unique) ++ l) (all-text items)
 
 -- ---- nothing is free
 
--- behind the last block is the end tag
+-- after the last block is the end tag
 cut-room : (e : Directory) (rest : ℕ) → IsTrue (is_proper (live (shrunk e)))
     → HasExactRoom (all_extents e) e.size rest → HasExactRoom (all_extents (shrunk e)) (shrunk e).size 0
 unfolding is_proper
@@ -108,7 +108,7 @@ cut-room e rest p h =
 gap-none : (a b : ℕ) → b ≤ a → gap_between a b ≡ []
 gap-none a b l = grind (arith, nat_tests)
 
--- a segment that was cut behind its blocks has no free byte
+-- a segment that was cut after its blocks has no free byte
 pub cut-free : (e : Directory) (rest : ℕ) → IsTrue (is_proper (live (shrunk e)))
     → HasExactRoom (all_extents e) e.size rest → free_bytes (live (shrunk e)) ≡ 0
 unfolding free_bytes cut-room

@@ -52,7 +52,7 @@ text-some text x n rest k o e h m s = record {
 
 -- ---- texts
 
--- what is left of so many texts, and what was counted of them
+-- what is left of this many texts, and what was counted of them
 pub record TextsLeft (rest : List ℕ) (counted whole : Needs) (n : ℕ) (a : List ℕ) : Type 0 where
   pub texts : List (List ℕ)
   pub many : length texts ≡ n

@@ -1,4 +1,4 @@
--- The parts of a line of JSON, one behind another, are the line of the object.
+-- The parts of a line of JSON, one after another, are the line of the object.
 use Rattle.segment_dump.proofs.Common.{◌≡◌, ℕ, List, [], ◌∷◌, ◌++◌, refl, sym, ap, ◌∙◌, append_assoc, codes, map}
 use Rattle.segment_dump.proofs.Common.{ByHandle, Instance, Directory, Object, named_objects, unique_objects, SaysOf}
 use Rattle.segment_dump.proofs.Common.{SegmentState, DenotesCurrent, anonymous_objects, content_of, item_of_object}

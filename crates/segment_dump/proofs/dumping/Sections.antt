@@ -36,7 +36,7 @@ dump-parts size d =
 abbrev pub object_at_place : (Object → List ℕ) → (Directory → List Object) → Directory → ℕ → List ℕ
 object_at_place text objects d i = part_of text (slice_get (objects d) i)
 
--- what was said of an object at a place is told there, and then so many
+-- what was said of an object at a place is told there, and then this many
 module _ {s : SegmentState} {objects : Directory → List Object} {text : Object
     → List ℕ} {old mid new : WriterHistory} {i : ℕ}
     {said : Instance} (at : SaysAt s objects i said)

@@ -178,7 +178,7 @@ product-long m n h l = let g : m * 1 ≤ m * n = mul-le-mul_left m l in omega (a
 none-more : (each n rest : ℕ) → n ≡ 0 → block_room (each * n) + rest ≡ rest
 none-more each n rest e = no-bytes (each * n) rest (ap (λ k. each * k) e ∙ mul-zero each)
 
--- storage for so many
+-- storage for this many
 abbrev pub table_of : ℕ → Extent → BackingArray
 table_of n x = record { capacity = n; extent = Some x }
 
@@ -190,7 +190,7 @@ pub record IsStored (v : Value) (each : ℕ) : Type 0 where
   -- a value with no storage
   pub none : with_table v no_backing ≡ v
 
--- a vector has storage of so many bytes an element
+-- a vector has storage of this many bytes an element
 pub vector-stored : (k : ScalarKind) → IsStored (Elements k [] no_backing) (size_of k)
 vector-stored k = record { storage = refl; alone = refl; more = λ n x. refl; none = refl }
 
@@ -209,7 +209,7 @@ reserve_plan d n o v = with (storage_of v) (λ (each, len, t).
 abbrev grow_plan : Directory → ℕ → ℕ → Object → Value → Plan
 grow_plan d n each o v = with_capacity each n no_backing (λ u. Reply Done (changed d o (with_table v u)))
 
--- there are so many places in the value's table
+-- there are this many places in the value's table
 pub data HasTable (v : Value) (n : ℕ) : Value → Type 0 where
   none : n ≡ 0 → HasTable v n (with_table v no_backing)
   -- a value with storage
@@ -379,7 +379,7 @@ module _ (d : Directory) (site : Site) (done : List DumpItem) (head : Head) (ps 
   pub text-pushed : IsFilling d site done head (Texts ps t) (block_room (length bs) + rest) → IsRest rest → TextPushed
   text-pushed f r = push-by (length bs == 0) refl f r
 
--- ---- a pair behind all others
+-- ---- a pair after all others
 
 -- all keys are less
 abbrev pub AreLess : ℤ → List NumberPair → Type 0

@@ -87,7 +87,7 @@ pub record NextElement {Y : Type 0} (s : SegmentState) (text : List ℕ) (p : Fi
   pub leads : (new : SegmentState) (given : Answer) → TakesStepOfKind s new (ByHandle h) kind (c value) given
       → (given ≡ answer) × FillsAt new after p h (n + 1)
 
--- the directory has it behind those before it
+-- the directory has it after those before it
 record HasNext {X Y : Type 0} (way : FillCourse X Y) (p : FillState) (h : ℕ) (front : List X) (y : Y) (back : List Y)
     (e : Directory) : Type 0 where
   one : X
@@ -207,7 +207,7 @@ module _ (s : SegmentState) (text : List ℕ) (p : FillState) (h n : ℕ) (f : F
 int-asym : (x y : ℤ) → int_lt x y ≡ true → int_lt y x ≡ false
 int-asym x y e = grind (arith, ints)
 
--- so many multiples of 16 are one
+-- this many multiples of 16 are one
 pub times-rest : (b n : ℕ) → IsRest b → IsRest (n * b)
 times-rest b zero r = inl (zero-mul b)
 times-rest b (suc n) r = subst IsRest (sym (suc-mul n b)) (rest-both (n * b) b (times-rest b n r) r)

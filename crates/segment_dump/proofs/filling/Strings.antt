@@ -47,7 +47,7 @@ piece-appended {E} {F} old new h words p bytes called result r e step ok = recor
 
 -- ---- all of them
 
--- so many pieces are there
+-- this many pieces are there
 pub record StringAt (s : SegmentState) (text : List ℕ) (p : FillState) (h n : ℕ) (bs : List ℕ) : Type 0 where
   pub table : BackingArray
   pub places : length bs ≤ table.capacity

@@ -89,7 +89,7 @@ and-false : (a b : Bool) → b ≡ false → (a && b) ≡ false
 and-false true b e = e
 and-false false b e = refl
 
--- one behind all that are less
+-- one after all that are less
 named-key : (i j : DumpItem) → i.class ≡ Named → name_less j i ≡ true → has_item_key (item_key i) j ≡ false
 named-key i j e l =
     ap (λ c. has_item_key (key_in c i.name (kind_of_content i.content)) j) e

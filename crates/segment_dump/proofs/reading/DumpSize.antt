@@ -1,4 +1,4 @@
--- The size that a dump says, with notes behind it or not.
+-- The size that a dump says, with notes after it or not.
 use Rattle.segment_dump.proofs.Common.{◌≡◌, ◌≢◌, ℕ, ◌^◌, ◌<◌, List, ◌++◌, length, Option, Some, None, ap, ◌∙◌}
 use Rattle.segment_dump.proofs.Common.{append_assoc, drop, Items, entries_text, without_notes, dump_text, end_text}
 use Rattle.segment_dump.proofs.Common.{front_text, items_text}
@@ -6,7 +6,7 @@ use Rattle.segment_dump.specs.Counting.{SaysSize}
 use Rattle.segment_dump.proofs.reading.FrontLines.{NumberReads, before_entries, before_size, number-said}
 use Rattle.segment_dump.proofs.{reading.Notes.notes-are-cut, texts.Options.none-some, texts.Options.some-pair}
 
--- what stands behind the first lines
+-- what stands after the first lines
 abbrev objects_of : Items → List ℕ
 objects_of items = items_text items.named ++ (items_text items.unique ++ (items_text items.anonymous ++ end_text))
 

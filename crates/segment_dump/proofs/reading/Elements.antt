@@ -50,7 +50,7 @@ module _ {E : Type 0} (wholes : WholesAreDecimals) (kind : ScalarKind) (text res
             (never-ok e (scalar_of kind z) (element-there line left (Err e) h w z a g t).0);
       }
 
-  -- a line with more behind the value: no element is read
+  -- a line with more after the value: no element is read
   pub element-more : (line left : List ℕ) (v : ScalarValue) (e : E) (result : Result ScalarValue E)
       → ReadsLine {E = E} text rest (Ok line) → ReadsWord {E = E} (value_word kind) line left (Ok v)
       → ReadsEnd left (Err e) → ReadsElement kind text rest result
@@ -121,7 +121,7 @@ module _ {E : Type 0} (wholes : WholesAreDecimals) (k w : ScalarKind) (text rest
           (value-there left last (Err e) p g (key-there line left (Ok x) h f p a g t).1 v).0);
     }
 
-    -- a line with more behind the value: no pair is read
+    -- a line with more after the value: no pair is read
     pub pair-more : (y : ScalarValue) (e : E) (result : Result (ScalarValue × ScalarValue) E)
         → ReadsWord {E = E} (value_word w) left last (Ok y) → ReadsEnd last (Err e) → ReadsPair k w text rest result
     pair-more y e result v n = record {

@@ -89,7 +89,7 @@ module _ {E : Type 0} {text left : List ℕ} where
         (k.reads (g.reads [] (ap next_word q.0 ∙ one-next)).1, q.1);
   }
 
--- ---- a number behind a blank
+-- ---- a number after a blank
 
 number-there : (n : ℕ) → next_word (0x20 ∷ decimal n) ≡ Some (Bare (decimal n), [])
 number-there n = blank-next (decimal n) ∙ ap next_word (sym (append-nil (decimal n))) ∙ number-next n [] refl
@@ -134,7 +134,7 @@ module _ {E : Type 0} (law : NumbersAreDecimals) {text left : List ℕ} where
       → Takes size_said IsNumber text left result
   size-no_number h f = record { takes = λ n a g t. absurd (no-ok (size-number h f n a g t).0) }
 
-  -- more behind the size: none is read
+  -- more after the size: none is read
   pub size-more : {words last : List ℕ} {m : ℕ} {e : E} {result : Result ℕ E}
       → ReadsLead {E = E} (codes "size") text left (Ok words) → ReadsWord {E = E} number words last (Ok m)
       → ReadsEnd last (Err e) → Takes size_said IsNumber text left result
@@ -206,7 +206,7 @@ module _ {E : Type 0} (law : NumbersAreDecimals) {text left : List ℕ} where
       → ReadsWord number mid last (Err e) → Takes entries_said AreNumbers text left result
   entries-no_unique h f g = record { takes = λ p a l t. absurd (no-ok (entries-unique h f g p a l t).1) }
 
-  -- more behind the numbers: none are read
+  -- more after the numbers: none are read
   pub entries-more : {words mid last : List ℕ} {n m : ℕ} {e : E} {result : Result (ℕ × ℕ) E}
       → ReadsLead {E = E} (codes "indexes") text left (Ok words) → ReadsWord {E = E} number words mid (Ok n)
       → ReadsWord {E = E} number mid last (Ok m) → ReadsEnd last (Err e)

@@ -75,7 +75,7 @@ pub bare-long : (w a : List ℕ) → 0 < length w → AreBare w → ends_word a 
 bare-long [] a l h e = absurd (omega arith)
 bare-long (c ∷ w) a l h e = bare-next c w a h e
 
--- behind a blank
+-- after a blank
 pub blank-next : (bytes : List ℕ) → next_word (0x20 ∷ bytes) ≡ next_word bytes
 unfolding next_word
 blank-next bytes = refl

@@ -6,7 +6,7 @@ use Rattle.segment_dump.proofs.Common.{before_notes, ends_line, is_line, without
 use Rattle.std.proofs.Common.{ap₂}
 use Rattle.segment_dump.specs.Notes.{IsLastLine}
 
--- ---- notes behind whole lines
+-- ---- notes after whole lines
 
 no-start : (c : ℕ) (b : Bool) → (c == 0x23) ≡ true → (c == 0x0A) ≡ b → b ≡ false
 no-start c b e f = grind (arith, nat_tests)
@@ -39,7 +39,7 @@ all-cut : (notes : List ℕ) → are_notes true notes ≡ true → before_notes 
 all-cut [] h = refl
 all-cut (c ∷ cs) h = ap (λ b. cond b [] (c ∷ before_notes (c == 0x0A) cs)) h
 
--- lines with notes behind them: the notes are cut off
+-- lines with notes after them: the notes are cut off
 pub cut-notes : (start : Bool) (lines notes : List ℕ) → ends_line start lines ≡ true → are_notes true notes ≡ true
     → before_notes start (lines ++ notes) ≡ before_notes start lines
 cut-notes true [] notes h n = all-cut notes n
@@ -101,12 +101,12 @@ note-told (c ∷ cs) b h e f =
 
 -- ---- where the last line starts
 
--- whether two texts end with a line end, one behind the other
+-- whether two texts end with a line end, one after the other
 pub ends-behind : (start : Bool) (a b : List ℕ) → ends_line start (a ++ b) ≡ ends_line (ends_line start a) b
 ends-behind start [] b = refl
 ends-behind start (c ∷ cs) b = ends-behind (c == 0x0A) cs b
 
--- a text with a line end behind it ends with one
+-- a text with a line end after it ends with one
 pub ends-last : (start : Bool) (a : List ℕ) → ends_line start (a ++ 0x0A ∷ []) ≡ true
 ends-last start a = ends-behind start a (0x0A ∷ [])
 
@@ -122,7 +122,7 @@ last-byte text at e = one-line (drop at text) (omega (arith, length-drop at text
 byte-is : (c : ℕ) → (c == 0x0A) ≡ true → c ≡ 0x0A
 byte-is c e = grind (arith, nat_tests)
 
--- a line begins at the front, or behind a line end
+-- a line begins at the front, or after a line end
 pub starts-at : (text : List ℕ) (at : ℕ) → at ≤ length text → (0 < at → (get_or text (at - 1) 0 == 0x0A) ≡ true)
     → ends_line true (take at text) ≡ true
 starts-at text zero h e = refl

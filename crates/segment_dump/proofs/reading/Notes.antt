@@ -1,4 +1,4 @@
--- A dump has no notes, and what is told behind it has nothing else.
+-- A dump has no notes, and what is told after it has nothing else.
 use Rattle.segment_dump.proofs.Common.{◌≡◌, ◌≢◌, ℕ, suc, ◌-◌, ◌/◌, ◌==◌, Bool, true, false, cond, List, [], ◌∷◌, ◌++◌}
 use Rattle.segment_dump.proofs.Common.{length, refl, sym, ap, subst, ◌∙◌, arith, append_assoc, codes, decimal}
 use Rattle.segment_dump.proofs.Common.{AllByRecursion, flat_map, ne_eqb, Class, Anonymous, Named, Unique, Kind}
@@ -17,14 +17,14 @@ use Rattle.segment_dump.proofs.reading.NoteLines.{cut-notes, ends-behind, ends-l
 
 -- ---- a dump is whole lines
 
--- a line starts behind this text, whatever stands in front
+-- a line starts after this text, whatever stands in front
 abbrev EndsLine : List ℕ → Type 0
 EndsLine text = (start : Bool) → ends_line start text ≡ true
 
 ends-both : (a b : List ℕ) → EndsLine b → EndsLine (a ++ b)
 ends-both a b h = λ start. ends-behind start a b ∙ h (ends_line start a)
 
--- and so it does behind this one, where one starts in front of it
+-- and so it does after this one, where one starts in front of it
 ends-then : (a b : List ℕ) → EndsLine a → ends_line true b ≡ true → EndsLine (a ++ b)
 ends-then a b h e = λ start. ends-behind start a b ∙ ap (λ s. ends_line s b) (h start) ∙ e
 

@@ -53,7 +53,7 @@ module _ {E : Type 0} (law : NumbersAreDecimals) (words : List ℕ) where
   shape-no_count left last k e result h f =
       record { reads = λ kind n c t. absurd (never-ok e n (count-read left last k (Err e) h f kind n c t).1) }
 
-  -- more behind the count: no shape is read
+  -- more after the count: no shape is read
   pub shape-more : (left last : List ℕ) (k : Kind) (m : ℕ) (e : E) (result : Result ObjectLine E)
       → ReadsWord {E = E} (kind_of_word (whole_language current)) words left (Ok k)
       → ReadsWord {E = E} number left last (Ok m) → ReadsEnd last (Err e) → ReadsKindAndCount words result
@@ -118,7 +118,7 @@ module _ {E : Type 0} (words left : List ℕ) where
             E} bytes (class_text c) (h.reads (Bare (class_text c)) b (class_text c) f refl).0));
       }
 
--- what stands behind it
+-- what stands after it
 abbrev pub behind_class : Class → List ℕ → List ℕ → List ℕ
 behind_class Named name m = 0x20 ∷ (name_text name ++ 0x20 ∷ m)
 behind_class Unique name m = 0x20 ∷ m

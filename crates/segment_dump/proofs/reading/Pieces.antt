@@ -1,4 +1,4 @@
--- The lines of a text are read, and its pieces come one behind another.
+-- The lines of a text are read, and its pieces come one after another.
 use Rattle.segment_dump.proofs.Common.{◌≡◌, ℕ, zero, suc, ◌+◌, ◌-◌, ◌*◌, ◌/◌, ◌^◌, ◌<◌, ◌≤◌, List, [], ◌∷◌, ◌++◌}
 use Rattle.segment_dump.proofs.Common.{length, take, drop, Some, Result, Ok, Err, refl, sym, ap, subst, ◌∙◌, arith}
 use Rattle.segment_dump.proofs.Common.{append_assoc, append-nil, decimal, take-add, length-append, length-take}
@@ -52,7 +52,7 @@ module _ {E : Type 0} (law : TextsAreSpelled) (words left : List ℕ) where
       → ReadsPiece words result
   piece-unread e result h = record { reads = λ i bs a t. absurd (never-ok e bs (piece-there (Err e) h i bs a t).0) }
 
-  -- more behind the text: no piece is read
+  -- more after the text: no piece is read
   pub piece-more : (p : List ℕ) (e : E) (result : Result (List ℕ) E)
       → ReadsWord {E = E} quoted_word words left (Ok p) → ReadsEnd left (Err e) → ReadsPiece words result
   piece-more p e result h f = record {
@@ -64,7 +64,7 @@ module _ {E : Type 0} (law : TextsAreSpelled) (words left : List ℕ) where
   pub piece-some : (p : List ℕ) → ReadsWord {E = E} quoted_word words left (Ok p) → ReadsPiece {E = E} words (Ok p)
   piece-some p h = record { reads = λ i bs a t. (piece-there (Ok p) h i bs a t).0 }
 
--- ---- one piece behind another
+-- ---- one piece after another
 
 pub record NextPiece (bs a : List ℕ) (n : ℕ) (rest : List ℕ) : Type 0 where
   pub more : List ℕ
@@ -88,7 +88,7 @@ next-piece bs a n rest l e =
           ∙ ap (λ t. parts_until part n ++ t) (sym is) ∙ e;
     }
 
--- behind the last piece the rest is left
+-- after the last piece the rest is left
 pub none-left : (bs a : List ℕ) (n : ℕ) (rest : List ℕ) → n ≡ pieces_in (length bs) → PiecesLeft bs a n rest → rest ≡ a
 none-left bs a n rest l e = append_cancel_left (pieces_text bs) rest a
     (ap (λ m. parts_until (piece_line bs) m ++ rest) (sym l) ∙ e)

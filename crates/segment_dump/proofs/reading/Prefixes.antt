@@ -23,7 +23,7 @@ module _ {X Y : Type 0} (say : X → List ℕ) (IsSaid : X → Type 0) (Follows 
 
 -- ---- a line
 
--- what is left of a line, behind which this stands
+-- what is left of a line, after which this stands
 abbrev pub LineLeft : List ℕ → List ℕ → Type 0
 LineLeft rest a = (left : List ℕ) × HasNoEnd left × (rest ≡ ended left ++ a)
 
@@ -53,7 +53,7 @@ word-append : (w : List ℕ) (c : ℕ) → IsWord w → 0x20 < c → IsWord (w +
 word-append [] c h l = (l, tt)
 word-append (d ∷ w) c h l = (h.0, word-append w c h.1 l)
 
--- all behind the first
+-- all after the first
 pub tail-all : (c : ℕ) (tail : List ℕ) → take (length (c ∷ tail) - 1) tail ≡ tail
 tail-all c tail = take_all (length (c ∷ tail) - 1) tail (omega arith)
 
@@ -71,7 +71,7 @@ word-goes text (c ∷ tail) l g h =
 
 -- ---- numbers
 
--- a word in front of a text, behind which no word goes on
+-- a word in front of a text, after which no word goes on
 pub record IsSplit (text word rest : List ℕ) : Type 0 where
   pub whole : text ≡ word ++ rest
   pub high : IsWord word
@@ -119,7 +119,7 @@ kind-reads text w rest o f s = record {
 
 -- ---- lines
 
--- what is left of so many lines, behind which this stands
+-- what is left of this many lines, after which this stands
 pub record LinesLeft (rest : List ℕ) (n : ℕ) (a : List ℕ) : Type 0 where
   pub lines : List (List ℕ)
   pub good : AllByRecursion HasNoEnd lines

@@ -9,7 +9,7 @@ use Rattle.segment_dump.proofs.{counting.Sums.all-append}
 use Rattle.segment_dump.specs.Asked.{AreAtMost, AskTogether, Asking, AsksContent, AsksObject, Begins, CanName, IsLined}
 use Rattle.segment_dump.specs.{Asked.IsMeasured, Asked.IsDumpText, Asked.NamesKind, Texts.length_text, Texts.pieces_in}
 
--- ---- bytes in front, one behind another
+-- ---- bytes in front, one after another
 
 pub joined : (text a b mid rest : List ℕ) → text ≡ a ++ mid → mid ≡ b ++ rest → text ≡ (a ++ b) ++ rest
 joined text a b mid rest e f = e ∙ ap (λ l. a ++ l) f ∙ sym (append_assoc a b rest)
@@ -159,7 +159,7 @@ text-by text r0 r1 rest len count e f m l = record {
   says = record { behind = l.bytes; is = refl; lined = subst (IsLined l.bytes) m l.says };
 }
 
--- ---- what asks, one behind another
+-- ---- what asks, one after another
 
 pub at-most : (n m : Needs) → n ≡ m → AreAtMost n m
 at-most n m e = record {

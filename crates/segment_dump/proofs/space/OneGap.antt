@@ -1,4 +1,4 @@
--- Behind all blocks there is one gap, and each request takes the front of it.
+-- After all blocks there is one gap, and each request takes the front of it.
 use Rattle.segment_dump.proofs.Common.{◌≡◌, inl, inr, ℕ, ◌+◌, ◌-◌, ◌<◌, ◌≤◌, ◌==◌, ◌&&◌, Bool, true, false, nat_le}
 use Rattle.segment_dump.proofs.Common.{nat_lt, List, [], ◌∷◌, ◌++◌, Option, Some, if◌then◌else◌, refl, sym, ap, subst}
 use Rattle.segment_dump.proofs.Common.{◌∙◌, arith, IsTrue, filter, option_map, and_parts, ltb-true, ne_eqb, nat_tests}
@@ -10,9 +10,9 @@ use Rattle.segment_dump.proofs.{texts.AllElements.all-by}
 use Rattle.best_fit.specs.{Extents.LiveSet, Extents.gaps, Extents.gaps_from, Fit.fit, Fit.least, Fit.share}
 pub use Rattle.segment_dump.specs.Building.{IsRest}
 
--- ---- no gap but the one behind all blocks
+-- ---- no gap but the one after all blocks
 
--- the last one ends where all their bytes are, or behind it
+-- the last one ends where all their bytes are, or after it
 pub last-long : (from : ℕ) (xs : List Extent) (to : ℕ) → proper_from from xs to ≡ true
     → from + total xs ≤ last_end from xs
 unfolding total
@@ -65,7 +65,7 @@ one-fit : (g : Gap) (n : ℕ) → room n ≤ g.len → least (filter (λ (g : Ga
 one-fit g n h = let e : nat_le (room n) g.len ≡ true = grind (arith, nat_tests)
     in ap (λ b. least (if b then g ∷ [] else [])) e
 
--- the gap behind all blocks
+-- the gap after all blocks
 abbrev last_gap : ℕ → ℕ → Gap
 last_gap e to = record { offset = e; len = to - e }
 

@@ -56,13 +56,13 @@ quoted-no_end bs = (
   no_end-both (flat_map item_text bs) (0x22 ∷ []) (bytes-no_end bs) ((λ e. omega arith), tt),
 )
 
--- a line behind two blanks has no line end
+-- a line after two blanks has no line end
 pub blanks-no_end : (l : List ℕ) → HasNoEnd l → HasNoEnd (0x20 ∷ 0x20 ∷ l)
 blanks-no_end l h = ((λ e. omega arith), ((λ e. omega arith), h))
 
 -- ---- elements
 
--- a text is so many lines
+-- a text is this many lines
 pub record IsLines (n : ℕ) (text : List ℕ) : Type 0 where
   pub lines : List (List ℕ)
   pub are : AreLines n lines

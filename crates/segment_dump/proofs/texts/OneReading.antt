@@ -21,7 +21,7 @@ pub record IsCode {X : Type 0} (say : X → List ℕ) (IsSaid : X → Type 0) (F
   pub reads : (x y : X) (a b : List ℕ) → IsSaid x → IsSaid y → Follows a → Follows b → say x ++ a ≡ say y ++ b
       → (x ≡ y) × (a ≡ b)
 
--- ---- one behind another
+-- ---- one after another
 
 -- a text begins with one of them or with none, and one may follow another
 pub record IsRow {X : Type 0} (say : X → List ℕ) (IsSaid : X → Type 0) (Follows Begins : List ℕ → Type 0) : Type 0 where

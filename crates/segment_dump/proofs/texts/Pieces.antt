@@ -55,7 +55,7 @@ pieces-read bs cs a b h e =
 
 -- ---- with the length in front
 
--- the first piece stands behind a blank
+-- the first piece stands after a blank
 pub pieces-break : (bs a : List ℕ) → Breaks (pieces_text bs ++ a)
 pieces-break bs a =
     let s = split (piece_line bs) 0 (pieces_in (length bs)) (omega arith) in

@@ -9,7 +9,7 @@ use Rattle.segment_dump.proofs.texts.AllElements.{all-any, all-tested}
 
 -- ---- a byte in quotes
 
--- behind a backslash, as it is, or by its two digits
+-- after a backslash, as it is, or by its two digits
 abbrev pub code_text : ℕ → List ℕ
 code_text c = 0x5C ∷ 0x78 ∷ digit_text (c / 16) ∷ digit_text (c % 16) ∷ []
 

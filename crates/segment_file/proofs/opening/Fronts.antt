@@ -46,7 +46,7 @@ module _ (old new : List ℕ) (grows : AppendsBytes old new) (long : 24 ≤ leng
   longer = subst (λ (x : List ℕ). 24 ≤ length x) (sym grows) (let sum = length-append old (drop (length old) new)
       in omega (arith, sum, long))
 
-  -- the format stays with more bytes behind the front
+  -- the format stays with more bytes after the front
   pub format-grown : format_of new ≡ format_of old
   format-grown = subst (λ (x : List ℕ). format_of x ≡ format_of old) (sym grows) (format-stays old _ long)
 
@@ -57,7 +57,7 @@ module _ (old new : List ℕ) (grows : AppendsBytes old new) (long : 24 ≤ leng
   size-grown : size_word new ≡ size_word old
   size-grown = subst (λ (x : List ℕ). size_word x ≡ size_word old) (sym grows) (size-stays old _ long)
 
-  -- the size that is said stays with more bytes behind the front
+  -- the size that is said stays with more bytes after the front
   pub says-grown : (format said : ℕ) → Says format old said → Says format new said
   says-grown format said s = record { long = longer; front = front-grown format ∙ s.front; size = size-grown ∙ s.size }
 

@@ -91,7 +91,7 @@ module _ (new : ReaderHistory) (said : ℕ) (s : Says current new.bytes said) wh
   told-whole (NoMemory refusal) u = tt
   told-whole ReadFault b = tt
 
--- ---- behind an image for which there was no room
+-- ---- after an image for which there was no room
 
 module _ (versions : AcceptedVersions) (old new : ReaderHistory) (len more : ℕ)
     (grows : AppendsBytes old.bytes new.bytes)

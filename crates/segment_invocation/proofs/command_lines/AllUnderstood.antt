@@ -134,7 +134,7 @@ prefix-option words [] e = record { word = None; spelled = e; value = refl; plai
 prefix-option words (c ∷ cs) (t, e) =
     record { word = Some (c ∷ cs); spelled = e; value = refl; plain = path-plain (c ∷ cs) t }
 
--- ---- the words behind the program's name
+-- ---- the words after the program's name
 
 -- they are taken, and say what is asked for
 record Behind (words : List Text) (a : InvocationValue) : Type 0 where
@@ -233,7 +233,7 @@ sized f mode size wait m n w saving strict numbered hm hn hw hl =
     ∙ (ap (λ o. in_mode f (Some m) (Some n) o saving strict numbered) hw
     ∙ ap (λ b. if b then None else Some (ran f m n input saving w strict numbered)) hl)))
 
--- ---- behind the name of a subcommand all words are its own
+-- ---- after the name of a subcommand all words are its own
 
 abbrev app : App
 app = built command_line
@@ -248,7 +248,7 @@ stopped-passes s known w name seen (x ∷ xs) = stopped-passes s known w name (s
 abbrev at_name : Text → List Text → Walk
 at_name name words = record (walk_from nothing_held) { stopped = Some (name, words) }
 
--- the tests of the program's own level, behind those of its words
+-- the tests of the program's own level, after those of its words
 abbrev takes_at : Walk → Bool → Bool
 takes_at end words_pass = entered_passes app end.stopped
     && (words_pass && (settle_passes app.top.rules app.top.args_override_self end.held
@@ -310,7 +310,7 @@ names-behind : (words : List Text) (wanted : Option InvocationValue) (a : Invoca
 unfolding clap_on_literals
 names-behind = behind-name (codes "names") names_leaf refl refl (λ words. refl) (λ words. refl)
 
--- a change, with what stands behind it
+-- a change, with what stands after it
 change-behind : (f : Text) (c : FileChange) (saving : SaveMode) (wait : ℕ) (changes : List Text)
     (word : Option Text) → IsPlain f → IsChangePart changes f c
     → seconds_of word ≡ Some wait → IsPlainIn word

@@ -1,4 +1,4 @@
--- What a parse makes of the words behind each command of the program.
+-- What a parse makes of the words after each command of the program.
 use Rattle.std.proofs.Common.{◌≡◌, refl, ap, ap₂, ◌∙◌, ℕ, Bool, true, false, ◌&&◌, List, [], ◌∷◌, ◌++◌, Option, Some}
 use Rattle.std.proofs.Common.{None, codes, fold}
 use Rattle.std.specs.List.{list_all}
@@ -30,7 +30,7 @@ use Rattle.segment_invocation.proofs.command_lines.PlainWords.{IsPlain, plain_st
 abbrev pub leaf : Shape → Shape
 leaf s = built_leaf (inherited program.top s)
 
--- the last tests of a level, behind the test of its words
+-- the last tests of a level, after the test of its words
 abbrev passes_at : Shape → Bool → Walk → Bool
 passes_at s words_pass end =
     words_pass && (settle_passes s.rules s.args_override_self end.held
@@ -47,7 +47,7 @@ record IsSteps (s : Shape) (from : Walk) (words : List Text) (to : Walk) : Type 
 abbrev at : Held → Waiting → ℕ → Walk
 at h waiting position = record { held = h; waiting = waiting; position = position; is_trailing = false; stopped = None }
 
--- behind the name of an option, and behind its value
+-- after the name of an option, and after its value
 abbrev at_option : Shape → Text → Walk → Walk
 at_option s id w = record w {
   held = record w.held {
@@ -60,7 +60,7 @@ at_option s id w = record w {
 abbrev after_option : Shape → Text → Text → Walk → Walk
 after_option s id v w = plain_step s.rules (at_option s id w) v
 
--- behind the file
+-- after the file
 abbrev after_file : Shape → Text → Walk
 after_file s f = plain_step s.rules (walk_from nothing_held) f
 
@@ -133,7 +133,7 @@ module _ {A : Type 0} (s : Shape) (ask : List Row → A) where
     passes = ap₂ (passes_at s) w.passes w.walk ∙ t;
   }
 
-  -- a file with flags behind it
+  -- a file with flags after it
   flagged : (f : Text) (words : List Text) (a : A) → IsPlain f → IsTaken s nothing_held idle 1 f
       → walk_passes s [] (after_file s f) words ≡ true
       → ask (finished s.rules (fold (walked s.rules []) (after_file s f) words).held) ≡ a
@@ -145,7 +145,7 @@ module _ {A : Type 0} (s : Shape) (ask : List Row → A) where
       words
       (plain s nothing_held idle 1 f p t) (flags s (after_file s f) words u)) h v
 
-  -- a file, more words that lead to a place, and flags behind them
+  -- a file, more words that lead to a place, and flags after them
   behind : (f : Text) (words more : List Text) (to : Walk) (a : A) → IsPlain f → IsTaken s nothing_held idle 1 f
       → IsSteps s (after_file s f) words to → walk_passes s [] to more ≡ true
       → ask (finished s.rules (fold (walked s.rules []) to more).held) ≡ a
@@ -157,7 +157,7 @@ module _ {A : Type 0} (s : Shape) (ask : List Row → A) where
       (plain s nothing_held idle 1 f p t)
       (steps s (after_file s f) to (fold (walked s.rules []) to more) words more w (flags s to more u))) h v
 
--- ---- a file, which may have flags behind it
+-- ---- a file, which may have flags after it
 
 -- `stat` asks for figures
 pub stat-asks : (f : Text) → IsPlain f
@@ -249,11 +249,11 @@ abbrev pub IsPlainIn : Option Text → Type 0
 IsPlainIn None = ⊤
 IsPlainIn (Some v) = IsPlain v
 
--- an option right behind the file
+-- an option right after the file
 abbrev with_option : Shape → Text → Text → Text → Walk
 with_option s f id v = after_option s id v (after_file s f)
 
--- an option behind words that lead to a place
+-- an option after words that lead to a place
 module _ (s : Shape) (from : Walk) (words : List Text) (h : Held) (position : ℕ) (word id v : Text) where
   optioned : IsPlain v → IsSteps s from words (at h idle position)
       → walked s.rules [] (at h idle position) word ≡ at_option s id (at h idle position)
@@ -263,7 +263,7 @@ module _ (s : Shape) (from : Walk) (words : List Text) (h : Held) (position : �
   optioned q w e t u = steps s from (at h idle position) (after_option s id v (at h idle position)) words
       (word ∷ v ∷ []) w (option-steps s h idle position word id v q e t u)
 
--- a place, with how a file is saved behind it
+-- a place, with how a file is saved after it
 abbrev IsSaved : {A : Type 0} → Shape → (List Row → A) → Walk → SaveMode → A → Type 0
 IsSaved s ask to saving a = (walk_passes s [] to (saving_part saving) ≡ true)
     × (ask (finished s.rules (fold (walked s.rules []) to (saving_part saving)).held) ≡ a)
@@ -323,7 +323,7 @@ migrate-asks f (Some w) saving p q =
 abbrev pub grow_leaf : Shape
 grow_leaf = leaf grow_command
 
--- behind the number of a growth
+-- after the number of a growth
 abbrev at_bytes : Text → Text → Walk
 at_bytes f d = plain_step grow_leaf.rules (after_file grow_leaf f) d
 
@@ -456,7 +456,7 @@ said f mode size wait saving strict numbered = record {
   numbered = Some (truth_word numbered);
 }
 
--- a place, with the flags of a run behind it
+-- a place, with the flags of a run after it
 abbrev IsFlagged : Walk → (SaveMode → Bool → Bool → RunWords) → SaveMode → Bool → Bool → Type 0
 IsFlagged to a saving strict numbered = (walk_passes run_leaf [] to (flag_words saving strict numbered) ≡ true)
     × (run_words (finished run_leaf.rules
@@ -489,7 +489,7 @@ run-flagged f words to a p w saving strict numbered =
     behind run_leaf run_words f words (flag_words saving strict numbered) to (a saving strict numbered) p refl
     w.path h.0 h.1 h.2
 
--- `--mode M` and `--size N` right behind the file, and both
+-- `--mode M` and `--size N` right after the file, and both
 abbrev at_mode : Text → Text → Walk
 at_mode f m = with_option run_leaf f (codes "mode") m
 
@@ -650,7 +650,7 @@ abbrev line_rows : Text → List Text → List Row
 line_rows f [] = word_row (codes "file") (f ∷ []) ∷ []
 line_rows f (l ∷ ls) = word_row (codes "file") (f ∷ []) ∷ word_row (codes "line") (l ∷ ls) ∷ []
 
--- behind the last line, with those before it
+-- after the last line, with those before it
 abbrev at_line : Text → List Text → Text → Walk
 at_line f done last = at (record { rows = line_rows f done; pending = Some (codes "line", last ∷ []); skip = 0 }) idle 2
 
@@ -672,7 +672,7 @@ abbrev pub ArePlain : List Text → Type 0
 ArePlain [] = ⊤
 ArePlain (l ∷ ls) = IsPlain l × ArePlain ls
 
--- where lines lead behind one
+-- where lines lead after one
 record IsLined (f : Text) (done : List Text) (last : Text) (words : List Text) : Type 0 where
   before : List Text
   final : Text

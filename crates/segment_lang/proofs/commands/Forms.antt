@@ -122,7 +122,7 @@ found_by_place (f ∷ fs) w n p l =
     of_place (place_of f.0 == n) (is_word w f.0) w f (filter (λ (f : Form). place_of f.0 == n) fs) fs refl
     (other_place w f.0 n p long.0) (found_by_place fs w n p long.1)
 
--- the words at a place, each with what stands behind it
+-- the words at a place, each with what stands after it
 abbrev pub forms_of : ℕ → List Form
 forms_of n = filter (λ (f : Form). place_of f.0 == n) forms
 
@@ -185,7 +185,7 @@ form_seen y = (y.0, y.1.now)
 abbrev pub reader_seen : CommandForm × List ℕ → Reader × List ℕ
 reader_seen y = (reader_of y.0, y.1)
 
--- what is behind a word stays where its form becomes a reader
+-- what is after a word stays where its form becomes a reader
 reader_under : (line : List ℕ) (x : Option CommandForm)
     → option_map reader_seen (with_rest line x) ≡ with_rest line (option_map reader_of x)
 reader_under line None = refl

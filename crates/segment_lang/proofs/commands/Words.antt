@@ -1,4 +1,4 @@
--- What stands behind a command word, read one word after another.
+-- What stands after a command word, read one word after another.
 use Rattle.std.proofs.Common.{◌≡◌, ℕ, ℤ, Bool, true, false, cond, List, [], ◌∷◌, Option, Some, None, ap, sym, refl, ◌∙◌}
 use Rattle.std.proofs.Common.{◌==◌, replicate, length, nat_lt, slice_index}
 use Rattle.std.specs.Option.{option_map, option_and_then}
@@ -73,7 +73,7 @@ no_appending w (Bare bs) u ws = refl
 pub of_appending : (bytes : List ℕ) → asks appending bytes ≡ command_of_two appending bytes
 of_appending bytes = take_two (appending (whole_language current)) refl (λ w. refl) no_appending bytes
 
--- `assign` is read of a key and the literals behind it
+-- `assign` is read of a key and the literals after it
 pub of_assigning : (bytes : List ℕ) → asks assigning bytes ≡ assigning_at bytes
 unfolding assigning_at literals_at
 of_assigning bytes =

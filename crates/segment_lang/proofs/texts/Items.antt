@@ -15,7 +15,7 @@ use Rattle.segment_lang.proofs.words.LineFronts.{kept_more}
 
 -- ---- an item in front
 
--- an item, and the text behind it
+-- an item, and the text after it
 abbrev after : Option (ℕ × List ℕ) → Option (List ℕ × List ℕ)
 after o = option_and_then (λ x. longer x.0 (text_at x.1)) o
 
@@ -85,7 +85,7 @@ behind_longer : (b : ℕ) (t : Option (List ℕ × List ℕ)) → option_map (λ
 behind_longer b None = refl
 behind_longer b (Some x) = refl
 
--- what is behind a text is what is behind its rest
+-- what is after a text is what is after its rest
 pub behind_text-item : (bytes r : List ℕ) (b : ℕ) → item_at bytes ≡ Some (b, r) → behind_text r ≡ behind_text bytes
 behind_text-item bytes r b h = sym (ap (option_map (λ x. x.1)) (text_at-item bytes r b h) ∙ behind_longer b (text_at r))
 
@@ -95,9 +95,9 @@ unfolding text_at
 text_at-end [] h = refl
 text_at-end (c ∷ cs) h = text_step c cs ∙ ap (λ o. cond (c == 0x22) (closed_at cs) (after o)) h
 
--- ---- the bytes, and what is behind them
+-- ---- the bytes, and what is after them
 
--- no bytes, and what is behind them
+-- no bytes, and what is after them
 abbrev nothing_before : List ℕ → Option (List ℕ × List ℕ)
 nothing_before cs = Some ([], cs)
 
@@ -132,7 +132,7 @@ a_text : (t : Option (List ℕ × List ℕ)) (r : List ℕ) → option_map (λ x
 a_text None r h = cc
 a_text (Some (bs, rest)) r h = (refl, let e : rest ≡ r = cc in cc)
 
--- a closing quote: the text, and what is behind it
+-- a closing quote: the text, and what is after it
 pub text_at-some : (bytes r : List ℕ) → behind_text bytes ≡ Some r
     → (IsSome (text_at bytes)) × (text_at bytes ≡ Some (text_in bytes, r))
 text_at-some bytes r h = a_text (text_at bytes) r h
@@ -183,7 +183,7 @@ last_byte done left all few l h = sym (take_all 4096 done few)
 pub spelled_plain : (bytes : List ℕ) → None ≡ behind_opening bytes → spelled_bytes bytes ≡ bytes
 spelled_plain bytes h = sym (ap (λ text. unwrap_or (option_map text_in text) bytes) h)
 
--- where that quote is in front, the bytes are those of the text behind it
+-- where that quote is in front, the bytes are those of the text after it
 pub spelled_text : (bytes text : List ℕ) → Some text ≡ behind_opening bytes → spelled_bytes bytes ≡ text_in text
 spelled_text bytes text h = sym (ap (λ text. unwrap_or (option_map text_in text) bytes) h)
 
@@ -231,7 +231,7 @@ plain_step true c cs r p f h = text_at-item (c ∷ cs) cs c (plain_first c cs p)
 plain_step false c cs r p f h = text_step c cs
     ∙ quote_there (c == 0x22) (ends_word cs) cs r (after (item_at (c ∷ cs))) h
 
--- where a quote that ends a text stands behind plain bytes, the text stands for these very bytes
+-- where a quote that ends a text stands after plain bytes, the text stands for these very bytes
 pub plain_text : (bytes r : List ℕ) → behind_quote (drop (length (take_while is_plain bytes)) bytes) ≡ Some r
     → text_at bytes ≡ Some (take_while is_plain bytes, r)
 plain_text [] r h = cc

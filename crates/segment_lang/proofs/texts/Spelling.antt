@@ -105,7 +105,7 @@ quote_spelled : (bytes bs rest : List ℕ) → quote_at bytes ≡ Some (bs, rest
 quote_spelled [] bs rest h = cc
 quote_spelled (c ∷ cs) bs rest h = closed (c == 0x22) (ends_word cs) c cs bs rest (is_byte c 0x22) refl h
 
--- a byte in front, and a text behind it
+-- a byte in front, and a text after it
 longer_parts : (b : ℕ) (t : Option (List ℕ × List ℕ)) (bs rest : List ℕ) → longer b t ≡ Some (bs, rest)
     → (more : List ℕ) × (bs ≡ b ∷ more) × (t ≡ Some (more, rest))
 longer_parts b None bs rest h = cc

@@ -13,7 +13,7 @@ use Rattle.segment_lang.specs.Reading.{skip_blanks}
 use Rattle.segment_lang.specs.Tokens.{text_at, escaped_at, high_digit_at, longer, closed_at, bare_at, up_to_blank}
 use Rattle.segment_lang.specs.Tokens.{behind_word, word_at, next_word, only_word, at_end}
 
--- what was read of a word, and the words behind it
+-- what was read of a word, and the words after it
 abbrev then_words : Option (List ℕ × List ℕ) → WordRest
 then_words t = option_and_then (λ x. option_map {U = List ℕ × List Word} (λ ws. (x.0, ws)) (words x.1)) t
 
@@ -186,7 +186,7 @@ words_split : (bytes : List ℕ) → words bytes ≡ split_words (skip_blanks by
 words_split [] = refl
 words_split (c ∷ cs) = blank_or_word (is_blank c) c cs _ (words_split cs) (word_in_front c cs)
 
--- the words are none at the end, and else the next one and those behind it
+-- the words are none at the end, and else the next one and those after it
 pub words_next : (bytes : List ℕ) → words bytes ≡ cond (at_end bytes) (Some []) (cons_words (next_word bytes))
 unfolding next_word
 words_next bytes = words_split bytes
@@ -206,7 +206,7 @@ pub word_has_byte : (bytes : List ℕ) → 1 ≤ length (skip_blanks bytes) → 
 word_has_byte [] h = absurd (omega arith)
 word_has_byte (c ∷ cs) h = front_or_skip (is_blank c) c cs refl h (word_has_byte cs)
 
--- what is behind a front is no more than the line
+-- what is after a front is no more than the line
 pub behind_front : (bytes skipped rest : List ℕ) → skipped ≡ skip_blanks bytes → length skipped ≤ length bytes
     → 1 ≤ length skipped → length (up_to_blank skipped) + length rest ≡ length skipped → length rest < length bytes
 behind_front bytes skipped rest e s h r =

@@ -12,7 +12,7 @@ use Rattle.segment_lang.specs.Words.{is_bare, is_blank}
 use Rattle.segment_lang.specs.Tokens.{bare_at, ends_word, longer, up_to_blank}
 use Rattle.segment_lang.proofs.words.AllWords.{bare_at_blank, bare_at_more}
 
--- the bytes in front that may stand in a bare word, where the word ends behind them
+-- the bytes in front that may stand in a bare word, where the word ends after them
 abbrev pub bare_front : List ℕ → Option (List ℕ × List ℕ)
 bare_front bs =
     cond (ends_word (drop (prefix_len is_bare bs) bs))
@@ -75,7 +75,7 @@ ended true up bs w r h e =
     omega (arith, sym (ap length d) ∙ length-drop (length up) bs)
 ended false up bs w r h e = absurd (cc)
 
--- the bytes up to a blank and those behind a word are all
+-- the bytes up to a blank and those after a word are all
 pub word_and_rest : (bs w r : List ℕ) → bare_at bs ≡ Some (w, r) → length (up_to_blank bs) + length r ≡ length bs
 unfolding bare_at
 word_and_rest bs w r e =

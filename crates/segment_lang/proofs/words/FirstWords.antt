@@ -18,14 +18,14 @@ first_cons c cs = take_while-cons (λ c. not (is_blank c)) c cs
 
 -- ---- a word that stands in front
 
--- what is behind the first word, where it is this one
+-- what is after the first word, where it is this one
 abbrev pub BehindOf : List ℕ → List ℕ → List ℕ → Option (List ℕ)
 BehindOf first line word = cond (is_word first word) (Some (drop (length first) line)) None
 
 abbrev pub Behind : List ℕ → List ℕ → Option (List ℕ)
 Behind line word = BehindOf (up_to_blank line) line word
 
--- what stands behind no word
+-- what stands after no word
 behind_none : (b : Bool) (c : ℕ) (cs : List ℕ) → BehindOf (cond (not b) (c ∷ up_to_blank cs) []) (c ∷ cs) []
     ≡ cond b (Some (c ∷ cs)) None
 behind_none true c cs = refl

@@ -1,4 +1,4 @@
--- Readers that want two words, three, or two and those behind them.
+-- Readers that want two words, three, or two and those after them.
 use Rattle.std.proofs.Common.{◌≡◌, ℕ, Bool, true, false, cond, List, [], ◌∷◌, Option, Some, None, ap, sym, refl, ◌∙◌}
 use Rattle.std.specs.Prelude.{IsSomeAnd, MatchOption, is_some}
 use Rattle.std.specs.Bool.{then_some as holds_some}
@@ -103,7 +103,7 @@ take_three g n o p m bytes =
     ∙ sym (both_made (λ (y : Word × Word × Word). g (y.0 ∷ y.1 ∷ y.2 ∷ []))
     (λ (x : Word × List ℕ) (v : Word × Word). (x.0, v.0, v.1)) (λ x. two_words x.1) (next_word bytes))
 
--- a reader of two words and those behind them
+-- a reader of two words and those after them
 pub take_next_two : {B : Type 0} (g : List Word → Option B) → g [] ≡ None → ((w : Word) → g (w ∷ []) ≡ None)
     → (bytes : List ℕ) → option_and_then g (words bytes)
     ≡ option_and_then (λ x. option_and_then (λ ws. g (x.0 ∷ x.1 ∷ ws)) (words x.2)) (next_two bytes)

@@ -39,11 +39,11 @@ filter-skips : (p : Extent → Bool) (xs zs : List Extent) → NonePasses p xs �
 filter-skips p [] zs h = refl
 filter-skips p (x ∷ xs) zs h = filter-skip p x (inserted xs zs) h.0 ∙ filter-skips p xs zs h.1
 
--- each one that passes is behind it
+-- each one that passes is after it
 abbrev AreBehind : (Extent → Bool) → Extent → List Extent → Type 0
 AreBehind p x = AllByRecursion (λ (z : Extent). p z ≡ true → x.offset < z.offset)
 
--- one that is not behind it does not pass
+-- one that is not after it does not pass
 past-if : (p : Extent → Bool) (b : Bool) (x z : Extent) (zs ws : List Extent) → p z ≡ b
     → (b ≡ true → x.offset < z.offset) → z.offset ≤ x.offset → filter p ws ≡ x ∷ filter p zs
     → filter p (z ∷ ws) ≡ x ∷ filter p (z ∷ zs)

@@ -54,7 +54,7 @@ there-if : {X : Type 0} (b : Bool) (y : X) {x : X} (ys zs : List X) → slice_ge
 there-if true y ys zs e = e
 there-if false y ys zs e = e
 
--- it stands behind as many as passed before it
+-- it stands after as many as passed before it
 pub passes-there : {X : Type 0} (p : X → Bool) (xs : List X) (i : ℕ) {x : X} → slice_get xs i ≡ Some x → p x ≡ true
     → slice_get (filter p xs) (length (filter p (take i xs))) ≡ Some x
 passes-there p [] i {x} e f = absurd (none-some x e)
@@ -84,7 +84,7 @@ tile-more : (b : Bool) (m : Memory) (at end n : ℕ) → length (tiles_from n m 
 tile-more false m at end n l = omega arith
 tile-more true m at end n l = omega arith
 
--- so many are read off at most
+-- this many are read off at most
 pub tiles-bounded : (n : ℕ) (m : Memory) (at end : ℕ) → length (tiles_from n m at end) ≤ n
 tiles-bounded zero m at end = omega arith
 tiles-bounded (suc n) m at end = tile-more (nat_lt at end) m at end n (tiles-bounded n m (at + (tile_at m at).len) end)

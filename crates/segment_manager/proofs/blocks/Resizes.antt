@@ -97,7 +97,7 @@ resizes {old} {new} {mid} {n} mode moved change word is = record {
       (record { denotes = denotes-resized old.cut mid new.cut n moved change word h.denotes });
 }
 
--- with so many bytes more
+-- with this many bytes more
 pub grows : {old new : SegmentState} {mid : WindowState} (extra : ℕ) → new.mode ≡ old.mode
     → MovesEnd current old.cut mid (length old.cut.bytes + extra) → ChangesBytes current mid new.cut 16 8
     → word_at (bytes_of new.cut.bytes) 16 ≡ length mid.bytes → Resizes old new (λ d. grown d extra)

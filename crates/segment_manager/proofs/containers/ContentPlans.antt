@@ -24,7 +24,7 @@ by-value d key o v next e f = with-found d key o (λ o. next o o.value) e ∙ ap
 
 module _ (d : Directory) (key : Key) (o : Object) (k : ScalarKind) (zs : List ℤ) (t : BackingArray)
     (e : object_at d key ≡ Some o) (f : o.value ≡ Elements k zs t) where
-  -- an element more, behind the last
+  -- an element more, after the last
   abbrev pub push_with : ℤ → Plan
   push_with z = with_capacity (size_of k) (capacity_for_one (length zs) t.capacity) t
       (λ u. Reply Done (changed d o (Elements k (zs ++ z ∷ []) u)))
@@ -103,7 +103,7 @@ append_with d o more (bs, t) = with_capacity 1 (capacity_for_text (length (bs ++
 
 module _ (d : Directory) (key : Key) (o : Object) (bs : List ℕ) (t : BackingArray) (e : object_at d key ≡ Some o)
     (f : o.value ≡ Bytes bs t) where
-  -- more bytes behind the last
+  -- more bytes after the last
   pub append-plan : (more : List ℕ) → effect d (asked.Append key more) ≡ with_capacity 1
       (capacity_for_text (length (bs ++ more)) t.capacity) t (λ u. Reply Done (changed d o (Bytes (bs ++ more) u)))
   append-plan more = by-value d key o _ (λ o v. with (text_of v) (append_with d o more)) e f

@@ -94,7 +94,7 @@ pub record AreWords (b : List ℕ) (h at : ℕ) : Type 0 where
   pub near : at ≤ 4096
   pub room : IsTrue (has_room (live_of b) h (at + 24))
 
--- the three words of a container stand behind the head
+-- the three words of a container stand after the head
 pub are-words : {b : List ℕ} {h : ℕ} (o : Object) → IsObjectInBlock b h o → (at : ℕ)
     → at ≡ head_len + padded (length o.name) → value_len o.value ≡ 24 → AreWords b h at
 are-words {b} {h} o s at e len =
@@ -117,7 +117,7 @@ string-len v e = absurd (cc)
 
 -- ---- where it lies, and what stands there
 
--- a run of so many bytes lies in the heap, at a multiple of 8
+-- a run of this many bytes lies in the heap, at a multiple of 8
 record Lies (c : WindowState) (at n : ℕ) : Type 0 where
   inside : at + n ≤ length c.bytes
   aligned : at % 8 ≡ 0

@@ -1,4 +1,4 @@
--- Elements that one call puts behind the last of a vector: what comes of it in each directory.
+-- Elements that one call puts after the last of a vector: what comes of it in each directory.
 use Rattle.segment_manager.proofs.Common as common
 use common.{◌≡◌, refl, sym, ap, ◌∙◌, ℕ, ℤ, Bool, true, false, Option, Some, Result, Err, List, ◌++◌, length}
 use common.{if◌then◌else◌, eq-eqb, WindowState, current, ScalarKind, Vector, code_of, same_kind, size_of, Key, Refusal}

@@ -71,7 +71,7 @@ no-node x [] n = refl
 no-node x (p ∷ ps) n = ap (λ (b : Bool). b || is_in (handle x) (nodes_of_pairs ps))
     (ne_eqb (handle x) (handle p.node) (λ e. n.0 (omega (arith, e)))) ∙ no-node x ps n.1
 
--- those in front of a pair, and those behind it
+-- those in front of a pair, and those after it
 pub record PartedNodes (all more : List Extent) (x : Extent) : Type 0 where
   pub front : List Extent
   pub back : List Extent

@@ -21,7 +21,7 @@ walk-starts k (p ∷ ps) h =
     ap (λ (b : Bool). option_map item_of (if not b then Some p else first_pair int_lt false (lowest k) ps))
     (not-below k p.key (first (is_value k p.key) (list_all (λ (p : NumberPair). is_value k p.key) ps) h))
 
--- above a key comes the pair behind that of the key
+-- above a key comes the pair after that of the key
 behind : (p : NumberPair) (back : List NumberPair) → is_rising int_lt (p ∷ back) ≡ true
     → first_pair int_lt true p.key back ≡ first_of back
 behind p [] r = refl

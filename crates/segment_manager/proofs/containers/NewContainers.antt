@@ -1,4 +1,4 @@
--- A vector of numbers or a text as the value of a new object, with its elements in storage for just so many.
+-- A vector of numbers or a text as the value of a new object, with its elements in storage for just this many.
 use Rattle.segment_manager.proofs.Common as common
 use common.{◌≡◌, refl, sym, ap, subst, ◌∙◌, ℕ, ℤ, Bool, Some, None, Ok, Err, Result, List, [], length, map, IsTrue}
 use common.{MatchResult, option_to_list, length-map, current, WindowState, bytes_of, ExchangesBlocks, ChangesBytes}

@@ -123,7 +123,7 @@ pub first-at : (ps : List NumberPair) → slice_get ps 0 ≡ first_of ps
 first-at [] = refl
 first-at (p ∷ ps) = refl
 
--- the pair at a place, and those behind it
+-- the pair at a place, and those after it
 record IsSplitAt (ps : List NumberPair) (i : ℕ) (p : NumberPair) : Type 0 where
   front : List NumberPair
   back : List NumberPair

@@ -110,7 +110,7 @@ module _ (mode : Mode) (d : Directory) (key : Key) (k : ScalarKind) (first : ℕ
         ∙ ap (λ c. written_if (if c then Ok (take (length zs) (drop first ns)) else Err OutOfRange) d
         (with_range d key first zs)) h
 
-    -- writing a range behind the end is refused
+    -- writing a range after the end is refused
     pub range-short : length ns < first + length zs → written mode d key k first zs ≡ (Refused OutOfRange, d)
     range-short h = range-if false (lt-leb (first + length zs) (length ns) h)
 
@@ -271,7 +271,7 @@ module _ (s : SegmentState) (o : Located) (l : IsLocated s (ByHandle o.handle) o
     row-of : {d : Directory} (h : HasNumbers d o k) → numbers_if k h.object.value ≡ Ok h.numbers
     row-of h = ap (numbers_if k) h.value ∙ row-numbers k h.numbers
 
-    -- there are not so many
+    -- there are not this many
     pub array-short : is_read_only s.mode ≡ false → nat_le (first + length zs) o.count ≡ false
         → WritesRange s s (ByHandle o.handle) k first zs (Refused OutOfRange)
     array-short writing f = range-stays s (ByHandle o.handle) k first zs OutOfRange (λ d st.

@@ -31,11 +31,11 @@ pub asked-met : {A : Type 0} (beside : A → LiveSet) (made : Extent → A) (d :
 asked-met beside made d l next e None = refl
 asked-met beside made d l next e (Some x) = ap (λ (m : LiveSet). perform d m (next (made x))) (e x)
 
--- the storage of so many places in a block
+-- the storage of this many places in a block
 abbrev pub of_places : ℕ → Extent → BackingArray
 of_places n x = record { capacity = n; extent = Some x }
 
--- a table with so many places or more
+-- a table with this many places or more
 abbrev pub then_room : Directory → LiveSet → BackingArray → (BackingArray → Plan) → Option BackingArray
     → Answer × Directory
 then_room d l t = then_by (with_array l t) d

@@ -51,7 +51,7 @@ found-container d key kind o p e f g = ap Ok (sym g) ∙ sym
 
 -- ---- what the head says
 
--- it says that elements of one length stand behind it, a vector of texts, or a map
+-- it says that elements of one length stand after it, a vector of texts, or a map
 module _ {b : List ℕ} {h at : ℕ} {head : Head} (said : IsReadAt b h head)
     (behind : at ≡ head_len + padded head.name_len) {d : Directory} {o : Object} (s : DenotesCurrent b d)
     (e : object_at d (ByHandle h) ≡ Some o) where

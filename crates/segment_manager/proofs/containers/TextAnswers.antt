@@ -118,7 +118,7 @@ module _ {s t : SegmentState} (view : s ≡ t) (key : Key) (p : Place) (b : IsSe
       (Get key i) refl) (λ d den h. ap (perform d (live d)) (byte-plan d key h.object h.items h.table h.is h.value i
       (Some (pos x)) (byte-got h.items i (Some x) (a h.items h.table h.stands))))
 
-  -- a byte behind the end is refused
+  -- a byte after the end is refused
   pub text_got-past : (i : ℕ) (e : Refusal) → GetsByte s.cut p i (Err e)
       → TakesStepOfKind s s key String (Get key i) (Refused e)
   text_got-past i e a = subst (λ (r : Refusal). TakesStepOfKind s s key String (Get key i) (Refused r))

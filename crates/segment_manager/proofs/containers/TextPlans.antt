@@ -163,7 +163,7 @@ module _ {b : List ℕ} {d : Directory} {key : Key} {p : Place} (h : HoldsTexts 
   set-text i bs r g = by-texts (λ o v. step.set d o v i (asked.Quoted bs))
       ∙ ap (λ r. with (text_in r) (λ old. with_owned_text bs (set_in i))) g
 
-  -- one more, among the others or behind the last
+  -- one more, among the others or after the last
   abbrev pub insert_in : ℕ → BackingArray → OwnedText → Plan
   insert_in i u q = Reply Done (texts_after (insert h.texts i q) u)
 

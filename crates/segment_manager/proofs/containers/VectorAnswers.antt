@@ -96,7 +96,7 @@ module _ {T : Type 0} {k : ScalarKind} {w : T → ℤ} {size : ℕ} {test : T �
     pub some-vector : IsSomeVector size test sp s.cut.bytes p
     some-vector = (some.items, (some.table, vector b.0 some))
 
-    -- the index of an element, and one behind them, as their numbers have it
+    -- the index of an element, and one after them, as their numbers have it
     within : (xs : List T) (i : ℕ) → i < length xs → slice_get (map w xs) i ≡ Some (get_or (map w xs) i (pos 0))
     within xs i h = slice_get-get_or (map w xs) i (pos 0) (subst (λ (n : ℕ). i < n) (sym (length-map xs w)) h)
 
@@ -287,7 +287,7 @@ module _ {T : Type 0} {k : ScalarKind} {w : T → ℤ} {size : ℕ} {test : T �
           h.table (λ u. Reply Done (changed d h.object (Elements k (map w ys) u))))) (λ d h. so-too _ _ _ r
           (a h.items h.table (vector d h)) (λ q. grown-so q)))
 
-      -- ---- others over those from one on, and behind the last
+      -- ---- others over those from one on, and after the last
 
       pub vector-overwritten : (first : ℕ) (ys : List T) (r : Result (Unit {0}) Refusal)
           → SetsAll size test sp s.cut new p first ys r → RangeWritten s t new key k first (map w ys) r

@@ -132,7 +132,7 @@ module _ (region : List ℕ) (base : ℕ) {size : ℕ} {window fresh : WindowSta
       f.rest in
       record { at = λ k low high. rest.at k low high ∙ cleared.at k (omega arith) (omega arith) }
 
-  -- as the header is behind the link to the free tree
+  -- as the header is after the link to the free tree
   pub zero-header : IsTrue (is_legal_size size) → AreZero (bytes_of fresh.bytes) 32 128
   zero-header legal = record {
     at = λ k low high. f.behind.at k low high ∙ cleared.at k (omega arith) (omega (arith, (legal_size size legal).low));

@@ -72,11 +72,11 @@ live-put d o h = ap (λ (xs : List Extent). let l : LiveSet = record { size = d.
 pub record IsFound (h : ℕ) (os : List Object) (o : Object) : Type 0 where
   pub is : find (has_key (ByHandle h)) os ≡ Some o
 
--- it is the first of the list, or it stands behind that
+-- it is the first of the list, or it stands after that
 pub data Place (h : ℕ) (p : Object) (ps : List Object) (o : Object) : Type 0 where
   -- an object that is the first of the list
   here : h ≡ handle p.extent → p ≡ o → Place h p ps o
-  -- an object that stands behind the first of the list
+  -- an object that stands after the first of the list
   behind : h ≢ handle p.extent → IsFound h ps o → Place h p ps o
 
 place-if : {h : ℕ} {p : Object} {ps : List Object} {o : Object} → (b : Bool) → (h == handle p.extent) ≡ b
@@ -84,7 +84,7 @@ place-if : {h : ℕ} {p : Object} {ps : List Object} {o : Object} → (b : Bool)
 place-if {h} {p} true e f = here (eqb-true h (handle p.extent) e) (cc)
 place-if {h} {p} false e f = behind (λ g. cc (eq-eqb h (handle p.extent) g)) (record { is = f })
 
--- an object that is found is the first or stands behind it
+-- an object that is found is the first or stands after it
 pub found-place : (h : ℕ) (p : Object) (ps : List Object) (o : Object) → IsFound h (p ∷ ps) o → Place h p ps o
 found-place h p ps o f = place-if (h == handle p.extent) refl f.is
 
@@ -96,7 +96,7 @@ found-nothing h o f = let e : find (has_key (ByHandle h)) [] ≡ Some o = f.is i
 pub remove-here : (h : ℕ) (p : Object) (ps : List Object) → h ≡ handle p.extent → remove_object h (p ∷ ps) ≡ ps
 remove-here h p ps e = ap (λ b. if b then ps else p ∷ remove_object h ps) (eq-eqb h (handle p.extent) e)
 
--- the one to take out stands behind the first
+-- the one to take out stands after the first
 pub remove-behind : (h : ℕ) (p : Object) (ps : List Object) → h ≢ handle p.extent
     → remove_object h (p ∷ ps) ≡ p ∷ remove_object h ps
 remove-behind h p ps n = ap (λ b. if b then ps else p ∷ remove_object h ps) (ne_eqb h (handle p.extent) n)
@@ -107,7 +107,7 @@ pub replace-here : (o p : Object) (ps : List Object) → handle o.extent ≡ han
 replace-here o p ps e =
     ap (λ b. if b then o ∷ ps else p ∷ replace_object o ps) (eq-eqb (handle o.extent) (handle p.extent) e)
 
--- it stands behind the first
+-- it stands after the first
 pub replace-behind : (o p : Object) (ps : List Object) → handle o.extent ≢ handle p.extent
     → replace_object o (p ∷ ps) ≡ p ∷ replace_object o ps
 replace-behind o p ps n =

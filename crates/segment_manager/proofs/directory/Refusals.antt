@@ -339,7 +339,7 @@ plan_of_kind-leaves mode d key kind c =
     if-leaves _ _ d (is_read_only mode && is_changing c) _ _ by_refusal (with-leaves _ _ d (found_at d key) _
     (λ o. if-leaves _ _ d (same_kind kind (kind_of o.value)) _ _ (effect-leaves d c) (by_refusal {r = WrongKind})))
 
--- and that of a call that puts values behind the last of a vector
+-- and that of a call that puts values after the last of a vector
 pub extended-leaves : (mode : Mode) (d : Directory) (key : Key) (k : ScalarKind) (more : List ℤ)
     → Leaves d true false (if is_read_only mode then Refuse ReadOnly else
     with (found_at d key) (λ o. if same_kind (Vector k) (kind_of o.value) then extend d o o.value more

@@ -46,7 +46,7 @@ at-all P (p ∷ ps) k = (k 0 p refl, at-all P ps (λ j o e. k (suc j) o e))
 
 -- ---- in order
 
--- each is so related to all behind it
+-- each is so related to all after it
 abbrev pub Ascends : (Object → Object → Type 0) → List Object → Type 0
 Ascends R [] = Unit {0}
 Ascends R (o ∷ os) = AllByRecursion (R o) os × Ascends R os

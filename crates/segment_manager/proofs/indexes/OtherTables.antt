@@ -83,7 +83,7 @@ left-link : (l : LiveSet) (o : Option Extent) → (without_link l (option_map ha
 left-link l None = refl
 left-link l (Some x) = refl
 
--- the table of so many places in a block
+-- the table of this many places in a block
 abbrev pub places_in : ℕ → Extent → BackingArray
 places_in n x = record { capacity = n; extent = Some x }
 

@@ -20,7 +20,7 @@ module _ (c : WindowState) (d : Directory) (k : Denotes current c.bytes d) (s : 
   compared j {o} f = λ i. slice_cmp nat_cmp
       (sym (all-at (IsEntry (bytes_of c.bytes)) (named_objects d) j (entries-in Named c k) f).name i) s.now
 
-  -- one behind the entry of the text, or the entry itself, does not stand before the text
+  -- one after the entry of the text, or the entry itself, does not stand before the text
   from-there : (at j : ℕ) {o p : Object} → slice_get (named_objects d) at ≡ Some o → slice_get (named_objects d) j
       ≡ Some p → slice_cmp nat_cmp o.name s.now ≡ Equal → at ≤ j → (at < j) ⊎ (j ≤ at) → is_before s.now p ≡ false
   from-there at j {o} {p} f g e l (inl m) = subst (λ n. is_lt (slice_cmp nat_cmp p.name n) ≡ false)

@@ -30,7 +30,7 @@ reserve-effect : (i : Index) (d : Directory) (n : ℕ) {b : Bool} → nat_le n (
 reserve-effect index.Named d n {b} e = ap (λ b. if b then Reply Done d else take_places index.Named d n) e
 reserve-effect index.Unique d n {b} e = ap (λ b. if b then Reply Done d else take_places index.Unique d n) e
 
--- there are so many places, or they are taken
+-- there are this many places, or they are taken
 pub reserves : {s t : SegmentState} (view : s ≡ t) (b : IsSegment s.cut.bytes) {c : WindowState} (i : Index) {n : ℕ}
     → is_read_only t.mode ≡ false → KeepsRoomyIndex s.cut c (place_of i) n → Stepped s t c (reserve_of i n) Done
 reserves {s} {t} view b {c} i {n} may r = stepped s t view b c (reserve_of i n) Done may

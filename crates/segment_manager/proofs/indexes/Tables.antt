@@ -92,7 +92,7 @@ exchanged front back ys (Some y) x h =
 
 -- ---- the block of an index among the others
 
--- the extents before and behind it
+-- the extents before and after it
 record Around (i : Index) (d : Directory) : Type 0 where
   front : List Extent
   back : List Extent

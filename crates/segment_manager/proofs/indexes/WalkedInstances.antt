@@ -5,7 +5,7 @@ use Rattle.segment_manager.proofs.Common.{named_objects, SaysAt, objects_of, Yie
 use Rattle.segment_manager.proofs.Common.{Walk, AnswersWith, SegmentState, DenotesCurrent}
 use Rattle.segment_manager.specs.indexes.Iterating.{names_of}
 
--- what stands at a place of the list of named objects is the name that is said, and behind the last there is none
+-- what stands at a place of the list of named objects is the name that is said, and after the last there is none
 pub name-said : {s : SegmentState} {at : ℕ} {said : Instance} → SaysAt s named_objects at said
     → AnswersWith s (λ d. slice_get (names_of d) at) (Some said.name.now)
 name-said {at} h = record {

@@ -160,7 +160,7 @@ denotes-exchanged {format} {old} {new} {d} {o} {o'} {from} {n} {gone} {come} k f
 
 -- ---- an object with another value
 
--- Its head and name stay, blocks are exchanged, and in its own block n bytes behind the name changed.
+-- Its head and name stay, blocks are exchanged, and in its own block n bytes after the name changed.
 denotes-held : {format : ℕ} (old new : WindowState) {d : Directory} (o : Object) (v : Value) (from n : ℕ)
     (gone come : List Extent) → Denotes format old.bytes d → IsIn d o → Exchange o (with_value o v) gone come
     → kind_of v ≡ kind_of o.value → count_of v ≡ count_of o.value → IsTrue (is_object format (with_value o v))

@@ -1,4 +1,4 @@
--- Items taken from an iterator and written one behind another.
+-- Items taken from an iterator and written one after another.
 use Rattle.segment_manager.proofs.Common.{◌≡◌, sym, ap, ◌∙◌, ◌+◌, ◌*◌, ℤ, [], ◌∷◌, ◌++◌, map, WindowState, HasBytesAt}
 use Rattle.segment_manager.proofs.Common.{refl, subst, ℕ, Bool, true, Some, Option, List, length, arith, IsTrue, Yields}
 use Rattle.segment_manager.proofs.Common.{length-append, AllByRecursion, flat_map_more, length-map, current, ScalarKind}
@@ -30,7 +30,7 @@ all-more t [] z h e = and_from (t z) true e refl
 all-more t (y ∷ ys) z h e = and_from (t y) (list_all t (ys ++ z ∷ [])) (first (t y) (list_all t ys) h)
     (all-more t ys z (second (t y) (list_all t ys) h) e)
 
--- ---- so many items were written
+-- ---- this many items were written
 
 -- an object that is being filled: what was given so far, and what stands
 pub record IsFilling {S A : Type 0} (gives : S → Option A → S → Type 0) (can : S → Type 0) (whole : A → ℤ)

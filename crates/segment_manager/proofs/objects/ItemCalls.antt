@@ -88,7 +88,7 @@ module _ (old : SegmentState) (key : names.Key) (k : ScalarKind) (count : ℕ) (
       lands d
       (record { is = none-if d (nat_lt (length zs) count) both.0 refl both.1.refused; denotes = both.1.denotes }))
 
--- so many equal numbers need as many bytes as the machine says
+-- this many equal numbers need as many bytes as the machine says
 equal-len : (k : ScalarKind) (name : List ℕ) (count : ℕ) (z : ℤ)
     → room_for name (size_of k * count) ≡ object_len name (Numbers k (replicate count z))
 equal-len k name count z = ap (λ m. head_len + padded (length name) + size_of k * m) (sym (length-replicate count z))
@@ -281,7 +281,7 @@ module _ (S : Type 0) {A : Type 0} (gives : S → Option A → S → Type 0) (wh
   }
   takes-none why c writing low t = absurd t
 
--- a shape of so many numbers
+-- a shape of this many numbers
 pub begun-numbers : (a m : WindowState) (key : names.Key) {k : ScalarKind} {count : ℕ} (h at : ℕ)
     (entry : Option PendingEntry) {shape : ObjectShape}
     → shape ≡ numbers_shape k count → BeginsObjectOk a m key shape.kind shape.count shape.len h at entry
@@ -367,7 +367,7 @@ module _ (S : Type 0) {A : Type 0} (gives : S → Option A → S → Type 0) (wh
   made-items_or_none (Err why) none done mode writing =
       inr (inr (record { writing = writing; missing = none; takes = done mode writing; counted = tt }))
 
-  -- it is not begun, with a shape of so many numbers
+  -- it is not begun, with a shape of this many numbers
   pub none-items : {c : WindowState} {shape : ObjectShape} {j : ScalarKind} {why : Refusal}
       → shape ≡ numbers_shape j count → j ≡ k → 1 ≤ count
       → BeginsObjectErr a c key shape.kind shape.len why

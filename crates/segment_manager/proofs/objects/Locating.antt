@@ -199,7 +199,7 @@ module _ (old : SegmentState) (key : Key) (o : Located) (l : IsLocated old key o
       (Ok n)) is kind-by_key) (told-by_key (λ d q. elim q as (λ _. Result (ℕ × ℕ) Refusal)
       [ None ↦ Err NotFound | Some p ↦ sizes_of_kind p kind ]) r m)
 
-  -- what is left as it is where there are so many places
+  -- what is left as it is where there are this many places
   places-by_key : {new : SegmentState} (n : ℕ) → UnchangedWhere old new (HasPlaces (ByHandle o.handle) n)
       → UnchangedWhere old new (HasPlaces key n)
   places-by_key n m = λ d k p. m d k (record {

@@ -10,7 +10,7 @@ use Rattle.segment_manager.proofs.objects.Taking.{growth-held, restored-taken, w
 use Rattle.segment_manager.proofs.objects.Pieces.{changed-heap}
 use Rattle.best_fit.proofs.Laws.{taken-back}
 
--- ---- begun: the value has room behind the head
+-- ---- begun: the value has room after the head
 
 headed-room : {a b : WindowState} {kind : Kind} {class : Class} {name : List ℕ} {count : ℕ} (body : ℕ) {h at : ℕ}
     → WritesObjectHeader a b kind class name count h at → IsTrue (has_room (live_of a.bytes) h (room_for name body))
@@ -41,7 +41,7 @@ back-again : {a b c : WindowState} {n : ℕ} {role : Role} {h : ℕ}
 back-again {a} {b} {c} {n} {role} {h} took gone =
     let r = taken-back a b c n h role took gone in record { laid = r.laid; keeps = r.keeps }
 
--- what an index took to grow into goes back, after what was taken behind it
+-- what an index took to grow into goes back, after what was taken after it
 growth-back : {a : WindowState} {b c : WindowState} {e : WindowState} (at : ℕ) (g : Option ℕ)
     → PreparesOk a b at g → RestoresBlocks b c → FreesGrowth c e g → RestoresBlocks a e
 growth-back {a} {c} at None grows r back =

@@ -134,7 +134,7 @@ changed-wider {a} {b} {from} {m} {n} l c = record {
   rest = SameBytesExcept-wider (bytes_of a.bytes) (bytes_of b.bytes) from m from n c.rest (omega arith) (omega arith);
 }
 
--- what was written behind the head stands in the payload
+-- what was written after the head stands in the payload
 pub headed-change : {a b c : WindowState} {kind : Kind} {class : Class} {name : List ℕ} {count : ℕ} (body : ℕ)
     {h at n : ℕ} → WritesObjectHeader a b kind class name count h at
     → ChangesBytes current b c (h + at) n → n ≤ body → ChangesBytes current a c h (room_for name body)
@@ -142,7 +142,7 @@ headed-change {b} {c} {name} body {h} {at} {n} hd change l =
     changed-wider (omega arith) (changed-trans hd.change
     (subst (λ p. ChangesBytes current b c (h + p) n) hd.start change))
 
--- the block was taken, its head written, and then the n bytes behind it
+-- the block was taken, its head written, and then the n bytes after it
 pub empty-taken : {a t m e : WindowState} {kind : Kind} {class : Class} {name : List ℕ} {count n h at : ℕ}
     → AllocatesOk current a t (room_for name n) ObjectRole h → WritesObjectHeader t m kind class name count h at
     → ChangesBytes current m e (h + at) n → AllocatesOk current a e (room_for name n) ObjectRole h
@@ -169,7 +169,7 @@ module _ {a e : WindowState} (name : List ℕ) {n h at : ℕ} (t : AllocatesOk c
       let i = inside in
       taken-more a t.extent (requested-taken t) i.low i.high r
 
--- a head with its name, and a value behind it
+-- a head with its name, and a value after it
 headed-object : {m m' : Memory} {h at : ℕ} {class : Class} {name : List ℕ} (v : Value) (x : Extent) → h ≡ handle x
     → at ≡ 16 + padded (length name) → IsHeadAt m h (kind_of v) (count_of v) class name → SameBytes m m' h (h + at)
     → IsValueAt m' (h + at) v → IsObjectAt m' (record { class = class; name = name; value = v; extent = x })

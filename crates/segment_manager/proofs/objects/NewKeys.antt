@@ -25,7 +25,7 @@ numbers-value k zs low high all = and_from (nat_le 1 (length zs) && nat_le (leng
     zs) (and_from (nat_le 1 (length zs)) (nat_le (length zs) 1048576) (le-leb 1 (length zs) low) (le-leb (length zs)
     1048576 high)) all
 
--- so many equal values are a good value
+-- this many equal values are a good value
 pub equal-good : (k : ScalarKind) (n : ℕ) (z : ℤ) → 1 ≤ n → n ≤ 1048576 → IsTrue (is_value k z)
     → IsTrue (is_good_value (Numbers k (replicate n z)))
 equal-good k n z low high h =

@@ -46,7 +46,7 @@ numbers-made k zs {old} {new} good change says = record {
   said = says;
 }
 
--- the spelling of one number, so many times
+-- the spelling of one number, this many times
 pub equal-made : (k : ScalarKind) (count : ℕ) (z : ℤ) (old new : WindowState) (p : Place) (bytes : List ℕ) → 1 ≤ count
     → count ≤ 1048576 → IsTrue (is_value k z) → bytes ≡ spelling k z → ChangesBytes current old new (place_at p)
     (length bytes * count) → HasBytesAt (bytes_of new.bytes) (place_at p) (repeated count bytes)

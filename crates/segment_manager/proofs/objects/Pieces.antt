@@ -59,13 +59,13 @@ changed-heap {a} {b} {from} {n} c =
 
 -- ---- what stays in front of a change
 
--- a word stays where bytes behind it change
+-- a word stays where bytes after it change
 pub word-stays : {a b : WindowState} (at : ℕ) {from n : ℕ} → ChangesBytes current a b from n → at + 8 ≤ from
     → word_at (bytes_of b.bytes) at ≡ word_at (bytes_of a.bytes) at
 word-stays {a} {b} at c f = SameBytes-word (bytes_of a.bytes) (bytes_of b.bytes) at (at + 8) at
     (record { at = λ k l h. c.rest.at k (inl (omega arith)) }) (omega arith) (omega arith)
 
--- bytes stay where others behind them change
+-- bytes stay where others after them change
 pub bytes-stay : {a b : WindowState} (at : ℕ) {from n : ℕ} (bytes : List ℕ) → ChangesBytes current a b from n
     → at + length bytes ≤ from → HasBytesAt (bytes_of a.bytes) at bytes → HasBytesAt (bytes_of b.bytes) at bytes
 bytes-stay {a} {b} at {from} {n} bytes c f h =
@@ -114,18 +114,18 @@ repeats-more {a} {b} {c} h at {i} {bytes} r s w =
 
 -- ---- a name
 
--- so many zeros
+-- this many zeros
 pub zeros-taken : {n : ℕ} (len : ℕ) → n ≡ padded len - len
     → take {A = ℕ} n (replicate 8 0) ≡ replicate (padded len - len) 0
 zeros-taken len e =
     ap (λ (k : ℕ). take {A = ℕ} k (replicate 8 0)) e ∙ take-replicate (padded len - len) 8 0 (omega arith)
 
--- the name was written, and then zeros behind it
+-- the name was written, and then zeros after it
 pub record HasName (a c : WindowState) (h : ℕ) (name : List ℕ) : Type 0 where
   pub change : ChangesBytes current a c (h + 16) (padded (length name))
   pub content : HasBytesAt (bytes_of c.bytes) (h + 16) (padded_name name)
 
--- the name and the zeros behind it are written
+-- the name and the zeros after it are written
 pub name-written : {a b c : WindowState} {h : ℕ} {name : List ℕ} {zeros : List ℕ}
     → zeros ≡ replicate (padded (length name) - length name) 0 → ChangesBytes current a b (h + 16) (length name)
     → HasBytesAt (bytes_of b.bytes) (h + 16) name → ChangesBytes current b c (h + (16 + length name)) (length zeros)

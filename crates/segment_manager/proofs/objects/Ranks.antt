@@ -16,7 +16,7 @@ pub record IsStrict (lt : Object → Object → Bool) : Type 0 where
 pub data IsRanked (lt : Object → Object → Bool) (o p : Object) : Type 0 where
   -- an object before another is ranked
   before : lt o p ≡ true → lt p o ≡ false → IsRanked lt o p
-  -- an object behind another is ranked
+  -- an object after another is ranked
   after : lt p o ≡ true → lt o p ≡ false → IsRanked lt o p
 
 -- two objects are ranked in either order
@@ -35,7 +35,7 @@ pub insert_by-front : (lt : Object → Object → Bool) (o p : Object) (ps : Lis
     → insert_by lt o (p ∷ ps) ≡ o ∷ p ∷ ps
 insert_by-front lt o p ps e = ap (λ b. if b then o ∷ p ∷ ps else p ∷ insert_by lt o ps) e
 
--- an object not before the first is put behind it
+-- an object not before the first is put after it
 pub insert_by-behind : (lt : Object → Object → Bool) (o p : Object) (ps : List Object) → lt o p ≡ false
     → insert_by lt o (p ∷ ps) ≡ p ∷ insert_by lt o ps
 insert_by-behind lt o p ps e = ap (λ b. if b then o ∷ p ∷ ps else p ∷ insert_by lt o ps) e

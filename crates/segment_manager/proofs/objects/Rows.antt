@@ -1,4 +1,4 @@
--- Bytes one row behind another: elements of one length, and the same bytes several times.
+-- Bytes one row after another: elements of one length, and the same bytes several times.
 use Rattle.segment_manager.proofs.Common.{◌≡◌, refl, sym, ap, subst, ◌∙◌, ℕ, zero, suc, ◌+◌, ◌*◌, ◌<◌, ℤ, Some, List}
 use Rattle.segment_manager.proofs.Common.{[], ◌∷◌, ◌++◌, length, replicate, arith, length-append, slice_get, slice_set}
 use Rattle.segment_manager.proofs.Common.{flat_map, flat_map_more, Memory, HasBytesAt, SameBytesExcept, ScalarKind}
@@ -57,7 +57,7 @@ module _ {X : Type 0} (f : X → List ℕ) {n : ℕ} (each : (x : X) → length 
 
 -- ---- the same bytes several times
 
--- so many repetitions have so many times the length
+-- this many repetitions have this many times the length
 pub repeated-length : (n : ℕ) (bytes : List ℕ) → length (repeated n bytes) ≡ length bytes * n
 repeated-length zero bytes = omega arith
 repeated-length (suc n) bytes = omega (arith, length-append bytes (repeated n bytes), repeated-length n bytes)

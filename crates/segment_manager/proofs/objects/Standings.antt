@@ -51,7 +51,7 @@ pub standing-room : (b : List ℕ) (h n : ℕ) (o : Object) → IsObjectInBlock 
     → n ≤ 16 + padded (length o.name) + value_len o.value → IsTrue (has_room (live_of b) h n)
 standing-room b h n o s l = room-less (live_of b) h (object_len o.name o.value) n l s.room
 
--- its name stands behind the two words
+-- its name stands after the two words
 pub standing-name : {b : List ℕ} {h : ℕ} {o : Object} → IsObjectInBlock b h o
     → read (bytes_of b) (h + 16) (length o.name) ≡ o.name
 standing-name {b} {o} s =

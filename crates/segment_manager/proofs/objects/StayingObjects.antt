@@ -86,7 +86,7 @@ module _ {format : ℕ} (d : Directory) (is : IsDirectory format d) (h : ℕ) (q
 
   -- ---- ranges
 
-  -- values that are put behind the last of a vector
+  -- values that are put after the last of a vector
   extended-keeps : (mode : Mode) (key : Key) (k : ScalarKind) (more : List ℤ)
       → located_at (extended mode d key k more).1 (ByHandle h) ≡ Some q
   extended-keeps mode key k more = perform-keeps true refl (live d) _ (extended-leaves mode d key k more)

@@ -150,7 +150,7 @@ element-missing {d} {key} e = missing-if (object_at d key) refl e
 
 module _ (b : List ℕ) (d : Directory) (key : Key) (k : ScalarKind) (i : ℕ) (p : Place)
     (e : ElementAt b d key k i p) where
-  -- all numbers stand behind the head and the name
+  -- all numbers stand after the head and the name
   pub numbers-stand : HasBytesAt (bytes_of b) (p.handle + (16 + padded (length e.object.name))) (spelled k e.numbers)
   numbers-stand =
       let at : handle e.object.extent + 16 + padded

@@ -4,7 +4,7 @@ use Rattle.raw_region.specs.Memory.{WindowState, bytes_of, whole}
 use Rattle.best_fit.specs.{Ends.EndsAt, Ends.least_size, Heap.SameBlock, Heap.live_of}
 use Rattle.segment_manager.specs.{Directory.Directory, Directory.live, State.SegmentState, State.DenotesCurrent}
 
--- with so many bytes more
+-- with this many bytes more
 abbrev pub grown : Directory → ℕ → Directory
 grown d extra = record d { size = d.size + extra }
 
@@ -12,11 +12,11 @@ grown d extra = record d { size = d.size + extra }
 abbrev pub shrunk : Directory → Directory
 shrunk d = record d { size = least_size (live d) }
 
--- how many bytes the region has behind the window
+-- how many bytes the region has after the window
 abbrev pub room_behind : WindowState → ℕ
 room_behind c = length (whole c) - (length c.before + length c.bytes)
 
--- open as it was, and at its place in its region, of which nothing changes behind both ends; the payload and the colour
+-- open as it was, and at its place in its region, of which nothing changes after both ends; the payload and the colour
 -- of each block stay, and of each directory the bytes denote the next one
 pub record Resizes (old new : SegmentState) (next : Directory → Directory) : Type 0 where
   pub mode : new.mode ≡ old.mode

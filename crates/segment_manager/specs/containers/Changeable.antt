@@ -1,4 +1,4 @@
--- Objects that a command changes, and literals that it changes them by: what is known of both where their kind is
+-- Objects that a command changes, and literals that it changes them by: what is known of both if their kind is
 -- learnt late.
 use Rattle.std.specs.Prelude.{◌≡◌, ℕ, true, false, None, Ok}
 use Rattle.seg_types.specs.{Names.Key, Kinds.is_value, declared.kinds.Kind.Kind, declared.refusals.Refusal.Refusal}

@@ -10,7 +10,7 @@ use Rattle.segment_manager.specs.declared.containers.element_runs.ElementRun.{El
 use Rattle.segment_manager.specs.Directory.{Value, Numbers, Elements, Bytes, Pairs, Texts, Object, Directory, object_at}
 use Rattle.segment_manager.specs.{Directory.padded, Layout.head_len, State.SegmentState, State.DenotesCurrent}
 
--- where the storage of a container begins, or 0 where it has none
+-- where the storage of a container begins, or 0 if it has none
 abbrev pub storage_offset : BackingArray → ℕ
 storage_offset t = elim t.extent as (λ _. ℕ) [ None ↦ 0 | Some x ↦ handle x ]
 

@@ -31,14 +31,14 @@ pub record IsShapeOf (content : Content) (s : ObjectShape) : Type 0 where
   pub len : s.len ≡ value_len (bare content)
   pub small : s.len < 2 ^ 40
 
--- the shape of an object of so many numbers of a kind
+-- the shape of an object of this many numbers of a kind
 abbrev pub numbers_shape : ScalarKind → ℕ → ObjectShape
 numbers_shape k count = record { kind = Scalar k; count = count; len = size_of k * count }
 
 abbrev pub container_shape : Kind → ObjectShape
 container_shape kind = record { kind = kind; count = 1; len = 24 }
 
--- what a content asks for behind the object's own block, and the value that it becomes
+-- what a content asks for after the object's own block, and the value that it becomes
 pub record IsGiven (d : Directory) (l : LiveSet) (content : Content) (v : Value) (left : LiveSet) : Type 0 where
   pub met : (next : Value → Plan) → perform d l (with_value content next) ≡ perform d left (next v)
 
@@ -104,7 +104,7 @@ FillsObject now new h at entry content result =
 
 -- ---- a construction
 
--- On the heap of a segment that may be changed: it is one step, and where it is refused before it asks for a block
+-- On the heap of a segment that may be changed: it is one step, and if it is refused before it asks for a block
 -- nothing changes.
 pub record Constructs {A : Type 0} (old new : WindowState) (command : Command) (answer : Result A Refusal → Answer)
     (result : Result A Refusal) : Type 0 where
@@ -133,6 +133,6 @@ ConstructsObject old new key content result = TakesStep old new (Construct key c
 abbrev pub FindsOrMakes : SegmentState → SegmentState → names.Key → Content → Result (ℕ × ℕ) Refusal → Type 0
 FindsOrMakes old new key content result = TakesStep old new (FindOrConstruct key content) (found_object_answer result)
 
--- a content of so many equal numbers
+-- a content of this many equal numbers
 abbrev pub equal_numbers : ScalarKind → ℕ → ℤ → Content
 equal_numbers k count z = Numbers k (replicate count z)

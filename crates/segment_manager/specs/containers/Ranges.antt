@@ -26,7 +26,7 @@ is_row k kind = same_kind (Vector k) kind || same_kind (Scalar k) kind
 abbrev pub numbers_if : ScalarKind → Value → Result (List ℤ) Refusal
 numbers_if k v = if is_row k (kind_of v) then Ok (numbers_in v) else Err WrongKind
 
--- so many elements of a list, from a place on, if it has so many there
+-- this many elements of a list, from a place on, if it has this many there
 abbrev pub range_of : List ℤ → ℕ → ℕ → Result (List ℤ) Refusal
 range_of zs first n = if nat_le (first + n) (length zs) then Ok (take n (drop first zs)) else Err OutOfRange
 
@@ -34,7 +34,7 @@ abbrev pub range_in : Result (List ℤ) Refusal → ℕ → ℕ → Result (List
 range_in (Ok zs) first n = range_of zs first n
 range_in (Err why) first n = Err why
 
--- so many elements of the object of a key, from a place on
+-- this many elements of the object of a key, from a place on
 abbrev pub range_at : Directory → Key → ScalarKind → ℕ → ℕ → Result (List ℤ) Refusal
 range_at d key k first n = range_in (elim (object_at d key) as (λ _. Result (List ℤ) Refusal) [
   | None ↦ Err NotFound
@@ -54,7 +54,7 @@ abbrev pub written_if : Result (List ℤ) Refusal → Directory → Directory �
 written_if (Ok old) d after = (Done, after)
 written_if (Err why) d after = (Refused why, d)
 
--- what is answered, and the directory behind it: all are written, or none
+-- what is answered, and the directory after it: all are written, or none
 abbrev pub written : Mode → Directory → Key → ScalarKind → ℕ → List ℤ → Answer × Directory
 written mode d key k first zs =
     if is_read_only mode then (
@@ -65,7 +65,7 @@ written mode d key k first zs =
 abbrev pub WritesRange : SegmentState → SegmentState → Key → ScalarKind → ℕ → List ℤ → Answer → Type 0
 WritesRange old new key k first zs answer = Transitions old new answer (λ d. written old.mode d key k first zs)
 
--- no byte changes but those of so many elements from a place on in the object of the key, an array of scalars of the
+-- no byte changes but those of this many elements from a place on in the object of the key, an array of scalars of the
 -- kind
 abbrev pub ChangesRange : SegmentState → SegmentState → Key → ScalarKind → ℕ → ℕ → Type 0
 ChangesRange old new key k first n = (d : Directory) → DenotesCurrent old.cut.bytes d
@@ -74,7 +74,7 @@ ChangesRange old new key k first n = (d : Directory) → DenotesCurrent old.cut.
 
 -- ---- putting in
 
--- a vector with these behind its last element
+-- a vector with these after its last element
 abbrev pub extend : Directory → Object → Value → List ℤ → Plan
 extend d o v more =
     with (vector_of v) (λ (k, zs, t).

@@ -13,7 +13,7 @@ use Rattle.segment_manager.specs.declared.containers.storages.Change.TheVariants
 use Rattle.segment_manager.specs.{Answers.Answer, Directory.Directory, Keeping.HasPlaces}
 use Rattle.segment_manager.specs.State.{TakesStepOfKind, SegmentState, done_answer}
 
--- A call that changes a container is one step of the machine, and where it is refused nothing changes.
+-- A call that changes a container is one step of the machine, and if it is refused nothing changes.
 pub record AnswersSafely {R : Type 0} (says : Result R Refusal
     → Answer) (s : SegmentState) (new : WindowState) (key : Key)
     (kind : Kind) (c : Command) (r : Result R Refusal) : Type 0 where
@@ -38,7 +38,7 @@ HasEnough (Reserve n) key d = HasPlaces key n d
 HasEnough Shrink key d = ⊥
 HasEnough Clear key d = ⊥
 
--- ---- elements of so many bytes each in storage
+-- ---- elements of this many bytes each in storage
 
 -- how many bytes an element has: of a vector of numbers, or of a text
 abbrev pub each_of : Kind → ℕ

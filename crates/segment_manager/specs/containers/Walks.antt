@@ -13,7 +13,7 @@ use Rattle.segment_manager.specs.Directory.{Value, Numbers, Elements, Bytes, Pai
 abbrev pub IsMap : SegmentState → Key → ScalarKind → ScalarKind → Type 0
 IsMap s key k v = AnswersWith s (λ d. kind_at d key) (Ok (Map k v))
 
--- the pairs of a value, which has none where it is no map
+-- the pairs of a value, which has none if it is no map
 abbrev pub pairs_of : Value → List NumberPair
 pairs_of (Numbers k zs) = []
 pairs_of (Elements k zs t) = []

@@ -1,4 +1,4 @@
--- What becomes of the two indexes where an object is put in, taken out, or given another value.
+-- What becomes of the two indexes when an object is put in, taken out, or given another value.
 use Rattle.std.specs.Prelude.{◌≡◌, ℕ, true, false, Some, None}
 use Rattle.best_fit.specs.Extents.{handle}
 use Rattle.seg_types.specs.declared.kinds.Class.TheVariants.{Named, Unique}

@@ -15,17 +15,17 @@ pub record Walk : Type 0 where
   pub index : Index
   pub at : ℕ
 
--- the place behind what came, where something came
+-- the place after what came, if something came
 abbrev pub place_behind : {A : Type 0} → ℕ → Option A → ℕ
 place_behind at None = at
 place_behind at (Some x) = at + 1
 
--- what is said is said of the object at a place, and nothing is said where no object stands there
+-- what is said is said of the object at a place, and nothing is said if no object stands there
 abbrev pub SaysNext : SegmentState → (Directory → List Object) → ℕ → Option Instance → Type 0
 SaysNext s objects at None = (d : Directory) → DenotesCurrent s.cut.bytes d → length (objects d) ≤ at
 SaysNext s objects at (Some said) = SaysAt s objects at said
 
--- the iterator gives what stands where it stood, and stands behind it then
+-- the iterator gives what stands where it stood, and stands after it then
 pub record YieldsInstance (old : Walk) (item : Option Instance) (new : Walk) : Type 0 where
   pub segment : new.segment ≡ old.segment
   pub index : new.index ≡ old.index
@@ -88,7 +88,7 @@ own_spans d = filter is_own_span (spans (live d))
 abbrev pub own_before : Directory → ℕ → ℕ
 own_before d i = length (filter is_own_span (take i (spans (live d))))
 
--- the blocks and gaps that were passed are those of so many objects
+-- the blocks and gaps that were passed are those of this many objects
 pub record HasPassed (s : SegmentState) (tiles : TileWalk) (at : ℕ) : Type 0 where
   pub segment : tiles.segment ≡ s
   pub count : AnswersWith s (λ d. own_before d tiles.at) at

@@ -14,6 +14,6 @@ pub record PartsNames (text : List ℕ) (os : List Object) (at : ℕ) : Type 0 w
   pub ahead : (j : ℕ) (o : Object) → slice_get os j ≡ Some o → j < at → is_before text o ≡ true
   pub from : (j : ℕ) (o : Object) → slice_get os j ≡ Some o → at ≤ j → is_before text o ≡ false
 
--- the place is that of the first name that does not stand before the text, or their number where all do
+-- the place is that of the first name that does not stand before the text, or their number if all do
 pub record IsFirstFrom (s : SegmentState) (text : List ℕ) (at : ℕ) : Type 0 where
   pub parts : (d : Directory) → DenotesCurrent s.cut.bytes d → PartsNames text (named_objects d) at

@@ -1,4 +1,4 @@
--- The elements of the object of a key, one after another: as many as it has where it is of the kind, and else none.
+-- The elements of the object of a key, one after another: as many as it has if it is of the kind, and otherwise none.
 use Rattle.std.specs.Prelude.{ℕ, ℤ, Some, None, Result, Ok, Err, List, [], map, if◌then◌else◌}
 use Rattle.seg_types.specs.{declared.kinds.Kind.Kind, declared.refusals.Refusal.Refusal, Kinds.same_kind, Names.Key}
 use Rattle.seg_types.specs.declared.kinds.Kind.TheVariants.{Scalar as ScalarOf, Vector as VectorOf}
@@ -59,7 +59,7 @@ array_length_at d key k = elim
           (count_of o.value) else Err WrongKind
     ]
 
--- a number, or 0 where there is none
+-- a number, or 0 if there is none
 abbrev pub number_or_none : Result ℕ Refusal → ℕ
 number_or_none (Ok n) = n
 number_or_none (Err why) = 0

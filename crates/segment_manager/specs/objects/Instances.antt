@@ -14,7 +14,7 @@ name_in Anonymous name = None
 name_in Named name = Some name
 name_in Unique name = None
 
--- the name of an object, where it has one
+-- the name of an object, if it has one
 abbrev pub own_name : Object → Option (List ℕ)
 own_name o = name_in o.class o.name
 

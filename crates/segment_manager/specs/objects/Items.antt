@@ -21,7 +21,7 @@ KeepsUnasked old new NoSpace = ⊤
 KeepsUnasked old new OutOfRange = ⊤
 KeepsUnasked old new why = new ≡ old
 
--- The call is the step of the items that it took, as whole numbers: as many as the count says, or fewer where no more
+-- The call is the step of the items that it took, as whole numbers: as many as the count says, or fewer if no more
 -- came. It is refused for another reason before it takes one.
 pub record ConstructsFromItems {S A : Type 0} (gives : S → Option A → S → Type 0) (whole : A
     → ℤ) (old new : SegmentState) (key : Key)
@@ -41,7 +41,7 @@ TakesItemsIn gives whole old new key k count before after result = (mode : Mode)
 
 -- ---- found, or made of items
 
--- what is answered of an object that is there: its handle and how many scalars it has, where it is of the kind
+-- what is answered of an object that is there: its handle and how many scalars it has, if it is of the kind
 abbrev pub found_at : ScalarKind → Key → Directory → Option (Result (ℕ × ℕ) Refusal)
 found_at k key d = option_map (λ o. pair_of_kind o (Scalar k)) (object_at d key)
 

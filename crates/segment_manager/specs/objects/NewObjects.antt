@@ -15,7 +15,7 @@ use Rattle.segment_manager.specs.declared.blocks.requesting.Requested.{Requested
 
 -- ---- requests
 
--- what the index grows into where it is full, and the block of the object, with n bytes
+-- what the index grows into if it is full, and the block of the object, with n bytes
 pub record RequestsBlocksOk (old new : WindowState) (at n : ℕ) (growth : Option ℕ) (h : ℕ) : Type 0 where
   pub between : WindowState
   pub grows : PreparesOk old between at growth

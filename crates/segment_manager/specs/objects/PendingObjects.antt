@@ -34,14 +34,14 @@ abbrev pub IsFoundAt : WindowState → Index → Entry → ℕ → Type 0
 IsFoundAt c i e at =
     (t : BackingArray) (hs : List ℕ) → IsIndexOf c (place_of i) t hs → FindsPosition (bytes_of c.bytes) e hs (Found at)
 
--- A head is written in a block that was taken, and elements go behind it.
+-- A head is written in a block that was taken, and elements go after it.
 pub record WritesObjectHeader (taken new : WindowState) (kind : Kind) (class : Class) (name : List ℕ)
     (count h at : ℕ) : Type 0 where
   pub start : at ≡ head_len + padded (length name)
   pub change : ChangesBytes current taken new h (head_len + padded (length name))
   pub head : IsHeadAt (bytes_of new.bytes) h kind count class name
 
--- under a key that gets an entry, with so many bytes for the value
+-- under a key that gets an entry, with this many bytes for the value
 pub record BeginsEntryOk (old new : WindowState) (key : names.Key) (kind : Kind) (count body h at : ℕ)
     (e : PendingEntry) : Type 0 where
   pub entry : Entry
@@ -122,7 +122,7 @@ WritesNext gives whole old new k from before after wrote =
 abbrev pub IsNextOfKind : {S A : Type 0} → (S → Option A → S → Type 0) → (A → ScalarKind) → S → ScalarKind → Type 0
 IsNextOfKind {S} {A} gives kind before k = (item : A) (after : S) → gives before (Some item) after → kind item ≡ k
 
--- Items were taken in turn and written one behind another: as many as were asked for, or fewer where no more came.
+-- Items were taken in turn and written one after another: as many as were asked for, or fewer if no more came.
 pub record Fills {S A : Type 0} (gives : S → Option A → S → Type 0) (whole : A
     → ℤ) (old new : WindowState) (k : ScalarKind)
     (from count : ℕ) (before after : S) (filled : Result (Unit {0}) Refusal) : Type 0 where

@@ -41,7 +41,7 @@ pub record IsHeadAt (m : Memory) (h : ℕ) (kind : Kind) (count : ℕ) (class : 
 abbrev pub repeated : ℕ → List ℕ → List ℕ
 repeated n bytes = flat_map (λ each. each) (replicate n bytes)
 
--- the bytes of the payload of an object under a name, whose value takes so many
+-- the bytes of the payload of an object under a name, whose value takes this many
 abbrev pub room_for : List ℕ → ℕ → ℕ
 room_for name body = head_len + padded (length name) + body
 

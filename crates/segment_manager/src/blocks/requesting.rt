@@ -16,7 +16,7 @@ pub(crate) struct Requested {
 }
 
 /// Takes the blocks of an object with an entry in an index into use. A full index gets a larger block first, and then
-/// the object one of `len` bytes. Where one of them has no gap, what was taken before is given back.
+/// the object one of `len` bytes. If one of them has no gap, what was taken before is given back.
 pub(crate) fn request(heap: &mut Heap, index: Index, len: u64) -> Result<Requested, NoSpace>
     requires { HasIndex heap.old (place_of index) }
     ensures { Requests heap.old heap.new (place_of index) len result }

@@ -14,8 +14,8 @@ use crate::segment::Segment;
 use seg_types::{Handle, Refusal, Scalar, ScalarKind};
 
 impl Segment {
-    /// Makes a vector of values with just so many places, and returns its handle. A key that is a kind is that of such
-    /// vectors. Conditions and errors: as of `construct`, but for the count.
+    /// Makes a vector of values with just a place for each, and returns its handle. A key that is a kind is that of
+    /// such vectors. Conditions and errors: as of `construct`, but for the count.
     ///
     /// Example: `segment.construct_vec::<i64, _>(&name, &[])?`.
     pub fn construct_vec<T: Scalar, D: ConstructKey>(
@@ -31,7 +31,7 @@ impl Segment {
         self.construct_under(key, &NewVector { values })
     }
 
-    /// Makes a string of bytes with just so many places, and returns its handle. A key that is a kind is that of
+    /// Makes a string of bytes with just a place for each, and returns its handle. A key that is a kind is that of
     /// strings. Conditions and errors: as of `construct`, but for the count.
     ///
     /// Example: `segment.construct_string(&name, b"red")?`.
@@ -84,8 +84,8 @@ impl Segment {
         self.find_or_construct_under(key, &NewString { bytes })
     }
 
-    /// Makes a vector of texts with just so many places, each text in a block of its own, and returns its handle. A key
-    /// that is a kind is that of such vectors. Conditions and errors: as of `construct`, but for the count.
+    /// Makes a vector of texts with just a place for each, each text in a block of its own, and returns its handle. A
+    /// key that is a kind is that of such vectors. Conditions and errors: as of `construct`, but for the count.
     ///
     /// Example: `segment.construct_texts(&name, &[b"apples", b"pears"])?`.
     pub fn construct_texts<D: ConstructKey>(

@@ -59,7 +59,7 @@ pub trait ObjectInit {
         ensures { MakesValue (content self.now) heap.old heap.new place result };
 }
 
-/// A value, so many times.
+/// A value, `count` times.
 #[derive(Drop)]
 pub struct NewNumbers<T> {
     /// How many times, from 1 to 1048576.

@@ -1,4 +1,4 @@
-//! Elements of arrays and vectors of scalars, so many written or put in by one call.
+//! Elements of arrays and vectors of scalars, several written or put in by one call.
 ghost use Rattle.std.specs.Prelude.{◌≡◌, ◌+◌, OnErr, OnOk, false, length, map, nat_le};
 ghost use Rattle.seg_types.specs.declared.kinds.Kind.TheVariants.{Vector as VectorOf};
 ghost use Rattle.seg_types.specs.{declared.kinds.ScalarKind.ScalarKind as AnyScalarKind, Names.ByHandle};
@@ -20,7 +20,7 @@ impl Segment {
     /// # Errors
     ///
     /// `ReadOnly` if the segment is open for reading. Otherwise `NotFound` if no object has the key, `WrongKind` if it
-    /// is of another kind, `OutOfRange` if it has not so many elements there. Nothing changes.
+    /// is of another kind, `OutOfRange` if it has too few elements there. Nothing changes.
     pub fn write_range<T: Scalar, O: ObjectRef>(
         &mut self,
         key: &O,
@@ -122,7 +122,7 @@ impl Segment {
     }
 }
 
-/// Tells whether so many elements have `count` from `first` on.
+/// Tells whether `len` elements have `count` from `first` on.
 fn has_range(len: u64, first: u64, count: u64) -> bool
     ensures { result ≡ nat_le (first + count) len }
 {

@@ -11,7 +11,7 @@ use seg_vector::{Place, SegTexts, reserve, shrink_storage, truncate};
 /// What is done with the storage of a container.
 #[derive(Clone, Copy)]
 pub(crate) enum Change {
-    /// The container gets places for so many elements, if it has fewer.
+    /// The container gets places for this number of elements, if it has fewer.
     Reserve(u64),
     /// Its places that have no element are given back.
     Shrink,

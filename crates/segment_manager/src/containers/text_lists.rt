@@ -66,7 +66,7 @@ impl Segment {
     ///
     /// `ReadOnly` if the segment is open for reading. Otherwise `NotFound` if no object has the key, `WrongKind` if it
     /// is of another kind, and nothing changes; `NoSpace` if it is full and its array cannot be regrown, or the text
-    /// has no fit: all objects and blocks are as they were. Bytes of gaps may differ where an array was had.
+    /// has no fit: all objects and blocks are as they were. Bytes of gaps may differ if an array was had.
     pub fn texts_push<O: ObjectRef>(&mut self, key: &O, text: &[u8]) -> Result<(), Refusal>
         requires { O.stands key.now self.old }
         ensures step { TakesStepOfKind self.old self.new (O.key key.now) StringsKind
@@ -78,8 +78,8 @@ impl Segment {
         SegTexts { place }.push(&mut self.heap, text)
     }
 
-    /// Makes texts those of the vector of strings of a key. One or more get a new array of just so many places and then
-    /// their blocks, while the old ones are in use; none leave the array that there is.
+    /// Makes texts those of the vector of strings of a key. One or more get a new array with just a place for each, and
+    /// then their blocks, while the old ones are in use; none leave the array that there is.
     ///
     /// Example: `segment.texts_assign(&name, &[b"apples", b"pears"])?`.
     ///
@@ -87,7 +87,7 @@ impl Segment {
     ///
     /// `ReadOnly` if the segment is open for reading. Otherwise `NotFound` if no object has the key, `WrongKind` if it
     /// is of another kind, and nothing changes; `NoSpace` if the array or a text has no fit: all objects and blocks are
-    /// as they were. Bytes of gaps may differ where an array was had.
+    /// as they were. Bytes of gaps may differ if an array was had.
     pub fn texts_assign<O: ObjectRef>(&mut self, key: &O, texts: &[&[u8]]) -> Result<(), Refusal>
         requires { O.stands key.now self.old }
         ensures step { TakesStepOfKind self.old self.new (O.key key.now) StringsKind
@@ -126,9 +126,9 @@ impl Segment {
     /// # Errors
     ///
     /// `ReadOnly` if the segment is open for reading. Otherwise `NotFound` if no object has the key, `WrongKind` if it
-    /// is of another kind, `OutOfRange` if there are not so many others, and nothing changes; `NoSpace` if it is full
+    /// is of another kind, `OutOfRange` if `index` is above the length, and nothing changes; `NoSpace` if it is full
     /// and its array cannot be regrown, or the text has no fit: all objects and blocks are as they were. Bytes of gaps
-    /// may differ where an array was had.
+    /// may differ if an array was had.
     pub fn texts_insert<O: ObjectRef>(
         &mut self,
         key: &O,

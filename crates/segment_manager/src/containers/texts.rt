@@ -48,7 +48,7 @@ impl Segment {
         SegString { place }.set(&mut self.heap, index, byte)
     }
 
-    /// Puts bytes after those of the string of a key. Where they do not fit, it gets twice its places first, at least
+    /// Puts bytes after those of the string of a key. If they do not fit, it gets twice its places first, at least
     /// 16, and as many as are needed.
     ///
     /// Example: `segment.string_append(&name, b"-black")?`.
@@ -68,7 +68,7 @@ impl Segment {
         SegString { place }.append(&mut self.heap, bytes)
     }
 
-    /// Makes bytes those of the string of a key. Where they do not fit, it gets as many places as are needed.
+    /// Makes bytes those of the string of a key. If they do not fit, it gets as many places as are needed.
     ///
     /// Example: `segment.string_assign(&name, b"splay")?`.
     ///

@@ -76,7 +76,7 @@ impl Segment {
         SegVec::<T>::at(place).push(&mut self.heap, value)
     }
 
-    /// Makes values the elements of the vector of a key, a vector of the type. Where they do not fit, it gets as many
+    /// Makes values the elements of the vector of a key, a vector of the type. If they do not fit, it gets as many
     /// places as are needed.
     ///
     /// Example: `segment.vec_assign(&name, &[6i64, 7])?`.
@@ -128,7 +128,7 @@ impl Segment {
     /// # Errors
     ///
     /// `ReadOnly` if the segment is open for reading. Otherwise `NotFound` if no object has the key, `WrongKind` if it
-    /// is of another kind, `OutOfRange` if there are not so many others, `NoSpace` if it is full and its storage cannot
+    /// is of another kind, `OutOfRange` if `index` is above the length, `NoSpace` if it is full and its storage cannot
     /// be regrown. Nothing changes.
     pub fn vec_insert<T: Scalar, O: ObjectRef>(
         &mut self,

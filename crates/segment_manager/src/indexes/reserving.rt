@@ -11,7 +11,7 @@ use seg_index::Index;
 use seg_types::Refusal;
 
 impl Segment {
-    /// Gives the index of names places for `n` objects, if it has less: in a new block of exactly so many, and the old
+    /// Gives the index of names places for `n` objects, if it has less: in a new block of exactly `n`, and the old
     /// one is given back.
     ///
     /// Example: `segment.reserve_named(1000)?`.

@@ -1,4 +1,4 @@
-//! Objects constructed, whatever they hold; those of one number, so many times.
+//! Objects constructed, whatever they hold; those of one number, several times.
 ghost use Rattle.std.specs.Prelude.{◌≡◌, ◌≤◌, true};
 ghost use Rattle.seg_types.specs.declared.kinds.Kind.TheVariants.{Scalar as ScalarOf};
 ghost use Rattle.seg_types.specs.Values.{kind_of_scalar, value_of_scalar};
@@ -139,7 +139,7 @@ impl Segment {
     }
 }
 
-/// Fills an object that was begun, and has its entry lead there. Where its elements have no gap, all that was taken for
+/// Fills an object that was begun, and has its entry lead there. If its elements have no gap, all that was taken for
 /// it is given back.
 #[inline(always)]
 pub(crate) fn build<F: ObjectInit>(

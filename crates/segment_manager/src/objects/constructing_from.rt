@@ -20,7 +20,7 @@ use best_fit::Heap;
 use seg_types::{Handle, Kind, NewKey, Refusal, Scalar, ScalarKind, ScalarValue};
 
 impl Segment {
-    /// Makes an object of the next `count` items, and returns its handle. Items are taken only where each block that is
+    /// Makes an object of the next `count` items, and returns its handle. Items are taken only if each block that is
     /// needed was found.
     ///
     /// Example: `segment.construct_it(&name, 5, &mut primes)?`.
@@ -106,7 +106,7 @@ impl Segment {
     }
 }
 
-/// Fills an object of `count` numbers of a kind that was begun with items, and has its entry lead to it. Where too few
+/// Fills an object of `count` numbers of a kind that was begun with items, and has its entry lead to it. If too few
 /// come all that was taken for it is given back.
 pub(crate) fn take_items<S: Spelling<A>, A, I: Iterator<Item = A>>(
     heap: &mut Heap,

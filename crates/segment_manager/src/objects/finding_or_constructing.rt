@@ -1,4 +1,4 @@
-//! Objects found, or constructed if there are none, whatever they hold; those of one number, so many times.
+//! Objects found, or constructed if there are none, whatever they hold; those of one number, several times.
 ghost use Rattle.std.specs.Prelude.{◌≡◌, ◌≤◌, true};
 ghost use Rattle.seg_types.specs.{declared.kinds.Kind.TheVariants.Scalar as ScalarOf, Names.Key as AnyKey};
 ghost use Rattle.seg_types.specs.Values.{kind_of_scalar, value_of_scalar};

@@ -1,4 +1,4 @@
-//! Objects found, or constructed from the items of an iterator where there are none.
+//! Objects found, or constructed from the items of an iterator if there are none.
 ghost use Rattle.std.specs.Prelude.{◌≡◌, ◌≤◌, true, false};
 ghost use Rattle.seg_types.specs.Names.{Key as AnyKey};
 ghost use Rattle.seg_types.specs.declared.kinds.Kind.TheVariants.{Scalar as ScalarOf};

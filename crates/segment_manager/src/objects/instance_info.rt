@@ -62,7 +62,7 @@ impl Segment {
     }
 
     /// Tells whether an object of the segment has the handle. It is looked for among all blocks, from the nearest
-    /// way-point on, since it may come from outside.
+    /// block hint on, since it may come from outside.
     ///
     /// Example: `if segment.belongs(handle)`.
     pub fn is_object_handle(&self, handle: Handle) -> bool

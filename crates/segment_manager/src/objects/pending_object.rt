@@ -137,7 +137,7 @@ pub(crate) fn class_of(index: Index) -> Class
     }
 }
 
-/// Has the entry of an object lead to it where it was filled, and returns its handle. Otherwise all that was taken for
+/// Has the entry of an object lead to it if it was filled, and returns its handle. Otherwise all that was taken for
 /// it is given back.
 #[inline(always)]
 pub(crate) fn finish_object(

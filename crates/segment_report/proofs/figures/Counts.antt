@@ -309,7 +309,7 @@ tally-live d = λ i. record {
   end_gap = (end-live (live d) ∙ ap (λ n. n - least_size (live d)) (live-size d)) i;
 }
 
--- behind all of them
+-- after all of them
 pub tally-all : (d : Directory) (i : ℕ) → length (spans (live d)) ≤ i → tally_in (take i (spans (live d))) ≡ tally_of d
 tally-all d i h = ap tally_in (take_all i (spans (live d)) h) ∙ tally-live d
 

@@ -59,7 +59,7 @@ figures-are s size t o named unique a b c e f d k = λ i.
     figures_text (size_is s.mode d size (a.answers d k) i) (b.answers d k i) (c.answers d k i) (e.answers d k i)
     (f.answers d k i)
 
--- the line of a kind is cut, behind those of the kinds before it
+-- the line of a kind is cut, after those of the kinds before it
 pub kind-cut : {A B E F : Type 0} (counts : List ℕ) (ks : List Kind) (i : ℕ) (d : Kind) (n : ℕ)
     (old mid new : WriterHistory) (x : E) (result : Result B F) → i < length ks
     → mid.bytes ≡ old.bytes ++ flat_map (counted_line counts) (take i ks) → mid.failures ≡ old.failures

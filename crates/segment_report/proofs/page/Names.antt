@@ -83,7 +83,7 @@ module _ (s : SegmentState) (old mid new : WriterHistory) (prefix : List ℕ) (m
     (was : ListsFirstNames s.cut.bytes old mid prefix most left at) where
   module _ (name : List ℕ) (next : (d : Directory) → DenotesCurrent s.cut.bytes d
       → Some name ≡ slice_get (names_of d) at) where
-    -- the line of the next name, and those behind it
+    -- the line of the next name, and those after it
     rest-here : (d : Directory) → DenotesCurrent s.cut.bytes d
         → listed prefix left (drop at (names_of d)) ≡ listed_line prefix left name
         ++ listed prefix (left_after prefix left name) (drop (at + 1) (names_of d))

@@ -45,7 +45,7 @@ tells-then s old mid new x result a b first more = record {
   counted = omega (arith, first.counted, more.counted);
 }
 
--- what is cut is so whatever was to be written behind it
+-- what is cut is so whatever was to be written after it
 pub tells-cut : {A B E F : Type 0} (s : SegmentState) (old new : WriterHistory) (x : E) (result : Result B F)
     (a b : Directory → List ℕ) → IsErr result → WritesReport {A = A} s old new (Err x) a
     → WritesReport s old new result (λ d. a d ++ b d)

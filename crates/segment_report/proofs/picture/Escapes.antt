@@ -1,4 +1,4 @@
--- Bytes of a text as XML spells them, one behind another.
+-- Bytes of a text as XML spells them, one after another.
 use Rattle.std.proofs.Common.{◌≡◌, ℕ, suc, ◌+◌, ◌<◌, List, [], ◌∷◌, ◌++◌, length, drop, get_or, refl, sym, ap, subst}
 use Rattle.std.proofs.Common.{◌∙◌, append_assoc, arith, drop-cons}
 use Rattle.std.proofs.lemmas.List.{append-nil, drop_all}

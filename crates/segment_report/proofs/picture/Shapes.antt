@@ -5,7 +5,7 @@ use Rattle.std.proofs.lemmas.Bool.{cond-false, cond-true, eq-eqb, ne_eqb}
 use Rattle.segment_report.specs.Picture.{box_text, frame_at, frame_text, left_of, outline_text, right_of, rows_text}
 use Rattle.segment_report.specs.Picture.{shape_text, top_of, width_in}
 
--- the corners of so many bytes from an offset on
+-- the corners of this many bytes from an offset on
 pub record AreCorners (per from len left right top last : ℕ) : Type 0 where
   pub left_is : left ≡ left_of per from
   pub right_is : right ≡ right_of per (from + len - 1)

@@ -129,7 +129,7 @@ module _ {s : SegmentState} {key : Key} (c : IsChangeable s key String) where
       (λ d st. text-refused d key (there d st).object (spelled d st).bytes (spelled d st).table (there d st).is
       (spelled d st).is ls why e)
 
--- ---- bytes behind those of a text
+-- ---- bytes after those of a text
 
 append-if : (d : Directory) (key : Key) (bs : List ℕ) (o : Object) (v : Value) (b : Bool) → object_at d key ≡ Some o
     → o.value ≡ v → same_kind String (kind_of v) ≡ b

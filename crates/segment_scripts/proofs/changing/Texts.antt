@@ -260,7 +260,7 @@ executes-by_key old key o l new c h = record {
       is_untouched n.0) (step-same old key o l c d st) ∙ e);
 }
 
--- what is answered behind a step
+-- what is answered after a step
 pub step-answers : {E : Type 0} (old new : SegmentState) (c : Command) (answer : Answer) (reply : Said)
     (was now : WriterHistory) (result : Result Answered E) → TakesStep old new c answer
     → ((d : Directory) → answer_seen d reply ≡ answer)

@@ -33,7 +33,7 @@ line-words text w (x ∷ xs) =
     ap (λ l. w ++ 0x20 ∷ l) (line-words text (text x) xs)
     ∙ ap (λ l. w ++ 0x20 ∷ l) (sym (append_assoc (text x) (flat_map (λ x. 0x20 ∷ text x) xs) (0x0A ∷ [])))
 
--- elements that are laid out behind a word are the words behind it
+-- elements that are laid out after a word are the words after it
 laid-line : {X : Type 0} (text : X → List ℕ) (w : List ℕ) (xs : List X)
     → w ++ (laid_from (λ i x. 0x20 ∷ text x) 0 xs ++ 0x0A ∷ []) ≡ line (w ∷ map text xs)
 laid-line text w xs = ap (λ l. w ++ (l ++ 0x0A ∷ [])) (laid-flat (λ x. 0x20 ∷ text x) 0 xs) ∙ sym (line-words text w xs)

@@ -9,7 +9,7 @@ use Rattle.segment_scripts.specs.Shown.{behind_text, class_text, number_words}
 two-front : (a b ab rest : List ℕ) → a ++ b ≡ ab → a ++ (b ++ rest) ≡ ab ++ rest
 two-front a b ab rest e = sym (append_assoc a b rest) ∙ ap (λ (t : List ℕ). t ++ rest) e
 
--- a last word, and up to two numbers behind it
+-- a last word, and up to two numbers after it
 last-words : (word : List ℕ) (n m : Option ℕ)
     → word ++ (behind_text n ++ (behind_text m ++ 0x0A ∷ [])) ≡ line (word ∷ (number_words n ++ number_words m))
 last-words word None None = refl

@@ -29,13 +29,13 @@ listing-lines words (x ∷ xs) =
     ap (λ l. line (words x) ++ l) (listing-lines words xs)
     ∙ sym (append_assoc (line (words x)) (flat_map (λ x. line (words x)) xs) last_line)
 
--- a text that is cut is so whatever was to be written behind it
+-- a text that is cut is so whatever was to be written after it
 cut-more : {B F : Type 0} (old new : WriterHistory) (result : Result B F) (a b : List ℕ) → IsErr result
     → Writes old new result a → Writes old new result (a ++ b)
 cut-more old new (Ok y) a b h w = absurd (cc h)
 cut-more old new (Err x) a b h w = writes-cut old new x (Err x) a b h w
 
--- so many lines have gone out
+-- this many lines have gone out
 module _ {A : Type 0} (s : SegmentState) (words : A → List (List ℕ)) (items : Directory
     → List A) {old mid : WriterHistory} (i : ℕ)
     (before : WritesFor old mid well (DenotesCurrent s.cut.bytes) (λ d.
@@ -68,7 +68,7 @@ module _ {A : Type 0} (s : SegmentState) (words : A → List (List ℕ)) (items 
           counted = cut.counted;
         }
 
-  -- these are all, and the last line goes out behind them
+  -- these are all, and the last line goes out after them
   pub listing-done : {C G : Type 0} {new : WriterHistory} {result : Result C G}
       → ((d : Directory) → DenotesCurrent s.cut.bytes d → length (items d) ≤ i) → Writes mid new result last_line
       → WritesFor old new result (DenotesCurrent s.cut.bytes) (λ d. listing words (items d))

@@ -48,7 +48,7 @@ abbrev capacity_in : Result (ℕ × ℕ) Refusal → ℕ
 capacity_in (Ok (len, capacity)) = capacity
 capacity_in (Err r) = 0
 
--- what is measured of an object is said behind the others: length and capacity
+-- what is measured of an object is said after the others: length and capacity
 measure-said : (v : Value) → ((k w : ScalarKind) → kind_of v ≡ Map k w → ⊥) → (len capacity : ℕ)
     → Ok (len, capacity) ≡ sizes_of v → number_words (Some len) ++ number_words (Some capacity) ≡ measure_words v
 measure-said (Numbers k zs) n len capacity e = absurd (cc)

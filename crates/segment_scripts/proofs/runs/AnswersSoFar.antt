@@ -22,7 +22,7 @@ kept-decides f long place line = elim (at_most_or_more (length line) 4097) [
   | inr h ↦ sym (long place line h)
 ]
 
--- bytes behind no open line are all of their line
+-- bytes after no open line are all of their line
 pub whole_line : {P A : Type 0} (f : P → List ℕ → A)
     → ((place : P) (line : List ℕ) → 4097 < length line → f place line ≡ f place (take kept line))
     → (place : P) (line end : List ℕ) → (length line == 0) ≡ true → f place end ≡ f place (take kept (line ++ end))

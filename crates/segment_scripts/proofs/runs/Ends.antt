@@ -1,4 +1,4 @@
--- Where a run may end behind a line.
+-- Where a run may end after a line.
 use Rattle.std.proofs.Common.{◌≡◌, ◌&&◌, ◌==◌, ℕ, ◌<◌, Bool, false, true, not, List, [], ◌∷◌, ◌++◌, length, take, refl}
 use Rattle.std.proofs.Common.{sym, ap, subst, ◌∙◌}
 use Rattle.std.proofs.lemmas.List.{append_assoc}
@@ -15,7 +15,7 @@ use Rattle.segment_scripts.proofs.runs.Lines.{ended_lines-end, ended_lines-open,
 use Rattle.segment_scripts.proofs.runs.AnswersSoFar.{answers_one, behind_line, behind_none, behind_open, kept-decides}
 use Rattle.segment_scripts.proofs.runs.AnswersSoFar.{same_answer, same_line, stops_at}
 
--- a test behind another
+-- a test after another
 and-then : (a b c : Bool) → (a && b) ≡ true → (b ≡ true → c ≡ true) → (a && c) ≡ true
 and-then true b c e next = next e
 and-then false b c e next = e
@@ -25,7 +25,7 @@ module _ {P : Type 0} (respond : P → List ℕ → List ℕ × P) (stops : P �
   goes_on-alone place l true e f = absurd (cc)
   goes_on-alone place l false e f = refl
 
-  -- one more line, behind which the run goes on
+  -- one more line, after which the run goes on
   pub goes_on-one : (place : P) (ls : List (List ℕ)) (l : List ℕ) → goes_on respond stops place ls ≡ true
       → stops (answer_all respond place ls).1 l ≡ false → goes_on respond stops place (ls ++ l ∷ []) ≡ true
   goes_on-one place [] l e f = goes_on-alone place l (stops place l) refl f
@@ -51,7 +51,7 @@ module _ {P : Type 0} (respond : P → List ℕ → List ℕ × P) (stops : P �
       → respond place line ≡ respond place (take kept line))
       (long_stops : (place : P) (line : List ℕ) → 4097 < length line
       → stops place line ≡ stops place (take kept line)) where
-    -- whether the run ends behind the open line, by what is kept of it
+    -- whether the run ends after the open line, by what is kept of it
     stop_is : (start : P) (before read : List ℕ) (Stands : P → Type 0) (line taken : List ℕ) (b : Bool)
         → HasRunTo respond start before read Stands line taken
         → ((p : P) → Stands p → stops p line ≡ b)
@@ -70,7 +70,7 @@ module _ {P : Type 0} (respond : P → List ℕ → List ℕ × P) (stops : P �
         goes_on-one start (ended_lines read) (open_line read) h.on
         (stop_is start before read Stands line taken false h.behind tells)
 
-    -- the run ends behind it
+    -- the run ends after it
     ends_behind : (start : P) (before read : List ℕ) (Stands Stands' : P → Type 0) (line taken taken' : List ℕ)
         → IsOn respond stops start before read Stands line taken
         → ((p : P) → Stands p → Stands' (respond p line).1)
@@ -122,7 +122,7 @@ module _ {P : Type 0} (respond : P → List ℕ → List ℕ × P) (stops : P �
                 ∙ on_one start before front Stands (take kept (line ++ end)) taken on_end tells;
           }
 
-      -- the run ends behind it
+      -- the run ends after it
       pub ends_in : piece ≡ done ++ rest
           → ((p : P) → Stands p → taken' ≡ taken ++ (respond p (take kept (line ++ end))).0)
           → ((p : P) → Stands p → stops p (take kept (line ++ end)) ≡ true)

@@ -81,12 +81,12 @@ pub open-nil : open_line [] ≡ []
 unfolding open_line
 open-nil = refl
 
--- behind a line end no line is open
+-- after a line end no line is open
 pub open_line-end : (xs : List ℕ) → open_line (xs ++ 0x0A ∷ []) ≡ []
 unfolding open_line
 open_line-end xs = rw (whole_lines-end xs []) (drop_all (length (xs ++ 0x0A ∷ [])) (xs ++ 0x0A ∷ []) (omega arith))
 
--- behind bytes in which no line ends the same lines ended, and the open one is longer
+-- after bytes in which no line ends the same lines ended, and the open one is longer
 pub open_line-open : (xs part : List ℕ) → whole_lines part ≡ [] → open_line (xs ++ part) ≡ open_line xs ++ part
 unfolding open_line
 open_line-open xs part e = rw (whole_lines-open xs part e)

@@ -21,7 +21,7 @@ use Rattle.segment_lang.proofs.Laws.{at_most_or_more}
 use Rattle.segment_scripts.proofs.runs.Lines.{ended_lines-end, lines-parts, last_lines, last-some, last-none}
 use Rattle.segment_scripts.proofs.runs.AnswersSoFar.{answers_one, stops_at, same_answer}
 
--- of these lines some were answered, behind none of which the run was to end, and the answer to the next was cut
+-- of these lines some were answered, after none of which the run was to end, and the answer to the next was cut
 pub record IsPartOn {P : Type 0} (respond : P → List ℕ → List ℕ × P) (stops : P → List ℕ
     → Bool) (start : P) (all : List (List ℕ)) (printed : List ℕ) (Stands : P → Type 0) : Type 0 where
   pub part : AnswersPart respond start all printed Stands
@@ -123,7 +123,7 @@ module _ {P : Type 0} (respond : P → List ℕ → List ℕ × P) where
   grows_answered start before ls Stands taken h =
       h.prints ∙ ap (λ (t : List ℕ). before ++ t) (sym (added before taken (answer_all respond start ls).0 h.prints))
 
-  -- a run that stopped at a line stops there with more text behind it
+  -- a run that stopped at a line stops there with more text after it
   pub grows_stopped : (start : P) (before : List ℕ) (ls : List (List ℕ)) (l : List ℕ) (Stands : P
       → Type 0) (taken : List ℕ) → HasStopped respond start before ls l Stands taken → AppendsBytes before taken
   grows_stopped start before ls l Stands taken h =
@@ -191,7 +191,7 @@ module _ {P : Type 0} (respond : P → List ℕ → List ℕ × P) where
         (ended_lines h.more) Stands taken h.stopped h.on
         (executable_in read piece h.front h.more left count within script limit is bytes unended h.parts)
 
-    -- the run ended behind a line that ends there
+    -- the run ended after a line that ends there
     pub stopped_in : (start : P) (before read piece : List ℕ) (left count within : ℕ) (script : ReadDelta)
         (out : WriteDelta) (Stands : P → Type 0) (taken : List ℕ)
         → length read + left ≡ script_limit → within ≡ min count left
@@ -216,7 +216,7 @@ module _ {P : Type 0} (respond : P → List ℕ → List ℕ × P) where
           written = written;
         }
 
-    -- the run ended behind the last line
+    -- the run ended after the last line
     stopped_at_end : (start : P) (before : List ℕ) (script : ReadDelta) (out : WriteDelta) (Stands : P
         → Type 0) (taken : List ℕ)
         → script.ended ≡ true → length script.bytes ≤ script_limit

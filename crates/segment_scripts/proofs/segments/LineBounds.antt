@@ -140,7 +140,7 @@ literal-room (word.Text bs) = omega arith
 abbrev IsCount : ℕ → Type 0
 IsCount n = (1 ≤ n) × (n ≤ 1048576)
 
--- a kind, and so many
+-- a kind, and this many
 abbrev IsCounted : Kind × ℕ → Type 0
 IsCounted p = IsCount p.1
 

@@ -58,7 +58,7 @@ zeros_held true changing zero_free known old new same stays zeros was e = subst 
 zeros_held false true zero_free known old new same stays zeros was e = zeros e refl
 zeros_held false false zero_free known old new same stays zeros was e = subst HasZeroGaps (sym (stays refl)) (was e)
 
--- what is asked leads to the place behind it
+-- what is asked leads to the place after it
 module _ (old new : SegmentState) (c : Command) (asked : Reading) (e : Asked c ≡ asked) (done : Executes old new c)
     (kept : (d : Directory) → DenotesCurrent old.cut.bytes d → changes_nothing old.mode d c ≡ true → new ≡ old)
     (reads : is_changing c ≡ false → new ≡ old) where

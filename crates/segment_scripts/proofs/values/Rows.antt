@@ -235,7 +235,7 @@ module _ {T : Type 0} (whole : T
         ∙ sym (map-append whole row (y ∷ []))) (range-more k (map whole row) z h.range good);
   }
 
-  -- a value that is dropped, behind one that is out of range
+  -- a value that is dropped, after one that is out of range
   pub read-passed : (z : ℤ) → fits ≡ false → value_of_literal k l ≡ Ok z → IsRead whole k ls rest' row false
   read-passed z t e = record {
     values = left ∙ (λ i. before (t i) (map whole row) (cons_values (e i) (values_of k rest')))

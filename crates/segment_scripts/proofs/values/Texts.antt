@@ -1,4 +1,4 @@
--- Texts one behind another, by how many bytes each has.
+-- Texts one after another, by how many bytes each has.
 use Rattle.std.proofs.Common.{◌≡◌, refl, sym, ap, ◌∙◌, ℕ, ◌+◌, ◌<◌, ◌≤◌, Result, Ok, Err, List, [], ◌∷◌, ◌++◌, drop}
 use Rattle.std.proofs.Common.{get_or, length, take, append_assoc, arith}
 use Rattle.std.proofs.lemmas.List.{append-nil, drop-append-le, drop_all, drop_more, length-append, length-drop}
@@ -18,7 +18,7 @@ none : (bs : List ℕ) → 0 ≡ length bs → bs ≡ []
 none [] e = refl
 none (b ∷ bs) e = absurd (omega arith)
 
--- one text more behind the others
+-- one text more after the others
 pub parts-more : (ns bs cs : List ℕ) → total ns ≡ length bs
     → parts (ns ++ length cs ∷ []) (bs ++ cs) ≡ parts ns bs ++ cs ∷ []
 parts-more [] bs cs e = ap (λ b. take (length cs) (b ++ cs) ∷ []) (none bs e)
@@ -34,7 +34,7 @@ pub total-more : (ns : List ℕ) (m : ℕ) → total (ns ++ m ∷ []) ≡ total 
 total-more [] m = omega arith
 total-more (n ∷ ns) m = let more = total-more ns m in omega arith
 
--- how many bytes they take, one behind each
+-- how many bytes they take, one after each
 pub parts-taken : (ns bs : List ℕ) → total ns ≡ length bs → texts_taken (parts ns bs) ≡ length ns + length bs
 parts-taken [] bs e = omega arith
 parts-taken (n ∷ ns) bs e =

@@ -88,7 +88,7 @@ spelled-drop k (suc n) (z ∷ zs) v =
     ap (λ j. drop j (spelling k z ++ spelled k zs)) step
     ∙ drop-append-add (spelling k z) (spelled k zs) (size_of k * n) ∙ spelled-drop k n zs both.1
 
--- those of so many from a place on
+-- those of this many from a place on
 pub range-spelled : (k : ScalarKind) (zs : List ℤ) (bytes : List ℕ) (first n : ℕ) → AreSpelled k zs bytes
     → AreSpelled k (take n (drop first zs)) (part bytes (size_of k * first) (size_of k * n))
 range-spelled k zs bytes first n a =
@@ -252,7 +252,7 @@ module _ (s : SegmentState) (o : Located) (k : ScalarKind) (located : IsLocated 
         | Some p ↦ run_of p
       ]) said.is)
 
--- so many of them from a place on
+-- this many of them from a place on
 pub row-bytes : (s : SegmentState) (o : Located) (k : ScalarKind) (run : ElementRun) (first n : ℕ) (from : List ℕ)
     → HasRow s o k run → first + n ≤ run.count
     → from ≡ part s.cut.bytes (run.offset + size_of k * first) (size_of k * n)

@@ -1,4 +1,4 @@
--- Lists of which so many are read from a place on.
+-- Lists of which this many are read from a place on.
 use Rattle.std.proofs.Common.{◌≡◌, refl, sym, ap, ◌∙◌, ℕ, zero, suc, ◌+◌, ◌<◌, ℤ, Some, List, [], ◌∷◌, ◌++◌, add-one}
 use Rattle.std.proofs.Common.{length, map, set, take, zero-add, arith}
 use Rattle.std.specs.Prelude.{drop, slice_get}

@@ -23,7 +23,7 @@ use Rattle.segment_manager.specs.State.{AnswersWith, AnswersQueryOfKind, Segment
 use Rattle.segment_views.specs.Walked.{element_of}
 use Rattle.segment_manager.proofs.Laws.{array-length, array-read, code-read, got, text-read, vector-length, vector-read}
 
--- behind the last element there is none
+-- after the last element there is none
 pub none-past : {B : Type 0} (elements : Directory → List B) (s : SegmentState) (at len : ℕ)
     → AnswersWith s (λ d. length (elements d)) len → len ≤ at → AnswersWith s (λ d. slice_get (elements d) at) None
 none-past elements s at len h l =

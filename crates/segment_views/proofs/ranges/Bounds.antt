@@ -1,4 +1,4 @@
--- The pairs between two bounds of a list whose keys rise: the first of them and those behind it, the last and those
+-- The pairs between two bounds of a list whose keys rise: the first of them and those after it, the last and those
 -- before it.
 use Rattle.std.proofs.Common.{◌≡◌, refl, sym, ap, subst, ◌∙◌, ◌≤◌, ℤ, Bool, true, false, ◌&&◌, not, Option, Some, None}
 use Rattle.std.proofs.Common.{List, [], ◌∷◌, ◌++◌, filter, length, map, arith, if◌then◌else◌}
@@ -72,7 +72,7 @@ admitted far (Some (x, y)) = if far x then Some (x, y) else None
 -- ---- keys that rise, by an order
 
 module _ (less : ℤ → ℤ → Bool) (transitive : (x y z : ℤ) → less x y ≡ true → less y z ≡ true → less x z ≡ true) where
-  -- the key behind another is above it, and one may be left out
+  -- the key after another is above it, and one may be left out
   next-above : (p q : NumberPair) (qs : List NumberPair) → is_rising less (p ∷ q ∷ qs) ≡ true → less p.key q.key ≡ true
   next-above p q qs r = left-true (less p.key q.key) (is_rising less (q ∷ qs)) r
 
@@ -88,7 +88,7 @@ module _ (less : ℤ → ℤ → Bool) (transitive : (x y z : ℤ) → less x y 
       both-true (less p.key s.key) (is_rising less (s ∷ qs))
       (transitive p.key q.key s.key (next-above p q (s ∷ qs) r) (next-above q s qs rest)) (rest-rises q (s ∷ qs) rest)
 
-  -- what is found behind a pair is above it
+  -- what is found after a pair is above it
   found-above : (t : NumberPair → Bool) (p : NumberPair) (qs : List NumberPair) (x y : ℤ)
       → is_rising less (p ∷ qs) ≡ true → slice_get (items t qs) 0 ≡ Some (x, y) → less p.key x ≡ true
   found-above t p [] x y r e = absurd (cc)
@@ -103,8 +103,8 @@ module _ (less : ℤ → ℤ → Bool) (transitive : (x y z : ℤ) → less x y 
           subst (λ z. less p.key z ≡ true) same (next-above p q qs r)
       by_cases next false f = next (sym (first-if t q qs false f) ∙ e)
 
-  -- A test, and one for each key: of the key's pair it is false, behind a pair that passes it is the test, and before
-  -- the pair it is false. So behind the first pair that passes there are those that pass the test of its key.
+  -- A test, and one for each key: of the key's pair it is false, after a pair that passes it is the test, and before
+  -- the pair it is false. So after the first pair that passes there are those that pass the test of its key.
   module _ (t : NumberPair → Bool) (u : ℤ → NumberPair → Bool) (itself : (p : NumberPair) → u p.key p ≡ false)
       (behind : (p q : NumberPair) → less p.key q.key ≡ true → t p ≡ true
       → t q ≡ u p.key q) (before : (x : ℤ) (p : NumberPair) → less p.key x ≡ true → u x p ≡ false) where
@@ -136,7 +136,7 @@ module _ (less : ℤ → ℤ → Bool) (transitive : (x y z : ℤ) → less x y 
             ∙ ap (λ (xs : List (ℤ × ℤ)). (x, y) ∷ xs)
             (sym (items-if (u x) p qs false (before x p (found-above t p qs x y r rest))))
 
-  -- A test that is two, of which the second is false behind a pair of which it is: the first pair that passes the first
+  -- A test that is two, of which the second is false after a pair of which it is: the first pair that passes the first
   -- passes both, or none does.
   module _ (t a : NumberPair → Bool) (far : ℤ → Bool) (both : (p : NumberPair)
       → t p ≡ (a p && far p.key)) (past : (p q : NumberPair) → less p.key q.key ≡ true → far p.key ≡ false

@@ -161,7 +161,7 @@ module _ {k v : ScalarKind} {o : Located} {w : PairWalk} (is : IsPairWalk k v o 
     left = w.left - 1;
   }
 
-  -- a first pair: the range goes on behind it
+  -- a first pair: the range goes on after it
   pub finds-one : {t : PairWalk} → w ≡ t → {r : Option (A × B)} {pair : A × B} → r ≡ Some pair → HasFirst r
       → GoesOnPairs k v seen t (Some pair) (behind pair)
   finds-one e {pair = pair} was a = subst (λ t. GoesOnPairs k v seen t (Some pair) (behind pair)) e (record {

@@ -56,7 +56,7 @@ unlink_if_gap-requires-clause-tree c =
       rw e (first_tree w c.args.at c.requires.heap b),
     )
 
--- the gap behind has left the tree
+-- the gap after has left the tree
 half : (c : After-unlink_if_gap) (b : Block c.args.touches.now.gaps.now.window (c.args.at + 16))
     → c.next-behind.result ≡ first_in b.back
     → HalfUprooted c.args.touches.now.gaps.now.window c.args.at c.requires.heap b

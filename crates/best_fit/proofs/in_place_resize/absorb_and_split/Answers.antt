@@ -1,4 +1,4 @@
--- The gap behind leaves the tree, the block takes it and is cut, and what is cut off enters the tree.
+-- The gap after leaves the tree, the block takes it and is cut, and what is cut off enters the tree.
 use Rattle.best_fit.proofs.Common.{◌≡◌, refl, ap, ◌∙◌, ◌+◌, ◌++◌, ◌∷◌, length, arith, first_in, gaps_of, gaps_in}
 use Rattle.best_fit.proofs.Common.{HasGapTree, ChangesGapTree, gap_offset, tile_list, offset_of}
 use Rattle.best_fit.proofs.allocation.LeastGap.{bits-le}
@@ -40,7 +40,7 @@ unlink_if_gap-requires-clause-tree c =
       rw e (tree_w w c.args.at c.requires.heap b c.args.wanted),
     )
 
--- the gap behind has left the tree
+-- the gap after has left the tree
 gone : (c : After-unlink_if_gap) (b : Block c.args.touches.now.gaps.now.window (c.args.at + 16))
     → c.next-behind.result ≡ first_in b.back
     → TailUprooted c.args.touches.now.gaps.now.window c.args.at c.requires.heap b c.args.wanted

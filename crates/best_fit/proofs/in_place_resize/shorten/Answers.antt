@@ -1,4 +1,4 @@
--- The block and the gap behind it are read, and the block takes what it needs of the gap.
+-- The block and the gap after it are read, and the block takes what it needs of the gap.
 use Rattle.best_fit.proofs.Common.{◌≡◌, refl, sym, subst, ◌∙◌, ℕ, ◌+◌, ◌-◌, ◌%◌, ◌<◌, length, arith, WindowState}
 use Rattle.best_fit.proofs.Common.{current}
 use Rattle.best_fit.proofs.Common.{HasTileAt, gaps_in, ShrinksInPlace, live_of, SplitsBlock}

@@ -5,7 +5,7 @@ use Rattle.grow_shrink.proofs.resizing.Refusals.{grown_small, not_refused, refus
 use Rattle.grow_shrink.proofs.resizing.grow.Goals as goal
 use Rattle.grow_shrink.proofs.resizing.grow.Goals.{After-is_above}
 
--- the segment is written, and so many bytes may be added to one
+-- the segment is written, and this many bytes may be added to one
 writing : (c : After-is_above) → is_read_only c.args.segment.now.mode ≡ false
 writing c = sym c.is_read_only.ensures ∙ c.if-is_read_only.false
 

@@ -13,7 +13,7 @@ use Rattle.image_check.proofs.walks.Weights.{weigh-front, weigh-more}
 use Rattle.image_check.proofs.object_walk.are_right.Goals.{After-row-payload}
 use Rattle.image_check.proofs.object_walk.are_right.Goals as goal
 
--- what is kept of the tiles behind the walk
+-- what is kept of the tiles after the walk
 abbrev Kept : ℕ → WindowState → ℕ → ℕ → List Tile → Type 0
 Kept format w before visits ts = (list_all (is_right_tile format (bytes_of w.bytes)) ts ≡ true) × (before ≤ visits)
     × (visits ≤ before + weigh object_walk_rates ts)

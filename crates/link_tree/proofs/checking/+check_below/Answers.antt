@@ -71,7 +71,7 @@ count_fork red l r n k k' p q = omega (arith, length-append (nodes_of l) (n ∷ 
 abbrev Sound : (g : Over) → g.row.N.Denot → (link low high : Option ℕ) → Bool → Tree → ℕ → Type 0
 Sound g s = IsSound (g.N.Nodes.order s) (g.N.Nodes.cells s)
 
--- a part of so many black levels and nodes
+-- a part of this many black levels and nodes
 abbrev Found : (g : Over) → g.row.N.Denot → (link low high : Option ℕ) → Bool → ℕ → ℕ → Type 0
 Found g s link low high red b k = (t : Tree) × Sound g s link low high red t b × (length (nodes_of t) ≡ k)
 

@@ -4,7 +4,7 @@ use Rattle.offset_link.specs.Relinked.{word_by_target, relinked, HasNoNullLink}
 use Rattle.offset_link.proofs.moves.ShiftedWords.{non_null-part, non_null-same, run_after, words-after}
 use Rattle.offset_link.proofs.moves.move_down.Goals as goal
 
--- the first link, the runs behind it, and the rest behind them
+-- the first link, the runs after it, and the rest after them
 module _ (b one : List ℕ) (at by n first q rest : ℕ) (within : at + 8 * n ≤ length b) (inside : by ≤ at)
     (parts : first + (8 * q + rest) ≡ n)
     (e : one ≡ patched b (at - by) (relinked (bytes_of b) at (at - by) first)) where

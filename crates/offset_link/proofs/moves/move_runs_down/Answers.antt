@@ -15,7 +15,7 @@ Set b at k = HasNoNullLink (bytes_of b) at (8 * k)
 
 module _ (b cur : List ℕ) (at by n k from : ℕ) (within : at + 64 * n ≤ length b) (inside : by ≤ at) (few : k < n)
     (there : from ≡ at + 64 * k) (moved : Moved b cur at by k) where
-  -- and then the one behind them
+  -- and then the one after them
   step : (new : List ℕ) → new ≡ patched cur (from - by) (reworded word_by_distance (bytes_of cur) from (from - by) 8)
       → Moved b new at by (k + 1)
   step new f =

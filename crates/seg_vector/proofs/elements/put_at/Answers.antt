@@ -34,7 +34,7 @@ returns-in-Some c =
     (λ len t bytes s. overwritten c.in-Over.index c.args.bytes.now s (omega (arith, inside, s.words.len_word))
     c.requires.min_len (sym c.link_of.ensures ∙ c.in-Some.is) c.write.ensures.changes c.write.ensures.content)
 
--- there is a place more, and the index is none behind the end
+-- there is a place more, and the index is none after the end
 before : (c : In-Some-link_of) → let b = c.args.heap.now.bytes in let at = place_at c.args.place in
     (word_at (bytes_of b) (at + 8) < word_at (bytes_of b) (at + 16))
     × (c.in-Before.index ≤ word_at (bytes_of b) (at + 8))

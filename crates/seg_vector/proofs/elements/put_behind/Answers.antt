@@ -5,7 +5,7 @@ use Rattle.seg_vector.proofs.{all-none, at-least, bytes_of, capacity-bytes, curr
 use Rattle.seg_vector.proofs.{flat_map, has_room, live_of, more-times, none-left, none-more, room-small, some-room}
 use Rattle.seg_vector.proofs.elements.put_behind.Goals as goal
 
--- those that come have room behind the others
+-- those that come have room after the others
 room : (g : Over) (c : After-SIZE g) → IsTrue (has_room (live_of c.args.heap.now.bytes) c.in-Some.storage
     (c.SIZE.result * c.len_of-len.result + g.T.Plain.SIZE * length c.args.values.now))
 room g c =

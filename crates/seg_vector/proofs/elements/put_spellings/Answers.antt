@@ -1,4 +1,4 @@
--- One value more is spelled behind the others.
+-- One value more is spelled after the others.
 use Rattle.seg_vector.proofs.elements.put_spellings.Goals as goal
 use Rattle.seg_vector.proofs.{◌≡◌, ◌≤◌, sym, ap, subst, ◌∙◌, suc, ◌+◌, ◌*◌, ◌++◌, ◌∷◌, [], arith, length, IsTrue}
 use Rattle.seg_vector.proofs.{all-next, flat_map, length-take, more-times, list_all, patched, spelled-next, take}

@@ -1,4 +1,4 @@
--- A link, and a word behind it.
+-- A link, and a word after it.
 use Rattle.seg_vector.proofs.{◌≡◌, subst, ◌∙◌, inl, ◌+◌, arith, bytes_of, word_at, SameBytesExcept-link, changed-both}
 use Rattle.seg_vector.proofs.text_arrays.put_element.Goals as goal
 

@@ -1,4 +1,4 @@
--- A region has room for what its segment has, and for what is behind it.
+-- A region has room for what its segment has, and for what is after it.
 use Rattle.segment_c.proofs.transactions.has_room.Goals as goal
 use Rattle.std.proofs.{Common.◌∙◌, Common.◌-◌, Common.ap, Common.arith, Common.nat_le, Common.sym, lemmas.Bool.le-leb}
 use Rattle.segment_c.proofs.transactions.Rooms.{fits-beyond, fits-within}

@@ -1,4 +1,4 @@
--- No line ends behind this place but the last one.
+-- No line ends after this place but the last one.
 use Rattle.segment_dump.proofs.Common.{◌≡◌, ◌≤◌, ◌<◌, true, drop, length, is_line}
 use Rattle.segment_dump.proofs.notes.last_line_at.Given as goal
 

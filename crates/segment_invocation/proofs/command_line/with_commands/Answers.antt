@@ -1,4 +1,4 @@
--- The command of the first row goes behind the commands before it, and the other rows are left.
+-- The command of the first row goes after the commands before it, and the other rows are left.
 use Rattle.std.proofs.Common.{ap, ◌∙◌}
 use Rattle.clap.specs.Simple.{app_of, with_subcommand}
 use Rattle.segment_invocation.specs.Table.{row_shape}

@@ -1,4 +1,4 @@
--- So many pairs have gone out, and the next one is that at the next place.
+-- This many pairs have gone out, and the next one is that at the next place.
 use Rattle.std.proofs.Common.{◌≡◌, ◌<◌, slice_get}
 use Rattle.std.specs.Prelude.{option_map}
 use Rattle.seg_map.specs.Places.{item_of}

@@ -1,4 +1,4 @@
--- So many of its bytes spell so many elements.
+-- This many of its bytes spell this many elements.
 use Rattle.std.proofs.Common.{◌≡◌, ◌∙◌, ◌*◌, ◌+◌, ap, arith, drop, length, take}
 use Rattle.seg_types.specs.Kinds.{size_of}
 use Rattle.segment_values.specs.Ranges.{row_of}

@@ -1,4 +1,4 @@
--- So many values were read.
+-- This many values were read.
 use Rattle.segment_values.proofs.ranges.InPlace.{AreReadOf}
 use Rattle.segment_values.proofs.reads.read_values.Given as goal
 

@@ -1,4 +1,4 @@
--- A block is put behind all others, and given back.
+-- A block is put after all others, and given back.
 use Rattle.best_fit.proofs.Common.{◌≡◌, ap, subst, ◌+◌, ◌≤◌, List, length, arith, WindowState, current, bits}
 use Rattle.best_fit.proofs.Common.{AppendsBlock}
 use Rattle.best_fit.proofs.Common.{MovesEnd, of_size, Gap, gaps_in, heap_touches, live_of}
@@ -8,7 +8,7 @@ use Rattle.best_fit.proofs.tile_walk.Hints.{held-on}
 use Rattle.best_fit.proofs.heap.Heap.extend_end.Goals.{After-append_block-at}
 use Rattle.best_fit.proofs.heap.Heap.extend_end.Goals as goal
 
--- the block behind all others, and where it begins
+-- the block after all others, and where it begins
 block : (c : After-append_block-at) → AppendsBlock current c.self.inside.gaps.window
     c.append_block-at.new.touches.gaps.now.window c.args.extra
 block c =

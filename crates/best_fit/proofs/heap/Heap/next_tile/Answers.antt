@@ -1,4 +1,4 @@
--- The tile behind one of an index is that of the next.
+-- The tile after one of an index is that of the next.
 use Rattle.best_fit.proofs.Common.{◌≡◌, ◌+◌}
 use Rattle.best_fit.proofs.tile_walk.Walk.{heap_has, heap_next, heap_span}
 use Rattle.best_fit.proofs.heap.Heap.next_tile.Goals as goal

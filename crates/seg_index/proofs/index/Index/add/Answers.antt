@@ -1,4 +1,4 @@
--- In the block that the index has the links behind the place make way; in that of the growth they are put round the new
+-- In the block that the index has the links after the place make way; in that of the growth they are put round the new
 -- one, and then the block is the index's.
 use Rattle.seg_index.proofs.index.Index.add.Goals as goal
 use Rattle.seg_index.proofs.{◌≡◌, ap, ap₂, refl, sym, subst, ◌∙◌, ℕ, ◌+◌, ◌-◌, ◌*◌, ◌%◌, ◌<◌, Option, IfSome, List}

@@ -1,4 +1,4 @@
--- The links behind the place close up.
+-- The links after the place close up.
 use Rattle.seg_index.proofs.{◌≡◌, ◌+◌, ◌-◌, ◌*◌, subst, arith, current, bytes_of, AllLinksLead, LiveSet, EncodesLiveSet}
 use Rattle.seg_index.proofs.{same_live}
 use Rattle.seg_index.proofs.{ℕ, List, IsIndexOf, place_of, has_places, in_header, links_lead, block_and_count}

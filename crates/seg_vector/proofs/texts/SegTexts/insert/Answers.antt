@@ -1,4 +1,4 @@
--- No array has so many places. What the call for an index inside answers is the answer.
+-- No array has this many places. What the call for an index inside answers is the answer.
 use Rattle.seg_vector.proofs.{arith, few_places, first-answered}
 use Rattle.seg_vector.proofs.texts.SegTexts.insert.Goals as goal
 

@@ -1,4 +1,4 @@
--- The heap's tile behind one of an index is that of the next.
+-- The heap's tile after one of an index is that of the next.
 use Rattle.segment_manager.proofs.Common.{◌≡◌, sym, subst, Some, ◌+◌, length, slice_get, bytes_of, tiles_of}
 use Rattle.segment_manager.proofs.{Common.IsTileOfIndex, Common.SegmentState, directory.AnyDirectory.tile-is}
 use Rattle.segment_manager.proofs.blocks.tiles.next_tile.Goals as goal

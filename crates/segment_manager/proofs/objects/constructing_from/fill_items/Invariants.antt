@@ -1,4 +1,4 @@
--- So many items were written, and no others were taken.
+-- This many items were written, and no others were taken.
 use Rattle.segment_manager.proofs.{Common.◌+◌, objects.Filling.IsFilling}
 use Rattle.segment_manager.proofs.objects.constructing_from.fill_items.Given as goal
 

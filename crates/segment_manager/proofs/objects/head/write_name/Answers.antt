@@ -1,4 +1,4 @@
--- The name, and zeros behind it.
+-- The name, and zeros after it.
 use Rattle.segment_manager.proofs.Common.{◌≡◌, ◌+◌, ◌-◌, ◌∙◌, ap, subst, arith, length, take, replicate, List, ℕ}
 use Rattle.segment_manager.proofs.Common.{IsTrue, length-replicate, current, has_room, live_of, changed-room, padded}
 use Rattle.best_fit.proofs.Laws.{room-less}

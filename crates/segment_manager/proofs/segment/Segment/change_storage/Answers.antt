@@ -26,7 +26,7 @@ not-there s key o l change kind why is may a = located-changes s key o l change 
     (finds-no_container s (ByHandle o.handle) kind (command_of change (ByHandle o.handle)) why
     (open-writing s.mode (command_of change (ByHandle o.handle)) may) a)
 
--- what the call does with a vector of strings, and with elements of one length, in each goal behind it
+-- what the call does with a vector of strings, and with elements of one length, in each goal after it
 texts-done : (g : Over) (c : After-change_texts g)
     → Answered done_answer (record { cut = c.self.inside.heap; mode = c.self.inside.mode })
     c.args.self.now c.change_texts.new.heap (ByHandle c.in_ok-object.object.handle) StringsKind

@@ -1,4 +1,4 @@
--- The name is read behind the head.
+-- The name is read after the head.
 use Rattle.segment_manager.proofs.Common.{◌≡◌, refl, sym, ap, ◌∙◌, Some, None, inl, inr, Class, Anonymous, UniqueClass}
 use Rattle.segment_manager.proofs.Common.{current, key_seen}
 use Rattle.segment_manager.specs.objects.Instances.{name_in, own_name}

@@ -17,7 +17,7 @@ answer g c =
       | in-Ok w ↦ w.result-is ∙ sym (ap put_result w.in-Ok.is)
     ]
 
--- what the call does, in each goal behind it
+-- what the call does, in each goal after it
 done : (g : Over) (c : Joined-put g)
     → Answered truth_answer (record { cut = c.self.inside.heap; mode = c.self.inside.mode })
     c.args.self.now c.put.new.heap (g.O.ObjectRef.key c.args.key.now) (Map g.K.Scalar.kind g.V.Scalar.kind) (Put

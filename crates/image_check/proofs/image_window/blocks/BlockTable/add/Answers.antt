@@ -6,7 +6,7 @@ use Rattle.image_check.proofs.block_collection.ByNumber.{below-new, ok-then, ord
 use Rattle.image_check.proofs.image_window.blocks.BlockTable.add.Goals.{else-stretch-len, then-stretch-len}
 use Rattle.image_check.proofs.image_window.blocks.BlockTable.add.Goals as goal
 
--- the entries with the block behind them
+-- the entries with the block after them
 added : (c : goal.After-insert)
     → c.insert.new.self.entries ≡ c.self.inside.map.entries ++ (c.args.target, c.args.block) ∷ []
 added c =

@@ -256,10 +256,26 @@ static bool take_rights(int made, const struct stat *old) {
     return fchmod(made, mode) == 0;
 }
 
-/* Locks a new file and then fills it. It gets the rights of `old`, if that is not null. */
+/* Fills a new file that is locked. It gets the rights of `old`, if that is not null. */
 static bool fill(int made, const struct image *image, const struct stat *old) {
-    if (flock(made, LOCK_EX | LOCK_NB) != 0 && errno == EWOULDBLOCK) return false;
     return (!old || take_rights(made, old)) && write_image(made, image) && sync_one(made);
+}
+
+/* Locks a new file. A file system without locks refuses nobody. Who opens an empty file before it is locked finds no
+   segment in it, or puts another file in its place, and so gives the lock back soon. */
+static bool is_locked(int made) {
+    for (int tries = 0; tries < TRIES; tries++) {
+        if (flock(made, LOCK_EX | LOCK_NB) == 0 || errno != EWOULDBLOCK) return true;
+        usleep(1000);
+    }
+    return false;
+}
+
+/* Whether a name surely leads no longer to a file that had it. */
+static bool lost_its_name(int made, int folder, const char *name) {
+    struct stat own, named;
+    if (fstat(made, &own) != 0) return false;
+    return fstatat(folder, name, &named, AT_SYMLINK_NOFOLLOW) == 0 ? !is_same(&named, &own) : errno == ENOENT;
 }
 
 /* Gives a name to a file that has none. EEXIST if something has it. */
@@ -282,13 +298,17 @@ static int make(int folder, const char *name, const struct image *image, const s
     mode_t mode = old ? 0600 : 0666;
     int made = openat(folder, ".", O_TMPFILE | O_RDWR | O_CLOEXEC, mode);
     if (made >= 0) {
-        if (!fill(made, image, old)) return closed_with(made, errno);
+        if (!is_locked(made) || !fill(made, image, old)) return closed_with(made, errno);
         if (give_name(made, folder, name)) return made;
         if (errno == EEXIST) return closed_with(made, EEXIST);
         close(made);
     }
     made = openat(folder, name, O_RDWR | O_CREAT | O_EXCL | O_NOFOLLOW | O_CLOEXEC, mode);
-    if (made < 0 || fill(made, image, old)) return made;
+    if (made < 0) return made;
+    // who does not hold it may not remove it: another may have put a file of its own there
+    if (!is_locked(made)) return closed_with(made, EWOULDBLOCK);
+    if (lost_its_name(made, folder, name)) return closed_with(made, EEXIST);
+    if (fill(made, image, old)) return made;
     int error = errno;
     unlinkat(folder, name, 0);
     return closed_with(made, error);

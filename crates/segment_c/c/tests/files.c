@@ -13,6 +13,7 @@
 #include <stdarg.h>
 #include <stdio.h>
 #include <stdlib.h>
+#include <sys/file.h>
 #include <sys/mman.h>
 #include <sys/stat.h>
 #include <sys/syscall.h>
@@ -638,6 +639,50 @@ static void names_behind_the_look(void) {
     seed(5);
 }
 
+/* Another opens a new file before it is locked, and puts its own in the place: on a system on which a file has its name
+   before its first byte. It has let the old one go by the time of the lock, or holds it a while longer. */
+static int theirs = -1;
+
+static void let_go(void) { close(theirs), theirs = -1; }
+
+static void held_and_replaced(void) {
+    theirs = open(the_file(), O_RDWR);
+    IS(theirs >= 0 && __real_flock(theirs, LOCK_EX | LOCK_NB) == 0, true);
+    replaced();
+    before_lock = let_go;
+}
+
+static void held_and_replaced_and_let_go(void) {
+    held_and_replaced();
+    let_go();
+    before_lock = NULL;
+}
+
+static void a_new_file_that_another_replaces(void) {
+    void (*const others[])(void) = { held_and_replaced, held_and_replaced_and_let_go };
+    for (size_t i = 0; i < 4; i++) {
+        zx_file file = ZX_CLOSED_FILE;
+        seed(50);
+        IS(rename(the_file(), beside("new")), 0);
+        IS(zx_create(&file.segment, 1024), ZX_DONE);
+        lacks = NO_NAMELESS;
+        before_lock = others[i / 2];
+        if (i % 2) {
+            IS(zx_file_save_as(&file, the_file(), ZX_CREATE_ONLY), ZX_FILE_EXISTS);
+        } else {
+            zx_close(&file.segment);
+            IS(zx_file_open(&file, the_file(), ZX_OPEN_OR_CREATE, 1024), ZX_DONE);
+        }
+        before_lock = NULL;
+        lacks = HAS_ALL;
+        IS(theirs, -1);
+        zx_file_discard(&file);
+        IS(stands(the_file()), 50);
+        IS(count_in(room), 1);
+    }
+    seed(5);
+}
+
 /* A child that the C library does not know of has a copy of the lock, which ends with the parent's. */
 static void a_child_by_the_system_call(void) {
     zx_file file = ZX_CLOSED_FILE;
@@ -820,6 +865,7 @@ int main(int count, char **words) {
     what_is_passed();
     a_pipe_behind_the_look();
     names_behind_the_look();
+    a_new_file_that_another_replaces();
     a_child_by_the_system_call();
     what_did_not_change();
     a_longer_file();

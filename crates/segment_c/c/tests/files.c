@@ -645,9 +645,13 @@ static int theirs = -1;
 
 static void let_go(void) { close(theirs), theirs = -1; }
 
-static void held_and_replaced(void) {
+static void held(void) {
     theirs = open(the_file(), O_RDWR);
     IS(theirs >= 0 && __real_flock(theirs, LOCK_EX | LOCK_NB) == 0, true);
+}
+
+static void held_and_replaced(void) {
+    held();
     replaced();
     before_lock = let_go;
 }
@@ -679,6 +683,17 @@ static void a_new_file_that_another_replaces(void) {
         zx_file_discard(&file);
         IS(stands(the_file()), 50);
         IS(count_in(room), 1);
+    }
+    // one that is kept locked is not removed
+    for (uint32_t mode = ZX_CREATE_ONLY; mode <= ZX_OPEN_OR_CREATE; mode += ZX_OPEN_OR_CREATE - ZX_CREATE_ONLY) {
+        zx_file file = ZX_CLOSED_FILE;
+        IS(unlink(the_file()), 0);
+        lacks = NO_NAMELESS;
+        before_lock = held;
+        IS(zx_file_open(&file, the_file(), mode, 1024), mode == ZX_CREATE_ONLY ? ZX_FILE_EXISTS : ZX_FILE_IN_USE);
+        lacks = HAS_ALL;
+        let_go();
+        IS(stands(the_file()), -2);
     }
     seed(5);
 }

@@ -1,10 +1,8 @@
-//! Thirteen short programs over the library, on files in the folder that they run in. Each prints what it found. If a
-//! word is given, the inventory alone runs, on the file that it names.
+//! Twelve short programs over the library, on files in the folder that they run in. Each prints what it found.
 #![tactic(auto)]
 
 mod growing;
 mod handles;
-mod inventory;
 mod listing;
 mod migrating;
 mod moving;
@@ -18,7 +16,7 @@ mod untrusted_file;
 mod views;
 
 use anyhow::Result;
-use std::{env, fs};
+use std::fs;
 use zaluxhoni::{Disk, HostDisk};
 
 /// Takes away the files that a run before this one made.
@@ -32,7 +30,6 @@ fn clean(rt: &HostRuntime) {
         "chain.seg",
         "views.seg",
         "listed.seg",
-        "inventory.seg",
     ] {
         let _ = fs::remove_file(rt, path);
     }
@@ -49,7 +46,7 @@ fn run_six(rt: &HostRuntime, disk: &mut impl Disk) -> Result<()> {
     untrusted_file::open_a_stranger(rt, disk)
 }
 
-/// Runs all thirteen, the last of them twice.
+/// Runs all twelve.
 fn run(rt: &HostRuntime, disk: &mut impl Disk) -> Result<()> {
     run_six(rt, disk)?;
     moving::move_a_segment(rt, disk)?;
@@ -57,17 +54,12 @@ fn run(rt: &HostRuntime, disk: &mut impl Disk) -> Result<()> {
     handles::follow_a_handle(rt, disk)?;
     timetable::note_departures(rt)?;
     views::view_objects(rt, disk)?;
-    listing::list_a_segment(rt, disk)?;
-    inventory::keep_an_inventory(rt, disk, "inventory.seg")?;
-    inventory::keep_an_inventory(rt, disk, "inventory.seg")
+    listing::list_a_segment(rt, disk)
 }
 
 /// Runs the programs over the files of the system.
 fn main(rt: HostRuntime) -> Result<()> {
     let mut disk = HostDisk::new(&rt);
-    if let Some(path) = env::args(&rt)?.nth(1) {
-        return inventory::keep_an_inventory(&rt, &mut disk, path.as_str());
-    }
     clean(&rt);
     run(&rt, &mut disk)
 }

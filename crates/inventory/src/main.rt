@@ -1,8 +1,12 @@
-//! An inventory: articles as records, prices in a map, names as texts, suppliers as a group. Each run sells an apple.
-//! C, C++ and Python have the same in `crates/segment_c/c/examples`: each goes on with what another has saved.
+//! The program `inventory`: articles as records, prices in a map, names as texts, suppliers as a group. It sells an
+//! apple of the file that its word names. Without a word it sells two, of a file of its own. C, C++ and Python have the
+//! same in `crates/segment_c/c/examples`: each goes on with what another has saved.
+#![tactic(auto)]
+
 use anyhow::Result;
 use std::alloc::Global;
-use zaluxhoni::{Disk, Name, Segment, SegmentFile, VectorView, named};
+use std::{env, fs};
+use zaluxhoni::{Disk, HostDisk, Name, Segment, SegmentFile, VectorView, named};
 
 /// What is kept of an article, as the bytes of a struct of C. Its weight is the bits of a double.
 #[derive(Clone, Copy)]
@@ -182,7 +186,18 @@ fn trade<D: Disk>(rt: &HostRuntime, disk: &mut D, file: &mut SegmentFile<D::Hold
 }
 
 /// Opens the inventory or makes it, and sells an apple.
-pub fn keep_an_inventory(rt: &HostRuntime, disk: &mut impl Disk, path: &str) -> Result<()> {
+fn keep_an_inventory(rt: &HostRuntime, disk: &mut impl Disk, path: &str) -> Result<()> {
     let mut file = SegmentFile::open_or_create(rt.alloc(), disk, path, 65536)?;
     trade(rt, disk, &mut file)
+}
+
+/// Trades over the files of the system.
+fn main(rt: HostRuntime) -> Result<()> {
+    let mut disk = HostDisk::new(&rt);
+    if let Some(path) = env::args(&rt)?.nth(1) {
+        return keep_an_inventory(&rt, &mut disk, path.as_str());
+    }
+    let _ = fs::remove_file(&rt, "inventory.seg");
+    keep_an_inventory(&rt, &mut disk, "inventory.seg")?;
+    keep_an_inventory(&rt, &mut disk, "inventory.seg")
 }

@@ -2,13 +2,11 @@
 ghost use Rattle.std.specs.Prelude.{◌≡◌, ◌%◌};
 
 use crate::segments::{base_of, region_of};
-use image_check::open;
 use memory_devices::{EndBehaviour, MemorySink, MemorySource};
-use raw_region::{RawRegion, Steps};
 use rows_trials::{Case, Place};
 use segment_cli::run;
-use segment_manager::{Mode, Segment};
 use std::alloc::Global;
+use zaluxhoni::{Mode, RawRegion, Segment, Steps, open};
 
 /// The byte round the segment.
 const MARK: u8 = 7;

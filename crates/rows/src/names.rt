@@ -1,7 +1,7 @@
 //! The faults of the library, by the names that rows have for them.
 
-use image_check::ImageClass;
 use segment_cli::SessionFault;
+use zaluxhoni::ImageClass;
 
 /// Returns why a session or a migration fails.
 pub fn fault_name(fault: SessionFault) -> &'static str {

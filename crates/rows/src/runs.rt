@@ -4,10 +4,10 @@ ghost use Rattle.std.proofs.Common.{ap, arith, length-take};
 ghost use Rattle.segment_scripts.specs.Refusing.{was_refused};
 
 use memory_devices::{EndBehaviour, MemorySink, MemorySource};
-use raw_region::{DeviceFault, RawRegion, Sink, write_all};
+use raw_region::write_all;
 use segment_cli::{Answered, Machine, RunFault, Scratch, run};
-use segment_manager::{Mode, Segment};
 use std::alloc::{AllocError, Global};
+use zaluxhoni::{DeviceFault, Mode, RawRegion, Segment, Sink};
 
 /// A machine that counts the lines, and returns the count and the length of each, as far as 4098. It refuses those that
 /// are so long.

@@ -3,13 +3,11 @@ ghost use Rattle.std.specs.Prelude.{◌≡◌, ◌<◌, ◌-◌, ◌^◌, ◌%�
 
 use crate::among::runs_among;
 use crate::names::{class_name, fault_name};
-use image_check::{AcceptedVersions, ExamineError, examine_bytes};
 use memory_devices::{MemorySink, MemorySource};
-use raw_region::{RawRegion, Steps};
 use rows_trials::{Call, Case, Outcome, Place, Runner};
 use segment_cli::{Start, migrate, session};
-use segment_manager::Mode;
 use std::alloc::{AllocError, Global};
+use zaluxhoni::{AcceptedVersions, ExamineError, Mode, RawRegion, Steps, examine_bytes};
 
 /// The library, with what gives it memory.
 #[derive(Drop)]

@@ -49,10 +49,11 @@ AreTags format m at before (t ∷ ts) end =
 abbrev pub AreTilesOf : ℕ → Memory → ℕ → List Tile → Type 0
 AreTilesOf format m size ts = AreTags format m 128 0 ts (size - 16)
 
--- no two free tiles are neighbours
+-- the tile is a gap
 abbrev pub is_free : Tile → Bool
 is_free t = is_none t.use_of
 
+-- no two free tiles are neighbours
 abbrev pub is_merged : List Tile → Bool
 is_merged [] = true
 is_merged (t ∷ []) = true

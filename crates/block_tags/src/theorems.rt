@@ -22,7 +22,7 @@ pub fn tile_is_read_off()
     ensures { TileIsReadOff }
 {}
 
-/// Tags are good exactly if they say tiles of which no two free ones are neighbours.
+/// States that tags are good exactly if they say tiles of which no two free ones are neighbours.
 pub fn good_tags_say_tiles()
     ensures { GoodTagsSayTiles }
 {}
@@ -57,7 +57,7 @@ pub fn last_tile_ends_list()
     ensures { LastTileEndsList }
 {}
 
-/// Tags whose bytes stay say the same tiles.
+/// States that tags whose bytes stay say the same tiles.
 pub fn tags_that_stay_say_the_same()
     ensures { TagsThatStaySayTheSame }
 {}

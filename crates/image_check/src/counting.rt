@@ -17,7 +17,7 @@ pub(crate) struct Counts {
 }
 
 impl Counts {
-    /// Makes of no tiles.
+    /// Makes the counts of no tiles.
     pub(crate) fn new() -> Counts
         ensures { AreCounted [] result }
     {

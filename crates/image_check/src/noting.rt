@@ -7,8 +7,7 @@ use crate::checking::VisitCounter;
 use crate::image_window::BlockTable;
 use best_fit::Heap;
 
-/// Notes each block in use as a block hint of a heap that has them. One visit for each; no tag is read, and no byte
-/// changes.
+/// Enters each block in use into the heap's block hints. Costs one visit a block, reads no tag and changes no byte.
 pub(crate) fn note_blocks(blocks: &BlockTable, heap: &mut Heap, visits: &mut VisitCounter)
     requires { AreBlocksIn (live_of heap.old.bytes) blocks.now.entries }
     ensures unchanged { heap.new ≡ heap.old }

@@ -47,7 +47,7 @@ pub(crate) struct Owners {
     pub(crate) waiting: u64,
 }
 
-/// Tells whether two roles are one.
+/// Returns true if the roles are equal.
 pub(crate) fn is_same(a: Role, b: Role) -> bool
     ensures { result ≡ same_role a b }
 {

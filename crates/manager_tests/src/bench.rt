@@ -53,12 +53,12 @@ impl Bench {
         }
     }
 
-    /// Notes it if a call answers something else than is wanted.
+    /// Notes a failure if the call's answer is not the expected one.
     pub fn same<T: PartialEq + Drop>(&mut self, got: T, want: T) {
         self.holds(got == want);
     }
 
-    /// Returns the name of these bytes, which are one.
+    /// Returns the name that these bytes spell.
     pub fn name<'a>(&mut self, bytes: &'a [u8]) -> Option<Name<'a>> {
         let name = Name::new(bytes);
         self.holds(name.is_some());

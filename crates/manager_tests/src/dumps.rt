@@ -44,7 +44,7 @@ pub fn loaded<R: Abort + AllocGlobal>(rt: &R, text: &[u8], size: Option<u64>) ->
     done(rt, load(text, &mut [0; 4096], region, 16, size))
 }
 
-/// Returns a text is not loaded, with this room for its longest text: why, and what comes back.
+/// Loads a text that must be refused, with this room for its longest text, and returns the refusal.
 pub fn refused_in<R: Abort + AllocGlobal>(
     rt: &R,
     text: &[u8],

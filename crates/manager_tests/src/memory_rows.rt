@@ -82,7 +82,7 @@ fn is_opened(rt: &impl Abort, image: &[u8], opened: Segment) -> Tried {
     Tried::Done
 }
 
-/// Returns the region came back if memory was refused, and serves then.
+/// Returns true if memory was refused and the region that came back can be used.
 fn serves(
     rt: &impl Abort,
     alloc: Global,

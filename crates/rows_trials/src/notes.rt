@@ -39,7 +39,7 @@ impl Notes {
         }
     }
 
-    /// Notes that a line is no line of the form, or stands where there is none of its kind, if it is so.
+    /// Notes a failure unless `so`: the line is malformed or misplaced.
     pub fn is_placed(&self, so: bool, line: &Line<'_>) {
         let what = "this is no line of a row file, or misplaced";
         self.holds(so, line.number, what);

@@ -34,7 +34,7 @@ impl Index {
         }
     }
 
-    /// Makes it an index without a place, whatever its words were. A block that it had is not released.
+    /// Sets the header to an index without places, whatever its words were. A block that it had is not freed.
     pub fn init(self, heap: &mut Heap)
         ensures index { IsSortedIndex heap.new self no_backing [] }
         ensures changes { ChangesBytes current heap.old heap.new (place_of self) 24 }

@@ -7,7 +7,7 @@ pub fn indexes_stay()
     ensures { IndexesStay }
 {}
 
-/// Entries stay sorted if a block is taken, and if one that is none of their objects' is released or written.
+/// States that entries stay sorted if a block is allocated, and if a block of no object of theirs is freed or written.
 pub fn entries_stay_sorted()
     ensures { EntriesStaySorted }
 {}

@@ -21,8 +21,8 @@ pub fn written_is_read<T: Plain>(value: T, bytes: &mut [u8]) -> Option<T>
     T::read(bytes)
 }
 
-/// Returns the `SIZE` bytes of `from` are read as the whole number that they say, exactly if they spell one of the
-/// kind.
+/// Reads `T` from `SIZE` bytes. Returns the number that they spell, or `None` if they spell none of its kind: a law of
+/// `T::read`.
 pub fn scalar_is_number<T: Scalar>(from: &[u8]) -> Option<T>
     requires { length from.now ≡ T.SIZE }
     ensures { MatchOption result (is_spelling T.kind from.now ≡ false) (λ x. (is_spelling T.kind from.now ≡ true)

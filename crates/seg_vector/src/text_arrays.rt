@@ -89,8 +89,8 @@ pub fn reserve_array(heap: &mut Heap, place: Place, n: u64) -> Result<u64, Refus
     take(heap, ELEMENT_LEN * n)
 }
 
-/// Makes the block that was asked for the array of the vector of texts at a place, with `n` places. If it is a new one,
-/// the elements are carried over, and the old block is given back.
+/// Installs the allocated block as the array of the vector of texts at `place`, with `n` places. If the block is new,
+/// moves the elements into it and frees the old block.
 pub fn install_array(heap: &mut Heap, place: Place, array: u64, n: u64)
     requires { IsArrayReserved heap.old place array n }
     ensures { Adopts heap.old heap.new place array n }

@@ -70,7 +70,7 @@ pub struct NumberedOutput<O: Output> {
 }
 
 impl<O: Output> NumberedOutput<O> {
-    /// Makes one that took nothing yet.
+    /// Makes a `NumberedOutput` that has taken no byte.
     pub fn new(inner: O) -> NumberedOutput<O>
         requires { O.history inner ≡ nothing_taken }
         ensures transfer { result.plain.history ≡ nothing_taken }

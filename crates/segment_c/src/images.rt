@@ -194,7 +194,7 @@ pub extern "C" fn zx_open(
     put_new(h, segment, false)
 }
 
-/// Tells whether the bytes are the image of a segment.
+/// Checks that the bytes are the image of a segment, and returns a code.
 #[unsafe(no_mangle)]
 pub extern "C" fn zx_check(alloc: Global, image: &[u8]) -> u32
     ensures owner { result ≡ 0 → IsSegment image.now }
@@ -203,8 +203,8 @@ pub extern "C" fn zx_check(alloc: Global, image: &[u8]) -> u32
     examine(alloc, image, &mut 0)
 }
 
-/// Tells whether the bytes are the image of a segment; if a class says why they are none, `place` is the byte that
-/// shows it.
+/// Checks that the bytes are the image of a segment, and returns a code. For a code of a class, `place` is set to the
+/// byte that shows it.
 #[unsafe(no_mangle)]
 pub extern "C" fn zx_explain(alloc: Global, image: &[u8], place: &mut u64) -> u32
     ensures owner { result ≡ 0 → IsSegment image.now }

@@ -56,7 +56,7 @@ pub struct CBlock {
     pub use_of: u32,
 }
 
-/// Returns what an object says of itself goes out, and its name to the front of the buffer, if that has room for it.
+/// Writes the object's information to `info` and its name to the front of the buffer, if the buffer has room for it.
 fn tell(said: &Instance<'_>, info: &mut Info, name: &mut [u8]) -> u32
     ensures read { (o : Object) → IsInstance o said.now → WritesInfo o info.new name.old name.new result }
     ensures unchanged_on_error { 1 ≤ result → (info.new ≡ info.old) × (name.new ≡ name.old) }

@@ -159,7 +159,7 @@ fn next(
     }
 }
 
-/// Returns a pair goes out, if there is one.
+/// Writes the pair to the outputs and returns done; returns the code of no pair if there is none.
 fn pair_out(pair: Option<(ScalarValue, ScalarValue)>, at: &mut CScalar, value: &mut CScalar) -> u32
     ensures read { TellsPairOf at.new value.new result pair }
     ensures unchanged_on_error { 1 ≤ result → (at.new ≡ at.old) × (value.new ≡ value.old) }

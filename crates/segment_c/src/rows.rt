@@ -49,7 +49,7 @@ macro_rules! on_slice {
 pub(crate) use on_slice;
 
 impl CScalars<'_> {
-    /// Returns which slice is meant.
+    /// Returns the kind of the one slice that is not null.
     ///
     /// # Errors
     ///

@@ -99,7 +99,7 @@ pub extern "C" fn zx_zero_free(alloc: Global, h: &mut SegmentSlot) -> u32
     done(segment.zero_free(), h, segment)
 }
 
-/// Tells whether the segment is whole, as each segment is.
+/// Sets `is_whole` to the result of the sanity check, which holds of each segment, and returns a code.
 #[unsafe(no_mangle)]
 pub extern "C" fn zx_sanity(alloc: Global, h: &mut SegmentSlot, is_whole: &mut bool) -> u32
     ensures call { AsksHandle 0 result h.old h.new
@@ -111,7 +111,7 @@ pub extern "C" fn zx_sanity(alloc: Global, h: &mut SegmentSlot, is_whole: &mut b
     put(DONE, h, segment)
 }
 
-/// Tells whether no block is in use, index blocks included.
+/// Sets `is_empty` to true if no block is in use, index blocks included, and returns a code.
 #[unsafe(no_mangle)]
 pub extern "C" fn zx_all_deallocated(alloc: Global, h: &mut SegmentSlot, is_empty: &mut bool) -> u32
     ensures call { AsksHandle 0 result h.old h.new

@@ -13,7 +13,7 @@ use crate::keys::ObjectKey;
 use crate::segment_slot::SegmentSlot;
 use std::alloc::Global;
 
-/// Makes bytes those of the string of a key.
+/// Replaces the bytes of the string.
 #[unsafe(no_mangle)]
 pub extern "C" fn zx_assign_string(
     alloc: Global,

@@ -14,7 +14,7 @@ use segment_disk::{Disk, FileProblem, Output};
 use segment_lang::{Piece, put_pieces};
 use std::alloc::Global;
 
-/// Tells whether a file holds a segment, by its image alone, and says `ok`.
+/// Checks that the file's image is a segment, and prints `ok`.
 ///
 /// # Errors
 ///
@@ -107,7 +107,7 @@ fn status_in(found: Result<(), SessionFault>) -> u8
 
 /// Checks files one after another, and returns the worst status. Each line begins with the file's path, as a text of
 /// the language. Files that hold a segment get a line on standard output, unless the check is quiet, and others one on
-/// standard error, followed by what `problem_of` tells of the disk.
+/// standard error, followed by what `trouble_of` tells of the disk.
 ///
 /// # Errors
 ///

@@ -63,8 +63,8 @@ fn tell_verdict<O: Output>(out: &mut O, verdict: Verdict) -> Result<(), DeviceFa
     Output::flush(out)
 }
 
-/// Tells whether a file holds a segment, by its image alone, and says `ok`, or, if the image is refused, why, and the
-/// place that shows it.
+/// Checks that the file's image is a segment, and prints `ok`, or the class of a refused image and the byte that shows
+/// it.
 ///
 /// # Errors
 ///

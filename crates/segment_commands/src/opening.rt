@@ -37,7 +37,7 @@ pub(crate) fn open_segment<D: Disk>(
     }
 }
 
-/// Tells whether the image in a file has a segment, as a session answers it. None is made, and the file is closed.
+/// Checks the image in a file, with the errors of a session. Makes no segment, and closes the file.
 pub(crate) fn verify_segment<D: Disk>(
     alloc: Global,
     disk: &mut D,

@@ -24,7 +24,7 @@ pub struct SparseFile {
 }
 
 impl SparseFile {
-    /// Makes a file that was just made or emptied. A file of a disk may have `longest` bytes at most.
+    /// Wraps a file that was just created or emptied. A file of a disk may have at most `longest` bytes.
     pub(crate) fn new(file: File, longest: u64) -> SparseFile {
         let has_holes = match file.metadata() {
             Ok(found) => found.is_file() && found.len() == 0,

@@ -246,7 +246,7 @@ fn not_created(text: &[u8], refused: CreateRefused, counted: Result<Count, usize
     }
 }
 
-/// Returns the region is let go.
+/// Returns the refusal for this cause, without a region: the region was dropped.
 fn let_go(cause: LoadError) -> LoadRefused
     ensures absent { result.region ≡ None }
     ensures cause { result.cause ≡ cause }
@@ -351,7 +351,7 @@ fn trim(segment: &mut Segment, size: Option<u64>)
     }
 }
 
-/// Returns the text is not the dump of the segment that was made of it, from its byte `at` on.
+/// Returns the refusal of a text that differs from the dump of its own segment from byte `at` on.
 fn unlike(text: &[u8], at: usize) -> LoadRefused
     ensures { IsLetGo text.now result }
 {

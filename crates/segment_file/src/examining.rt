@@ -30,7 +30,7 @@ fn unexamined(error: ExamineError) -> Option<OpenFault>
     }
 }
 
-/// Tells whether an image that says more bytes than there was room for has a segment. It is read first.
+/// Checks an image that claims more bytes than the region has, after it was read into memory.
 fn examine_behind<S: Source>(
     alloc: Global,
     reader: &mut Headed<S>,
@@ -60,7 +60,7 @@ fn examine_behind<S: Source>(
     }
 }
 
-/// Tells whether the image of a reader that was told to give `len` bytes has a segment.
+/// Checks the image of a reader that is expected to give `len` bytes.
 fn examine_image<S: Source>(
     alloc: Global,
     reader: &mut Headed<S>,
@@ -79,7 +79,7 @@ fn examine_image<S: Source>(
     }
 }
 
-/// Tells whether the image in a file has a segment. None is made, and the file is closed.
+/// Checks the image in a file. Makes no segment, and closes the file.
 ///
 /// # Errors
 ///

@@ -78,8 +78,8 @@ fn unopened(cause: OpenError) -> Option<FileError>
     }
 }
 
-/// Returns a segment with room for `extra` bytes more than it has, if it has more than `len`. Then its file grew while
-/// it was read, and its region was made for `len` bytes.
+/// Returns the segment with room for `more` bytes. If it has more than `len` bytes, its file grew while it was read,
+/// and it moves into a larger region.
 fn with_room(alloc: Global, segment: Segment, len: u64, more: u64) -> Result<Segment, FileError>
     ensures { WidensIfNeeded len more segment result }
 {

@@ -33,7 +33,7 @@ pub fn read<D: Disk>(
     open_file(alloc, disk, path, AcceptedVersions::Current, mode, 0)
 }
 
-/// Tells whether a file holds a segment. Nothing is opened for writing, and no segment is made.
+/// Checks that a file holds a segment. Opens nothing for writing, and makes no segment.
 ///
 /// `crates/examples/src/migrating.rt` has an example.
 ///

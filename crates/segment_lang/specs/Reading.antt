@@ -121,7 +121,7 @@ making_each l (kw ∷ key ∷ vs) = option_and_then
     (λ (k, n). option_and_then (λ key. each vs k n key) (for_kind k (new_key l key))) (counted_kind l kw)
 making_each l ws = None
 
--- nothing, a key, a number, ..
+-- no word follows
 abbrev pub alone : Command → Reader
 alone c l [] = Some c
 alone c l ws = None

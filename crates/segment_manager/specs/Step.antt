@@ -94,7 +94,7 @@ changed d o v = with_changed d (record o { value = v })
 abbrev pub found : Object → Answer
 found o = Found (handle o.extent) (count_of o.value)
 
--- texts as elements
+-- the bytes of a text literal
 abbrev pub text_of_literal : Literal → Result (List ℕ) Refusal
 text_of_literal (asked.Quoted bs) = Ok bs
 text_of_literal l = Err WrongKind
@@ -120,7 +120,7 @@ assign d o (Texts ps t) (l ∷ ls) =
     (λ u. with_owned_texts bss (λ qs. Reply Done (changed d o (Texts qs u)))))
 assign d o v ls = Refuse WrongKind
 
--- the commands on elements
+-- the element or text at an index
 abbrev pub get : Directory → Value → ℕ → Plan
 get d (Texts ps t) i = with (owned_text_at ps i) (λ p. Reply (TextElement p.bytes) d)
 get d v i = with (items_of v) (λ (k, zs). with (element_at zs i) (λ z. Reply (Element k z) d))

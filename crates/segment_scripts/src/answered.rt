@@ -14,7 +14,7 @@ pub enum Answered {
 }
 
 impl Answered {
-    /// Returns this, once the answer was written.
+    /// Returns `self` if the answer was written, otherwise the writer's fault.
     pub(crate) fn once(self, written: Result<(), DeviceFault>) -> Result<Answered, DeviceFault>
         ensures { result ≡ once self written }
     {

@@ -18,7 +18,7 @@ use segment_lang::{LineBuffer, Literals, Quoted};
 use segment_manager::{Object, Segment};
 use segment_values::object_to_change;
 
-/// Makes values those of the vector of a key, or one text the bytes of the string of a key.
+/// Replaces the elements of a vector, or the bytes of a string by one text.
 ///
 /// # Errors
 ///
@@ -45,7 +45,7 @@ pub fn assign(
     }
 }
 
-/// Makes values those of a vector, a vector of scalars of a kind.
+/// Replaces the elements of a vector whose kind is known at run time.
 fn assign_vector(
     segment: &mut Segment,
     object: Object,
@@ -63,7 +63,7 @@ fn assign_vector(
     on_row!(kind, rows, assign_row(segment, object, values))
 }
 
-/// Makes values those of a vector, a vector of the type.
+/// Replaces the elements of a vector of this type.
 fn assign_row<T: Scalar>(
     segment: &mut Segment,
     object: Object,

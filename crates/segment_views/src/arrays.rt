@@ -55,7 +55,7 @@ impl Storage for Array {
 impl<'a, T: Scalar> View<'a, Row<T, Array>> {
     ghost use Rattle.segment_views.specs.OfView.{SameView, key_of, segment_of};
 
-    /// Makes values its first elements, all of them or none. No other byte changes.
+    /// Sets the first elements, all of them or none. Changes no other byte.
     ///
     /// Example: `flags.copy_from(&[1, 2])?`.
     ///

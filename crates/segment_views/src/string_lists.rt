@@ -65,7 +65,7 @@ impl<'a> View<'a, Texts> {
         TextItems::new(self.segment, self.object)
     }
 
-    /// Makes bytes the string at `index`.
+    /// Replaces the string at `index`.
     ///
     /// # Errors
     ///

@@ -72,7 +72,7 @@ impl<'a> View<'a, StringBytes> {
         self.segment.string_append(&self.object, bytes)
     }
 
-    /// Makes bytes its own.
+    /// Replaces the bytes of the string.
     ///
     /// # Errors
     ///

@@ -134,7 +134,7 @@ impl<'a, T: Scalar> View<'a, Row<T, Vector>> {
         self.segment.vec_erase::<T, Object>(&self.object, index)
     }
 
-    /// Makes values its elements.
+    /// Replaces the elements.
     ///
     /// # Errors
     ///

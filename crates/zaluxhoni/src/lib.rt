@@ -4,24 +4,24 @@
 //! in its [`Segment`] by their names ([`named`]), and saves it; no other may write the file meanwhile. One that only
 //! reads a file gets its segment by [`read`]. `crates/examples` has programs that do so.
 //!
-//! Every call on a segment takes whatever the segment holds, and returns or refuses. A few ask for something else
-//! before they are called, say so under `# Conditions`, and which call does the same without:
+//! Every call on a segment takes whatever the segment holds, and returns or refuses. Some calls have a condition, under
+//! `# Conditions`:
 //!
-//! | Call | Its condition | Without one |
+//! | Call | Condition | Without it |
 //! |---|---|---|
-//! | `construct`, `find_or_construct`, and those of a `ScalarValue` | a count from 1 to 1048576 | `construct_array`,
-//! `find_or_construct_array` |
-//! | what takes a [`ConstructKey`] that says a kind | it is the kind of what is made | a [`Name`], [`UniqueInstance`],
-//! [`AnonymousInstance`] |
-//! | `create`, `relocate`, [`open`], [`verify`], [`examine`], [`examine_bytes`], [`open_bytes`], [`open_any`] | a base
-//! that is a multiple of 16 | |
+//! | `construct`, `find_or_construct` | a count from 1 to 1048576 | `construct_array` |
+//! | a [`ConstructKey`] with a kind | the kind of the new object | a [`Name`] |
+//! | `create`, `relocate`, [`open`], [`verify`] | a base that is a multiple of 16 | |
 //!
-//! The layers below a segment ([`Heap`], [`SegVec`], [`Window`], [`RawRegion`]) are for types of one's own, and want to
-//! be told what lies where.
+//! The condition of `construct` holds for every call that takes a `ScalarValue` and a count; the other call without
+//! it is `find_or_construct_array`. [`UniqueInstance`] and [`AnonymousInstance`] are keys without a kind too.
+//! [`examine`], [`examine_bytes`], [`open_bytes`] and [`open_any`] also take a base.
 //!
-//! The calls that want to be told what a segment holds are not here: those that take an object which was looked up
-//! before (the views keep one), and those that go through a segment step by step, which the iterators do. They stand in
-//! `segment_manager`, for crates that know what they ask for.
+//! The layers below a segment ([`Heap`], [`SegVec`], [`Window`], [`RawRegion`]) are for types of your own. They require
+//! the caller to manage the layout.
+//!
+//! `segment_manager` has more calls, which require that the caller knows what the segment holds: calls on an object
+//! that was looked up before (the views keep one), and steps through a segment (the iterators make them).
 #![tactic(auto)]
 
 mod naming;

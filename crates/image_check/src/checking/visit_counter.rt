@@ -43,7 +43,7 @@ impl VisitCounter {
         self.steps.add(1);
     }
 
-    /// Counts Counts Counts `n` visits more.
+    /// Counts `n` more visits.
     pub fn add(&mut self, n: u64)
         ensures { self.new ≡ self.old + n }
     {

@@ -78,7 +78,7 @@ impl CheckedPairTree<'_> {
         }
     }
 
-    /// Tells whether the number is a pair.
+    /// Returns true if the node is a pair of the map.
     #[tactic(auto, unfolding(crate::specs::MapNodes::is_pair))]
     fn is_pair(&self, node: u64) -> bool
         requires { IsTrue (is_legal_size (length self.now.window.now.bytes)) }

@@ -33,8 +33,8 @@ impl Segment {
         SegTexts { place }.get(&self.heap, index)
     }
 
-    /// Makes bytes the text at `index` in the vector of strings of a key. Its block is asked for while the old text has
-    /// its own.
+    /// Replaces the text at `index` in the vector of strings. Allocates the new text's block before it frees the old
+    /// one.
     ///
     /// Example: `segment.texts_set(&name, 0, b"plums")?`.
     ///

@@ -68,7 +68,7 @@ impl Segment {
         SegString { place }.append(&mut self.heap, bytes)
     }
 
-    /// Makes bytes those of the string of a key. If they do not fit, it gets as many places as are needed.
+    /// Replaces the bytes of the string. If they do not fit, the capacity becomes their number.
     ///
     /// Example: `segment.string_assign(&name, b"splay")?`.
     ///

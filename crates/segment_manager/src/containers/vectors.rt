@@ -76,8 +76,7 @@ impl Segment {
         SegVec::<T>::at(place).push(&mut self.heap, value)
     }
 
-    /// Makes values the elements of the vector of a key, a vector of the type. If they do not fit, it gets as many
-    /// places as are needed.
+    /// Replaces the elements of the vector. If the values do not fit, the capacity becomes their number.
     ///
     /// Example: `segment.vec_assign(&name, &[6i64, 7])?`.
     ///

@@ -137,8 +137,8 @@ pub(crate) fn class_of(index: Index) -> Class
     }
 }
 
-/// Has the entry of an object lead to it if it was filled, and returns its handle. Otherwise all that was taken for
-/// it is given back.
+/// Links the object's entry to it and returns its handle, if the object was filled. Otherwise frees all blocks that
+/// were allocated for it.
 #[inline(always)]
 pub(crate) fn finish_object(
     heap: &mut Heap,

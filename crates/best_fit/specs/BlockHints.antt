@@ -12,6 +12,7 @@ place_of piece offset = offset / 2 ^ (piece % 64)
 abbrev pub IsHinted : BlockHints → ℕ → Type 0
 IsHinted p h = (0 < h) × (slice_index p.handles (place_of p.piece h) ≡ h)
 
+-- no handle is hinted
 abbrev pub AreNone : BlockHints → Type 0
 AreNone p = (h : ℕ) → IsHinted p h → ⊥
 

@@ -68,12 +68,14 @@ is_good-IsGoodHeap c h =
     let one = and_parts (is_legal_size (length c.bytes)) (has_tags current (bytes_of c.bytes) (length c.bytes)) two.0 in
     record { size = one.0; tags = one.1; links = two.1 }
 
+-- the lemma from `IsGoodHeap` to its test
 pub IsGoodHeap-is_good : (c : WindowState) → IsGoodHeap c → IsTrue (is_good c)
 IsGoodHeap-is_good c g =
     and_from (is_legal_size (length c.bytes) && has_tags current (bytes_of c.bytes) (length c.bytes)) (has_links c)
     (and_from (is_legal_size (length c.bytes)) (has_tags current (bytes_of c.bytes) (length c.bytes)) g.size g.tags)
     g.links
 
+-- the number is the handle of a gap, in a heap with good tags and links
 pub record GapNode (c : WindowState) (n : ℕ) : Type 0 where
   pub good : IsGoodHeap c
   pub listed : is_in n (payloads (gaps_in c)) ≡ true
@@ -83,6 +85,7 @@ unfolding is_gap_node
 is_gap_node-GapNode c n h = let two = and_parts (is_good c) (is_in n (payloads (gaps_in c))) h
     in record { good = is_good-IsGoodHeap c two.0; listed = two.1 }
 
+-- the lemma from `GapNode` to its test
 pub GapNode-is_gap_node : (c : WindowState) (n : ℕ) → GapNode c n → is_gap_node c n ≡ true
 unfolding is_gap_node
 GapNode-is_gap_node c n g = and_from (is_good c) (is_in n (payloads (gaps_in c))) (IsGoodHeap-is_good c g.good) g.listed
@@ -166,6 +169,7 @@ comes-Comes k a l b h = by_test (or_cases (nat_lt k l) ((k == l) && nat_lt a b) 
     by_test (inl t) = inl (ltb-true k l t)
     by_test (inr t) = let two = and_parts (k == l) (nat_lt a b) t in inr (eqb-true k l two.0, ltb-true a b two.1)
 
+-- the lemma from `Comes` to its test
 pub Comes-comes : (k a l b : ℕ) → Comes k a l b → comes k a l b ≡ true
 Comes-comes k a l b (inl t) = or_left (nat_lt k l) ((k == l) && nat_lt a b) (lt-ltb k l t)
 Comes-comes k a l b (inr t) = or_right (nat_lt k l) ((k == l)

@@ -15,6 +15,7 @@ abbrev pub TilesAreReadOff : Type 0
 TilesAreReadOff = (c : WindowState) (ts : List Tile) → EncodesTiles c ts
     → tiles_of (bytes_of c.bytes) (length c.bytes) ≡ ts
 
+-- the law: the tile that a tag says is the one in the list
 abbrev pub TileIsReadOff : Type 0
 TileIsReadOff = (c : WindowState) (ts : List Tile) (at : ℕ) (t : Tile) → EncodesTiles c ts → tile_in ts at ≡ Some t
     → tile_at (bytes_of c.bytes) at ≡ t
@@ -35,6 +36,7 @@ abbrev pub HeaderIsBesideTags : Type 0
 HeaderIsBesideTags = (c : WindowState) (ts : List Tile) → EncodesTiles c ts → (k : ℕ) → k < 128
     → IsBesideTags ts k × (k < length c.bytes - 16)
 
+-- the law: no byte of a payload lies in a tag
 abbrev pub PayloadIsBesideTags : Type 0
 PayloadIsBesideTags = (c : WindowState) (ts : List Tile) (at : ℕ) (t : Tile) → EncodesTiles c ts
     → tile_in ts at ≡ Some t
@@ -51,6 +53,7 @@ pub record SplitsListAt (ts : List Tile) (at : ℕ) (t : Tile) : Type 0 where
   pub previous : previous_in ts at ≡ last_in front
   pub changed : (change : Tile → List Tile → List Tile) → changed_at at change ts ≡ front ++ change t back
 
+-- the law: a tile that is found splits its list
 abbrev pub TileStandsInList : Type 0
 TileStandsInList = (ts : List Tile) (at : ℕ) (t : Tile) → tile_in ts at ≡ Some t → SplitsListAt ts at t
 
@@ -59,6 +62,7 @@ abbrev pub OneTileAtAnOffset : Type 0
 OneTileAtAnOffset = (c : WindowState) (front : List Tile) (t : Tile) (back : List Tile)
     → EncodesTiles c (front ++ t ∷ back) → tile_in (front ++ t ∷ back) t.offset ≡ Some t
 
+-- the law: the last tile ends the list
 abbrev pub LastTileEndsList : Type 0
 LastTileEndsList = (ts : List Tile) (t : Tile) → last_in ts ≡ Some t → ts ≡ without_last ts ++ t ∷ []
 
@@ -79,6 +83,7 @@ PayloadMayChange = (c d : WindowState) (ts : List Tile) (at : ℕ) (t : Tile) �
     → (from n : ℕ) → at + 16 ≤ from → from + n ≤ at + t.len
     → SameBytesExcept (bytes_of c.bytes) (bytes_of d.bytes) from n → EncodesTiles d ts
 
+-- the law: a change of bytes in the header keeps the tiles
 abbrev pub HeaderMayChange : Type 0
 HeaderMayChange = (c d : WindowState) (ts : List Tile) → EncodesTiles c ts → length d.bytes ≡ length c.bytes
     → (from n : ℕ) → from + n ≤ 128 → SameBytesExcept (bytes_of c.bytes) (bytes_of d.bytes) from n → EncodesTiles d ts

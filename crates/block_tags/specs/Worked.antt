@@ -21,6 +21,7 @@ tiles = index ∷ object ∷ free_tile 224 784 ∷ []
 abbrev pub node : Bool → Tile
 node red = record { offset = 128; len = 64; use_of = Some Node; red = red }
 
+-- worked examples of sizes, words and tiles
 pub record WorkedTiles : Type 0 where
   pub legal : map is_legal_size (128 ∷ 144 ∷ 160 ∷ 176 ∷ 180 ∷ 1024 ∷ 1073741840 ∷ [])
       ≡ false ∷ true ∷ false ∷ true ∷ false ∷ true ∷ false ∷ []

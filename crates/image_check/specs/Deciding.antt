@@ -24,6 +24,7 @@ pub record IsDecided (format : ℕ) (front : List ℕ) : Type 0 where
   pub some : (c : ImageClass) → decided format front ≡ Some c → DecidesClass format front c
   pub none : decided format front ≡ None → (c : ImageClass) → DecidesClass format front c → ⊥
 
+-- the law: the bytes read so far decide a class exactly if `decided` says so
 abbrev pub AllDecided : Type 0
 AllDecided = (format : ℕ) (front : List ℕ) → IsDecided format front
 
@@ -32,5 +33,6 @@ pub record IsDecidedAny (front : List ℕ) : Type 0 where
   pub some : (c : ImageClass) → decided (format_of front) front ≡ Some c → DecidesAny front c
   pub none : decided (format_of front) front ≡ None → (c : ImageClass) → DecidesAny front c → ⊥
 
+-- the law: so it is for images of any of the three formats
 abbrev pub AllDecidedAny : Type 0
 AllDecidedAny = (front : List ℕ) → IsDecidedAny front

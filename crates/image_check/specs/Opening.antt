@@ -117,6 +117,7 @@ abbrev pub ReadsFrontAlone : {S : Type 0} → ReaderHistory → ReaderHistory �
 ReadsFrontAlone old new (Ok s) = ⊤
 ReadsFrontAlone old new (Err cause) = cause ≡ RegionTooSmall → length new.bytes ≡ length old.bytes + 24
 
+-- an image from a reader is opened, or refused for a cause, and the region comes back
 pub record Opens (format : ℕ) (image : ReadDelta) (region : List ℕ) (base : ℕ) (mode : Mode)
     (result : Result SegmentState OpenRefused) : Type 0 where
   pub answers : MatchResult result (OpensOk format image region base mode) (IsNotOpened format image region base)

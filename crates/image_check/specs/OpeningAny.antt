@@ -103,6 +103,7 @@ pub record IsNotOpenedAny (image : ReadDelta) (region : List ℕ) (base : ℕ) (
   pub why : IsWhyNotAny image base (length region) refused.cause
   pub handed_back : IsHandedBack (format_of image.bytes) image region base refused.region
 
+-- an image of format 0, 1 or 2 is opened, or refused for a cause
 pub record OpensAny (image : ReadDelta) (region : List ℕ) (base : ℕ) (mode : Mode)
     (result : Result SegmentState OpenRefused) : Type 0 where
   pub answers : MatchResult result (IsOpenedAny image region base mode) (IsNotOpenedAny image region base)

@@ -29,6 +29,7 @@ pub record IsNotOpenedOf (format : ℕ) (b region : List ℕ) (base : ℕ) (refu
   pub handed_back : IsHandedBack format (as_given b) region base refused.region
   pub unwritten : (length b ≡ size_word b → ⊥) → refused.region ≡ region
 
+-- an image in memory is opened, or refused for a cause
 pub record OpensBytes (format : ℕ) (b region : List ℕ) (base : ℕ) (mode : Mode)
     (result : Result SegmentState OpenRefused) : Type 0 where
   pub answers : MatchResult result (OpensOk format (as_given b) region base mode) (IsNotOpenedOf format b region base)

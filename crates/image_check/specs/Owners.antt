@@ -116,6 +116,7 @@ frames es = map frame_of es
 
 -- ---- the nodes whose links are to be followed
 
+-- the links of an owned node are not followed yet, and it names the next such node
 pub record IsWaiting (es : Blocks) (n : ℕ) (next : Option ℕ) : Type 0 where
   pub block : Block
   pub is : block_at es n ≡ Some block
@@ -128,6 +129,7 @@ abbrev pub IsChain : Blocks → Option ℕ → List ℕ → Type 0
 IsChain es head [] = head ≡ None
 IsChain es head (n ∷ ns) = (next : Option ℕ) × (head ≡ Some n) × IsWaiting es n next × IsChain es next ns
 
+-- the list has the number
 abbrev pub IsMember : ℕ → List ℕ → Type 0
 IsMember n [] = ⊥
 IsMember n (x ∷ xs) = (n ≡ x) ⊎ IsMember n xs
@@ -212,9 +214,11 @@ pub record MarksLink (format : ℕ) (m : Memory) (ts : List Tile) (now : Option 
 
 -- ---- of an image
 
+-- the links of an image that are noted count, and those of owned nodes are noted
 abbrev pub IsMarkingOf : ℕ → List ℕ → Option ℕ → Blocks → Option ℕ → ℕ → Type 0
 IsMarkingOf format b now es pending waiting = IsMarking format (bytes_of b) (tiles_in b) now es pending waiting
 
+-- a link at the offset counts, and another that counts has its target
 abbrev pub IsSharedIn : ℕ → List ℕ → ℕ → Type 0
 IsSharedIn format b at = IsSharedAt format (bytes_of b) (tiles_in b) at
 
@@ -258,6 +262,7 @@ pub record IsWholeMarking (format : ℕ) (m : Memory) (ts : List Tile) (es : Blo
       → IsMarkedLink m ts es Storage (payload array + 16 * i) (payload array + 16 * i)
   pub root : (k v : ScalarKind) (at : ℕ) → Contains (values format m ts) (Map k v, at) → IsMarkedLink m ts es Node at at
 
+-- all links of an image that count are noted
 abbrev pub IsWholeMarkingOf : ℕ → List ℕ → Blocks → ℕ → Type 0
 IsWholeMarkingOf format b es waiting = IsWholeMarking format (bytes_of b) (tiles_in b) es waiting
 

@@ -72,14 +72,18 @@ pub record IsNotRead (format : ℕ) (image : ReadDelta) (region : List ℕ) (bas
 
 -- ---- by the format that the first words say, if it is one of those that are read
 
+-- reading an image of the accepted versions stops, for this cause
 abbrev pub StopsBy : AcceptedVersions → ReadDelta → ℕ → ℕ → OpenError → Type 0
 StopsBy versions image = Stops (format_in versions image.bytes) image
 
+-- an image of the accepted versions stands in its place in the region
 abbrev pub IsReadBy : AcceptedVersions → ReadDelta → List ℕ → ℕ → WindowState → Type 0
 IsReadBy versions image = IsImageRead (format_in versions image.bytes) image
 
+-- no image of the accepted versions is in the region, for this cause
 abbrev pub IsNotReadBy : AcceptedVersions → ReadDelta → List ℕ → ℕ → OpenRefused → Type 0
 IsNotReadBy versions image = IsNotRead (format_in versions image.bytes) image
 
+-- a place that is told shows the class, by the accepted versions
 abbrev pub IsShownBy : AcceptedVersions → ReadDelta → ExamineError → Type 0
 IsShownBy versions image = IsShown (format_in versions image.bytes) image.bytes

@@ -117,6 +117,7 @@ pub record IsValueReady (format : ℕ) (b : List ℕ) (kind : Kind) (at : ℕ) (
   pub fresh : IsTrue (has_link kind) → (n : ℕ) (o : Owner) → owner_at es n ≡ Some o → o.at ≢ at
   pub elements : kind ≡ Strings → AllElements (bytes_of b) (tiles_in b) at (IsStorageStart format b)
 
+-- the links of a value are noted
 pub record IsValueGrown (format : ℕ) (b : List ℕ) (kind : Kind) (at : ℕ) (old : Blocks) (waited : ℕ) (es : Blocks)
     (pending : Option ℕ) (waiting : ℕ) : Type 0 where
   pub grown : MarksLinks format b (λ p. (IsTrue (has_link kind) × (p ≡ at))
@@ -138,9 +139,11 @@ pub record IsLinkOf (format : ℕ) (m : Memory) (t : Tile) (p : ℕ) : Type 0 wh
   pub link : IsTrue (has_link kind)
   pub place : p ≡ value_offset m (payload t)
 
+-- a link of the tile's object, or of an element, stands at the offset
 abbrev pub IsPlaceOf : ℕ → Memory → List Tile → Tile → ℕ → Type 0
 IsPlaceOf format m ts t p = IsLinkOf format m t p ⊎ IsInStorage ts p
 
+-- the links of a tile's object are noted
 pub record IsTileGrown (format : ℕ) (b : List ℕ) (t : Tile) (old : Blocks) (waited : ℕ) (es : Blocks)
     (pending : Option ℕ) (waiting : ℕ) : Type 0 where
   pub grown : MarksLinks format b (IsPlaceOf format (bytes_of b) (tiles_in b) t) old waited es pending waiting

@@ -9,6 +9,7 @@ abbrev pub with_two : List ℕ → ℕ → ℕ → ℕ → ℕ → List ℕ → 
 with_two xs from len from' len' ws ws' =
     patched (patched xs from (refill len (part xs from len) ws)) from' (refill len' (part xs from' len') ws')
 
+-- two ranges of a slice are lent, and it ends with what was written to them
 abbrev pub LendsTwo : MutBor (List ℕ) → ℕ → ℕ → ℕ → ℕ → MutBor (List ℕ) × MutBor (List ℕ) → Fml
 LendsTwo s from len from' len' r =
     LendsBoth (Array u8 0) (Array u8 0) (Array u8 0) s r (with_two s.now from len from' len')

@@ -26,6 +26,7 @@ pub record KeepsRoomyIndex (old new : WindowState) (at n : ℕ) : Type 0 where
   pub same : n ≤ capacity_at old at → new ≡ old
   pub reserved : capacity_at old at < n → ReservesIndexOk old new at n
 
+-- an index has n places or more, or there is no space and nothing changes
 abbrev pub ReservesIndex : {T E : Type 0} → WindowState → WindowState → ℕ → ℕ → Result T E → Type 0
 ReservesIndex old new at n result =
     MatchResult result (λ v. KeepsRoomyIndex old new at n) (λ e. (capacity_at old at < n)

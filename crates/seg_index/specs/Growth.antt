@@ -21,6 +21,7 @@ PreparesOk old new at None = (entry_count old at < capacity_at old at) × (new �
 PreparesOk old new at (Some h) =
     (capacity_at old at ≤ entry_count old at) × AllocatesOk current old new (grown_bytes old at) IndexRole h
 
+-- a full index gets a larger block beside its own, or there is no space
 abbrev pub Prepares : {E : Type 0} → WindowState → WindowState → ℕ → Result Growth E → Type 0
 Prepares old new at result =
     MatchResult result (λ g. PreparesOk old new at g.block)
@@ -31,6 +32,7 @@ abbrev pub FreesGrowth : WindowState → WindowState → Option ℕ → Type 0
 FreesGrowth old new None = new ≡ old
 FreesGrowth old new (Some h) = Deallocates current old new h
 
+-- the block of a growth is in use, if there is one
 abbrev pub IsLiveGrowth : WindowState → Growth → Type 0
 IsLiveGrowth c g = IfSome g.block (λ h. IsTrue (is_live_in (live_of c.bytes) h))
 
@@ -70,6 +72,7 @@ CanGrow c at None = entry_count c at < capacity_at c at
 CanGrow c at (Some h) =
     IsBlockFor c h (grown_capacity (capacity_at c at)) × (link_at (bytes_of c.bytes) at ≡ Some h → ⊥)
 
+-- the index has the new entry, in the larger block if there is one
 abbrev pub AddsEntry : WindowState → WindowState → ℕ → BackingArray → List ℕ → Option ℕ → Type 0
 AddsEntry old new at t handles None = IsIndexOf new at t handles
 AddsEntry old new at t handles (Some h) = InstallsBlock old new at h (grown_capacity (capacity_at old at)) handles
@@ -78,6 +81,7 @@ abbrev pub grown_live : WindowState → ℕ → Option ℕ → LiveSet
 grown_live c at None = live_of c.bytes
 grown_live c at (Some h) = without_index_block c at
 
+-- adding an entry keeps the other index, the header and all blocks but those of the index
 abbrev pub AddKeeps : WindowState → WindowState → ℕ → BackingArray → Option ℕ → Type 0
 AddKeeps old new at t None = KeepsOutsideIndex old new at (beside_table t (live_of old.bytes).extents)
 AddKeeps old new at t (Some h) = KeepsOutsideIndex old new at (others h (without_index_block old at).extents)

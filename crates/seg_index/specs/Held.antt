@@ -29,6 +29,7 @@ pub record IsIndexOf (c : WindowState) (at : ℕ) (t : BackingArray) (handles : 
   pub held : IfSome t.extent (λ x. extent_at (live_of c.bytes) (handle x) ≡ Some x)
   pub whole : AllByRecursion (λ h. h % 16 ≡ 0) handles
 
+-- some index stands at an offset of the header
 pub record HasIndex (c : WindowState) (at : ℕ) : Type 0 where
   pub table : BackingArray
   pub handles : List ℕ

@@ -41,6 +41,7 @@ pub record AreKeys (c : WindowState) (block count : ℕ) (key : Entry) : Type 0 
   pub rises : (i j g h : ℕ) → i < j → j < count → IsEntryLinkTo (bytes_of c.bytes) block i g
       → IsEntryLinkTo (bytes_of c.bytes) block j h → sort_order (index_of key) (bytes_of c.bytes) g h ≡ Less
 
+-- a look-up in a block answers the entry of a key, or its place
 abbrev pub FindsPositionIn : Memory → Entry → ℕ → ℕ → Lookup → Type 0
 FindsPositionIn m key block count (Found i) =
     (i < count) × ((h : ℕ) → IsEntryLinkTo m block i h → order m key h ≡ Equal)

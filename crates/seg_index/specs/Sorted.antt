@@ -43,10 +43,12 @@ pub record AreSortedHandles (c : WindowState) (i : Index) (handles : List ℕ) :
   pub keys : AllByRecursion (HasSortKey c i) handles
   pub rises : IsStrictlySortedBy (sort_order i (bytes_of c.bytes)) handles
 
+-- the index leads to these handles, and their sort keys rise
 pub record IsSortedIndex (c : WindowState) (i : Index) (t : BackingArray) (handles : List ℕ) : Type 0 where
   pub index : IsIndexOf c (place_of i) t handles
   pub sorted : AreSortedHandles c i handles
 
+-- some sorted index stands in the header
 pub record HasSortedIndex (c : WindowState) (i : Index) : Type 0 where
   pub table : BackingArray
   pub handles : List ℕ

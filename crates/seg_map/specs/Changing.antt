@@ -96,6 +96,7 @@ pub record FreesAllPairs {K V : Type 0} (k : Plain K) (v : Plain V) (old new : W
   pub empty : let none : List (Pair K V) = [] in HoldsMap k v new.bytes h at none
   pub same : ps ≡ [] → new ≡ old
 
+-- all pairs of a map are gone with their blocks; an empty map changes no byte
 abbrev pub ReleasesMap : {K V : Type 0} → Plain K → Plain V → WindowState → WindowState → ℕ → ℕ → Type 0
 ReleasesMap {K} {V} k v old new h at = (ps : List (Pair K V)) → HoldsMap k v old.bytes h at ps
     → FreesAllPairs k v old new h at ps
@@ -148,6 +149,7 @@ abbrev pub LinksPairOk : {K V : Type 0} → Plain K → Plain V → WindowState 
 LinksPairOk k v old new h at ps p =
     RewritesNodes k v old new h at (pair_node p ∷ nodes_of_pairs ps) (put_pair k.order p ps)
 
+-- the node of a pair enters the tree of its map
 abbrev pub LinksPair : {K V : Type 0} → Plain K → Plain V → WindowState → WindowState → ℕ → ℕ → ℕ → Type 0
 LinksPair {K} {V} k v old new h at node =
     (ps : List (Pair K V)) (p : Pair K V) → HoldsMap k v old.bytes h at ps → IsUnlinkedPair k v old.bytes h ps p

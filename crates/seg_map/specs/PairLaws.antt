@@ -19,11 +19,13 @@ use Rattle.seg_map.specs.PairNodes.{comes_before, stands, stands_before, no_cell
 abbrev pub IsStrict : {K : Type 0} → (K → K → Bool) → Type 0
 IsStrict {K} less = (x : K) → less x x ≡ false
 
+-- the order is transitive
 abbrev pub Chains : {K : Type 0} → (K → K → Bool) → Type 0
 Chains {K} less = (x y z : K) → less x y ≡ true → less y z ≡ true → less x z ≡ true
 
 -- ---- blocks of a proper live set
 
+-- the list has the extent
 abbrev pub In : Extent → List Extent → Type 0
 In x [] = ⊥
 In x (y ∷ ys) = (y ≡ x) ⊎ In x ys
@@ -126,6 +128,7 @@ block_at len xs n h =
 
 -- ---- the parts of the test
 
+-- the live set is proper, and the listed nodes are blocks with links to each other
 pub record IsGoodNodeSet (len : ℕ) (ns : List ℕ) (c : WindowState) : Type 0 where
   pub proper : IsTrue (is_proper (live_of c.bytes))
   pub blocks : list_all (is_block_in len (live_of c.bytes)) ns ≡ true
@@ -138,6 +141,7 @@ is_good-IsGoodNodeSet len ns c h =
     let one = and_parts _ _ two.0 in
     record { proper = one.0; blocks = one.1; links = two.1 }
 
+-- the lemma from `IsGoodNodeSet` to its test
 pub IsGoodNodeSet-is_good : (len : ℕ) (ns : List ℕ) (c : WindowState) → IsGoodNodeSet len ns c
     → IsTrue (is_good len ns c)
 IsGoodNodeSet-is_good len ns c g =
@@ -145,6 +149,7 @@ IsGoodNodeSet-is_good len ns c g =
     (list_all (links_among (bytes_of c.bytes) ns) ns)
     (and_from (is_proper (live_of c.bytes)) (list_all (is_block_in len (live_of c.bytes)) ns) g.proper g.blocks) g.links
 
+-- the number is a node of the map that was lent
 pub record PairNode (len : ℕ) (ns : List ℕ) (c : WindowState) (n : ℕ) : Type 0 where
   pub good : IsGoodNodeSet len ns c
   pub listed : is_in n ns ≡ true
@@ -155,6 +160,7 @@ unfolding is_pair_node
 is_pair_node-PairNode len ns c n h = let two = and_parts _ _ h in
     record { good = is_good-IsGoodNodeSet len ns c two.0; listed = two.1 }
 
+-- the lemma from `PairNode` to its test
 pub PairNode-is_pair_node : (len : ℕ) (ns : List ℕ) (c : WindowState) (n : ℕ) → PairNode len ns c n
     → is_pair_node len ns c n ≡ true
 unfolding is_pair_node
@@ -194,6 +200,7 @@ pub handles_length : (xs : List Extent) → length (map handle xs) ≡ length xs
 handles_length [] = refl
 handles_length (x ∷ xs) = ap suc (handles_length xs)
 
+-- a list of at most 2^40 numbers has all nodes of a map
 abbrev pub Finite : ℕ → List ℕ → WindowState → Type 0
 Finite len ns c = (ms : List ℕ) × (length ms ≤ 2 ^ 40) × ((n : ℕ) → is_pair_node len ns c n ≡ true → is_in n ms ≡ true)
 

@@ -31,6 +31,7 @@ pub record HoldsMap {K V : Type 0} (k : Plain K) (v : Plain V) (b : List ℕ) (h
   pub rising : is_rising k.order ps ≡ true
   pub pairs : AllByRecursion (IsPairIn k v (live_of b) h) ps
 
+-- some map of two plain types stands at a place
 abbrev pub IsSomeMap : {K V : Type 0} → Plain K → Plain V → List ℕ → ℕ → ℕ → Type 0
 IsSomeMap {K} {V} k v b h at = (ps : List (Pair K V)) × HoldsMap k v b h at ps
 
@@ -59,6 +60,7 @@ item_of p = (p.key, p.value)
 abbrev pub value_of_pair : {K V : Type 0} → Pair K V → V
 value_of_pair p = p.value
 
+-- the answer is the first pair that is not below a key, or that is above it
 abbrev pub FindsItem : {K V : Type 0} → Plain K → Plain V → List ℕ → ℕ → ℕ → Bool → K → Option (K × V) → Type 0
 FindsItem {K} {V} k v b h at past key r = (ps : List (Pair K V)) → HoldsMap k v b h at ps
     → r ≡ option_map item_of (first_pair k.order past key ps)
@@ -68,14 +70,17 @@ abbrev pub FindsItemBefore : {K V : Type 0} → Plain K → Plain V → List ℕ
 FindsItemBefore {K} {V} k v b h at past key r = (ps : List (Pair K V)) → HoldsMap k v b h at ps
     → r ≡ option_map item_of (last_pair k.order past key ps)
 
+-- the answer is the last pair of a map
 abbrev pub FindsLastItem : {K V : Type 0} → Plain K → Plain V → List ℕ → ℕ → ℕ → Option (K × V) → Type 0
 FindsLastItem {K} {V} k v b h at r = (ps : List (Pair K V)) → HoldsMap k v b h at ps
     → r ≡ option_map item_of (final_pair ps)
 
+-- the answer is the value of a key, if the map has the key
 abbrev pub FindsValue : {K V : Type 0} → Plain K → Plain V → List ℕ → ℕ → ℕ → K → Option V → Type 0
 FindsValue {K} {V} k v b h at key r = (ps : List (Pair K V)) → HoldsMap k v b h at ps
     → r ≡ option_map value_of_pair (pair_at k.order ps key)
 
+-- the answer is the node of a key, if the map has the key
 abbrev pub FindsKey : {K V : Type 0} → Plain K → Plain V → List ℕ → ℕ → ℕ → K → Option ℕ → Type 0
 FindsKey {K} {V} k v b h at key r = (ps : List (Pair K V)) → HoldsMap k v b h at ps
     → r ≡ option_map pair_node (pair_at k.order ps key)

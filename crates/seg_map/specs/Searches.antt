@@ -40,6 +40,7 @@ LookBackTakes {K} {V} k v c at past key before after =
 abbrev pub last_path : Tree → ℕ
 last_path t = path_length (λ n. true) t
 
+-- a search for the last pair takes exactly these steps
 abbrev pub LastTakes : {K V : Type 0} → Plain K → Plain V → WindowState → Place → ℕ → ℕ → Type 0
 LastTakes {K} {V} k v c at before after =
     (ps : List (Pair K V)) (s : HoldsMap k v c.bytes at.handle at.at ps) → after ≡ before + last_path s.map.tree.tree
@@ -105,10 +106,12 @@ entry_in k c key t = insert_point_of (stands_before k.order (keys_in k (nodes_of
 abbrev pub exit_in : {K : Type 0} → Plain K → WindowState → ℕ → Tree → Option ℕ
 exit_in k c node t = remove_point_of (comes_before k.order (keys_in k (nodes_of t) c)) node t
 
+-- a search has found the node from which an insertion changes the tree of a map
 abbrev pub FindsEntry : {K V : Type 0} → Plain K → Plain V → WindowState → Place → K → Option ℕ → Type 0
 FindsEntry {K} {V} k v c at key start =
     (ps : List (Pair K V)) (s : HoldsMap k v c.bytes at.handle at.at ps) → start ≡ entry_in k c key s.map.tree.tree
 
+-- a search has found the node from which a removal changes the tree of a map
 abbrev pub FindsExit : {K V : Type 0} → Plain K → Plain V → WindowState → Place → Option ℕ → Option ℕ → Type 0
 FindsExit {K} {V} k v c at node start =
     (ps : List (Pair K V)) (s : HoldsMap k v c.bytes at.handle at.at ps)

@@ -36,6 +36,7 @@ pub record IsContainer (b : List ℕ) (p : Place) (each len : ℕ) (t : BackingA
   pub long : length bytes ≡ each * len
   pub own : IsStorageBlock (live_of b) p.handle t.extent
 
+-- some container with elements of this length stands at a place
 abbrev pub IsStanding : List ℕ → Place → ℕ → Type 0
 IsStanding b p each = (len : ℕ) × ((t : BackingArray) × ((bytes : List ℕ) × IsContainer b p each len t bytes))
 
@@ -56,6 +57,7 @@ pub record LacksSpace (old new : WindowState) (each n : ℕ) (t : BackingArray) 
   pub none : grown_backing (live_of old.bytes) each n t ≡ None
   pub same : new ≡ old
 
+-- a container has n places or more, or there is no space and nothing changes
 abbrev pub ReservesStorage : WindowState → WindowState → Place → ℕ → ℕ → Result (Unit {0}) Refusal → Type 0
 ReservesStorage old new p each n result =
     (len : ℕ) (t : BackingArray) (bytes : List ℕ) → IsContainer old.bytes p each len t bytes

@@ -62,6 +62,7 @@ HasSpot b p End = len_at b p < capacity_at b p
 HasSpot b p (Over i) = i < len_at b p
 HasSpot b p (Before i) = (len_at b p < capacity_at b p) × (i ≤ len_at b p)
 
+-- an element is written at the end, over another, or before one
 abbrev pub PutsAt : WindowState → WindowState → Place → ℕ → WritePos → List ℕ → Type 0
 PutsAt old new p each End more = Extends old new p each 1 more
 PutsAt old new p each (Over i) more = Overwrites old new p each i more
@@ -75,6 +76,7 @@ pub record FreesStorageOk (old new : WindowState) (p : Place) (each : ℕ) (t : 
   pub gaps : t.extent ≡ None → KeepsGaps old new
   pub stands : IsContainer new.bytes p each 0 no_backing []
 
+-- a container has no place any more, and its storage is released
 abbrev pub FreesStorage : WindowState → WindowState → Place → ℕ → Type 0
 FreesStorage old new p each = (len : ℕ) (t : BackingArray) (bytes : List ℕ) → IsContainer old.bytes p each len t bytes
     → FreesStorageOk old new p each t
@@ -88,6 +90,7 @@ pub record ShrinksStorageOk (old new : WindowState) (p : Place) (each len : ℕ)
   pub gaps : t.extent ≡ (shrunk_backing (live_of old.bytes) each len t).extent → KeepsGaps old new
   pub stands : IsContainer new.bytes p each len (shrunk_backing (live_of old.bytes) each len t) bytes
 
+-- a container has as many places as elements
 abbrev pub ShrinksStorage : WindowState → WindowState → Place → ℕ → Type 0
 ShrinksStorage old new p each = (len : ℕ) (t : BackingArray) (bytes : List ℕ) → IsContainer old.bytes p each len t bytes
     → ShrinksStorageOk old new p each len t bytes

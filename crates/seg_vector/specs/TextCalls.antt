@@ -12,6 +12,7 @@ use Rattle.seg_vector.specs.{Containers.place_at, VectorCalls.RefusesIndex, Vect
 abbrev pub IsText : List ℕ → Place → List ℕ → BackingArray → Type 0
 IsText b p bytes t = IsContainer b p 1 (length bytes) t bytes
 
+-- some string stands at a place
 abbrev pub IsSomeText : List ℕ → Place → Type 0
 IsSomeText b p = (bytes : List ℕ) × ((t : BackingArray) × IsText b p bytes t)
 
@@ -31,15 +32,19 @@ pub record GrowsTextOk (old new : WindowState) (p : Place) (t : BackingArray) (n
 
 -- ---- what is read
 
+-- the number is the length of the string
 abbrev pub CountsBytes : List ℕ → Place → ℕ → Type 0
 CountsBytes b p n = (bytes : List ℕ) (t : BackingArray) → IsText b p bytes t → n ≡ length bytes
 
+-- the number is the capacity of the string
 abbrev pub CountsBytePlaces : List ℕ → Place → ℕ → Type 0
 CountsBytePlaces b p n = (bytes : List ℕ) (t : BackingArray) → IsText b p bytes t → n ≡ t.capacity
 
+-- the slice has the bytes of the string
 abbrev pub ReadsText : List ℕ → Place → List ℕ → Type 0
 ReadsText b p out = (bytes : List ℕ) (t : BackingArray) → IsText b p bytes t → out ≡ bytes
 
+-- the byte at an index of a string, or the index is refused
 abbrev pub GetsByte : WindowState → Place → ℕ → Result ℕ Refusal → Type 0
 GetsByte c p i result = (bytes : List ℕ) (t : BackingArray) → IsText c.bytes p bytes t
     → MatchResult result (λ x. slice_get bytes i ≡ Some x) (RefusesIndex c c (length bytes) i)
@@ -55,15 +60,18 @@ abbrev pub MakesText : WindowState → WindowState → Place → List ℕ → Re
 MakesText old new p bytes result = MatchResult result (λ u. GrowsTextOk old new p no_backing (length bytes) bytes)
     (LacksSpace old new 1 (length bytes) no_backing)
 
+-- the byte at an index is replaced, or the index is refused
 abbrev pub SetsByte : WindowState → WindowState → Place → ℕ → ℕ → Result (Unit {0}) Refusal → Type 0
 SetsByte old new p i x result =
     (bytes : List ℕ) (t : BackingArray) → IsText old.bytes p bytes t
     → MatchResult result (λ u. (i < length bytes) × ReplacesText old new p t (slice_set bytes i x) t)
     (RefusesIndex old new (length bytes) i)
 
+-- a string loses all bytes and keeps its capacity
 abbrev pub ClearsText : WindowState → WindowState → Place → Type 0
 ClearsText old new p = (bytes : List ℕ) (t : BackingArray) → IsText old.bytes p bytes t → ReplacesText old new p t [] t
 
+-- a string has n places or more, or there is no space and nothing changes
 abbrev pub ReservesBytes : WindowState → WindowState → Place → ℕ → Result (Unit {0}) Refusal → Type 0
 ReservesBytes old new p n result =
     (bytes : List ℕ) (t : BackingArray) → IsText old.bytes p bytes t
@@ -74,21 +82,25 @@ abbrev pub ReservesNoBytes : WindowState → WindowState → Place → ℕ → R
 ReservesNoBytes old new p n result = (bytes : List ℕ) (t : BackingArray) → IsText old.bytes p bytes t → n ≤ t.capacity
     → (result ≡ Ok tt) × (new ≡ old)
 
+-- all bytes of a string are replaced, or there is no space and nothing changes
 abbrev pub AssignsText : WindowState → WindowState → Place → List ℕ → Result (Unit {0}) Refusal → Type 0
 AssignsText old new p more result =
     (bytes : List ℕ) (t : BackingArray) → IsText old.bytes p bytes t
     → MatchResult result (λ u. GrowsTextOk old new p t (length more) more) (LacksSpace old new 1 (length more) t)
 
+-- bytes are appended to a string, or there is no space and nothing changes
 abbrev pub AppendsText : WindowState → WindowState → Place → List ℕ → Result (Unit {0}) Refusal → Type 0
 AppendsText old new p more result =
     (bytes : List ℕ) (t : BackingArray) → IsText old.bytes p bytes t
     → let n = capacity_for_text (length (bytes ++ more)) t.capacity in
     MatchResult result (λ u. GrowsTextOk old new p t n (bytes ++ more)) (LacksSpace old new 1 n t)
 
+-- a string has as many places as bytes
 abbrev pub ShrinksText : WindowState → WindowState → Place → Type 0
 ShrinksText old new p = (bytes : List ℕ) (t : BackingArray) → IsText old.bytes p bytes t
     → ReplacesText old new p t bytes (shrunk_backing (live_of old.bytes) 1 (length bytes) t)
 
+-- a string gives its storage back
 abbrev pub ReleasesText : WindowState → WindowState → Place → Type 0
 ReleasesText old new p = (bytes : List ℕ) (t : BackingArray) → IsText old.bytes p bytes t
     → ReplacesText old new p t [] no_backing

@@ -28,6 +28,7 @@ pub record StoresArrayUpTo (old new : WindowState) (y : Extent) (n : ℕ) (more 
   pub within : n ≤ length more
   pub stopped : n < length more → placed_texts (live_of new.bytes) (drop n more) ≡ None
 
+-- texts come into new blocks, all of them or those before the first without a fit
 abbrev pub LaysTexts : WindowState → WindowState → ℕ → List (List ℕ) → ℕ → Type 0
 LaysTexts old new array more n = (y : Extent) → handle y ≡ array → extent_at (live_of old.bytes) array ≡ Some y
     → StoresArrayUpTo old new y n more
@@ -52,5 +53,6 @@ pub record StoresArrayErr (old new : WindowState) (more : List (List ℕ)) (e : 
   pub restored : KeepsLiveSet current old new
   pub first : new_array (live_of old.bytes) (length more) ≡ None → new ≡ old
 
+-- an array and its texts come into new blocks, or there is no space
 abbrev pub StoresArray : WindowState → WindowState → List (List ℕ) → Result ℕ Refusal → Type 0
 StoresArray old new more result = MatchResult result (StoresArrayOk old new more) (StoresArrayErr old new more)

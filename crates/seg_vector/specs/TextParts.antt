@@ -124,6 +124,7 @@ pub record PlacesTextOk (old new : WindowState) (bytes : List ℕ) (block : Opti
   pub owned : IsOwnedText (bytes_of new.bytes) text
   pub served : IsServed text
 
+-- a text comes into a new block, or there is no space; an empty one needs none
 abbrev pub PlacesText : WindowState → WindowState → List ℕ → Result (Option ℕ) Refusal → Type 0
 PlacesText old new bytes result = MatchResult result (PlacesTextOk old new bytes)
     (LacksFit old new (placed_text (live_of old.bytes) bytes))
@@ -136,6 +137,7 @@ pub data ReservesArray (old new : WindowState) (o : Option Extent) (n g : ℕ) :
   taken : (a : AllocatesOk current old new n Storage g) → regrow (live_of old.bytes) o n ≡ Some a.extent
       → ReservesArray old new o n g
 
+-- an array for as many texts is reserved beside the old one, or there is no space
 abbrev pub AsksArray : WindowState → WindowState → Place → ℕ → Result ℕ Refusal → Type 0
 AsksArray old new p n result =
     (ps : List OwnedText) (t : BackingArray) → IsTexts old.bytes p ps t
@@ -185,6 +187,7 @@ pub record AdoptsOk (first old new : WindowState) (p : Place) (ps : List OwnedTe
   pub links : AreTextLinks (bytes_of new.bytes) g ps
   pub stay : AllByRecursion (SameBlock (bytes_of old.bytes) (bytes_of new.bytes)) loose
 
+-- the vector of strings takes over a reserved array
 abbrev pub Adopts : WindowState → WindowState → Place → ℕ → ℕ → Type 0
 Adopts old new p g n = (r : IsArrayReserved old p g n) → AdoptsOk r.first old new p r.ps r.t g n r.loose
 
@@ -218,6 +221,7 @@ pub record IsPutAsked (now : WindowState) (p : Place) (i : ℕ) (block : Option 
   pub inside : i ≤ length ps
   pub at : block ≡ option_map handle z.extent
 
+-- a link and a length enter the array, and the vector has one text more
 abbrev pub InsertsElement : WindowState → WindowState → Place → ℕ → Option ℕ → ℕ → Type 0
 InsertsElement old new p i block len =
     (first : WindowState) (ps : List OwnedText) (t : BackingArray) (y : Extent) (m : ℕ) (z : OwnedText)
@@ -231,6 +235,7 @@ InsertsElement old new p i block len =
 abbrev pub room_of : Option Extent → ℕ
 room_of o = elim o [ None ↦ 0 | Some x ↦ x.len - 16 ]
 
+-- the number is the room of the array of a vector of strings
 abbrev pub HasArrayRoom : List ℕ → Place → ℕ → Type 0
 HasArrayRoom b p room = (ps : List OwnedText) (t : BackingArray) → IsTexts b p ps t → room ≡ room_of t.extent
 
@@ -244,6 +249,7 @@ pub record IsToBeGivenUp (now : WindowState) (p : Place) (g room : ℕ) : Type 0
   pub asked : ReservesArray first now t.extent (16 * n) g
   pub was : room ≡ room_of t.extent
 
+-- a reserved array is released, and the vector is as before
 abbrev pub GivesUp : WindowState → WindowState → Place → ℕ → ℕ → Type 0
 GivesUp old new p g room =
     (first : WindowState) (ps : List OwnedText) (t : BackingArray) (n : ℕ) → IsTexts first.bytes p ps t
@@ -251,6 +257,7 @@ GivesUp old new p g room =
 
 -- ---- a text put in, once the index is known to be inside
 
+-- a text has no space: what was taken is given back
 pub record RefusesPut (old new : WindowState) (ps : List OwnedText) (t : BackingArray) (bytes : List ℕ)
     (e : Refusal) : Type 0 where
   pub refusal : e ≡ NoSpace
@@ -258,6 +265,7 @@ pub record RefusesPut (old new : WindowState) (ps : List OwnedText) (t : Backing
   pub restored : KeepsLiveSet current old new
   pub first : RefusesFirstBlock old new ps t bytes
 
+-- a text is put into a vector of strings, or there is no space
 abbrev pub PutsInto : WindowState → WindowState → Place → List OwnedText → BackingArray → ℕ → List ℕ
     → Result (Unit {0}) Refusal → Type 0
 PutsInto old new p ps t i bytes result = MatchResult result (λ u. InsertsTextOk old new p ps t i bytes)
@@ -271,6 +279,7 @@ pub record HasSpareCapacity (b : List ℕ) (p : Place) (i : ℕ) : Type 0 where
   pub inside : i ≤ length ps
   pub space : length ps < t.capacity
 
+-- a text enters a vector of strings that has a place, or there is no space
 abbrev pub InsertsWithin : WindowState → WindowState → Place → ℕ → List ℕ → Result (Unit {0}) Refusal → Type 0
 InsertsWithin old new p i bytes result = (ps : List OwnedText) (t : BackingArray)
     → IsTexts old.bytes p ps t → i ≤ length ps → length ps < t.capacity → PutsInto old new p ps t i bytes result
@@ -284,6 +293,7 @@ pub record IsFullVector (b : List ℕ) (p : Place) (i n : ℕ) : Type 0 where
   pub full : t.capacity ≤ length ps
   pub wanted : n ≡ capacity_for_one (length ps) t.capacity
 
+-- a text enters a full vector of strings, in a larger array, or there is no space
 abbrev pub InsertsGrowing : WindowState → WindowState → Place → ℕ → List ℕ → ℕ → Result (Unit {0}) Refusal → Type 0
 InsertsGrowing old new p i bytes n result =
     (ps : List OwnedText) (t : BackingArray) → IsTexts old.bytes p ps t → i ≤ length ps → t.capacity ≤ length ps

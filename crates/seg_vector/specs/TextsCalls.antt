@@ -46,6 +46,7 @@ pub record IsTexts (b : List ℕ) (p : Place) (ps : List OwnedText) (t : Backing
   pub apart : AllByRecursion (λ (x : Extent). handle x ≢ p.handle) (text_blocks ps)
   pub others : AreDistinct (option_to_list t.extent ++ text_blocks ps)
 
+-- some vector of strings stands at a place
 abbrev pub IsTextsContainer : List ℕ → Place → Type 0
 IsTextsContainer b p = (ps : List OwnedText) × ((t : BackingArray) × IsTexts b p ps t)
 
@@ -90,9 +91,11 @@ new_array live n = if n == 0 then Some no_backing else option_map
 
 -- ---- what calls answer and do
 
+-- the number is the length of the vector of strings
 abbrev pub ReadsTextsLen : List ℕ → Place → ℕ → Type 0
 ReadsTextsLen b p n = (ps : List OwnedText) (t : BackingArray) → IsTexts b p ps t → n ≡ length ps
 
+-- the number is the capacity of the vector of strings
 abbrev pub ReadsTextsCapacity : List ℕ → Place → ℕ → Type 0
 ReadsTextsCapacity b p n = (ps : List OwnedText) (t : BackingArray) → IsTexts b p ps t → n ≡ t.capacity
 
@@ -153,16 +156,19 @@ pub record RefusesFirstBlock (old new : WindowState) (ps : List OwnedText) (t : 
   pub text : length ps < t.capacity → placed_text (live_of old.bytes) bytes ≡ None → new ≡ old
   pub array : grown_backing (live_of old.bytes) 16 (capacity_for_one (length ps) t.capacity) t ≡ None → new ≡ old
 
+-- if the first block that is asked for has no space, nothing changes
 abbrev pub UnchangedIfFirstRefused : WindowState → WindowState → Place → List ℕ → Type 0
 UnchangedIfFirstRefused old new p bytes = (ps : List OwnedText) (t : BackingArray) → IsTexts old.bytes p ps t
     → RefusesFirstBlock old new ps t bytes
 
+-- a text is put at the end, or there is no space
 abbrev pub PushesText : WindowState → WindowState → Place → List ℕ → Result (Unit {0}) Refusal → Type 0
 PushesText old new p bytes result =
     (ps : List OwnedText) (t : BackingArray) → IsTexts old.bytes p ps t
     → MatchResult result (λ u. InsertsTextOk old new p ps t (length ps) bytes)
     (UndoesRequests old new (requested_text (live_of old.bytes) ps t bytes))
 
+-- a text enters before an index, or the index or the space is refused
 abbrev pub InsertsText : WindowState → WindowState → Place → ℕ → List ℕ → Result (Unit {0}) Refusal → Type 0
 InsertsText old new p i bytes result =
     (ps : List OwnedText) (t : BackingArray) → IsTexts old.bytes p ps t
@@ -180,6 +186,7 @@ pub record SetsTextOk (old new : WindowState) (p : Place) (ps : List OwnedText) 
   pub now : ReplacesTexts old new p (option_to_list t.extent ++ option_to_list before.extent)
       (option_to_list t.extent ++ option_to_list text.extent) (slice_set ps i text) t
 
+-- the text at an index is replaced, or the index or the space is refused
 abbrev pub SetsText : WindowState → WindowState → Place → ℕ → List ℕ → Result (Unit {0}) Refusal → Type 0
 SetsText old new p i bytes result =
     (ps : List OwnedText) (t : BackingArray) → IsTexts old.bytes p ps t
@@ -194,16 +201,19 @@ pub record ErasesTextOk (old new : WindowState) (p : Place) (ps : List OwnedText
   pub now : ReplacesTexts old new p (option_to_list t.extent ++ option_to_list before.extent) (option_to_list t.extent)
       (remove ps i) t
 
+-- the text of an index is gone with its block, or the index is refused
 abbrev pub ErasesText : WindowState → WindowState → Place → ℕ → Result (Unit {0}) Refusal → Type 0
 ErasesText old new p i result =
     (ps : List OwnedText) (t : BackingArray) → IsTexts old.bytes p ps t
     → MatchResult result (λ u. ErasesTextOk old new p ps t i) (RefusesIndex old new (length ps) i)
 
+-- the last text is removed with its block, or there is none
 abbrev pub PopsText : WindowState → WindowState → Place → Result (Unit {0}) Refusal → Type 0
 PopsText old new p result =
     (ps : List OwnedText) (t : BackingArray) → IsTexts old.bytes p ps t
     → MatchResult result (λ u. ErasesTextOk old new p ps t (length ps - 1)) (RefusesIndex old new (length ps) 0)
 
+-- a vector of strings has n places or more, or there is no space and nothing changes
 abbrev pub ReservesTexts : WindowState → WindowState → Place → ℕ → Result (Unit {0}) Refusal → Type 0
 ReservesTexts old new p n result =
     (ps : List OwnedText) (t : BackingArray) → IsTexts old.bytes p ps t
@@ -216,6 +226,7 @@ abbrev pub ReservesNoTexts : WindowState → WindowState → Place → ℕ → R
 ReservesNoTexts old new p n result = (ps : List OwnedText) (t : BackingArray)
     → IsTexts old.bytes p ps t → n ≤ t.capacity → (result ≡ Ok tt) × (new ≡ old)
 
+-- a vector of strings has as many places as texts
 abbrev pub ShrinksTexts : WindowState → WindowState → Place → Type 0
 ShrinksTexts old new p =
     (ps : List OwnedText) (t : BackingArray) → IsTexts old.bytes p ps t
@@ -228,6 +239,7 @@ ClearsTexts old new p =
     (ps : List OwnedText) (t : BackingArray) → IsTexts old.bytes p ps t
     → ReplacesTexts old new p (option_to_list t.extent ++ text_blocks ps) (option_to_list t.extent) [] t
 
+-- a vector of strings gives all its blocks back
 abbrev pub ReleasesTexts : WindowState → WindowState → Place → Type 0
 ReleasesTexts old new p =
     (ps : List OwnedText) (t : BackingArray) → IsTexts old.bytes p ps t
@@ -252,6 +264,7 @@ requested_texts live more = elim (new_array live (length more)) [
   | Some u ↦ placed_texts (elim u.extent [ None ↦ live | Some x ↦ resized live x ]) more
 ]
 
+-- all texts of a vector are replaced, or there is no space
 abbrev pub AssignsTexts : WindowState → WindowState → Place → List (List ℕ) → Result (Unit {0}) Refusal → Type 0
 AssignsTexts old new p [] result = (result ≡ Ok tt) × ClearsTexts old new p
 AssignsTexts old new p (bytes ∷ more) result =

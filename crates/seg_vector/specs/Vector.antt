@@ -73,9 +73,11 @@ AreTextLinks m at [] = ⊤
 AreTextLinks m at (p ∷ ps) =
     (link_at m at ≡ option_map handle p.extent) × (word_at m (at + 8) ≡ length p.bytes) × AreTextLinks m (at + 16) ps
 
+-- the block of a text begins with its bytes; an empty text has none
 abbrev pub IsOwnedText : Memory → OwnedText → Type 0
 IsOwnedText m p = elim p.extent [ None ↦ p.bytes ≡ [] | Some x ↦ HasBytesAt m (handle x) p.bytes ]
 
+-- the block of the array begins with links to these texts
 abbrev pub AreInArray : Memory → BackingArray → List OwnedText → Type 0
 AreInArray m t ps = elim t.extent [ None ↦ ps ≡ [] | Some x ↦ AreTextLinks m (handle x) ps ]
 

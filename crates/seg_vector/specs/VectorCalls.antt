@@ -16,6 +16,7 @@ pub record IsVector {T : Type 0} (size : ℕ) (is_value : T → Bool) (spelling 
   pub stands : IsContainer b p size (length xs) t (flat_map spelling xs)
   pub values : IsTrue (list_all is_value xs)
 
+-- some vector of a plain type stands at a place
 abbrev pub IsSomeVector : {T : Type 0} → ℕ → (T → Bool) → (T → List ℕ) → List ℕ → Place → Type 0
 IsSomeVector {T} size is_value spelling b p =
     (xs : List T) × ((t : BackingArray) × IsVector size is_value spelling b p xs t)
@@ -45,10 +46,12 @@ pub record RefusesIndex (old new : WindowState) (end i : ℕ) (e : Refusal) : Ty
 
 -- ---- what is read
 
+-- the number is the length of the vector
 abbrev pub ReadsVectorLen : {T : Type 0} → ℕ → (T → Bool) → (T → List ℕ) → List ℕ → Place → ℕ → Type 0
 ReadsVectorLen {T} size is_value spelling b p n = (xs : List T) (t : BackingArray)
     → IsVector size is_value spelling b p xs t → n ≡ length xs
 
+-- the number is the capacity of the vector
 abbrev pub CountsPlaces : {T : Type 0} → ℕ → (T → Bool) → (T → List ℕ) → List ℕ → Place → ℕ → Type 0
 CountsPlaces {T} size is_value spelling b p n = (xs : List T) (t : BackingArray)
     → IsVector size is_value spelling b p xs t → n ≡ t.capacity
@@ -66,6 +69,7 @@ abbrev pub InitsVector : {T : Type 0} → ℕ → (T → Bool) → (T → List �
 InitsVector {T} size is_value spelling old new p =
     let none : List T = [] in ReplacesVector size is_value spelling old new p no_backing none no_backing
 
+-- the element at an index is replaced, or the index is refused
 abbrev pub Sets : {T : Type 0}
     → ℕ → (T → Bool) → (T → List ℕ) → WindowState → WindowState → Place → ℕ → T → Result (Unit {0}) Refusal → Type 0
 Sets {T} size is_value spelling old new p i x result =
@@ -86,6 +90,7 @@ SetsAll {T} size is_value spelling old new p first ys result =
     × ReplacesVector size is_value spelling old new p t (replaced xs first ys) t)
     (RefusesIndex old new (length xs + 1) (first + length ys))
 
+-- the last element is removed and answered, or there is none
 abbrev pub Pops : {T : Type 0} → ℕ → (T → Bool) → (T → List ℕ) → WindowState → WindowState → Place
     → Result T Refusal → Type 0
 Pops {T} size is_value spelling old new p result =
@@ -94,6 +99,7 @@ Pops {T} size is_value spelling old new p result =
     × ReplacesVector size is_value spelling old new p t (take (length xs - 1) xs) t)
     (RefusesIndex old new (length xs) 0)
 
+-- the element of an index is gone, or the index is refused
 abbrev pub ErasesFrom : {T : Type 0}
     → ℕ → (T → Bool) → (T → List ℕ) → WindowState → WindowState → Place → ℕ → Result (Unit {0}) Refusal → Type 0
 ErasesFrom {T} size is_value spelling old new p i result =
@@ -101,6 +107,7 @@ ErasesFrom {T} size is_value spelling old new p i result =
     → MatchResult result (λ u. (i < length xs) × ReplacesVector size is_value spelling old new p t (remove xs i) t)
     (RefusesIndex old new (length xs) i)
 
+-- a vector loses all elements and keeps its capacity
 abbrev pub Clears : {T : Type 0} → ℕ → (T → Bool) → (T → List ℕ) → WindowState → WindowState → Place → Type 0
 Clears {T} size is_value spelling old new p =
     (xs : List T) (t : BackingArray) → IsVector size is_value spelling old.bytes p xs t
@@ -108,6 +115,7 @@ Clears {T} size is_value spelling old new p =
 
 -- ---- what needs places, or has fewer
 
+-- an element is put at the end, or there is no space and nothing changes
 abbrev pub Pushes : {T : Type 0}
     → ℕ → (T → Bool) → (T → List ℕ) → WindowState → WindowState → Place → T → Result (Unit {0}) Refusal → Type 0
 Pushes {T} size is_value spelling old new p x result =
@@ -125,6 +133,7 @@ InsertsInto {T} size is_value spelling old new p i x result =
     MatchResult result (λ u. (i ≤ length xs) × GrowsVectorOk size is_value spelling old new p t n (insert xs i x))
     (λ e. RefusesIndex old new (length xs + 1) i e ⊎ ((i ≤ length xs) × LacksSpace old new size n t e))
 
+-- a vector has n places or more, or there is no space and nothing changes
 abbrev pub ReservesVector : {T : Type 0}
     → ℕ → (T → Bool) → (T → List ℕ) → WindowState → WindowState → Place → ℕ → Result (Unit {0}) Refusal → Type 0
 ReservesVector {T} size is_value spelling old new p n result =
@@ -138,6 +147,7 @@ ReservesNothing {T} size is_value spelling old new p n result =
     (xs : List T) (t : BackingArray) → IsVector size is_value spelling old.bytes p xs t → n ≤ t.capacity
     → (result ≡ Ok tt) × (new ≡ old)
 
+-- all elements of a vector are replaced, or there is no space and nothing changes
 abbrev pub Assigns : {T : Type 0} → ℕ → (T → Bool) → (T → List ℕ) → WindowState → WindowState → Place → List T
     → Result (Unit {0}) Refusal → Type 0
 Assigns {T} size is_value spelling old new p ys result =
@@ -154,11 +164,13 @@ ExtendsBy {T} size is_value spelling old new p ys result =
     MatchResult result (λ u. GrowsVectorOk size is_value spelling old new p t n (xs ++ ys))
     (LacksSpace old new size n t)
 
+-- a vector has as many places as elements
 abbrev pub ShrinksVector : {T : Type 0} → ℕ → (T → Bool) → (T → List ℕ) → WindowState → WindowState → Place → Type 0
 ShrinksVector {T} size is_value spelling old new p =
     (xs : List T) (t : BackingArray) → IsVector size is_value spelling old.bytes p xs t
     → ReplacesVector size is_value spelling old new p t xs (shrunk_backing (live_of old.bytes) size (length xs) t)
 
+-- a vector gives its storage back
 abbrev pub ReleasesVector : {T : Type 0} → ℕ → (T → Bool) → (T → List ℕ) → WindowState → WindowState → Place → Type 0
 ReleasesVector {T} size is_value spelling old new p =
     (xs : List T) (t : BackingArray) → IsVector size is_value spelling old.bytes p xs t

@@ -62,6 +62,7 @@ IsWhyNotBegun start image base capacity ReadFault = (start ≡ Image) × IsUndec
 IsWhyNotBegun start image base capacity WriteFault = ⊥
 IsWhyNotBegun start image base capacity ScriptTooLong = ⊥
 
+-- a session has its segment, or this is the fault
 pub record BeginsSession (start : Start) (mode : Mode) (base capacity : ℕ) (image : ReadDelta)
     (result : Result SegmentState SessionFault) : Type 0 where
   pub answers : MatchResult result (BeginsSessionOk start mode image) (IsWhyNotBegun start image base capacity)

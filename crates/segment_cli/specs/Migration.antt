@@ -39,6 +39,7 @@ pub record IsNothingSaved (saved : WriteDelta) (cause : Type 0) : Type 0 where
   pub bytes : saved.bytes ≡ []
   pub failed : saved.failed ≡ false
 
+-- a migration ended with this fault, for the reason that the fault names
 abbrev pub IsMigrationFault : ℕ → ℕ → ReadDelta → WriteDelta → SessionFault → Type 0
 IsMigrationFault base capacity image saved (Refused c) = IsNothingSaved saved (IsRefusedAsAny image c)
 IsMigrationFault base capacity image saved BadSize = ⊥

@@ -52,6 +52,7 @@ abbrev pub BeginsWithZeros : Start → ReadDelta → Type 0
 BeginsWithZeros (Fresh size) image = ⊤
 BeginsWithZeros Image image = HasZeroGapsIn image.bytes
 
+-- the size of a fresh segment is not legal
 abbrev pub IsSizeRefused : Start → Type 0
 IsSizeRefused (Fresh size) = is_legal_size size ≡ false
 IsSizeRefused Image = ⊥
@@ -177,6 +178,7 @@ pub record IsRefusedBefore (t : SessionIo) (cause : Type 0) : Type 0 where
 
 -- ---- what a session answers, in a region of this capacity; the check of an image alone takes memory
 
+-- the session ended with this fault, for the reason that the fault names
 abbrev pub AnswersFault : Start → Mode → ℕ → ℕ → SessionIo → SessionFault → Type 0
 AnswersFault start mode base capacity t (Refused c) = IsRefusedBefore t
     ((start ≡ Image) × IsRefusedAs current t.image c)

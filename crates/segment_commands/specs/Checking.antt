@@ -18,6 +18,7 @@ use Rattle.segment_lang.specs.Texts.{quoted_text}
 
 -- ---- one file: its path, whether it holds a segment or why it holds none, and what is told of it by the disk
 
+-- a file that was checked: its path, what was found, and the file's problem, if it has one
 pub record Checked : Type 0 where
   pub path : List ℕ
   pub found : Result (Unit {0}) SessionFault

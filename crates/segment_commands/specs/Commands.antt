@@ -41,6 +41,7 @@ pub record MakesFreshSegment (size : ℕ) (result : Result SegmentState SessionF
   pub legal : IsTrue (is_legal_size size)
   pub answers : MatchResult result (IsFreshSegment size) (λ fault. fault ≡ region_refused size)
 
+-- an empty segment of a size is made, or no segment has the size or memory was refused
 abbrev pub MakesSegment : ℕ → Result SegmentState SessionFault → Type 0
 MakesSegment size result = IsSizeless size result ⊎ MakesFreshSegment size result
 

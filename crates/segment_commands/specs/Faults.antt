@@ -10,15 +10,19 @@ use Rattle.segment_cli.specs.declared.faults.ProgramFault.TheVariants as program
 use Rattle.segment_commands.specs.declared.command_faults.CommandFault.{CommandFault}
 use Rattle.segment_commands.specs.declared.command_faults.CommandFault.TheVariants.{Program}
 
+-- the fault of a command: its command line is wrong
 abbrev pub UsageFault : CommandFault
 UsageFault = Program program.Usage
 
+-- the fault of a command: something is there under the path
 abbrev pub Exists : CommandFault
 Exists = Program program.Exists
 
+-- the fault of a command: the segment cannot grow
 abbrev pub GrowthFault : GrowError → CommandFault
 GrowthFault e = Program (program.Growth e)
 
+-- the fault of a command that is a fault of a session
 abbrev pub Session : SessionFault → CommandFault
 Session f = Program (program.Session f)
 

@@ -63,6 +63,7 @@ module _ (until : Until) (old new : SegmentState) (script : ReadDelta) (out : Wr
 
 -- ---- a run, from the segment that it begins with
 
+-- one run of the program: how it began and in which mode, its capacity, and what went in and out
 pub record Act : Type 0 where
   pub start : Start
   pub mode : Mode

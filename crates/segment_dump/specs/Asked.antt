@@ -27,6 +27,7 @@ pub record AreAtMost (some most : Needs) : Type 0 where
 abbrev pub CanName : List ℕ → ℕ → Type 0
 CanName bytes len = len ≤ length bytes
 
+-- the word names the kind
 abbrev pub NamesKind : List ℕ → Kind → Type 0
 NamesKind word kind = kind_named (whole_language current) word ≡ Some kind
 
@@ -67,6 +68,7 @@ pub record AskTogether (Asks : List ℕ → Needs → Type 0) (count : ℕ) (byt
 abbrev pub AsksText : List ℕ → Needs → Type 0
 AsksText bytes needs = (len : ℕ) × IsDumpText bytes len × (needs ≡ record { room = block_room len; longest = len })
 
+-- the lines of a string ask for a block of its length
 abbrev pub AsksString : List ℕ → Needs → Type 0
 AsksString bytes needs = (len : ℕ) × IsDumpText bytes len × (needs ≡ only_room (block_room len))
 

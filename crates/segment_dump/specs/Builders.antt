@@ -24,11 +24,13 @@ use Rattle.segment_dump.specs.Texts.{piece_line, piece_of, pieces_text, text_lin
 
 -- ---- lines of elements
 
+-- a scalar of a kind is read from its line in a dump
 pub record ReadsElement {E : Type 0} (kind : ScalarKind) (text rest : List ℕ) (result : Result ScalarValue E) : Type
     0 where
   pub reads : (z : ℤ) (a : List ℕ) → is_value kind z ≡ true → text ≡ element_line kind z ++ a
       → (result ≡ Ok (scalar_of kind z)) × (rest ≡ a)
 
+-- a key and a value are read from their line in a dump
 pub record ReadsPair {E : Type 0} (k w : ScalarKind) (text rest : List ℕ) (result : Result (ScalarValue
     × ScalarValue) E) : Type 0 where
   pub reads : (p : ℤ × ℤ) (a : List ℕ) → IsTypedPair k w p → text ≡ pair_line k w p ++ a
@@ -88,6 +90,7 @@ pub record IsEmptyObject (s : SegmentState) (text : List ℕ) (p : FillState) (h
       (bare (first_content (kind_of_content p.content) (count_of_content p.content))) (content_need p.content + p.more)
   pub text_is : text ≡ content_text p.content ++ p.after
 
+-- all elements of a new object are filled from the lines of a dump
 pub record FillsNew {E : Type 0} (old new : SegmentState) (h : ℕ) (kind : Kind) (count : ℕ) (text rest : List ℕ)
     (room : ℕ) (result : Result (Unit {0}) E) : Type 0 where
   pub fills : (p : FillState) → IsFillable p kind room → count ≡ count_of_content p.content
@@ -199,6 +202,7 @@ pub record IsAtItems (s : SegmentState) (text : List ℕ) (site : Site) (done it
   pub stands : StandsBuilt s site done (all_needs item_needs items).room
   pub text_is : text ≡ items_text items ++ end_text
 
+-- all items whose lines follow are made, up to the line `end`
 pub record BuildsAllObjects {E : Type 0} (old new : SegmentState) (text : List ℕ) (most room : ℕ)
     (result : Result (Unit {0}) E) : Type 0 where
   pub builds : (site : Site) (items : List DumpItem) → IsAtItems old text site [] items → AreLeft site room [] items

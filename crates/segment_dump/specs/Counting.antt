@@ -21,6 +21,7 @@ pub record HasContentShape (kind : Kind) (count : ℕ) (c : ValueContent) : Type
   pub many : count_of_content c ≡ count
   pub small : IsSmall (texts_needs c).room
 
+-- the item has a name only if it is named
 abbrev pub IsNameless : DumpItem → Type 0
 IsNameless i = i.class ≢ Named → i.name ≡ []
 
@@ -34,6 +35,7 @@ pub record IsCountable (i : DumpItem) : Type 0 where
 abbrev pub fronted : Front → List ℕ
 fronted f = front_text f.size f.named f.unique
 
+-- the numbers in the first lines of a dump are possible
 pub record IsFront (f : Front) : Type 0 where
   pub size : f.size < 2 ^ 64
   pub named : IsSmall f.named

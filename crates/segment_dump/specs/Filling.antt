@@ -17,12 +17,15 @@ use Rattle.segment_dump.specs.Texts.{element_line, pair_line, text_lines}
 
 -- ---- what can be made
 
+-- all numbers are values of a scalar kind
 abbrev pub AreValues : ScalarKind → List ℤ → Type 0
 AreValues k = AllByRecursion (λ z. is_value k z ≡ true)
 
+-- each number of the list is below 256
 abbrev pub IsByteList : List ℕ → Type 0
 IsByteList = AllByRecursion (λ b. b < 256)
 
+-- key and value are values of their kinds
 abbrev pub IsTypedPair : ScalarKind → ScalarKind → ℤ × ℤ → Type 0
 IsTypedPair k v p = (is_value k p.0 ≡ true) × (is_value v p.1 ≡ true)
 
@@ -35,6 +38,7 @@ AreRising (p ∷ ps) = AllByRecursion (λ (q : ℤ × ℤ). int_lt p.0 q.0 ≡ t
 abbrev pub IsCounted : ℕ → Type 0
 IsCounted n = n < 2 ^ 64
 
+-- an object can be made with the content
 abbrev pub IsBuildableContent : ValueContent → Type 0
 IsBuildableContent (Scalars k zs) = (1 ≤ length zs) × (length zs ≤ 1048576) × AreValues k zs
 IsBuildableContent (Vector k zs) = IsCounted (length zs) × AreValues k zs
@@ -43,11 +47,13 @@ IsBuildableContent (Map k v ps) = IsCounted (length ps) × AllByRecursion (IsTyp
 IsBuildableContent (Strings ts) =
     IsCounted (length ts) × AllByRecursion (λ (bs : List ℕ). IsCounted (length bs) × IsByteList bs) ts
 
+-- an object of the class can have the name
 abbrev pub IsNameIn : Class → List ℕ → Type 0
 IsNameIn Named name = (is_name current name ≡ true) × IsByteList name × (length name ≤ 255)
 IsNameIn Unique name = name ≡ []
 IsNameIn Anonymous name = name ≡ []
 
+-- an object can be made of the item
 pub record IsBuildable (i : DumpItem) : Type 0 where
   pub name : IsNameIn i.class i.name
   pub content : IsBuildableContent i.content
@@ -131,6 +137,7 @@ pub record HasReservedPlaces {X Y : Type 0} (way : BackingArray → FillCourse X
   pub places : length all ≤ table.capacity
   pub part : HasFirstElements (way table) all n v text need
 
+-- a value has the first elements of a content, and these lines are left
 abbrev pub IsPartialValue : ValueContent → ℕ → Value → List ℕ → ℕ → Type 0
 IsPartialValue (Scalars k zs) = HasFirstElements (array_course k) zs
 IsPartialValue (Vector k zs) = HasReservedPlaces (vector_course k) zs

@@ -49,5 +49,6 @@ pub record HasTrailingNotes (text : List ℕ) : Type 0 where
   pub whole : text ≡ without_notes text ++ notes
   pub are : are_notes true notes ≡ true
 
+-- the law: what is cut from the end of a text are notes
 abbrev pub NotesAreCut : Type 0
 NotesAreCut = (text : List ℕ) → HasTrailingNotes text

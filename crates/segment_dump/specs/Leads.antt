@@ -27,6 +27,7 @@ IsLead (class, name) = (class ≢ Named → name ≡ []) × IsSmall (length name
 abbrev pub measured : Kind × ℕ → List ℕ
 measured (kind, n) = kind_and_count_text kind n
 
+-- the count of a kind is at most 2^30
 abbrev pub IsMeasure : Kind × ℕ → Type 0
 IsMeasure (kind, n) = IsSmall n
 
@@ -34,5 +35,6 @@ IsMeasure (kind, n) = IsSmall n
 abbrev pub entries_text : ℕ × ℕ → List ℕ
 entries_text (named, unique) = number_text named ++ 0x20 ∷ number_text unique ++ 0x0A ∷ []
 
+-- both numbers of index entries are at most 2^30
 abbrev pub AreEntryCounts : ℕ × ℕ → Type 0
 AreEntryCounts (named, unique) = IsSmall named × IsSmall unique

@@ -138,6 +138,7 @@ IsBack RegionTooSmall region back = back ≡ Some region
 IsBack NoSpace region back = back ≡ Some region
 IsBack LongText region back = back ≡ Some region
 
+-- no segment is made of a dump, for this cause, and its region comes back
 pub record IsNotLoaded (text region : List ℕ) (base : ℕ) (size : Option ℕ) (room : ℕ) (refused : LoadRefused) : Type
     0 where
   pub why : IsLoadCause text region base size room refused.cause

@@ -46,6 +46,7 @@ size_said n = ended (size_line n)
 abbrev pub entries_said : ℕ × ℕ → List ℕ
 entries_said p = ended (entries_line p)
 
+-- the number is below 2^64
 abbrev pub IsNumber : ℕ → Type 0
 IsNumber n = n < 2 ^ 64
 
@@ -54,6 +55,7 @@ pub record LeavesThird (text : List ℕ) (left : ℕ) : Type 0 where
   pub leaves : (n : ℕ) (rest : List ℕ) → IsNumber n → text ≡ version_said tt ++ (size_said n ++ rest)
       → left ≡ length rest
 
+-- both numbers are below 2^64
 abbrev pub AreNumbers : ℕ × ℕ → Type 0
 AreNumbers p = IsNumber p.0 × IsNumber p.1
 
@@ -72,6 +74,7 @@ pub record MakesObjects {E : Type 0} (old new : SegmentState) (front : Front) (t
 
 -- ---- what was made is judged
 
+-- all items are of one class
 abbrev pub AreOf : Class → List DumpItem → Type 0
 AreOf c = AllByRecursion (λ (i : DumpItem). i.class ≡ c)
 
@@ -83,6 +86,7 @@ pub record AreOrderedItems (items : Items) : Type 0 where
   pub by_name : AreSortedItems name_less items.named
   pub by_kind : AreSortedItems kind_less items.unique
 
+-- the result is `Ok`
 abbrev pub IsOk : {A E : Type 0} → Result A E → Type 0
 IsOk result = MatchResult result (λ a. ⊤) (λ e. ⊥)
 
@@ -91,9 +95,11 @@ abbrev pub HasRequestedSize : Directory → Option ℕ → Type 0
 HasRequestedSize d None = free_bytes (live d) ≡ 0
 HasRequestedSize d (Some size) = d.size ≡ size
 
+-- the test says yes if the segment has the size that was asked for
 pub record Sizes (s : SegmentState) (size : Option ℕ) (result : Bool) : Type 0 where
   pub sizes : (d : Directory) → DenotesCurrent s.cut.bytes d → HasRequestedSize d size → result ≡ true
 
+-- a segment with just the items of a dump is found right
 pub record JudgesDump (s : SegmentState) (text : List ℕ) (said : ℕ) (size : Option ℕ)
     (result : Result SegmentState LoadRefused) : Type 0 where
   pub judges : (site : Site) (items : Items) → StandsBuilt s site (all_items items) 0 → AreOrderedItems items
@@ -120,6 +126,7 @@ abbrev pub trimmed : Directory → Option ℕ → Directory
 trimmed d None = shrunk d
 trimmed d (Some size) = d
 
+-- without a size, the segment ends after its last block
 pub record Trims (old new : SegmentState) (size : Option ℕ) : Type 0 where
   pub mode : new.mode ≡ Write
   pub trims : (d : Directory) → DenotesCurrent old.cut.bytes d → DenotesCurrent new.cut.bytes (trimmed d size)

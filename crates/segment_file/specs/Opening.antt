@@ -84,6 +84,7 @@ pub record OpensImageOk (versions : AcceptedVersions) (len more : ℕ) (mode : M
   pub room : length region ≡ file_region len more image.bytes
   pub opened : IsOpenedBy versions image region mode s
 
+-- the image in a file is opened in a region with room, or refused for a cause
 abbrev pub OpensImage : AcceptedVersions → ℕ → Mode → ℕ → ReadDelta → Result SegmentState FileError → Type 0
 OpensImage versions more mode len image result =
     MatchResult result (OpensImageOk versions len more mode image)
@@ -103,10 +104,12 @@ IsTold b (Unfitting v) = IsVerdict current b v
 IsTold b (Unremembered refusal) = ⊤
 IsTold b Unreadable = ⊤
 
+-- a file has no segment, for this reason, with the place of a class
 pub record IsWhyUnfit (most : ℕ) (image : ReadDelta) (unfit : OpenFault) : Type 0 where
   pub why : IsWhyUnopened current most image (open_fault_error unfit)
   pub told : IsTold image.bytes unfit
 
+-- the bytes are an image of the current format, or the call says why not, with the place
 abbrev pub ExaminesImage : ℕ → ReadDelta → Result (Unit {0}) OpenFault → Type 0
 ExaminesImage len image result =
     MatchResult result (λ done. IsWholeImage current image) (IsWhyUnfit (file_region len 0 image.bytes) image)
@@ -166,6 +169,7 @@ pub record IsCramped (len more : ℕ) (old : SegmentState) (why : FileError) : T
   pub many : len < length old.cut.bytes
   pub refused : why ≡ OutOfMemory (Bytes (out_of_memory_of (region_len (length old.cut.bytes + more))))
 
+-- a segment that is longer than its file was told gets a region with room, or there is no memory
 abbrev pub WidensIfNeeded : ℕ → ℕ → SegmentState → Result SegmentState FileError → Type 0
 WidensIfNeeded len more old result =
     MatchResult result (λ new. KeepsRegion len old new ⊎ WidensRegion len more old new) (IsCramped len more old)

@@ -22,6 +22,7 @@ pub data WriteTarget : Type 0 where
   Named : WriteTarget
   Aside : WriteTarget
 
+-- what stands under a path, which file is open for writing, and what the file beside holds
 pub record FileState : Type 0 where
   pub named : PathContents
   pub target : WriteTarget

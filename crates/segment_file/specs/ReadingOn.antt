@@ -41,6 +41,7 @@ pub record IsUnkept (said : ℕ) (gave : ReaderHistory) (refusal : MemoryFault) 
   pub within : asked ≤ said
   pub refused : refusal ≡ Bytes (out_of_memory_of asked)
 
+-- fewer bytes were read than the image says, for this reason
 abbrev pub IsWhyNotUpTo : ℕ → ReaderHistory → OpenFault → Type 0
 IsWhyNotUpTo said gave (Image v) = (v.class ≡ Truncated) × (v.place ≡ length gave.bytes) × IsCutShort said gave
 IsWhyNotUpTo said gave (OutOfMemory refusal) = IsUnkept said gave refusal
@@ -57,6 +58,7 @@ pub record GaveMoreThan (said : ℕ) (gave : ReaderHistory) : Type 0 where
   pub sound : gave.failures ≡ 0
   pub long : said < length gave.bytes
 
+-- the bytes read are not all of an image, for this reason
 abbrev pub IsWhyNotWhole : ℕ → ReaderHistory → OpenFault → Type 0
 IsWhyNotWhole said gave (Image v) =
     ((v.class ≡ MoreBytes) × (v.place ≡ said) × GaveMoreThan said gave)

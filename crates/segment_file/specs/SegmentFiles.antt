@@ -143,6 +143,7 @@ pub record RefusesPath {D : Type 0} (old new : D) (path : List ℕ) (why : FileE
   pub asked : new ≡ old
   pub refused : why ≡ bytes_refused (length path)
 
+-- a segment comes with the path of its file, or memory for the path was refused
 abbrev pub KeepsFile : {D H : Type 0} → D → D → List ℕ → (Result SegmentState FileError → Type 0)
     → Result (SegmentFile H) FileError → Type 0
 KeepsFile old new path comes result =

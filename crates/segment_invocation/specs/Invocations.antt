@@ -552,6 +552,7 @@ IsChangePart words file (change.Grow bytes) = (digits : Text) × (number_of digi
 IsChangePart words file change.Shrink = words ≡ codes "shrink" ∷ file ∷ []
 IsChangePart words file change.Migrate = words ≡ codes "migrate" ∷ file ∷ []
 
+-- the words of a command line ask for a change of a file
 abbrev pub IsChangeWritten : Text → FileChange → SaveMode → ℕ → List Text → Type 0
 IsChangeWritten file change saving wait words = IsTrue (is_path file) × (changes : List Text) × (waits : List Text)
     × IsChangePart changes file change × IsWaitPart waits wait × (words ≡ changes ++ (waits ++ saving_part saving))

@@ -3,6 +3,7 @@ use Rattle.std.specs.Prelude.{ℕ, List, filter}
 use Rattle.seg_types.specs.declared.kinds.Kind.{Kind}
 use Rattle.seg_types.specs.Kinds.{kinds, is_kind_of}
 
+-- the format and the kinds that a line may name
 pub record Language : Type 0 where
   pub format : ℕ
   pub kinds : List Kind

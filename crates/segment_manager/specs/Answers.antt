@@ -5,6 +5,7 @@ use Rattle.seg_types.specs.{declared.kinds.ScalarKind.ScalarKind, declared.refus
 use Rattle.seg_types.specs.declared.refusals.Refusal.TheVariants.{NoSpace}
 use Rattle.segment_manager.specs.Directory.{Value, Object}
 
+-- what the directory machine answers to a command, before it is printed
 pub data Answer : Type 0 where
   Done Absent : Answer
   Truth : Bool → Answer

@@ -41,6 +41,7 @@ pub record CreatesErr (region : List ℕ) (base size : ℕ) (refused : CreateRef
   pub why : IsWhy region base size refused.cause
   pub region_same : refused.region ≡ region
 
+-- an empty segment is made in a region, or the region comes back as it was
 abbrev pub Creates : List ℕ → ℕ → ℕ → Mode → Result SegmentState CreateRefused → Type 0
 Creates region base size mode result =
     MatchResult result (CreatesOk region base size mode) (CreatesErr region base size)

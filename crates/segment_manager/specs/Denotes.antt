@@ -32,6 +32,7 @@ padded_name name = name ++ replicate (padded (length name) - length name) 0
 abbrev pub two_halves : ℕ → ℕ → ℕ
 two_halves low high = low + 4294967296 * high
 
+-- head, name and value of an object stand in its block
 pub record IsObjectAt (m : Memory) (o : Object) : Type 0 where
   pub kind_count : word_at m (handle o.extent) ≡ two_halves (code_of (kind_of o.value)) (count_of o.value)
   pub name_class : word_at m (handle o.extent + name_class_at) ≡ two_halves (length o.name) (class_code o.class)

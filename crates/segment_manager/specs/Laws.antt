@@ -26,6 +26,7 @@ pub record IsSafeOfKind (mode : Mode) (d : Directory) (key : Key) (kind : Kind) 
 abbrev pub RefusalsChangeNothing : Type 0
 RefusalsChangeNothing = (mode : Mode) (d : Directory) (c : Command) → IsSafe mode d c
 
+-- the law: a refused command for one kind leaves the directory
 abbrev pub RefusalsOfKindChangeNothing : Type 0
 RefusalsOfKindChangeNothing = (mode : Mode) (d : Directory) (key : Key) (kind : Kind) (c : Command)
     → IsSafeOfKind mode d key kind c
@@ -34,6 +35,7 @@ RefusalsOfKindChangeNothing = (mode : Mode) (d : Directory) (key : Key) (kind : 
 abbrev pub ReadsChangeNothing : Type 0
 ReadsChangeNothing = (mode : Mode) (d : Directory) (c : Command) → is_changing c ≡ false → (step mode d c).1 ≡ d
 
+-- the law: a command for one kind that only reads leaves the directory
 abbrev pub ReadsOfKindChangeNothing : Type 0
 ReadsOfKindChangeNothing = (mode : Mode) (d : Directory) (key : Key) (kind : Kind) (c : Command) → is_changing c ≡ false
     → (step_of_kind mode d key kind c).1 ≡ d
@@ -86,6 +88,7 @@ abbrev pub KeysMeanObjects : Type 0
 KeysMeanObjects = (mode : Mode) (d : Directory) (key other : Key) (c : Command) → object_at d key ≡ object_at d other
     → step mode d (at_key key c) ≡ step mode d (at_key other c)
 
+-- the law: a command for one kind is one step under each key of an object
 abbrev pub KeysOfKindMeanObjects : Type 0
 KeysOfKindMeanObjects = (mode : Mode) (d : Directory) (key other : Key) (kind : Kind) (c : Command) → object_at d key
     ≡ object_at d other → step_of_kind mode d key kind (at_key key c) ≡ step_of_kind mode d other kind (at_key other c)

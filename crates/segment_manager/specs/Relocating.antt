@@ -21,6 +21,7 @@ pub record IsNotRelocated (old : SegmentState) (region : List ℕ) (base : ℕ) 
   pub segment_same : refused.segment ≡ old
   pub region_same : refused.region ≡ region
 
+-- the segment moves to another region, or that region is too small and both are as before
 abbrev pub Relocates : SegmentState → List ℕ → ℕ → Result (SegmentState × List ℕ) RelocateRefused → Type 0
 Relocates old region base result =
     MatchResult result (λ moved. RelocatesTo old region base moved.0 moved.1) (IsNotRelocated old region base)

@@ -7,6 +7,7 @@ use Rattle.segment_manager.specs.declared.modes.Mode.{Mode}
 use Rattle.segment_manager.specs.{Directory.Directory, Step.step, Step.step_of_kind, Denotes.Denotes}
 use Rattle.segment_manager.specs.Answers.{Answer, Made, Truth, Element, Refused, Done, is_untouched, refusal_of}
 
+-- a window and a mode
 pub record SegmentState : Type 0 where
   pub cut : WindowState
   pub mode : Mode
@@ -15,6 +16,7 @@ pub record SegmentState : Type 0 where
 pub record DenotesCurrent (b : List ℕ) (d : Directory) : Type 0 where
   pub denotes : Denotes current b d
 
+-- the bytes denote some directory of the current format
 abbrev pub IsSegment : List ℕ → Type 0
 IsSegment b = (d : Directory) × DenotesCurrent b d
 

@@ -19,5 +19,6 @@ is_usage [] (b ∷ bs) = b == 0x20
 is_usage (c ∷ cs) [] = false
 is_usage (c ∷ cs) (b ∷ bs) = (c == b) && is_usage cs bs
 
+-- the words of a row of the command table begin with its command word
 abbrev pub IsUsage : CommandRow → Type 0
 IsUsage row = IsTrue (is_usage row.word.now row.usage.now)

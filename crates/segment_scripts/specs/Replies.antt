@@ -87,6 +87,7 @@ bytes_taken (asked.Whole z ∷ ls) = 2 + bytes_taken ls
 bytes_taken (asked.Truth b ∷ ls) = 2 + bytes_taken ls
 bytes_taken (asked.Quoted bs ∷ ls) = 1 + length bs + bytes_taken ls
 
+-- a line can ask for the command with these arguments
 abbrev pub IsMeant : Command → Type 0
 IsMeant (asked.Construct key c) = IsLineContent key c
 IsMeant (asked.ConstructIt key k n zs) = (1 ≤ n) × (n ≤ 1048576) × (length zs ≡ n) × IsTrue (agrees (Scalar k) key)

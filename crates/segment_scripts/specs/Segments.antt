@@ -23,6 +23,7 @@ pub record MachineState : Type 0 where
   -- its gaps are zero; if this is false they may be anything
   pub zeros : Bool
 
+-- a segment has this mode, denotes this directory, and has zero gaps if that is known
 pub record IsMachineAt (s : SegmentState) (at : MachineState) : Type 0 where
   pub mode : s.mode ≡ at.mode
   pub denotes : DenotesCurrent s.cut.bytes at.directory

@@ -68,6 +68,7 @@ pub record MakesValueErr (content : Content) (old new : WindowState) (p : Place)
   pub denied : (d : Directory) → IsDenied d (live_of empty.bytes) content
   pub refusal : why ≡ NoSpace
 
+-- the value of a new object is made with its storage, or what was taken is given back
 abbrev pub MakesValue : Content → WindowState → WindowState → Place → Result (Unit {0}) Refusal → Type 0
 MakesValue content old new p result =
     MatchResult result (λ u. MakesValueOk content old new p) (MakesValueErr content old new p)
@@ -79,6 +80,7 @@ abbrev pub BeginsObjectFor : WindowState → WindowState → names.Key → Conte
 BeginsObjectFor old now key content h at entry =
     BeginsObjectOk old now key (kind_of (bare content)) (count_of (bare content)) (value_len (bare content)) h at entry
 
+-- an object was begun for a content in a segment, and has no entry yet
 abbrev pub HasBegun : WindowState → Content → ℕ → ℕ → Option PendingEntry → Type 0
 HasBegun now content h at entry =
     (old : WindowState) × (IsSegment old.bytes × ((key : names.Key) × BeginsObjectFor old now key content h at entry))
@@ -98,6 +100,7 @@ pub record FillsObjectErr (now new : WindowState) (h at : ℕ) (entry : Option P
   pub none : MakesValueErr content now left (record { handle = h; at = at }) why
   pub back : GivesAllBack left new h entry
 
+-- the value of a begun object is made and its entry added, or all is given back
 abbrev pub FillsObject : WindowState → WindowState → ℕ → ℕ → Option PendingEntry → Content → Result ℕ Refusal → Type 0
 FillsObject now new h at entry content result =
     MatchResult result (FillsObjectOk now new h at entry content) (FillsObjectErr now new h at entry content)

@@ -62,6 +62,7 @@ written mode d key k first zs =
       d,
     ) else written_if (range_at d key k first (length zs)) d (with_range d key first zs)
 
+-- elements of an array or a vector from a place on are replaced, all or none
 abbrev pub WritesRange : SegmentState → SegmentState → Key → ScalarKind → ℕ → List ℤ → Answer → Type 0
 WritesRange old new key k first zs answer = Transitions old new answer (λ d. written old.mode d key k first zs)
 
@@ -87,5 +88,6 @@ extended mode d key k more =
     with (found_at d key) (λ o. if same_kind (Vector k) (kind_of o.value) then extend d o o.value more
     else Refuse WrongKind))
 
+-- a row is put at the end of a vector, all of it or nothing
 abbrev pub ExtendsVector : SegmentState → SegmentState → Key → ScalarKind → List ℤ → Answer → Type 0
 ExtendsVector old new key k more answer = Transitions old new answer (λ d. extended old.mode d key k more)

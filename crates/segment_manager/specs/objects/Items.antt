@@ -77,6 +77,7 @@ pub record ConstructsFromItemsOk {S A : Type 0} (gives : S → Option A → S �
   pub takes : ConstructsFromItems gives whole old new key k count before after (handle_in result)
   pub counted : IfOk result (λ (h, n). n ≡ count)
 
+-- the object of a key is answered, or one is made of items, or the segment is read only
 abbrev pub FindsOrTakes : {S A : Type 0} → (S → Option A → S → Type 0)
     → (A → ℤ) → SegmentState → SegmentState → Key → ScalarKind → ℕ → S → S → Result (ℕ × ℕ) Refusal → Type 0
 FindsOrTakes gives whole old new key k count before after result =

@@ -33,10 +33,12 @@ pub record RestoresBlocks (old new : WindowState) : Type 0 where
   pub laid : EncodesLiveSet current new.bytes (live_of old.bytes)
   pub keeps : KeepsBlocks old new (live_of old.bytes).extents
 
+-- the index growth or the object has no fit, and blocks are as before
 pub record RequestsBlocksErr (old new : WindowState) (at n : ℕ) : Type 0 where
   pub restored : RestoresBlocks old new
   pub none : FindsNone old at n
 
+-- the blocks for a new object are taken, or there is no space and all are as before
 abbrev pub Requests : {E : Type 0} → WindowState → WindowState → ℕ → ℕ → Result Requested E → Type 0
 Requests old new at n result =
     MatchResult result (λ r. RequestsBlocksOk old new at n r.growth.block r.handle) (λ e.

@@ -30,6 +30,7 @@ abbrev pub IsAbsentAt : WindowState → Index → Entry → ℕ → Type 0
 IsAbsentAt c i e at =
     (t : BackingArray) (hs : List ℕ) → IsIndexOf c (place_of i) t hs → FindsPosition (bytes_of c.bytes) e hs (Absent at)
 
+-- a look-up finds the key at this place of the index
 abbrev pub IsFoundAt : WindowState → Index → Entry → ℕ → Type 0
 IsFoundAt c i e at =
     (t : BackingArray) (hs : List ℕ) → IsIndexOf c (place_of i) t hs → FindsPosition (bytes_of c.bytes) e hs (Found at)
@@ -59,6 +60,7 @@ pub record BeginsAnonymous (old new : WindowState) (key : names.Key) (kind : Kin
   pub takes : AllocatesOk current old taken (room_for [] body) ObjectRole h
   pub headed : WritesObjectHeader taken new kind Anonymous [] count h at
 
+-- the object is begun: with an entry to be made, or without a key
 abbrev pub BeginsObjectOk : WindowState → WindowState → names.Key → Kind → ℕ → ℕ → ℕ → ℕ → Option PendingEntry → Type 0
 BeginsObjectOk old new key kind count body h at None = BeginsAnonymous old new key kind count body h at
 BeginsObjectOk old new key kind count body h at (Some e) = BeginsEntryOk old new key kind count body h at e
@@ -83,6 +85,7 @@ pub record BeginsEntryErr (old new : WindowState) (key : names.Key) (kind : Kind
   pub absent : IsAbsentAt old index entry place
   pub unmet : RequestsBlocksErr old new (place_of index) (room_for name body)
 
+-- no object is begun: its key is taken, or a block has no fit
 abbrev pub BeginsObjectErr : WindowState → WindowState → names.Key → Kind → ℕ → Refusal → Type 0
 BeginsObjectErr old new key kind body Exists = RefusesKey old new key kind
 BeginsObjectErr old new key kind body NoSpace =
@@ -90,6 +93,7 @@ BeginsObjectErr old new key kind body NoSpace =
     ⊎ BeginsEntryErr old new key kind body
 BeginsObjectErr old new key kind body why = ⊥
 
+-- blocks are taken and the head of a new object is written, or the call says why not
 abbrev pub BeginsObject : WindowState → WindowState → names.Key → Kind → ℕ → ℕ → Result PendingObject Refusal → Type 0
 BeginsObject old new key kind count body result =
     MatchResult result (λ b. BeginsObjectOk old new key kind count body b.handle b.at b.entry)
@@ -112,6 +116,7 @@ pub record WritesItem {S A : Type 0} (gives : S → Option A → S → Type 0) (
   pub change : ChangesBytes current old new from (size_of k)
   pub content : HasBytesAt (bytes_of new.bytes) from (spelling k (whole item))
 
+-- the next item is taken and written, or none came
 abbrev pub WritesNext : {S A : Type 0} → (S → Option A → S → Type 0)
     → (A → ℤ) → WindowState → WindowState → ScalarKind → ℕ → S → S → Result (Unit {0}) Refusal → Type 0
 WritesNext gives whole old new k from before after wrote =
@@ -142,12 +147,14 @@ pub record WritesUnindexedForEntry (old now : WindowState) (h : ℕ) (e : Pendin
   pub requested : RequestsBlocksOk old taken (place_of e.index) len e.growth.block h
   pub change : ChangesBytes current taken now h len
 
+-- an object without a key was written, and no entry leads to it
 pub record WritesUnindexedAlone (old now : WindowState) (h : ℕ) : Type 0 where
   pub len : ℕ
   pub taken : WindowState
   pub takes : AllocatesOk current old taken len ObjectRole h
   pub change : ChangesBytes current taken now h len
 
+-- a block was taken and written, and no entry leads to it yet
 abbrev pub WritesUnindexedObject : WindowState → WindowState → ℕ → Option PendingEntry → Type 0
 WritesUnindexedObject old now h None = WritesUnindexedAlone old now h
 WritesUnindexedObject old now h (Some e) = WritesUnindexedForEntry old now h e
@@ -157,6 +164,7 @@ pub record IsReadyForEntry (now : WindowState) (h : ℕ) (e : PendingEntry) : Ty
   pub entry : CanAdd now e.index e.place h
   pub growth : CanGrow now (place_of e.index) e.growth.block
 
+-- the index can take the entry of an object, if it is to have one
 abbrev pub IsReadyFor : WindowState → ℕ → Option PendingEntry → Type 0
 IsReadyFor now h None = ⊤
 IsReadyFor now h (Some e) = IsReadyForEntry now h e
@@ -169,6 +177,7 @@ pub record AddsPendingEntry (now new : WindowState) (h : ℕ) (e : PendingEntry)
   pub keeps : (t : BackingArray) (hs : List ℕ) → IsIndexOf now (place_of e.index) t hs
       → AddKeeps now new (place_of e.index) t e.growth.block
 
+-- the entry leads to the object, if it is to have one
 abbrev pub LeadsThere : WindowState → WindowState → ℕ → Option PendingEntry → Type 0
 LeadsThere now new h None = new ≡ now
 LeadsThere now new h (Some e) = AddsPendingEntry now new h e

@@ -29,6 +29,7 @@ as_gap t = elim t.use_of [ None ↦ Some (gap_of t) | Some role ↦ None ]
 abbrev pub gaps_of : List Tile → List Gap
 gaps_of ts = filter_map as_gap ts
 
+-- the gaps of a window
 abbrev pub gaps_in : WindowState → List Gap
 gaps_in c = gaps_of (tiles_in c)
 
@@ -98,6 +99,7 @@ pub record GapTreeFrame : Type 0 where
   pub tiles : List Tile
   pub byte : ℕ → ℕ
 
+-- what a change of the free tree keeps
 unfoldable pub kept_of : WindowState → GapTreeFrame
 kept_of c =
     record {

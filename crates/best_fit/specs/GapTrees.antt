@@ -17,6 +17,7 @@ use Rattle.best_fit.specs.GapNodes.{comes_before, gaps_in, gaps_of, is_good, is_
 abbrev pub node_of : Gap → ℕ
 node_of g = g.offset + 16
 
+-- a gap is long enough
 abbrev pub is_long : ℕ → Gap → Bool
 is_long wanted g = nat_le wanted g.len
 

@@ -13,7 +13,7 @@ pub record IsNextGap (c : WindowState) (xs : List Gap) (g : Gap) : Type 0 where
   pub gaps : gaps_in c ≡ xs ++ (g ∷ behind)
   pub tree : HasGapTree c xs
 
--- the byte lies in no gap
+-- only word 24 and the tags and links of gaps change
 abbrev pub IsBesideGap : ℕ → Gap → Type 0
 IsBesideGap k g = (k < g.offset) ⊎ (g.offset + g.len ≤ k)
 

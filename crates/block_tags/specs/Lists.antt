@@ -18,6 +18,7 @@ abbrev pub tile_in : List Tile → ℕ → Option Tile
 tile_in [] at = None
 tile_in (t ∷ ts) at = if t.offset == at then Some t else tile_in ts at
 
+-- the first tile of a list
 abbrev pub first_in : List Tile → Option Tile
 first_in [] = None
 first_in (t ∷ ts) = Some t
@@ -32,9 +33,11 @@ abbrev pub previous_from : Option Tile → List Tile → ℕ → Option Tile
 previous_from before [] at = None
 previous_from before (t ∷ ts) at = if t.offset == at then before else previous_from (Some t) ts at
 
+-- the tile before the one at an offset, in a list
 abbrev pub previous_in : List Tile → ℕ → Option Tile
 previous_in ts at = previous_from None ts at
 
+-- the last tile of a list
 abbrev pub last_in : List Tile → Option Tile
 last_in [] = None
 last_in (t ∷ []) = Some t
@@ -42,6 +45,7 @@ last_in (t ∷ u ∷ ts) = last_in (u ∷ ts)
 
 -- ---- lists with tiles changed
 
+-- a free tile with this offset and length
 abbrev pub free_tile : ℕ → ℕ → Tile
 free_tile offset len = record { offset = offset; len = len; use_of = None; red = false }
 
@@ -65,15 +69,19 @@ used_for use_of t ts = record t { use_of = use_of } ∷ ts
 abbrev pub of_colour : Bool → Tile → List Tile → List Tile
 of_colour red t ts = record t { red = red } ∷ ts
 
+-- the list with the tile at an offset as two
 abbrev pub split_at : ℕ → ℕ → List Tile → List Tile
 split_at at len ts = changed_at at (in_two len) ts
 
+-- the list with a tile and the next one as one
 abbrev pub joined_at : ℕ → List Tile → List Tile
 joined_at at ts = changed_at at in_one ts
 
+-- the list with another use of a tile
 abbrev pub with_use_at : ℕ → Option Role → List Tile → List Tile
 with_use_at at use_of ts = changed_at at (used_for use_of) ts
 
+-- the list with another colour of a tile
 abbrev pub with_red_at : ℕ → Bool → List Tile → List Tile
 with_red_at at red ts = changed_at at (of_colour red) ts
 
@@ -81,6 +89,7 @@ with_red_at at red ts = changed_at at (of_colour red) ts
 abbrev pub with_free : List Tile → ℕ → ℕ → List Tile
 with_free ts from to = ts ++ free_tile from (to - from) ∷ []
 
+-- the list without its last tile
 abbrev pub without_last : List Tile → List Tile
 without_last [] = []
 without_last (t ∷ []) = []

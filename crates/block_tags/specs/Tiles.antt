@@ -30,7 +30,7 @@ may_be_red format (Some Index) = false
 may_be_red format (Some Storage) = false
 may_be_red format (Some Node) = true
 
--- a tile that is long enough, whole and of a colour that it may have
+-- a tile has a length of at least 32, a multiple of 16, and a colour that it may have
 abbrev pub is_tile : ℕ → Tile → Bool
 is_tile format t = nat_le 32 t.len && (t.len % 16 == 0) && (not t.red || may_be_red format t.use_of)
 
@@ -84,6 +84,7 @@ tiles_from zero m at end = []
 tiles_from (suc more) m at end =
     elim (nat_lt at end) [ false ↦ [] | true ↦ let t : Tile = tile_at m at in t ∷ tiles_from more m (at + t.len) end ]
 
+-- the tiles of a segment of this size, read by their lengths from 128 on
 abbrev pub tiles_of : Memory → ℕ → List Tile
 tiles_of m size = tiles_from (size / 32) m 128 (size - 16)
 

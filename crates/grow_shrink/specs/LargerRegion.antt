@@ -54,7 +54,7 @@ GrowsOrMovesErr old new extra (Growth reason) = (new ≡ old) × HasGrowthReason
 GrowsOrMovesErr old new extra (OutOfMemory refusal) =
     (new ≡ old) × IsShortOfRoom old extra × (refusal ≡ out_of_memory_of (region_len (length old.cut.bytes + extra)))
 
--- `grow_or_move`
+-- `grow_or_move`: the segment has more bytes, in place or in a larger region, or nothing changes
 abbrev pub GrowsOrMoves : SegmentState → SegmentState → ℕ → Result (Unit {0}) GrowOrMoveError → Type 0
 GrowsOrMoves old new extra result =
     MatchResult result (λ u. GrowsOrMovesOk old new extra) (λ why. GrowsOrMovesErr old new extra why)

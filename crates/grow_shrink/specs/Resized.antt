@@ -15,7 +15,8 @@ pub use Rattle.segment_manager.specs.blocks.Resized.{grown, shrunk}
 abbrev pub room_of : WindowState → ℕ
 room_of c = length (whole c) - length c.before
 
--- the first reason not to grow a segment of a size by extra bytes, if its region has this many bytes from its base on
+-- the first reason not to grow a segment by extra bytes: read only; less than 32 bytes or no multiple of 16; over 2^30;
+-- the region ends before
 abbrev pub growth_refusal : Mode → ℕ → ℕ → ℕ → Option GrowError
 growth_refusal mode size extra room =
     if is_read_only mode then Some ReadOnly

@@ -14,23 +14,28 @@ use Rattle.image_check.specs.Verdicts.{Shows}
 
 -- ---- without the place
 
+-- the cause, without the place
 abbrev pub error_for : ExamineError → OpenError
 error_for (Image v) = OfClass v.class
 error_for RegionTooSmall = TooSmall
 error_for (OutOfMemory refusal) = NoMemory refusal
 error_for ReadFault = Fault
 
+-- the refusal, without the place
 abbrev pub opened_as : ExamineRefused → OpenRefused
 opened_as refused = record { region = refused.region; cause = error_for refused.cause }
 
+-- the class of a pass's answer, without the place
 abbrev pub class_in : {A : Type 0} → Result A Verdict → Result A ImageClass
 class_in (Ok x) = Ok x
 class_in (Err v) = Err v.class
 
+-- the error of an examination, without the place
 abbrev pub error_in : {A : Type 0} → Result A ExamineError → Result A OpenError
 error_in (Ok x) = Ok x
 error_in (Err cause) = Err (error_for cause)
 
+-- the error of an examination with a region, without the place
 abbrev pub opened_in : {A : Type 0} → Result A ExamineRefused → Result A OpenRefused
 opened_in (Ok x) = Ok x
 opened_in (Err refused) = Err (opened_as refused)

@@ -18,6 +18,7 @@ use Rattle.image_check.specs.Fields.{is_shared, is_orphaned, has_containers}
 abbrev pub of_tiles : ℕ → List ℕ → (Memory → List Tile → Bool) → Bool
 of_tiles format b test = is_tiled format b && test (bytes_of b) (tiles_of (bytes_of b) (size_word b))
 
+-- the class is true of the bytes
 abbrev pub holds : ℕ → List ℕ → ImageClass → Bool
 holds format b Truncated = is_truncated format b
 holds format b BadMagic = not (has_magic b)
@@ -32,6 +33,7 @@ holds format b SharedBlock = of_tiles format b (is_shared format)
 holds format b BadContainer = of_tiles format b (λ m ts. not (has_containers format m ts))
 holds format b OrphanBlock = of_tiles format b (is_orphaned format)
 
+-- the twelve classes, in their order
 abbrev pub classes : List ImageClass
 classes =
     Truncated ∷ BadMagic ∷ UnsupportedVersion ∷ BadSize ∷ BadReserved ∷ BadTag

@@ -59,6 +59,7 @@ pub record IsLinkNoted (m : Memory) (ts : List Tile) (es : Blocks) (kind : Kind)
 
 -- ---- the walk over the tiles
 
+-- the kind is a scalar kind
 abbrev pub is_scalar : Kind → Bool
 is_scalar (Scalar k) = true
 is_scalar kind = false

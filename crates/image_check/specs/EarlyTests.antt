@@ -13,9 +13,11 @@ use Rattle.block_tags.specs.Format.{is_legal_size}
 use Rattle.best_fit.specs.FreeTree.{cells_of, sorted_gaps, payloads}
 use Rattle.segment_manager.specs.Denotes.{magic_number}
 
+-- the size that the header says
 abbrev pub size_word : List ℕ → ℕ
 size_word b = word_at (bytes_of b) 16
 
+-- the first word is the magic
 abbrev pub has_magic : List ℕ → Bool
 has_magic b = word_at (bytes_of b) 0 == magic_number
 
@@ -40,6 +42,7 @@ is_zero = list_all (λ c. c == 0)
 abbrev pub has_reserved : List ℕ → Bool
 has_reserved b = is_zero (read (bytes_of b) 12 4 ++ read (bytes_of b) 80 48)
 
+-- the tags are right
 abbrev pub is_tiled : ℕ → List ℕ → Bool
 is_tiled format b = has_tags format (bytes_of b) (size_word b)
 

@@ -103,6 +103,7 @@ abbrev pub share_some : List Field → Bool
 share_some [] = false
 share_some (f ∷ fs) = list_any (share_target f) fs || share_some fs
 
+-- two links that count lead to one block
 abbrev pub is_shared : ℕ → Memory → List Tile → Bool
 is_shared format m ts = share_some (counted_fields format m ts)
 
@@ -119,11 +120,13 @@ is_left fields t = needs_owner t && not (list_any (leads_there t) fields)
 abbrev pub leave_some : List Tile → List Field → Bool
 leave_some ts fields = list_any (is_left fields) ts
 
+-- no link that counts leads to some block
 abbrev pub is_orphaned : ℕ → Memory → List Tile → Bool
 is_orphaned format m ts = leave_some ts (counted_fields format m ts)
 
 -- ---- containers
 
+-- a vector or string is right
 abbrev pub is_storage_at : Memory → List Tile → ScalarKind → ℕ → Bool
 is_storage_at m ts k at =
     if nat_le (word_at m (at + 8)) (word_at m (at + 16))
@@ -144,6 +147,7 @@ are_pairs m ts k v at nodes =
     list_all (is_node_of m ts k v) nodes && rise_by (λ a b. int_lt (key_at m k a) (key_at m k b)) nodes
     && (word_at m (at + 8) == length nodes) && (word_at m (at + 16) == 0)
 
+-- a map is right
 abbrev pub is_map_at : Memory → List Tile → ScalarKind → ScalarKind → ℕ → Bool
 is_map_at m ts k v at = elim (tree_from (length ts) (λ n. is_some (tile_of ts Node n)) (cells_of m) (link_at m at)) [
   | None ↦ false
@@ -154,6 +158,7 @@ is_map_at m ts k v at = elim (tree_from (length ts) (λ n. is_some (tile_of ts N
 abbrev pub is_element_at : Memory → List Tile → ℕ → Bool
 is_element_at m ts at = is_table_link ts Storage (link_at m at) 1 (word_at m (at + 8))
 
+-- an array of texts is right
 abbrev pub is_array_at : Memory → List Tile → ℕ → Bool
 is_array_at m ts at =
     if nat_le (word_at m (at + 8)) (word_at m (at + 16))
@@ -163,6 +168,7 @@ is_array_at m ts at =
       | Some block ↦ list_all (is_element_at m ts) (element_offsets block (word_at m (at + 8)))
     ] else false
 
+-- the value of an object is right, if it is a container
 abbrev pub is_container : Memory → List Tile → Kind × ℕ → Bool
 is_container m ts (Scalar k, at) = true
 is_container m ts (String, at) = is_storage_at m ts U8 at
@@ -170,5 +176,6 @@ is_container m ts (Vector k, at) = is_storage_at m ts k at
 is_container m ts (Map k v, at) = is_map_at m ts k v at
 is_container m ts (Strings, at) = is_array_at m ts at
 
+-- each container is right
 abbrev pub has_containers : ℕ → Memory → List Tile → Bool
 has_containers format m ts = list_all (is_container m ts) (values format m ts)

@@ -25,6 +25,7 @@ DecidesAny front c = (rest : List ℕ) → IsTrue (are_bytes rest) → class_of_
 
 -- ---- where one version is read, or all three
 
+-- the version is accepted
 abbrev pub is_taken : AcceptedVersions → ℕ → Bool
 is_taken Current n = n == current
 is_taken All n = nat_le n 2

@@ -21,6 +21,7 @@ unfoldable pub placed : ℕ → Option ℕ → Option ℕ
 placed size None = None
 placed size (Some n) = if is_handle_place size n then Some n else None
 
+-- untrusted links as cells: each place of a handle is a node, and any other link is null
 unfoldable pub place_cells : WindowState → ℕ → Cell
 unfolding placed
 place_cells c n =

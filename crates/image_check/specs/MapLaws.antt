@@ -14,7 +14,7 @@ use Rattle.image_check.specs.FreeLaws.{places_finite}
 use Rattle.image_check.specs.Owners.{Blocks, block_at}
 use Rattle.image_check.specs.MapNodes.{is_pair, is_node_block, kept_link, key_before, pair_cells, pair_len}
 
--- what makes a pair
+-- a block is a pair of the map
 pub record IsPairNode (c : WindowState) (es : Blocks) (root : ℕ) (k v : ScalarKind) (n : ℕ) : Type 0 where
   pub place : is_place c n ≡ true
   pub block : is_node_block root (pair_len k v) (block_at es n) ≡ true

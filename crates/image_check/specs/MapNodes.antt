@@ -41,6 +41,7 @@ abbrev pub kept_link : (ℕ → Bool) → ℕ → Option ℕ → Option ℕ
 kept_link good n None = None
 kept_link good n (Some target) = Some (if good target then target else n)
 
+-- the cell of a pair's node
 unfoldable pub pair_cells : WindowState → Blocks → ℕ → ScalarKind → ScalarKind → ℕ → Cell
 pair_cells c es root k v n =
     record {
@@ -49,6 +50,6 @@ pair_cells c es root k v n =
       red = is_red (bytes_of c.bytes) n;
     }
 
--- by key
+-- the order of two objects in an index
 abbrev pub key_before : Memory → ScalarKind → ℕ → ℕ → Bool
 key_before m k a b = int_lt (key_at m k a) (key_at m k b)

@@ -20,6 +20,7 @@ use Rattle.image_check.specs.EarlyTests.{is_zero, is_among}
 
 -- ---- links to tiles
 
+-- the tile has this role
 abbrev pub is_use : Role → Tile → Bool
 is_use role t = elim t.use_of [ None ↦ false | Some r ↦ same_role role r ]
 
@@ -41,6 +42,7 @@ abbrev pub is_table_link : List Tile → Role → Option ℕ → ℕ → ℕ →
 is_table_link ts role link each capacity =
     if capacity == 0 then is_none link else leads_to ts role link (each * capacity)
 
+-- the offset of the bytes of a tile
 abbrev pub payload : Tile → ℕ
 payload t = t.offset + 16
 
@@ -56,9 +58,11 @@ entries m at = elim (link_at m at) [
   | Some block ↦ map (λ i. link_at m (block + 8 * i)) (range_with_len 0 (word_at m (at + 8)))
 ]
 
+-- where the links of an index lead
 abbrev pub targets : Memory → ℕ → List ℕ
 targets m at = flat_map option_to_list (entries m at)
 
+-- the words and the entries of an index are right
 abbrev pub has_index : Memory → List Tile → ℕ → Bool
 has_index m ts at =
     if nat_le (word_at m (at + 8)) (index_capacity m at)
@@ -69,6 +73,7 @@ abbrev pub are_distinct : List ℕ → Bool
 are_distinct [] = true
 are_distinct (x ∷ xs) = not (is_among xs x) && are_distinct xs
 
+-- both indexes are right, and no object has two entries
 abbrev pub has_indexes : Memory → List Tile → Bool
 has_indexes m ts = has_index m ts 32 && has_index m ts 56 && are_distinct (targets m 32 ++ targets m 56)
 
@@ -77,9 +82,11 @@ has_indexes m ts = has_index m ts 32 && has_index m ts 56 && are_distinct (targe
 abbrev pub object_tiles : List Tile → List Tile
 object_tiles = filter (is_use Object)
 
+-- where the value of an object begins
 abbrev pub value_offset : Memory → ℕ → ℕ
 value_offset m at = at + 16 + padded (name_len_at m at)
 
+-- the kind of an object
 abbrev pub kind_at : ℕ → Memory → ℕ → Option Kind
 kind_at format m at = elim (kind_of_code (code_at m at)) [
   | None ↦ None
@@ -131,6 +138,7 @@ rise_by lt [] = true
 rise_by lt (x ∷ []) = true
 rise_by lt (x ∷ y ∷ xs) = lt x y && rise_by lt (y ∷ xs)
 
+-- each object is right, and the keys of the entries rise
 abbrev pub has_objects : ℕ → Memory → List Tile → Bool
 has_objects format m ts =
     list_all (is_object_tile format m) (object_tiles ts)

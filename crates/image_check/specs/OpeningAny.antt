@@ -55,7 +55,7 @@ pub record UpgradesFormat (format : ℕ) (old new : List ℕ) : Type 0 where
 
 -- ---- the laws
 
--- a directory of any of the formats is one of the current
+-- the law: a directory of any format is one of the current format
 abbrev pub OlderDirectoriesStand : Type 0
 OlderDirectoriesStand = (format : ℕ) (d : Directory) → IsDirectory format d → IsDirectory current d
 

@@ -31,6 +31,7 @@ pub record BlockMap : Type 0 where
   pub entries : Blocks
   pub room : ℕ
 
+-- the block of a payload
 abbrev pub block_at : Blocks → ℕ → Option Block
 block_at es n = lookup (nat_eq n) es
 
@@ -101,9 +102,11 @@ debts (t ∷ ts) = tile_due t + debts ts
 abbrev pub new_block : Role → ℕ → Block
 new_block role len = record { role = role; len = len; owner = None; next = None }
 
+-- the entry of a tile
 abbrev pub entry_of : Tile → Option (ℕ × Block)
 entry_of t = elim t.use_of [ None ↦ None | Some role ↦ Some (t.offset + 16, new_block role t.len) ]
 
+-- the entries of all tiles
 abbrev pub entries_of : List Tile → Blocks
 entries_of ts = filter_map entry_of ts
 
@@ -111,6 +114,7 @@ entries_of ts = filter_map entry_of ts
 abbrev pub frame_of : ℕ × Block → ℕ × Role × ℕ
 frame_of e = (e.0, e.1.role, e.1.len)
 
+-- the roles and the lengths of the blocks
 abbrev pub frames : Blocks → List (ℕ × Role × ℕ)
 frames es = map frame_of es
 
@@ -222,6 +226,7 @@ IsMarkingOf format b now es pending waiting = IsMarking format (bytes_of b) (til
 abbrev pub IsSharedIn : ℕ → List ℕ → ℕ → Type 0
 IsSharedIn format b at = IsSharedAt format (bytes_of b) (tiles_in b) at
 
+-- the next waiting node of a block
 abbrev pub next_in : Option Block → Option ℕ
 next_in None = None
 next_in (Some b) = b.next

@@ -12,6 +12,7 @@ use Rattle.image_check.specs.declared.errors.MemoryFault.TheVariants.{Bytes, Blo
 use Rattle.image_check.specs.declared.room.NoBlockMemory.{NoBlockMemory}
 use Rattle.image_check.specs.Visits.{Rates, weigh}
 
+-- the tiles of an image
 abbrev pub tiles_in : List ℕ → List Tile
 tiles_in b = tiles_of (bytes_of b) (length b)
 

@@ -16,6 +16,7 @@ pub record Rates : Type 0 where
   pub storage : ℕ
   pub node : ℕ
 
+-- the visits for 16 bytes of a use
 abbrev pub rate_of : Rates → Option Role → ℕ
 rate_of r None = r.free
 rate_of r (Some Object) = r.object
@@ -47,6 +48,7 @@ abbrev pub planting_visits : Option Role → ℕ
 planting_visits None = 53
 planting_visits (Some role) = 0
 
+-- the visits for the search of each gap in the free tree, for 16 bytes
 abbrev pub planting_rates : Rates
 planting_rates = record { free = 27; object = 1; index = 1; storage = 1; node = 1 }
 
@@ -54,24 +56,31 @@ planting_rates = record { free = 27; object = 1; index = 1; storage = 1; node = 
 abbrev pub step_rates : Rates
 step_rates = record { free = 5; object = 5; index = 5; storage = 5; node = 5 }
 
+-- the visits of the free tree, for 16 bytes
 abbrev pub tree_rates : Rates
 tree_rates = both step_rates planting_rates
 
+-- the visits of the indexes, for 16 bytes
 abbrev pub index_rates : Rates
 index_rates = record { free = 0; object = 4; index = 12; storage = 0; node = 0 }
 
+-- the visits of the objects, for 16 bytes
 abbrev pub object_rates : Rates
 object_rates = record { free = 1; object = 22; index = 13; storage = 1; node = 1 }
 
+-- the visits of the gathering of blocks, for 16 bytes
 abbrev pub gathering_rates : Rates
 gathering_rates = record { free = 1; object = 1; index = 1; storage = 1; node = 1 }
 
+-- the visits of the links, for 16 bytes
 abbrev pub sharing_rates : Rates
 sharing_rates = record { free = 1; object = 4; index = 1; storage = 6; node = 6 }
 
+-- the visits of the containers, for 16 bytes
 abbrev pub container_rates : Rates
 container_rates = record { free = 1; object = 12; index = 1; storage = 24; node = 18 }
 
+-- the visits of the blocks without an owner, for 16 bytes
 abbrev pub orphan_rates : Rates
 orphan_rates = record { free = 0; object = 1; index = 1; storage = 1; node = 1 }
 
@@ -79,6 +88,7 @@ orphan_rates = record { free = 0; object = 1; index = 1; storage = 1; node = 1 }
 abbrev pub frame_rates : Rates
 frame_rates = both tag_rates tree_rates
 
+-- the visits of the passes over blocks, for 16 bytes
 abbrev pub block_rates : Rates
 block_rates = both index_rates (both object_rates (both sharing_rates (both container_rates orphan_rates)))
 

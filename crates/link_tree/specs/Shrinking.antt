@@ -39,6 +39,7 @@ mended_at side red (fork true left m right) n far =
       fell = false;
     }
 
+-- a tree whose far side lost a black node, repaired
 abbrev pub mended : Side → Tree → RemovedSubtree
 mended side leaf = record { tree = leaf; fell = false }
 mended side (fork red left n right) = mended_at side red (tree_on side left right) n
@@ -74,6 +75,7 @@ without_root red left leaf = sunk red left
 without_root red left (fork red' middle n right) =
     settled Right red (without_least (fork red' middle n right)) (least_of n middle) left
 
+-- a tree without its root
 abbrev pub uprooted : Tree → RemovedSubtree
 uprooted leaf = record { tree = leaf; fell = false }
 uprooted (fork red left n right) = without_root red left right

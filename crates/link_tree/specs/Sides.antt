@@ -5,6 +5,7 @@ use Rattle.link_tree.specs.Nodes.{with_left, with_right}
 use Rattle.link_tree.specs.declared.cursor.Side.{Side}
 use Rattle.link_tree.specs.declared.cursor.Side.TheVariants.{Left, Right}
 
+-- the other side
 abbrev pub opposite : Side → Side
 opposite Left = Right
 opposite Right = Left

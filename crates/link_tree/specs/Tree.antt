@@ -4,7 +4,7 @@ use Rattle.std.specs.Prelude.{List, [], ◌∷◌, ◌++◌, length, IsTrue, ◌
 use Rattle.std.specs.List.{list_all}
 use Rattle.std.specs.Int.Digits.{digits_of}
 
--- what the fields of a node say
+-- what the fields of a node say: left link, right link, red or black
 pub record Cell : Type 0 where
   pub left : Option ℕ
   pub right : Option ℕ

@@ -19,6 +19,7 @@ painted red (fork old left n right) = fork red left n right
 abbrev pub blackened : Tree → Tree
 blackened t = painted false t
 
+-- the root of the tree is red
 abbrev pub is_red_tree : Tree → Bool
 is_red_tree t = not (has_black_root t)
 
@@ -46,6 +47,7 @@ balanced_outer side a m b n far =
     if is_red_tree a then joined_at side true (blackened a) m (joined_at side false b n far) else balanced_inner side a
     m b n far
 
+-- two trees under a node, repaired
 abbrev pub balanced : Side → Tree → ℕ → Tree → Tree
 balanced side leaf n far = joined_at side false leaf n far
 balanced side (fork false left m right) n far = joined_at side false (fork false left m right) n far

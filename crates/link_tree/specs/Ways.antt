@@ -18,7 +18,7 @@ insert_point_of before (fork red left n right) =
     if before n then entry_over red n right (insert_point_of before right) else entry_over red n left
     (insert_point_of before left)
 
--- one node further down, on the way in
+-- what a search keeps after one node more, on its way in
 abbrev pub passed : Passed → ℕ → Bool → Bool → Passed
 passed notes n red before = record {
   node = if before then notes.node else Some n;

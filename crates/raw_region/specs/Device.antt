@@ -35,6 +35,7 @@ abbrev pub read_delta : ReaderHistory → ReaderHistory → ReadDelta
 read_delta old new =
     record { bytes = drop (length old.bytes) new.bytes; ended = new.ended; failed = nat_lt old.failures new.failures }
 
+-- what a writer took in one call, from the histories before and after it
 abbrev pub write_delta : WriterHistory → WriterHistory → WriteDelta
 write_delta old new = record { bytes = drop (length old.bytes) new.bytes; failed = nat_lt old.failures new.failures }
 

@@ -34,12 +34,15 @@ HasBytesAt m at bytes = read m at (length bytes) ≡ bytes
 unfoldable pub word_bytes : ℕ → List ℕ
 word_bytes x = little_bytes 8 x
 
+-- the 4 bytes of a number, the lowest first
 unfoldable pub half_word_bytes : ℕ → List ℕ
 half_word_bytes x = little_bytes 4 x
 
+-- the number in the 8 bytes at an offset, the lowest first
 unfoldable pub word_at : Memory → ℕ → ℕ
 word_at m at = little_number 8 (read m at 8)
 
+-- the number in the 4 bytes at an offset, the lowest first
 unfoldable pub half_word_at : Memory → ℕ → ℕ
 half_word_at m at = little_number 4 (read m at 4)
 
@@ -81,7 +84,7 @@ pub record SameBytesExcept (m m' : Memory) (from n : ℕ) : Type 0 where
 pub record AreZero (m : Memory) (from to : ℕ) : Type 0 where
   pub at : (k : ℕ) → from ≤ k → k < to → m k ≡ 0
 
--- what lies round the window stays
+-- the bytes before and after the window are as before
 pub record SameSurroundings (old new : WindowState) : Type 0 where
   pub before : new.before ≡ old.before
   pub after : new.after ≡ old.after

@@ -33,9 +33,11 @@ comparisons m key handles =
 
 -- ---- the same over the links of a block
 
+-- how the key of an entry stands to a key
 abbrev pub order_at : Memory → Entry → ℕ → ℕ → Ordering
 order_at m key block i = order m key (unwrap_or (link_at m (block + 8 * i)) 0)
 
+-- how many comparisons a search makes in so many entries
 abbrev pub comparisons_in : Memory → Entry → ℕ → ℕ → ℕ
 comparisons_in m key block count = comparisons_among count (order_at m key block) 0 count
 

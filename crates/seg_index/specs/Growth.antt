@@ -63,6 +63,7 @@ pub record IsBlockFor (c : WindowState) (h places : ℕ) : Type 0 where
 abbrev pub without_link : LiveSet → Option ℕ → LiveSet
 without_link live link = elim link [ None ↦ live | Some h ↦ released live h ]
 
+-- the live set without the block of an index
 abbrev pub without_index_block : WindowState → ℕ → LiveSet
 without_index_block c at = without_link (live_of c.bytes) (link_at (bytes_of c.bytes) at)
 
@@ -77,6 +78,7 @@ abbrev pub AddsEntry : WindowState → WindowState → ℕ → BackingArray → 
 AddsEntry old new at t handles None = IsIndexOf new at t handles
 AddsEntry old new at t handles (Some h) = InstallsBlock old new at h (grown_capacity (capacity_at old at)) handles
 
+-- the live set after an entry was added
 abbrev pub grown_live : WindowState → ℕ → Option ℕ → LiveSet
 grown_live c at None = live_of c.bytes
 grown_live c at (Some h) = without_index_block c at

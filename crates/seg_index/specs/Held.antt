@@ -17,6 +17,7 @@ place_of Unique = 56
 abbrev pub entry_count : WindowState → ℕ → ℕ
 entry_count c at = word_at (bytes_of c.bytes) (at + 8)
 
+-- how many places the words of an index say
 abbrev pub capacity_at : WindowState → ℕ → ℕ
 capacity_at c at = word_at (bytes_of c.bytes) (at + 16)
 

@@ -8,6 +8,7 @@ use Rattle.raw_region.specs.Memory.{Memory, read, word_at}
 abbrev pub code_at : Memory → ℕ → ℕ
 code_at m h = word_at m h % 4294967296
 
+-- the count in the head of an object
 abbrev pub count_at : Memory → ℕ → ℕ
 count_at m h = word_at m h / 4294967296
 
@@ -15,9 +16,11 @@ count_at m h = word_at m h / 4294967296
 abbrev pub name_len_at : Memory → ℕ → ℕ
 name_len_at m h = word_at m (h + 8) % 4294967296
 
+-- the code of the class in the head of an object
 abbrev pub class_at : Memory → ℕ → ℕ
 class_at m h = word_at m (h + 8) / 4294967296
 
+-- the name behind the head of an object
 abbrev pub name_at : Memory → ℕ → List ℕ
 name_at m h = read m (h + 16) (name_len_at m h)
 
@@ -25,5 +28,6 @@ name_at m h = read m (h + 16) (name_len_at m h)
 abbrev pub name_before : Memory → ℕ → ℕ → Bool
 name_before m g h = is_lt (slice_cmp nat_cmp (name_at m g) (name_at m h))
 
+-- kinds in the order of their codes
 abbrev pub code_before : Memory → ℕ → ℕ → Bool
 code_before m g h = nat_lt (code_at m g) (code_at m h)

@@ -8,6 +8,7 @@ use Rattle.seg_map.specs.Map.{Pair, is_pair, IsPairAt, IsMapAt}
 abbrev pub NumberPair : Type 0
 NumberPair = Pair ℤ ℤ
 
+-- key and value are values of their kinds
 abbrev pub is_number_pair : ScalarKind → ScalarKind → NumberPair → Bool
 is_number_pair k v = is_pair (size_of k) (size_of v) (is_value k) (is_value v)
 

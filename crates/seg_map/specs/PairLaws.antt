@@ -84,7 +84,7 @@ few_extents live h =
     let l = few 128 live.extents (live.size - 16) p.list in
     let n = (legal_size live.size p.size).high in omega arith
 
--- a node block
+-- a block in use with a node's role and length
 pub record NodeBlock (len : ℕ) (xs : List Extent) (n : ℕ) : Type 0 where
   pub extent : Extent
   pub listed : In extent xs
@@ -172,7 +172,7 @@ pub node_block : (len : ℕ) (ns : List ℕ) (c : WindowState) (n : ℕ) → Pai
 node_block len ns c n g = block_at len (live_of c.bytes).extents n
     (all_at (is_block_in len (live_of c.bytes)) ns n g.good.blocks g.listed)
 
--- where a node lies
+-- a node is at a multiple of 16 from 144 on, below 2^30
 pub record NodeBounds (len : ℕ) (c : WindowState) (n : ℕ) : Type 0 where
   pub block : NodeBlock len (live_of c.bytes).extents n
   pub low : 144 ≤ n

@@ -30,6 +30,7 @@ is_pair_node len ns c n = is_good len ns c && is_in n ns
 abbrev pub no_cell : Cell
 no_cell = record { left = None; right = None; red = false }
 
+-- the cell of a lent node
 unfoldable pub pair_cells : ℕ → List ℕ → WindowState → ℕ → Cell
 pair_cells len ns c n = if is_pair_node len ns c n then cells_of (bytes_of c.bytes) n else no_cell
 
@@ -54,6 +55,7 @@ abbrev pub stands : {K : Type 0} → (K → K → Bool) → Bool → K → Optio
 stands less past key None = false
 stands less past key (Some x) = if past then not (less key x) else less x key
 
+-- the key of a node is below another, or not above it
 abbrev pub stands_before : {K : Type 0} → (K → K → Bool) → (ℕ → Option K) → Bool → K → ℕ → Bool
 stands_before less keys past key n = stands less past key (keys n)
 
@@ -89,6 +91,7 @@ pub record PairTreeFrame : Type 0 where
   pub byte : ℕ → ℕ
   pub colour : ℕ → ℕ
 
+-- what a change of the map's tree keeps
 unfoldable pub kept_of : List ℕ → WindowState → PairTreeFrame
 kept_of ns c =
     record {

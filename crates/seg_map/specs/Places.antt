@@ -85,7 +85,7 @@ abbrev pub FindsKey : {K V : Type 0} → Plain K → Plain V → List ℕ → �
 FindsKey {K} {V} k v b h at key r = (ps : List (Pair K V)) → HoldsMap k v b h at ps
     → r ≡ option_map pair_node (pair_at k.order ps key)
 
--- a search, and this many steps more
+-- at most `2 * bits (pairs + 1)` steps of a search, and n more
 abbrev pub SearchSteps : {K V : Type 0} → Plain K → Plain V → List ℕ → Place → ℕ → ℕ → ℕ → Type 0
 SearchSteps {K} {V} k v b at more before after = (ps : List (Pair K V)) → HoldsMap k v b at.handle at.at ps
     → after ≤ before + 2 * bits (length ps + 1) + more

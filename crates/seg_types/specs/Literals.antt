@@ -16,10 +16,12 @@ cons_values (Err WrongKind) zs = Err WrongKind
 cons_values (Err r) (Err WrongKind) = Err WrongKind
 cons_values (Err r) zs = Err r
 
+-- the numbers of several literals
 abbrev pub values_of : ScalarKind → List Literal → Result (List ℤ) Refusal
 values_of k [] = Ok []
 values_of k (l ∷ ls) = cons_values (value_of_literal k l) (values_of k ls)
 
+-- the numbers of a key and a value
 abbrev pub pair_values : ScalarKind → ScalarKind → Literal → Literal → Result (List ℤ) Refusal
 pair_values k v key value = cons_values (value_of_literal k key) (cons_values (value_of_literal v value) (Ok []))
 

@@ -8,11 +8,13 @@ use Rattle.seg_types.specs.declared.refusals.Refusal.TheVariants.{WrongKind, Out
 
 -- ---- 1 to 3: a line is no command
 
+-- the number of a line's error, 1 to 3
 abbrev pub line_error_number : LineError → ℕ
 line_error_number UnknownCommand = 1
 line_error_number LineTooLong = 2
 line_error_number BadSyntax = 3
 
+-- the words of a line's error
 abbrev pub line_error_words : LineError → List ℕ
 line_error_words UnknownCommand = codes "unknown command"
 line_error_words LineTooLong = codes "line too long"
@@ -20,6 +22,7 @@ line_error_words BadSyntax = codes "bad syntax"
 
 -- ---- 4 to 9: a command is refused
 
+-- the number of a refusal, 4 to 9
 abbrev pub refusal_number : Refusal → ℕ
 refusal_number ReadOnly = 4
 refusal_number Exists = 5
@@ -28,6 +31,7 @@ refusal_number WrongKind = 7
 refusal_number OutOfRange = 8
 refusal_number NoSpace = 9
 
+-- the words of a refusal
 abbrev pub refusal_words : Refusal → List ℕ
 refusal_words ReadOnly = codes "read only"
 refusal_words Exists = codes "already exists"

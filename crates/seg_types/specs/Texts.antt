@@ -13,6 +13,7 @@ use Rattle.seg_types.specs.Names.{Key, ByName, ByKind, ByHandle, NoKey}
 
 -- ---- kinds and classes
 
+-- the word of a scalar kind
 abbrev pub scalar_text : ScalarKind → List ℕ
 scalar_text BoolKind = codes "bool"
 scalar_text U8 = codes "u8"
@@ -20,6 +21,7 @@ scalar_text I32 = codes "i32"
 scalar_text I64 = codes "i64"
 scalar_text U64 = codes "u64"
 
+-- how a kind is printed
 abbrev pub kind_text : Kind → List ℕ
 kind_text (Scalar k) = scalar_text k
 kind_text String = codes "string"
@@ -27,6 +29,7 @@ kind_text (Vector k) = codes "vec<" ++ scalar_text k ++ codes ">"
 kind_text Strings = codes "vec<string>"
 kind_text (Map k v) = codes "map<" ++ scalar_text k ++ codes "," ++ scalar_text v ++ codes ">"
 
+-- how a class is printed
 abbrev pub class_text : Class → List ℕ
 class_text Anonymous = codes "anonymous"
 class_text Named = codes "named"
@@ -34,12 +37,14 @@ class_text Unique = codes "unique"
 
 -- ---- values
 
+-- how a value is printed
 abbrev pub value_text : ScalarKind → ℤ → List ℕ
 value_text BoolKind z = if nat_lt 0 (nat_abs z) then codes "true" else codes "false"
 value_text k z = signed_decimal z
 
 -- ---- texts
 
+-- the byte is in this range
 abbrev pub between : ℕ → ℕ → ℕ → Bool
 between low high c = nat_le low c && nat_le c high
 
@@ -58,6 +63,7 @@ item_text c =
     else if between 0x20 0x7E c then c ∷ []
     else escape_text c
 
+-- how a text is printed, in quotes
 abbrev pub quoted_text : List ℕ → List ℕ
 quoted_text bs = 0x22 ∷ flat_map item_text bs ++ 0x22 ∷ []
 
@@ -66,6 +72,7 @@ quoted_text bs = 0x22 ∷ flat_map item_text bs ++ 0x22 ∷ []
 abbrev pub is_letter : ℕ → Bool
 is_letter c = between 0x41 0x5A c || between 0x61 0x7A c
 
+-- the byte is a decimal digit
 abbrev pub is_digit : ℕ → Bool
 is_digit = between 0x30 0x39
 
@@ -73,6 +80,7 @@ is_digit = between 0x30 0x39
 abbrev pub is_name_byte : ℕ → Bool
 is_name_byte c = is_letter c || is_digit c || (c == 0x5F) || (c == 0x2E)
 
+-- the name needs no quotes
 abbrev pub is_bare_name : List ℕ → Bool
 is_bare_name [] = false
 is_bare_name (c ∷ cs) = (is_letter c || (c == 0x5F)) && list_all is_name_byte cs
@@ -81,6 +89,7 @@ is_bare_name (c ∷ cs) = (is_letter c || (c == 0x5F)) && list_all is_name_byte 
 abbrev pub name_text : List ℕ → List ℕ
 name_text name = if is_bare_name name then name else quoted_text name
 
+-- how a key is printed
 abbrev pub key_text : Key → List ℕ
 key_text (ByName name) = name_text name
 key_text (ByKind k) = codes "@" ++ kind_text k

@@ -17,6 +17,7 @@ place_at p = p.handle + p.at
 abbrev pub len_at : List ℕ → Place → ℕ
 len_at b p = word_at (bytes_of b) (place_at p + 8)
 
+-- how many places the words of a vector say
 abbrev pub capacity_at : List ℕ → Place → ℕ
 capacity_at b p = word_at (bytes_of b) (place_at p + 16)
 
@@ -25,7 +26,7 @@ abbrev pub IsStorageBlock : LiveSet → ℕ → Option Extent → Type 0
 IsStorageBlock live h None = ⊤
 IsStorageBlock live h (Some x) = (extent_at live (handle x) ≡ Some x) × (handle x ≢ h)
 
--- a container of `len` elements of `each` bytes
+-- a container of `len` elements of `each` bytes stands at a place
 pub record IsContainer (b : List ℕ) (p : Place) (each len : ℕ) (t : BackingArray) (bytes : List ℕ) : Type 0 where
   pub heap : IsHeap current b
   pub words : IsContainerAt (bytes_of b) (place_at p) len t bytes

@@ -55,7 +55,7 @@ GetsByte c p i result = (bytes : List ℕ) (t : BackingArray) → IsText c.bytes
 abbrev pub StartsText : WindowState → WindowState → Place → Type 0
 StartsText old new p = ReplacesText old new p no_backing [] no_backing
 
--- a text with just this many places, whatever stood there
+-- makes a text with exactly as many places as it has bytes, or there is no space
 abbrev pub MakesText : WindowState → WindowState → Place → List ℕ → Result (Unit {0}) Refusal → Type 0
 MakesText old new p bytes result = MatchResult result (λ u. GrowsTextOk old new p no_backing (length bytes) bytes)
     (LacksSpace old new 1 (length bytes) no_backing)

@@ -77,6 +77,7 @@ placed_text live bytes =
 abbrev pub with_text : LiveSet → OwnedText → LiveSet
 with_text live q = elim q.extent [ None ↦ live | Some x ↦ resized live x ]
 
+-- the blocks that several texts take, one after another
 abbrev pub placed_texts : LiveSet → List (List ℕ) → Option (List OwnedText)
 placed_texts live [] = Some []
 placed_texts live (bytes ∷ more) = elim (placed_text live bytes) [
@@ -272,7 +273,7 @@ AssignsTexts old new p (bytes ∷ more) result =
     → MatchResult result (λ u. AssignsTextsOk old new p ps t (bytes ∷ more))
     (UndoesRequests old new (requested_texts (live_of old.bytes) (bytes ∷ more)))
 
--- a vector of texts with just this many places, whatever stood there
+-- makes a vector of texts with exactly as many places, or frees what it allocated
 abbrev pub MakesTexts : WindowState → WindowState → Place → List (List ℕ) → Result (Unit {0}) Refusal → Type 0
 MakesTexts old new p [] result = (result ≡ Ok tt) × InitsTexts old new p
 MakesTexts old new p (bytes ∷ more) result = MatchResult result

@@ -30,6 +30,7 @@ grown_backing live each n t =
     else option_map (λ x. let u : BackingArray = record { capacity = n; extent = Some x } in u)
     (regrow live t.extent (each * n))
 
+-- the spellings of the numbers, one after another
 abbrev pub spelled : ScalarKind → List ℤ → List ℕ
 spelled k = flat_map (spelling k)
 
@@ -58,7 +59,7 @@ is_vector size is_value items t =
 abbrev pub IsVectorAt : Memory → ℕ → ScalarKind → List ℤ → BackingArray → Type 0
 IsVectorAt m at k items t = IsVectorOf (spelling k) m at items t
 
--- bytes
+-- the bytes of a string
 abbrev pub IsTextAt : Memory → ℕ → List ℕ → BackingArray → Type 0
 IsTextAt m at bytes t = IsContainerAt m at (length bytes) t bytes
 

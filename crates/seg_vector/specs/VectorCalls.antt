@@ -10,7 +10,7 @@ use Rattle.seg_vector.specs.Containers.{IsContainer, place_at}
 use Rattle.seg_vector.specs.Vector.{capacity_for_more, capacity_for_one, grown_backing}
 pub use Rattle.seg_vector.specs.Containers.{LacksSpace}
 
--- the vector at a place has these elements
+-- the vector at a place has these values of a plain type
 pub record IsVector {T : Type 0} (size : ℕ) (is_value : T → Bool) (spelling : T → List ℕ) (b : List ℕ) (p : Place)
     (xs : List T) (t : BackingArray) : Type 0 where
   pub stands : IsContainer b p size (length xs) t (flat_map spelling xs)

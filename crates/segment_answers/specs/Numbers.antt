@@ -8,6 +8,7 @@ abbrev pub next_in_text : Bool → ℕ → Bool
 next_in_text true c = not (c == 0x0A)
 next_in_text false c = c == 0x20
 
+-- these bytes end in the text of a line
 abbrev pub is_in_text : Bool → List ℕ → Bool
 is_in_text = fold next_in_text
 

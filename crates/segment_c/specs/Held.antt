@@ -6,6 +6,7 @@ use Rattle.std.specs.declared.option.Option.TheVariants.{None, Some}
 use Rattle.std.specs.contracts.impls.GlobalAllocator.TheImpl.{ghosts}
 use Rattle.segment_manager.specs.contracts.Segment.{the_row}
 
+-- a handle owns the box of a segment, or is null and owns nothing
 abbrev pub held : Ptr → Global → Option the_row.Denot → Fml
 held p a None = feq Ptr p null_ptr
 held p a (Some x) = box_owns (ghosts.dealloc_token a) the_row p x

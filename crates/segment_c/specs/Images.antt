@@ -7,9 +7,11 @@ use Rattle.segment_manager.specs.declared.modes.Mode.TheVariants.{Write, ReadOnl
 abbrev pub mode_wrong : ℕ → ℕ
 mode_wrong n = if nat_le n 2 then 0 else 23
 
+-- the mode of a number
 abbrev pub mode_of : ℕ → Mode
 mode_of n = if n == 0 then Write else if n == 1 then ReadOnly else CopyOnWrite
 
+-- the number of a mode
 abbrev pub mode_code : Mode → ℕ
 mode_code Write = 0
 mode_code ReadOnly = 1

@@ -40,6 +40,7 @@ TellsAlone i code (Some o) = (code ≡ 0) × IsInfo o i
 
 -- ---- blocks and gaps
 
+-- the code of a use
 abbrev pub use_code : Option Role → ℕ
 use_code None = 0
 use_code (Some ObjectRole) = 1

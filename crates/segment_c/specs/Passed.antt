@@ -11,6 +11,7 @@ use Rattle.segment_c.specs.{declared.values.CScalar.CScalar, declared.rows.CScal
 
 -- ---- the first code of some that is not 0
 
+-- the first of two codes that is not 0
 abbrev pub or_else : ℕ → ℕ → ℕ
 or_else code other = if code == 0 then other else code
 
@@ -19,6 +20,7 @@ or_else code other = if code == 0 then other else code
 abbrev pub name_wrong : List ℕ → ℕ
 name_wrong name = if is_text_name name then 0 else 18
 
+-- the code of a wrong kind
 unfoldable pub kind_wrong : ℕ → ℕ
 kind_wrong code = elim (kind_of_code code) [ None ↦ 19 | Some kind ↦ 0 ]
 
@@ -26,7 +28,7 @@ abbrev pub kind_key : Option Kind → Key
 kind_key None = NoKey
 kind_key (Some kind) = ByKind kind
 
--- the key of an object that is there
+-- the code that refuses the key of an object that must be there, or 0
 unfoldable pub key_wrong : ObjectKey → ℕ
 key_wrong k =
     if k.how == 0 then name_wrong k.name.now
@@ -35,6 +37,7 @@ key_wrong k =
     else if k.how == 4 then 25
     else 17
 
+-- the key that a key of C stands for
 unfoldable pub key_of : ObjectKey → Key
 key_of k =
     if k.how == 0 then ByName k.name.now
@@ -49,6 +52,7 @@ entry_wrong k kind =
     else if k.how == 4 then 25
     else 17
 
+-- the key under which an object of a kind is found or made
 unfoldable pub entry_of : ObjectKey → Kind → Key
 entry_of k kind = if k.how == 0 then ByName k.name.now else ByKind kind
 
@@ -56,6 +60,7 @@ entry_of k kind = if k.how == 0 then ByName k.name.now else ByKind kind
 abbrev pub new_wrong : ObjectKey → Kind → ℕ
 new_wrong k kind = if k.how == 3 then 0 else entry_wrong k kind
 
+-- the key under which an object of a kind is made
 abbrev pub new_of : ObjectKey → Kind → Key
 new_of k kind = if k.how == 3 then NoKey else entry_of k kind
 
@@ -71,6 +76,7 @@ scalar_kind_of code =
     else if code == 5 then Some U64
     else None
 
+-- the code of a wrong scalar kind
 abbrev pub scalar_kind_wrong : ℕ → ℕ
 scalar_kind_wrong code = elim (scalar_kind_of code) [ None ↦ 19 | Some k ↦ 0 ]
 
@@ -89,6 +95,7 @@ scalar_in v = elim (scalar_kind_of v.kind) as (λ _. Option (ScalarKind × ℤ))
   | Some k ↦ if is_value k (number_in v k) then Some (k, number_in v k) else None
 ]
 
+-- the code of a wrong value
 abbrev pub value_wrong : CScalar → ℕ
 value_wrong v = elim (scalar_in v) [ None ↦ 20 | Some s ↦ 0 ]
 
@@ -117,6 +124,7 @@ count_wrong n = if nat_le 1 n && nat_le n 1048576 then 0 else 21
 abbrev pub row_kind_wrong : ℕ → ℕ
 row_kind_wrong code = if code == 0 then 25 else scalar_kind_wrong code
 
+-- the code of a wrong row
 abbrev pub row_wrong : CScalars → ℕ
 row_wrong v = row_kind_wrong v.kind
 
@@ -132,6 +140,7 @@ numbers_of v I32 = map (λ x. x) v.i32s.now
 numbers_of v I64 = map (λ x. x) v.i64s.now
 numbers_of v U64 = map pos v.u64s.now
 
+-- the numbers of a row
 abbrev pub row_of : CScalars → List ℤ
 row_of v = numbers_of v (scalar_kind_in v.kind)
 
@@ -143,6 +152,7 @@ many_of v I32 = length v.i32s.now
 many_of v I64 = length v.i64s.now
 many_of v U64 = length v.u64s.now
 
+-- how many numbers a row has
 abbrev pub row_count : CScalars → ℕ
 row_count v = many_of v (scalar_kind_in v.kind)
 

@@ -59,6 +59,7 @@ vector_kind String = U8
 vector_kind (Map k v) = U8
 vector_kind Strings = U8
 
+-- the scalar kind of a key's vector
 abbrev pub vector_kind_at : Directory → Key → ScalarKind
 vector_kind_at d key = elim (kind_at d key) as (λ _. ScalarKind) [ Err r ↦ U8 | Ok kind ↦ vector_kind kind ]
 
@@ -68,6 +69,7 @@ vector_kind_at d key = elim (kind_at d key) as (λ _. ScalarKind) [ Err r ↦ U8
 abbrev pub item_in : ScalarKind → ScalarKind → Option (ℤ × ℤ) → Option KindedPair
 item_in k v p = option_map (item_of_kinds k v) p
 
+-- the first pair of a map
 abbrev pub first_in : List NumberPair → Kind → Result (Option KindedPair) Refusal
 first_in ps (Map k v) = Ok (item_in k v (option_map item_of (first_of ps)))
 first_in ps (Scalar k) = Err WrongKind
@@ -86,6 +88,7 @@ abbrev pub above_in : List NumberPair → ScalarKind → ScalarKind → Result �
 above_in ps k v (Ok z) = Ok (item_in k v (pair_above z ps))
 above_in ps k v (Err why) = Err why
 
+-- the pair above a key in a map
 abbrev pub next_in : List NumberPair → Literal → Kind → Result (Option KindedPair) Refusal
 next_in ps l (Map k v) = above_in ps k v (value_of_literal k l)
 next_in ps l (Scalar k) = Err WrongKind

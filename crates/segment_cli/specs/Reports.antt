@@ -28,6 +28,7 @@ class_words class.SharedBlock = codes "10 SharedBlock"
 class_words class.BadContainer = codes "11 BadContainer"
 class_words class.OrphanBlock = codes "12 OrphanBlock"
 
+-- the name of a growth error
 abbrev pub growth_name : GrowError → List ℕ
 growth_name growth.ReadOnly = codes "ReadOnly"
 growth_name growth.BadGrow = codes "BadGrow"
@@ -57,6 +58,7 @@ fault_text (Session f) = line (session_words f)
 
 -- ---- its status
 
+-- the status of a session's fault
 abbrev pub session_status : SessionFault → ℕ
 session_status (session.Image c) = 1
 session_status session.BadSize = 1
@@ -66,6 +68,7 @@ session_status session.ReadFault = 3
 session_status session.WriteFault = 3
 session_status session.ScriptTooLong = 3
 
+-- the status of a fault
 abbrev pub status_of : ProgramFault → ℕ
 status_of Usage = 2
 status_of Exists = 3

@@ -23,5 +23,6 @@ module _ (until : Until) (old new : SegmentState) (script : ReadDelta) (out : Wr
     pub left : (at : MachineState) → IsMachineAt old at
         → FailsOnTheWay answer_line (stops_at until refuses_line) at script out (IsMachineAt new) stop
 
+  -- a script on a segment: to its end or the first refusal, or its fault
   abbrev pub Serves : Result End SessionFault → Type 0
   Serves result = MatchResult result ServesOk ServesErr

@@ -24,7 +24,7 @@ use Rattle.segment_scripts.specs.Run.{run, run_lines, respond}
 use Rattle.segment_scripts.specs.Lines.{executable, script_limit, whole_lines}
 use Rattle.segment_scripts.specs.ZeroGaps.{zeros_after_run}
 
--- what four devices gave and took
+-- what the image, the script, the output and the saved image gave and took
 pub record SessionIo : Type 0 where
   pub image : ReadDelta
   pub script : ReadDelta
@@ -88,13 +88,14 @@ pub record Failures : Type 0 where
   pub out : Bool
   pub saved : Bool
 
+-- which of the four devices failed
 abbrev pub failures : SessionIo → Failures
 failures t = record { image = t.image.failed; script = t.script.failed; out = t.out.failed; saved = t.saved.failed }
 
 abbrev pub none_failed : Failures
 none_failed = record { image = false; script = false; out = false; saved = false }
 
--- done: the answers of the directory machine, and its last directory
+-- done: the script was read whole, the output is what `run` prints, and no device failed
 pub record IsDone (start : Start) (mode : Mode) (t : SessionIo) : Type 0 where
   pub from : Directory
   pub begins : StartsFrom start t.image from
@@ -158,7 +159,7 @@ pub record IsAnswerUnwritten (start : Start) (mode : Mode) (t : SessionIo) : Typ
   pub cut : IsCutInAnswer start mode t
   pub failed : failures t ≡ record none_failed { out = true }
 
--- the writer of the image failed
+-- the writer of the image failed; a proper prefix of the image may be saved
 pub record IsImageUnwritten (start : Start) (mode : Mode) (t : SessionIo) : Type 0 where
   pub cut : IsCutInImage start mode t
   pub failed : failures t ≡ record none_failed { saved = true }

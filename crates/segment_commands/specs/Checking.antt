@@ -35,6 +35,7 @@ abbrev pub reason_lines : List ℕ → SessionFault → Option FileProblem → L
 reason_lines path fault trouble =
     (quoted_text path ++ (codes ": " ++ (line (session_words fault) ++ []))) ++ trouble_line path trouble
 
+-- the lines of a refused file on standard error
 abbrev pub unfit_lines : List ℕ → Result (Unit {0}) SessionFault → Option FileProblem → List ℕ
 unfit_lines path (Ok u) trouble = []
 unfit_lines path (Err fault) trouble = reason_lines path fault trouble
@@ -64,6 +65,7 @@ all_unfit_lines = flat_map (λ c. unfit_lines c.path c.found c.trouble)
 abbrev pub worse : ℕ → ℕ → ℕ
 worse = ord_max nat_cmp
 
+-- the worst status of the files that were checked
 abbrev pub worst_status : List Checked → ℕ
 worst_status = fold (λ worst c. worse worst (status_in c.found)) 0
 

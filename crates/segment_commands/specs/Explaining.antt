@@ -33,6 +33,7 @@ words_of SharedBlock = codes "two links lead to one block"
 words_of BadContainer = codes "the block, elements, pairs or counts of a container are wrong"
 words_of OrphanBlock = codes "a block belongs to nothing"
 
+-- the line of a verdict
 abbrev pub verdict_text : Verdict → List ℕ
 verdict_text v = codes "at " ++ (decimal v.place ++ (codes ": " ++ (words_of v.class ++ (codes "\n" ++ []))))
 

@@ -12,5 +12,6 @@ module _ {D : Type 0} (step : D → Event → D → Type 0) (old new : D) (path 
     pub idle : is_idle
     pub refused : result ≡ Err InUse
 
+  -- the right to write is taken first and given back last; or another has it, and nothing is done
   abbrev pub HoldsLock : Type 0 → (D → D → Type 0) → Result (Unit {0}) CommandFault → Type 0
   HoldsLock is_idle does result = RefusesInUse is_idle result ⊎ RunsLocked step old new path does

@@ -29,6 +29,7 @@ module _ {D : Type 0} (step : D → Event → D
     pub writes : WritesImage step old new Replacement path segment.cut.bytes result
     pub answer : (fault : CommandFault) → result ≡ Err fault → fault ≡ Session WriteFault
 
+  -- `load --replace` over a file: its image takes the file's place, or there is no segment and nothing is asked
   abbrev pub LoadsOver : Type 0
   LoadsOver = LoadsOverErr ⊎ LoadsOverOk
 

@@ -143,6 +143,7 @@ module _ (size : Option ℕ) (script script' : ReaderHistory) (result : Result S
     pub loads : LoadsSegment text size result
     pub makes : IsFitting text size → IsMadeIfGiven result
 
+  -- an illegal size, and nothing is read; a dump that was not read whole; or one that was
   abbrev pub LoadsDump : Type 0
   LoadsDump = LoadsDumpBadSize ⊎ (LoadsDumpUnread ⊎ LoadsDumpRead)
 
@@ -177,6 +178,7 @@ module _ {D : Type 0} (step : D → Event → D
     pub writes : WritesImage step looked new New path segment.cut.bytes result
     pub answer : (fault : CommandFault) → result ≡ Err fault → fault ≡ Session WriteFault
 
+  -- `load`: something is there; no segment and no file; or its image is in a new file
   abbrev pub RunsLoad : Type 0
   RunsLoad = LoadsNothing ⊎ (LoadsToErr ⊎ LoadsToOk)
 

@@ -35,6 +35,7 @@ module _ {D : Type 0} (step : D → Event → D → Type 0) (old new : D) (path 
     pub reads : ReadsFile step old new path versions mode more read
     pub answer : result ≡ as_session read
 
+  -- the segment of a file, or why there is none
   abbrev pub OpensFile : Mode → Result SegmentState SessionFault → Type 0
   OpensFile mode result = OpensWith Current mode 0 result
 

@@ -27,11 +27,13 @@ dump_words dump.BadValue = codes "no value of the kind"
 dump_words dump.Exists = codes "already exists"
 dump_words dump.Unlike = codes "not as a dump has it"
 
+-- the line of a bad dump
 abbrev pub bad_dump_line : Bad → List ℕ
 bad_dump_line bad = codes "segment: dump refused: line "
     ++ (decimal bad.line ++ (codes ", column "
     ++ (decimal bad.column ++ (codes ": " ++ (dump_words bad.cause ++ (codes "\n" ++ []))))))
 
+-- the line of a lack of space
 abbrev pub no_space_line : ℕ → List ℕ
 no_space_line needed = codes "segment: no space: the objects need " ++ (decimal needed ++ (codes " bytes\n" ++ []))
 
@@ -63,6 +65,7 @@ trouble_line path (Some trouble) = trouble_text path trouble
 
 -- ---- its status
 
+-- the status of a command's fault
 abbrev pub command_status : CommandFault → ℕ
 command_status (Program f) = status_of f
 command_status InUse = 3

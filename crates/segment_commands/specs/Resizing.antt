@@ -67,6 +67,7 @@ module _ {D O : Type 0} (step : D → Event → D
     pub tells : TellsSize history flushes out out' s (told_ok E)
     pub writes : WritesImage step old new how path s.cut.bytes result
 
+  -- the size goes out and then the image is written, or neither
   abbrev pub TellsAndWrites : {E : Type 0} → SegmentState → Result (Unit {0}) E → Type 0
   TellsAndWrites s result = TellsSizeErr s result ⊎ TellsSizeAndWrites s result
 

@@ -57,6 +57,7 @@ module _ (until : Until) (old new : SegmentState) (script : ReadDelta) (out : Wr
     pub end : End
     pub answered : AnswersScript end false
 
+  -- a script on the segment of a run
   abbrev pub RunsScript : Result End SessionFault → Type 0
   RunsScript result = MatchResult result (λ end. AnswersScript end true) (λ fault. StopsWithFault fault
       ⊎ LosesAnswers fault)
@@ -138,6 +139,7 @@ module _ {D : Type 0} (step : D → Event → D
     pub refused : IsRefusedAct act
     pub flushed : Flushed true
 
+  -- a run ends well: saved after all answers, or at a refusal
   abbrev pub EndsRunOk : End → Type 0
   EndsRunOk Whole = EndsRunSaved
   EndsRunOk Refused = EndsRunRefused
@@ -174,6 +176,7 @@ module _ {D : Type 0} (step : D → Event → D
     pub asked : After step old (write_events how path written) new
     pub unsaved : LeavesUnsaved written
 
+  -- how a run ends
   abbrev pub EndsRun : Result End SessionFault → Type 0
   EndsRun result = MatchResult result EndsRunOk (λ fault. EndsRunStopped fault
       ⊎ (EndsRunLost fault ⊎ EndsRunUnsaved fault))
@@ -238,6 +241,7 @@ module _ {D : Type 0} (step : D → Event → D
         })
         flushes result
 
+  -- the file of a run was opened, or not
   abbrev pub RunsOpened : {O : Type 0} → (O → WriterHistory) → (Bool → Type 0) → O → O → Result End SessionFault
       → Type 0
   RunsOpened history flushes out out' result =
@@ -259,11 +263,13 @@ module _ {D O : Type 0} (step : D → Event → D
       (λ held done. IsAnswerOf (RunsOpened step held done path Write how until script script' history flushes out
       out') result) result
 
+  -- a run in a mode that the file has
   abbrev pub RunsReadable : Mode → Type 0
   RunsReadable Write = RunsHeld
   RunsReadable ReadOnly = RunsFree ReadOnly
   RunsReadable CopyOnWrite = RunsFree CopyOnWrite
 
+  -- a run on a file that is there
   abbrev pub RunsFile : Mode → Type 0
   RunsFile mode = FailsScript old new script script' out out' result ⊎ RunsReadable mode
 
@@ -297,6 +303,7 @@ module _ {D : Type 0} (step : D → Event → D
         })
         flushes result
 
+  -- the empty segment of a run was made, or not
   abbrev pub MakesRun : {O : Type 0} → (O → WriterHistory) → (Bool → Type 0) → O → O → Result End SessionFault → Type 0
   MakesRun history flushes out out' result = MakesRunErr out out' result ⊎ MakesRunOk history flushes out out' result
 

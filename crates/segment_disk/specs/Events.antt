@@ -51,6 +51,7 @@ After {D} step old (e ∷ es) new = (next : D) × step old e next × After step 
 abbrev pub nothing_given : ReaderHistory
 nothing_given = record { bytes = []; ended = false; ends = 0; failures = 0 }
 
+-- a writer that took nothing yet
 abbrev pub nothing_taken : WriterHistory
 nothing_taken = record { bytes = []; failures = 0 }
 

@@ -21,6 +21,7 @@ abbrev pub ends_none : Option ℕ → Bool
 ends_none None = true
 ends_none (Some last) = last == 0x2F
 
+-- no file can be made by the path
 abbrev pub names_none : List ℕ → Bool
 names_none path = ends_none (slice_get path (length path - 1))
 
@@ -30,6 +31,7 @@ problem_where unnamed (Some Missing) = if unnamed then Some Unnamed else Some No
 problem_where unnamed (Some Folder) = if unnamed then Some Unnamed else Some Folder
 problem_where unnamed trouble = trouble
 
+-- what an error's kind says of a file to be made
 abbrev pub creation_problem : ErrorKind → List ℕ → SaveMode → Option FileProblem
 creation_problem kind path Replacing = problem_of kind
 creation_problem kind path InPlace = problem_where (names_none path) (problem_of kind)

@@ -60,7 +60,7 @@ pub record IsFillable (p : FillState) (kind : Kind) (room : ℕ) : Type 0 where
   pub rest : IsRest p.more
   pub longest : (texts_needs p.content).longest ≤ room
 
--- an element more
+-- one more element comes from its lines
 pub record AddsElement {E : Type 0} (old new : SegmentState) (h : ℕ) (kind : Kind) (n : ℕ) (text rest : List ℕ)
     (room : ℕ) (result : Result (Unit {0}) E) : Type 0 where
   pub adds : (p : FillState) → IsFillable p kind room → n < count_of_content p.content → FillsAt old text p h n

@@ -54,9 +54,11 @@ holder_text (Holds class name kind) = class_words class name ++ kind_text kind
 abbrev pub capacity_words : Capacity → List ℕ
 capacity_words c = codes "# capacity of " ++ (holder_text c.holder ++ (codes ": " ++ number_text c.places))
 
+-- the note of a capacity
 abbrev pub capacity_note : Capacity → List ℕ
 capacity_note c = capacity_words c ++ 0x0A ∷ []
 
+-- a note for each capacity
 abbrev pub capacities_text : List Capacity → List ℕ
 capacities_text = flat_map capacity_note
 
@@ -66,6 +68,7 @@ capacities_text = flat_map capacity_note
 abbrev pub object_notes : Object → List ℕ
 object_notes o = capacities_text (object_capacities o)
 
+-- the notes of a key's object
 abbrev pub notes_at : Directory → Key → List ℕ
 notes_at d key = part_of object_notes (object_at d key)
 
@@ -74,6 +77,7 @@ abbrev pub places_in : Option Object → Option ℕ
 places_in None = None
 places_in (Some o) = places_of o.value
 
+-- the places of a key's object
 abbrev pub places_at : Directory → Key → Option ℕ
 places_at d key = places_in (object_at d key)
 

@@ -32,6 +32,7 @@ pub record IsCountable (i : DumpItem) : Type 0 where
 
 -- ---- the whole text
 
+-- the first three lines
 abbrev pub fronted : Front → List ℕ
 fronted f = front_text f.size f.named f.unique
 

@@ -17,6 +17,7 @@ WritesOf s old new result owed = WritesFor old new result (DenotesCurrent s.cut.
 abbrev pub object_text : Object → List ℕ
 object_text o = item_text (item_of_object o)
 
+-- the lines of a key's object
 abbrev pub text_at : Directory → Key → List ℕ
 text_at d key = part_of object_text (object_at d key)
 

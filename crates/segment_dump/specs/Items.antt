@@ -24,6 +24,7 @@ pub record Items : Type 0 where
 abbrev pub item_of_object : Object → DumpItem
 item_of_object o = record { class = o.class; name = o.name; content = content_of o.value }
 
+-- the anonymous objects of a directory, by handle
 abbrev pub anonymous_objects : Directory → List Object
 anonymous_objects d = filter (is_class Anonymous) d.objects
 

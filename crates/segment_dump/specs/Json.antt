@@ -19,6 +19,7 @@ string_byte c =
     else if nat_lt c 0x20 then 0x5C ∷ 0x75 ∷ 0x30 ∷ 0x30 ∷ digit_text (c / 16) ∷ digit_text (c % 16) ∷ []
     else c ∷ []
 
+-- a text in quotes
 abbrev pub json_string : List ℕ → List ℕ
 json_string bs = 0x22 ∷ flat_map string_byte bs ++ 0x22 ∷ []
 
@@ -41,9 +42,11 @@ base64_text (a ∷ b ∷ c ∷ rest) =
     base64_letter (a / 4) ∷ base64_letter (a % 4 * 16 + b / 16) ∷ base64_letter (b % 16 * 4 + c / 64)
     ∷ base64_letter (c % 64) ∷ base64_text rest
 
+-- bytes in base64
 abbrev pub json_coded : List ℕ → List ℕ
 json_coded bs = codes "{\"base64\":\"" ++ (base64_text bs ++ codes "\"}")
 
+-- bytes as JSON: a text if they are UTF-8, otherwise base64
 abbrev pub json_bytes : List ℕ → List ℕ
 json_bytes bs = if is_utf8 bs then json_string bs else json_coded bs
 
@@ -57,6 +60,7 @@ abbrev pub comma_before : ℕ → List ℕ
 comma_before zero = []
 comma_before (suc i) = codes ","
 
+-- the spelling of JSON
 abbrev pub in_json : Spelling
 in_json = record {
   scalar = λ i k z. comma_before i ++ value_text k z;
@@ -83,9 +87,11 @@ json_key Named name = codes "{\"class\":\"named\",\"name\":" ++ json_string name
 json_key Unique name = codes "{\"class\":\"unique\",\"name\":null"
 json_key Anonymous name = codes "{\"class\":\"anonymous\",\"name\":null"
 
+-- the kind of an object, in JSON
 abbrev pub json_kind : Kind → List ℕ
 json_kind kind = codes ",\"kind\":\"" ++ (kind_text kind ++ codes "\",\"value\":")
 
+-- an object as a line of JSON
 abbrev pub json_line : DumpItem → List ℕ
 json_line i = json_key i.class i.name
     ++ (json_kind (kind_of_content i.content) ++ (json_value i.content ++ codes "}\n"))
@@ -105,6 +111,7 @@ opening (kinds.Vector k) = codes "["
 opening (kinds.Map k v) = codes "["
 opening kinds.Strings = codes "["
 
+-- what is after the elements
 abbrev pub closing : Kind → List ℕ
 closing kinds.String = codes "}\n"
 closing (kinds.Scalar k) = codes "]}\n"
@@ -116,5 +123,6 @@ closing kinds.Strings = codes "]}\n"
 abbrev pub json_object : Object → List ℕ
 json_object o = json_line (item_of_object o)
 
+-- the line of a key's object, in JSON
 abbrev pub json_at : Directory → Key → List ℕ
 json_at d key = part_of json_object (object_at d key)

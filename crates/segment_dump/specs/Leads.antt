@@ -24,6 +24,7 @@ lead_text (Anonymous, name) = codes "anonymous "
 abbrev pub IsLead : Class × List ℕ → Type 0
 IsLead (class, name) = (class ≢ Named → name ≡ []) × IsSmall (length name)
 
+-- a kind and a count
 abbrev pub measured : Kind × ℕ → List ℕ
 measured (kind, n) = kind_and_count_text kind n
 

@@ -23,13 +23,16 @@ pub record ReadsWord {X E : Type 0} (value : Word → Option X) (text rest : Lis
 
 -- ---- what a word is
 
+-- a word as itself
 abbrev pub any_word : Word → Option Word
 any_word w = Some w
 
+-- a word as a bare word
 abbrev pub bare_word : Word → Option (List ℕ)
 bare_word (Bare bytes) = Some bytes
 bare_word (Text bytes) = None
 
+-- a word as a text
 abbrev pub quoted_word : Word → Option (List ℕ)
 quoted_word (Bare bytes) = None
 quoted_word (Text bytes) = Some bytes
@@ -43,6 +46,7 @@ abbrev pub seen_word : {E : Type 0} → Result Held E → Result Word E
 seen_word (Ok w) = Ok (word_of w)
 seen_word (Err e) = Err e
 
+-- the bytes of a word of the code
 abbrev pub seen_bytes : {E : Type 0} → Result (Bor (List ℕ)) E → Result (List ℕ) E
 seen_bytes (Ok bytes) = Ok bytes.now
 seen_bytes (Err e) = Err e

@@ -29,7 +29,7 @@ pub record HasObjectsOf (text : List ℕ) (s : SegmentState) : Type 0 where
   pub same : (b : List ℕ) (d : Directory) (n : ℕ) → DenotesCurrent b d → text ≡ dump_text n (portable d)
       → (e : Directory) → DenotesCurrent s.cut.bytes e → portable e ≡ portable d
 
--- both
+-- the text is the dump of the segment, which has its objects and the size that was asked for
 pub record IsLoaded (text : List ℕ) (size : Option ℕ) (s : SegmentState) : Type 0 where
   pub judged : IsJudged text size s
   pub objects : HasObjectsOf text s
@@ -47,6 +47,7 @@ abbrev pub IsRequestedSize : Option ℕ → ℕ → Type 0
 IsRequestedSize None n = ⊤
 IsRequestedSize (Some size) n = n ≡ size
 
+-- the size that was asked for
 abbrev pub asked_of : Option ℕ → ℕ → ℕ
 asked_of None said = said
 asked_of (Some size) said = size
@@ -104,6 +105,7 @@ cause_but_bad RegionTooSmall = Some RegionTooSmall
 cause_but_bad NoSpace = Some NoSpace
 cause_but_bad LongText = Some LongText
 
+-- the cause, if it is no place
 abbrev pub cause_in : Result SegmentState LoadRefused → Option LoadError
 cause_in (Ok s) = None
 cause_in (Err refused) = cause_but_bad refused.cause

@@ -36,15 +36,19 @@ object_room name_len kind n = block_room (head_len + padded name_len + body_len 
 
 -- ---- needs
 
+-- no need
 abbrev pub nothing : Needs
 nothing = record { room = 0; longest = 0 }
 
+-- a need of bytes alone
 abbrev pub only_room : ℕ → Needs
 only_room n = record { room = n; longest = 0 }
 
+-- two needs as one
 abbrev pub both : Needs → Needs → Needs
 both a b = record { room = a.room + b.room; longest = max a.longest b.longest }
 
+-- the sum of needs
 abbrev pub all_needs : {X : Type 0} → (X → Needs) → List X → Needs
 all_needs needs [] = nothing
 all_needs needs (x ∷ xs) = both (needs x) (all_needs needs xs)
@@ -61,6 +65,7 @@ texts_needs (String bs) = only_room (block_room (length bs))
 texts_needs (Map k v ps) = nothing
 texts_needs (Strings ts) = all_needs text_needs ts
 
+-- the bytes of an object with all its texts, and its longest text
 abbrev pub item_needs : DumpItem → Needs
 item_needs i =
     both (only_room (object_room (length i.name) (kind_of_content i.content) (count_of_content i.content)))

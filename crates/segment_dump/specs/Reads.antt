@@ -14,9 +14,11 @@ pub record Breaks (a : List ℕ) : Type 0 where
 abbrev pub HasNoEnd : List ℕ → Type 0
 HasNoEnd = AllByRecursion (λ c. c ≢ 0x0A)
 
+-- a line with its end
 abbrev pub ended : List ℕ → List ℕ
 ended line = line ++ 0x0A ∷ []
 
+-- several lines, each with its end
 abbrev pub lines_text : List (List ℕ) → List ℕ
 lines_text = flat_map ended
 
@@ -46,5 +48,6 @@ itself x = x
 abbrev pub seen : {Y : Type 0} → Option (Y × Bor (List ℕ)) → Option (Y × List ℕ)
 seen o = option_map (λ r. (r.0, r.1.now)) o
 
+-- what a reading left, by the bytes of its slice
 abbrev pub seen_rest : Option (Bor (List ℕ)) → Option (List ℕ)
 seen_rest o = option_map (λ r. r.now) o

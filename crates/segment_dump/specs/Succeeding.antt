@@ -31,18 +31,22 @@ pub record Takes {X E : Type 0} (say : X → List ℕ) (IsSaid : X
 abbrev pub version_line : List ℕ
 version_line = codes "segment dump 1"
 
+-- the words of the line of the size
 abbrev pub size_line : ℕ → List ℕ
 size_line n = codes "size " ++ decimal n
 
 abbrev pub entries_line : ℕ × ℕ → List ℕ
 entries_line p = codes "indexes " ++ decimal p.0 ++ 0x20 ∷ decimal p.1
 
+-- the line of the version
 abbrev pub version_said : Unit {0} → List ℕ
 version_said u = ended version_line
 
+-- the line of the size
 abbrev pub size_said : ℕ → List ℕ
 size_said n = ended (size_line n)
 
+-- the line of the entries
 abbrev pub entries_said : ℕ × ℕ → List ℕ
 entries_said p = ended (entries_line p)
 

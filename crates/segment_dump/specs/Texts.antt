@@ -23,6 +23,7 @@ pair_line k v (x, y) = 0x20 ∷ 0x20 ∷ value_text k x ++ 0x20 ∷ value_text v
 abbrev pub pieces_in : ℕ → ℕ
 pieces_in n = 1 + (n - 1) / 1000
 
+-- one piece of a text
 abbrev pub piece_of : List ℕ → ℕ → List ℕ
 piece_of bs i = take 1000 (drop (i * 1000) bs)
 
@@ -31,20 +32,25 @@ abbrev pub piece_lead : ℕ → List ℕ
 piece_lead zero = codes " "
 piece_lead (suc i) = codes "    "
 
+-- the line of a piece
 abbrev pub piece_line : List ℕ → ℕ → List ℕ
 piece_line bs i = piece_lead i ++ (quoted_text (piece_of bs i) ++ 0x0A ∷ [])
 
+-- the lines of all pieces
 abbrev pub pieces_text : List ℕ → List ℕ
 pieces_text bs = parts_until (piece_line bs) (pieces_in (length bs))
 
+-- the line of the length
 abbrev pub length_text : ℕ → List ℕ
 length_text n = 0x20 ∷ 0x20 ∷ number_text n
 
+-- a text in pieces of 1000 bytes
 abbrev pub text_lines : List ℕ → List ℕ
 text_lines bs = length_text (length bs) ++ pieces_text bs
 
 -- ---- an object
 
+-- the elements of an object, as lines
 abbrev pub content_text : ValueContent → List ℕ
 content_text (Scalars k zs) = flat_map (element_line k) zs
 content_text (Vector k zs) = flat_map (element_line k) zs
@@ -69,6 +75,7 @@ info_line lead Named name kind between n =
 info_line lead Unique name kind between n = lead ++ (kind_text kind ++ (between ++ (number_text n ++ 0x0A ∷ [])))
 info_line lead Anonymous name kind between n = lead ++ (kind_text kind ++ (between ++ (number_text n ++ 0x0A ∷ [])))
 
+-- all lines of an object
 abbrev pub item_text : DumpItem → List ℕ
 item_text i = head_line i.class i.name (kind_of_content i.content) (count_of_content i.content)
     ++ content_text i.content
@@ -81,6 +88,7 @@ front_text size named unique =
     codes "segment dump 1" ++ 0x0A ∷ codes "size " ++ number_text size ++ 0x0A ∷ codes "indexes "
     ++ number_text named ++ 0x20 ∷ number_text unique ++ 0x0A ∷ []
 
+-- the line end
 abbrev pub end_text : List ℕ
 end_text = codes "end" ++ 0x0A ∷ []
 

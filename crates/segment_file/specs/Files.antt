@@ -39,10 +39,12 @@ leave_events New path = []
 leave_events Truncate path = []
 leave_events Replacement path = Discarded path ∷ []
 
+-- the questions of an exchange of files
 abbrev pub place_events : List ℕ → Bool → List Event
 place_events path true = Placed path true ∷ []
 place_events path false = Placed path false ∷ Discarded path ∷ []
 
+-- the questions for a file that is made
 abbrev pub make_events : CreateMode → List ℕ → WriteOutcome → List Event
 make_events how path Overtaken = []
 make_events how path NotMade = Made how path false ∷ []
@@ -61,6 +63,7 @@ is_same NotMade = true
 is_same (Closed taken lasts) = true
 is_same (Offered image placed) = true
 
+-- the questions for a file that is made, after the comparison
 abbrev pub write_events : CreateMode → List ℕ → WriteOutcome → List Event
 write_events how path written = compare_events how path (is_same written) (make_events how path written)
 

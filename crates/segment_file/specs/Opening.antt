@@ -61,7 +61,7 @@ pub record IsWithoutMemory (format most : ℕ) (image : ReadDelta) (refusal : No
   pub within : asked ≤ most
   pub refused : refusal ≡ out_of_memory_of asked
 
--- want of room is no reason
+-- why no segment is opened; never for want of room
 abbrev pub IsWhyUnopened : ℕ → ℕ → ReadDelta → FileError → Type 0
 IsWhyUnopened format most image (Image c) = IsRefusedAs format image c
 IsWhyUnopened format most image (OutOfMemory (BlockMap refusal)) =
@@ -129,6 +129,7 @@ module _ {D A E : Type 0} (step : D → Event → D → Type 0) (old new : D) (p
     pub asked : After step old (open_events path len image) new
     pub answer : answers len image result
 
+  -- the file could not be opened, or it was opened, read and closed
   abbrev pub ReadsFile : E → (ℕ → ReadDelta → Result A E → Type 0) → Result A E → Type 0
   ReadsFile fault answers result = ReadsFileErr fault result ⊎ ReadsFileAs answers result
 
@@ -181,6 +182,7 @@ file_error NoRoom = None
 file_error (NoBlocks refusal) = Some (OutOfMemory (BlockMap refusal))
 file_error NotRead = Some ReadFault
 
+-- the cause is no want of room
 abbrev pub unfit_for : ExamineError → Option OpenFault
 unfit_for (Judged v) = Some (Unfitting v)
 unfit_for TooSmall = None

@@ -37,6 +37,7 @@ saved = Ok tt
 abbrev pub bytes_refused : ℕ → FileError
 bytes_refused n = OutOfMemory (Bytes (out_of_memory_of n))
 
+-- a request for a region for n bytes was refused
 abbrev pub region_refused : ℕ → FileError
 region_refused room = bytes_refused (region_len room)
 
@@ -104,6 +105,7 @@ module _ {D : Type 0} (step : D → Event → D → Type 0) (old new : D) (path 
     pub opens : OpensFile step held read path Current Write 0 result
     pub kept : MatchResult result (λ s. new ≡ read) (λ why. step read Released new)
 
+  -- another has the right to write, or it is taken before the file is read and kept exactly if there is a segment
   abbrev pub OpensHeld : Result SegmentState FileError → Type 0
   OpensHeld result = RefusesFileInUse result ⊎ OpensHeldOk result
 
@@ -194,7 +196,7 @@ pub record MigrateRefused {D : Type 0} (step : D → Event → D
   pub reads : OpensFile step old new path All Write 0 (Err why)
   pub refused : result ≡ Err why
 
--- `migrate`
+-- `migrate`: the file is rewritten in the current format, or refused
 abbrev pub Migrates : {D : Type 0} → (D → Event → D → Type 0) → D → D → List ℕ → Result (Unit {0}) FileError → Type 0
 Migrates step old new path result = MigrateRefused step old new path result ⊎ MigratesInPlace step old new path result
 
@@ -211,7 +213,7 @@ pub record GrowsFileErr (old new : SegmentState) (extra : ℕ) (why : FileError)
   pub refused : GrowsOrMovesErr old new extra cause
   pub answer : why ≡ growth_file_error cause
 
--- `grow`
+-- `grow`, which asks the disk for nothing
 abbrev pub GrowsFile : SegmentState → SegmentState → ℕ → Result (Unit {0}) FileError → Type 0
 GrowsFile old new extra result = MatchResult result (λ u. GrowsOrMovesOk old new extra) (GrowsFileErr old new extra)
 
@@ -227,6 +229,6 @@ pub record ShrinksFileErr (old new : SegmentState) (why : FileError) : Type 0 wh
   pub applies : (d : Directory) → DenotesCurrent old.cut.bytes d → shrink_refusal old.mode ≡ Some reason
   pub refused : why ≡ Growth reason
 
--- `shrink`
+-- `shrink`, which asks the disk for nothing
 abbrev pub ShrinksFile : SegmentState → SegmentState → Result (Unit {0}) FileError → Type 0
 ShrinksFile old new result = MatchResult result (λ u. ShrinksFileOk old new) (ShrinksFileErr old new)

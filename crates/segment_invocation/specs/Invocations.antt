@@ -125,6 +125,7 @@ subcommands = create_command ∷ run_command ∷ check_command ∷ grow_command 
     ∷ file_command (codes "stat") ∷ draw_command ∷ dump_command ∷ names_command ∷ load_command
     ∷ taking (codes "lint") [] ∷ taking (codes "language") [] ∷ []
 
+-- the grammar of the command line
 abbrev pub command_line : App
 command_line = fold with_subcommand program subcommands
 
@@ -157,6 +158,7 @@ pub data InvocationValue : Type 0 where
   language : InvocationValue
   version : InvocationValue
 
+-- the script of an invocation
 abbrev pub origin_by : Script → Origin
 origin_by script.Input = input
 origin_by (script.File path) = from_file path.now
@@ -166,6 +168,7 @@ origin_by (script.Lines texts) = from_lines (map (λ s. s.now) texts.items)
 abbrev pub script_text : List (Bor Text) → Text
 script_text = flat_map (λ line. line.now ++ 0x0A ∷ [])
 
+-- what an invocation asks for
 abbrev pub asked_by : Invocation → InvocationValue
 asked_by (Create file size) = create file.now size
 asked_by (Run file mode size) = run file.now mode size
@@ -193,6 +196,7 @@ mode_word OpenOrCreate = codes "open_or_create"
 mode_word OpenReadOnly = codes "open_read_only"
 mode_word OpenCopyOnWrite = codes "open_copy_on_write"
 
+-- the mode of a word
 abbrev pub mode_called : Text → Option ModeName
 mode_called word =
     if bytes_eq word (mode_word CreateOnly) then Some CreateOnly
@@ -260,6 +264,7 @@ plain_change file (change.Grow bytes) = grow file bytes
 plain_change file change.Shrink = shrink file
 plain_change file change.Migrate = migrate file
 
+-- a change of a file, with its options
 abbrev pub asked_change : Text → FileChange → SaveMode → ℕ → InvocationValue
 asked_change file change saving wait =
     if is_plain saving wait then plain_change file change else change_with file change saving wait
@@ -272,6 +277,7 @@ list_of id words = unwrap_or (all_of id words) []
 abbrev pub with_file : (Text → Option InvocationValue) → List Row → Option InvocationValue
 with_file ask words = option_and_then ask (first_of (codes "file") words)
 
+-- a command with a number
 abbrev pub with_number : (Text → ℕ → Option InvocationValue) → List Row → Option InvocationValue
 with_number ask words = with_file (λ file.
     option_and_then (ask file) (option_and_then number_of (first_of (codes "number") words))) words
@@ -295,6 +301,7 @@ checked_of file files explains quiet =
     else if quiet then Some (check_all files true)
     else Some (check file)
 
+-- what a check asks for
 abbrev pub asked_check : List Row → Option InvocationValue
 asked_check words = with_file (λ file.
     checked_of file (list_of (codes "file") words) (is_set (first_of (codes "explain") words))
@@ -334,6 +341,7 @@ pub record RunWords : Type 0 where
   pub strict : Option Text
   pub numbered : Option Text
 
+-- the words of a run
 abbrev pub run_words : List Row → RunWords
 run_words words = record {
   file = first_of (codes "file") words;
@@ -364,6 +372,7 @@ asked_of_run said =
     run_sized said file mode size origin wait)
     (origin_of said.script said.lines)) (seconds_of said.wait)) (size_of said.size)) (mode_of said.mode)) said.file
 
+-- what a run asks for
 abbrev pub asked_run : List Row → Option InvocationValue
 asked_run words = asked_of_run (run_words words)
 
@@ -394,6 +403,7 @@ asked_as (Some on_file.Names) words = asked_names words
 asked_as (Some on_file.Load) words = asked_load words
 asked_as None words = None
 
+-- the command of the words of a subcommand
 abbrev pub asked_in : Text → List Row → Option InvocationValue
 asked_in subcommand words =
     if bytes_eq subcommand (codes "lint") then Some lint

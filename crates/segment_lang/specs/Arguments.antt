@@ -29,9 +29,11 @@ handle_of w = None
 abbrev pub command_of_one : Reader → List ℕ → Option Command
 command_of_one g bytes = option_and_then (λ x. g (whole_language current) (x ∷ [])) (only_word bytes)
 
+-- what two words ask for
 abbrev pub command_of_two : Reader → List ℕ → Option Command
 command_of_two g bytes = option_and_then (λ x. g (whole_language current) (x.0 ∷ x.1 ∷ [])) (two_words bytes)
 
+-- what three words ask for
 abbrev pub command_of_three : Reader → List ℕ → Option Command
 command_of_three g bytes = option_and_then (λ x. g (whole_language current) (x.0 ∷ x.1 ∷ x.2 ∷ [])) (three_words bytes)
 

@@ -11,6 +11,7 @@ use Rattle.segment_lang.specs.declared.pieces.Piece.TheVariants.{Refusal}
 abbrev pub part_text : Bor (List ℕ) → List ℕ
 part_text part = part.now
 
+-- the text of a piece of an answer
 abbrev pub piece_text : Piece → List ℕ
 piece_text (Bytes bytes) = bytes.now
 piece_text (Number n) = decimal n

@@ -22,6 +22,7 @@ use Rattle.segment_lang.specs.Language.{Language}
 unfoldable pub kind_named : Language → List ℕ → Option Kind
 kind_named l w = find (λ k. is_word w (kind_text k)) l.kinds
 
+-- a word as a kind
 abbrev pub kind_of_word : Language → Word → Option Kind
 kind_of_word l (Bare w) = kind_named l w
 kind_of_word l (word.Text bs) = None
@@ -31,9 +32,11 @@ abbrev pub counted : Kind → Option ℕ → Option (Kind × ℕ)
 counted (Scalar k) (Some n) = if nat_le 1 n && nat_le n 1048576 then Some (Scalar k, n) else None
 counted k n = None
 
+-- the number in brackets
 abbrev pub bracketed : List ℕ → Option ℕ
 bracketed w = if slice_index w (length w - 1) == 0x5D then number_of (take (length w - 1) w) else None
 
+-- a kind, and how many: 1, or the number in brackets
 abbrev pub counted_kind : Language → Word → Option (Kind × ℕ)
 counted_kind l (word.Text bs) = None
 counted_kind l (Bare w) = elim (kind_named l w) [
@@ -68,6 +71,7 @@ agrees k (ByName name) = true
 agrees k (ByHandle h) = true
 agrees k NoKey = true
 
+-- the key, if it agrees with the kind
 abbrev pub for_kind : Kind → Option Key → Option Key
 for_kind k key = option_and_then (λ key. if agrees k key then Some key else None) key
 
@@ -77,17 +81,21 @@ abbrev pub all : {A B : Type 0} → (A → Option B) → List A → Option (List
 all f [] = Some []
 all f (x ∷ xs) = option_and_then (λ y. option_map (λ ys. y ∷ ys) (all f xs)) (f x)
 
+-- a word as a value of a kind
 abbrev pub value_for : ScalarKind → Word → Option ℤ
 value_for k w = option_and_then (λ l. result_ok (value_of_literal k l)) (literal_of_word w)
 
+-- a word as a number
 abbrev pub number : Word → Option ℕ
 number (Bare w) = number_of w
 number (word.Text bs) = None
 
+-- a word as a text
 abbrev pub quoted_of : Word → Option (List ℕ)
 quoted_of (Bare w) = None
 quoted_of (word.Text bs) = Some bs
 
+-- the content that words give an object of a kind
 abbrev pub content : Kind → ℕ → List Word → Option Content
 content (Scalar k) n (v ∷ []) = option_map (λ z. asked.Numbers k (replicate n z)) (value_for k v)
 content (Vector k) n vs = option_map (asked.Elements k) (all (value_for k) vs)
@@ -107,6 +115,7 @@ making make key_in l (kw ∷ key ∷ args) =
     (for_kind k (key_in l key))) (counted_kind l kw)
 making make key_in l ws = None
 
+-- the command with exactly n values
 abbrev pub items : ℕ → ScalarKind → Key → List ℤ → Option Command
 items n k key zs = if length zs == n then Some (asked.ConstructIt key k n zs) else None
 
@@ -126,22 +135,27 @@ abbrev pub alone : Command → Reader
 alone c l [] = Some c
 alone c l ws = None
 
+-- a key
 abbrev pub with_key : (Key → Command) → (Language → Word → Option Key) → Reader
 with_key f key_in l (key ∷ []) = option_map f (key_in l key)
 with_key f key_in l ws = None
 
+-- a number
 abbrev pub with_number : (ℕ → Command) → Reader
 with_number f l (n ∷ []) = option_map f (number n)
 with_number f l ws = None
 
+-- a key and a number
 abbrev pub with_key_number : (Key → ℕ → Command) → Reader
 with_key_number f l (key ∷ n ∷ []) = option_and_then (λ key. option_map (f key) (number n)) (key_of l key)
 with_key_number f l ws = None
 
+-- a key and a value
 abbrev pub with_key_literal : (Key → Literal → Command) → Reader
 with_key_literal f l (key ∷ v ∷ []) = option_and_then (λ key. option_map (f key) (literal_of_word v)) (key_of l key)
 with_key_literal f l ws = None
 
+-- a key, a number and a value
 abbrev pub with_key_number_literal : (Key → ℕ → Literal → Command) → Reader
 with_key_number_literal f l (key ∷ n ∷ v ∷ []) =
     option_and_then (λ key. option_and_then (λ n. option_map (f key n) (literal_of_word v)) (number n)) (key_of l key)
@@ -151,16 +165,19 @@ abbrev pub assigning : Reader
 assigning l (key ∷ vs) = option_and_then (λ key. option_map (asked.Assign key) (all literal_of_word vs)) (key_of l key)
 assigning l ws = None
 
+-- a key and two values
 abbrev pub putting : Reader
 putting l (key ∷ k ∷ v ∷ []) =
     option_and_then (λ key. option_and_then (λ k. option_map (asked.Put key k) (literal_of_word v)) (literal_of_word k))
     (key_of l key)
 putting l ws = None
 
+-- a key and a text
 abbrev pub appending : Reader
 appending l (key ∷ word.Text bs ∷ []) = option_map (λ key. asked.Append key bs) (key_of l key)
 appending l ws = None
 
+-- a kind and a key
 abbrev pub finding : Reader
 finding l (kw ∷ key ∷ []) = option_and_then (λ k. option_map (λ key. asked.Find key k) (for_kind k (name_key l key)))
     (kind_of_word l kw)
@@ -176,6 +193,7 @@ destroying_ptr l ws = None
 abbrev pub Form : Type 0
 Form = List ℕ × Reader
 
+-- all command words with their forms
 abbrev pub forms : List Form
 forms =
     (codes "construct", making asked.Construct new_key)
@@ -230,10 +248,12 @@ reading_of_words l first rest = elim (form_of first) [
   | Some form ↦ as_reading (option_and_then (form.1 l) (words rest))
 ]
 
+-- the line without its blanks in front
 abbrev pub skip_blanks : List ℕ → List ℕ
 skip_blanks [] = []
 skip_blanks (c ∷ cs) = if is_blank c then skip_blanks cs else c ∷ cs
 
+-- a line after its blanks
 abbrev pub command_line : Language → List ℕ → Reading
 command_line l [] = Nothing
 command_line l (c ∷ cs) =
@@ -244,7 +264,7 @@ command_line l (c ∷ cs) =
 abbrev pub without_return : List ℕ → List ℕ
 without_return line = if slice_index line (length line - 1) == 0x0D then take (length line - 1) line else line
 
--- a line without its end
+-- the one reading of a line: nothing, a command, or error 1, 2 or 3
 unfoldable pub reading : Language → List ℕ → Reading
 unfolding is_text_name kind_named
 reading l line =

@@ -37,6 +37,7 @@ use Rattle.segment_lang.specs.declared.forms.CommandForm.TheVariants as form
 use Rattle.segment_lang.specs.declared.forms.DeedForm.{DeedForm}
 use Rattle.segment_lang.specs.declared.forms.DeedForm.TheVariants as deed
 
+-- which word a value of the code stands for
 abbrev pub word_of : Word → said.Word
 word_of (Bare w) = said.Bare w.now
 word_of (Text t) = said.Text t
@@ -46,6 +47,7 @@ abbrev pub bytes_said : Word → List ℕ
 bytes_said (Bare w) = w.now
 bytes_said (Text t) = t
 
+-- which literal a value of the code stands for
 abbrev pub literal_of : Literal → asked.Literal
 literal_of (Whole z) = asked.Whole z
 literal_of (Truth b) = asked.Truth b
@@ -65,6 +67,7 @@ literal_held (asked.Quoted t) = Quoted t
 abbrev pub literals_held : List asked.Literal → List Literal
 literals_held ls = map literal_held ls
 
+-- which content a value of the code stands for
 abbrev pub content_of : Content → asked.Content
 content_of (Scalars s n) = asked.Numbers (kind_of_scalar s) (replicate n (value_of_scalar s))
 content_of (Elements values) = asked.Elements values.kind values.numbers
@@ -72,6 +75,7 @@ content_of (StringContent t) = asked.Bytes t
 content_of (StringsContent ts) = asked.Strings ts
 content_of (NoPairs key value) = asked.NoPairs key value
 
+-- which changing command a value of the code stands for
 abbrev pub deed_of : Deed → asked.Command
 deed_of (Construct key content) = asked.Construct (new_key_seen key) (content_of content)
 deed_of (ConstructIt key count values) = asked.ConstructIt (new_key_seen key) values.kind count values.numbers
@@ -110,6 +114,7 @@ wrong_reading UnknownCommand = asked.UnknownCommand
 wrong_reading LineTooLong = asked.LineTooLong
 wrong_reading BadSyntax = asked.BadSyntax
 
+-- the reading is an error
 abbrev pub is_wrong : asked.Reading → Bool
 is_wrong asked.Nothing = false
 is_wrong (asked.Asked c) = false
@@ -161,6 +166,7 @@ reader_of (form.Deed d) = deed_reader_of d
 abbrev pub reading_by : CommandForm → List ℕ → asked.Reading
 reading_by form rest = as_reading (option_and_then (reader_of form (whole_language current)) (words rest))
 
+-- what is read after a command word
 abbrev pub reading_led : LineStart → asked.Reading
 reading_led lead.Nothing = asked.Nothing
 reading_led (lead.Form form rest) = reading_by form rest.now

@@ -17,6 +17,7 @@ at_end bytes = length (skip_blanks bytes) == 0
 abbrev pub up_to_blank : List ℕ → List ℕ
 up_to_blank bytes = take_while (λ c. not (is_blank c)) bytes
 
+-- the bytes after the first word
 abbrev pub behind_word : List ℕ → List ℕ
 behind_word bytes = drop (length (up_to_blank bytes)) bytes
 
@@ -90,6 +91,7 @@ unfoldable mutual
 abbrev pub text_in : List ℕ → List ℕ
 text_in bytes = (unwrap_or (text_at bytes) ([], [])).0
 
+-- what follows a text
 abbrev pub behind_text : List ℕ → Option (List ℕ)
 behind_text bytes = option_map (λ x. x.1) (text_at bytes)
 

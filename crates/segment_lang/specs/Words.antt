@@ -7,9 +7,11 @@ use Rattle.std.specs.Cmp.Lexicographic.{pointwise}
 use Rattle.seg_types.specs.Commands.{Literal, Whole, Truth, Quoted}
 pub use Rattle.seg_types.specs.Texts.{between, is_bare_name, is_digit, is_letter}
 
+-- the byte is a space or a tab
 abbrev pub is_blank : ℕ → Bool
 is_blank c = (c == 0x20) || (c == 0x09)
 
+-- the byte may stand in a bare word
 abbrev pub is_bare : ℕ → Bool
 is_bare c = between 0x21 0x7E c && not (c == 0x22)
 
@@ -37,12 +39,14 @@ WordRest = Option (List ℕ × List Word)
 abbrev pub more : ℕ → WordRest → WordRest
 more c rest = option_map (λ (bs, ws). (c ∷ bs, ws)) rest
 
+-- a bare word, by its first byte and its rest
 abbrev pub bare_word : ℕ → WordRest → Option (List Word)
 bare_word c rest = option_map (λ (bs, ws). Bare (c ∷ bs) ∷ ws) rest
 
 abbrev pub text_word : WordRest → Option (List Word)
 text_word rest = option_map (λ (bs, ws). Text bs ∷ ws) rest
 
+-- the end of a word, and the words after it
 abbrev pub ended : Option (List Word) → WordRest
 ended ws = option_map (λ ws. ([], ws)) ws
 
@@ -83,6 +87,7 @@ abbrev mutual
 
 -- ---- numbers
 
+-- the value of digits, behind a number
 abbrev pub number_after : ℕ → List ℕ → ℕ
 number_after n [] = n
 number_after n (d ∷ ds) = number_after (10 * n + (d - 0x30)) ds
@@ -93,9 +98,11 @@ is_numeral [] = false
 is_numeral (d ∷ []) = is_digit d
 is_numeral (d ∷ e ∷ ds) = between 0x31 0x39 d && list_all is_digit (e ∷ ds)
 
+-- a decimal number below 2^64
 abbrev pub number_of : List ℕ → Option ℕ
 number_of w = if is_numeral w && nat_le (number_after 0 w) 18446744073709551615 then Some (number_after 0 w) else None
 
+-- a negative number, by its digits
 abbrev pub negative_of : List ℕ → Option ℤ
 negative_of w =
     if is_numeral w && nat_lt 0 (number_after 0 w) && nat_le (number_after 0 w) 9223372036854775808
@@ -106,6 +113,7 @@ abbrev pub whole_of : List ℕ → Option ℤ
 whole_of [] = None
 whole_of (c ∷ cs) = if c == 0x2D then negative_of cs else option_map pos (number_of (c ∷ cs))
 
+-- the two words are equal
 abbrev pub is_word : List ℕ → List ℕ → Bool
 is_word = pointwise nat_eq
 

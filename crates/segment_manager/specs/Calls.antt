@@ -62,6 +62,7 @@ elements_of (Vector k) = Ok k
 elements_of (Map k v) = Err WrongKind
 elements_of Strings = Err WrongKind
 
+-- the kind of the elements of a key's object
 abbrev pub elements_at : Directory → Key → Result ScalarKind Refusal
 elements_at d key = elim (object_at d key) [ None ↦ Err NotFound | Some o ↦ elements_of (kind_of o.value) ]
 

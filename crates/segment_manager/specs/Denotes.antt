@@ -39,6 +39,7 @@ pub record IsObjectAt (m : Memory) (o : Object) : Type 0 where
   pub name : HasBytesAt m (handle o.extent + head_len) (padded_name o.name)
   pub value : IsValueAt m (handle o.extent + head_len + padded (length o.name)) o.value
 
+-- the handles of the objects
 abbrev pub handles : List Object → List ℕ
 handles = map (λ (o : Object). handle o.extent)
 
@@ -49,7 +50,8 @@ pub record IsHeader (format : ℕ) (m : Memory) (size : ℕ) : Type 0 where
   pub size_word : word_at m size_at ≡ size
   pub zeros : AreZero m reserved_at header_len
 
--- The bytes stand for the directory, by a format. What is not spoken of here may be anything.
+-- The bytes denote the directory, by a format: header, live set, both indexes, each object in its block. All other
+-- bytes may be anything.
 pub record Denotes (format : ℕ) (b : List ℕ) (d : Directory) : Type 0 where
   pub directory : IsDirectory format d
   pub header : IsHeader format (bytes_of b) d.size

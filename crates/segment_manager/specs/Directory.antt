@@ -41,6 +41,7 @@ pub record Directory : Type 0 where
 abbrev pub empty : ℕ → Directory
 empty size = record { size = size; objects = []; named = no_backing; unique = no_backing }
 
+-- the kind of a value
 abbrev pub kind_of : Value → Kind
 kind_of (Numbers k zs) = Scalar k
 kind_of (Elements k zs t) = Vector k
@@ -48,6 +49,7 @@ kind_of (Bytes bs t) = String
 kind_of (Pairs k v ps) = Map k v
 kind_of (Texts ps t) = StringsKind
 
+-- how many elements, bytes or pairs a value has
 abbrev pub count_of : Value → ℕ
 count_of (Numbers k zs) = length zs
 count_of (Elements k zs t) = 1
@@ -63,6 +65,7 @@ value_len (Bytes bs t) = 24
 value_len (Pairs k v ps) = 24
 value_len (Texts ps t) = 24
 
+-- a length, rounded up to a multiple of 8
 abbrev pub padded : ℕ → ℕ
 padded n = (n + 7) / 8 * 8
 
@@ -82,9 +85,11 @@ value_extents (Bytes bs t) = table_extents t
 value_extents (Pairs k v ps) = map (λ (p : NumberPair). p.node) ps
 value_extents (Texts ps t) = table_extents t ++ flat_map (λ (p : OwnedText). option_to_list p.extent) ps
 
+-- the blocks of an object
 abbrev pub extents_of : Object → List Extent
 extents_of o = o.extent ∷ value_extents o.value
 
+-- the extents by their offsets
 abbrev pub sorted : List Extent → List Extent
 sorted [] = []
 sorted (x ∷ xs) = insert x (sorted xs)
@@ -104,12 +109,14 @@ same_bytes = pointwise nat_eq
 abbrev pub is_class : Class → Object → Bool
 is_class c o = class_code c == class_code o.class
 
+-- the object is the one that the key means
 abbrev pub has_key : Key → Object → Bool
 has_key (ByName name) o = is_class Named o && same_bytes name o.name
 has_key (ByKind k) o = is_class Unique o && same_kind k (kind_of o.value)
 has_key (ByHandle h) o = h == handle o.extent
 has_key NoKey o = false
 
+-- the object of a key, of which there is at most one
 abbrev pub object_at : Directory → Key → Option Object
 object_at d key = find (has_key key) d.objects
 
@@ -128,12 +135,15 @@ abbrev pub replace_object : Object → List Object → List Object
 replace_object o [] = []
 replace_object o (p ∷ ps) = if handle o.extent == handle p.extent then o ∷ ps else p ∷ replace_object o ps
 
+-- the directory with one object more
 abbrev pub with_object : Directory → Object → Directory
 with_object d o = record d { objects = put_object o d.objects }
 
+-- the directory with an object in the place of the one with its handle
 abbrev pub with_changed : Directory → Object → Directory
 with_changed d o = record d { objects = replace_object o d.objects }
 
+-- the directory without an object
 abbrev pub without_object : Directory → Object → Directory
 without_object d o = record d { objects = remove_object (handle o.extent) d.objects }
 
@@ -148,9 +158,11 @@ abbrev pub insert_by : (Object → Object → Bool) → Object → List Object �
 insert_by lt o [] = o ∷ []
 insert_by lt o (p ∷ ps) = if lt o p then o ∷ p ∷ ps else p ∷ insert_by lt o ps
 
+-- the objects with names, by the bytes of their names
 abbrev pub named_objects : Directory → List Object
 named_objects d = fold (λ os o. insert_by by_name o os) [] (filter (is_class Named) d.objects)
 
+-- the unique objects, by the codes of their kinds
 abbrev pub unique_objects : Directory → List Object
 unique_objects d = fold (λ os o. insert_by by_kind o os) [] (filter (is_class Unique) d.objects)
 
@@ -196,7 +208,7 @@ abbrev pub rises_from : ℕ → List Object → Bool
 rises_from n [] = true
 rises_from n (o ∷ os) = nat_le n o.extent.offset && rises_from (o.extent.offset + 1) os
 
--- A directory whose objects are of a format.
+-- all objects are, none overlap, names and unique kinds differ, no index is over its capacity
 pub record IsDirectory (format : ℕ) (d : Directory) : Type 0 where
   -- no two extents meet, and all gaps can be free blocks
   pub proper : IsTrue (is_proper (live d))

@@ -12,7 +12,7 @@ use Rattle.seg_vector.specs.Vector.{OwnedText, capacity_for_one, grown_backing}
 use Rattle.segment_manager.specs.Directory.{Object, Directory, Texts, live, object_at}
 use Rattle.segment_manager.specs.State.{SegmentState, DenotesCurrent}
 
--- the call changes nothing if this holds of the directory
+-- if this holds of the directory, the call changed no byte, of gaps neither
 abbrev pub UnchangedWhere : SegmentState → SegmentState → (Directory → Type 0) → Type 0
 UnchangedWhere old new holds = (d : Directory) → DenotesCurrent old.cut.bytes d → holds d → new ≡ old
 

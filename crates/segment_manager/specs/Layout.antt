@@ -4,12 +4,15 @@ use Rattle.std.specs.Prelude.{ℕ}
 
 -- ---- the header
 
+-- the offset of the magic in the header
 abbrev pub magic_at : ℕ
 magic_at = 0
 
+-- the offset of the format in the header
 abbrev pub format_at : ℕ
 format_at = 8
 
+-- the offset of the size in the header
 abbrev pub size_at : ℕ
 size_at = 16
 
@@ -25,6 +28,7 @@ unique_at = 56
 abbrev pub reserved_at : ℕ
 reserved_at = 80
 
+-- the length of the header
 abbrev pub header_len : ℕ
 header_len = 128
 

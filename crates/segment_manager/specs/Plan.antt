@@ -28,6 +28,7 @@ pub data Plan : Type 0 where
   Request : Need → (Extent → Plan) → Plan
   Reply : Answer → Directory → Plan
 
+-- the extent that a request gets
 abbrev pub met : LiveSet → Need → Option Extent
 met l (New role n) = place l n role
 met l (Regrown old n) = regrow l old n

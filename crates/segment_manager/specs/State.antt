@@ -12,7 +12,7 @@ pub record SegmentState : Type 0 where
   pub cut : WindowState
   pub mode : Mode
 
--- the bytes denote the directory
+-- the bytes denote the directory, by the current format
 pub record DenotesCurrent (b : List ℕ) (d : Directory) : Type 0 where
   pub denotes : Denotes current b d
 
@@ -29,7 +29,8 @@ pub record KeepsModeAndPlace (old new : SegmentState) : Type 0 where
 pub record AnswersWith {A : Type 0} (s : SegmentState) (say : Directory → A) (result : A) : Type 0 where
   pub answers : (d : Directory) → DenotesCurrent s.cut.bytes d → result ≡ say d
 
--- from each directory that the old bytes denote to one that the new bytes denote, with this answer, of whatever type
+-- For each directory that the old bytes denote, the answer is this and the new bytes denote the next directory. Mode
+-- and surroundings stay.
 pub record Transitions {A : Type 0} (old new : SegmentState) (answer : A) (next : Directory
     → A × Directory) : Type 0 where
   pub stays : KeepsModeAndPlace old new
@@ -44,8 +45,8 @@ TakesStep old new c answer = Transitions old new answer (λ d. step old.mode d c
 abbrev pub TakesStepOfKind : SegmentState → SegmentState → Key → Kind → Command → Answer → Type 0
 TakesStepOfKind old new key kind c answer = Transitions old new answer (λ d. step_of_kind old.mode d key kind c)
 
--- The call is refused exactly if the step is, for the same reason, and otherwise it is not; it leads to the step's
--- directory. This is for a call that answers less than the machine.
+-- The call is refused exactly if the step is, for the same reason, and leads to the step's directory. This is for a
+-- call that answers less than the machine.
 abbrev pub StepsWithoutAnswer : SegmentState → SegmentState → Command → Option Refusal → Type 0
 StepsWithoutAnswer old new c refusal =
     Transitions old new refusal (λ d. (refusal_of (step old.mode d c).0, (step old.mode d c).1))
@@ -64,6 +65,7 @@ UnchangedIfRefused old new result = IfErr result (λ why. is_untouched (Refused 
 
 -- ---- what a call's result is as an answer
 
+-- a result as an answer
 abbrev pub answer_of : {A : Type 0} → (A → Answer) → Result A Refusal → Answer
 answer_of f (Ok a) = f a
 answer_of f (Err r) = Refused r
@@ -73,9 +75,11 @@ abbrev pub refusal_in : {A : Type 0} → Result A Refusal → Option Refusal
 refusal_in (Ok a) = None
 refusal_in (Err r) = Some r
 
+-- the result of a call that makes an object, as an answer
 abbrev pub handle_answer : Result ℕ Refusal → Answer
 handle_answer = answer_of Made
 
+-- the result of a call that answers nothing, as an answer
 abbrev pub done_answer : Result (Unit {0}) Refusal → Answer
 done_answer = answer_of (λ u. Done)
 
@@ -83,8 +87,10 @@ done_answer = answer_of (λ u. Done)
 abbrev pub gone_answer : Result (Unit {0}) Refusal → Answer
 gone_answer = answer_of (λ u. Truth true)
 
+-- the result of a test, as an answer
 abbrev pub truth_answer : Result Bool Refusal → Answer
 truth_answer = answer_of Truth
 
+-- the result of a call that reads an element, as an answer
 abbrev pub scalar_answer : Result ScalarValue Refusal → Answer
 scalar_answer = answer_of (λ v. Element (kind_of_scalar v) (value_of_scalar v))

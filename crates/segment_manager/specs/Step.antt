@@ -60,6 +60,7 @@ vector_of (Bytes bs t) = Err WrongKind
 vector_of (Pairs k v ps) = Err WrongKind
 vector_of (Texts ps t) = Err WrongKind
 
+-- the bytes and the storage of a string
 abbrev pub text_of : Value → Result (List ℕ × BackingArray) Refusal
 text_of (Numbers k zs) = Err WrongKind
 text_of (Elements k zs t) = Err WrongKind
@@ -91,6 +92,7 @@ found_at d key = elim (object_at d key) [ None ↦ Err NotFound | Some o ↦ Ok 
 abbrev pub changed : Directory → Object → Value → Directory
 changed d o v = with_changed d (record o { value = v })
 
+-- the handle and the count of an object, as an answer
 abbrev pub found : Object → Answer
 found o = Found (handle o.extent) (count_of o.value)
 
@@ -99,6 +101,7 @@ abbrev pub text_of_literal : Literal → Result (List ℕ) Refusal
 text_of_literal (asked.Quoted bs) = Ok bs
 text_of_literal l = Err WrongKind
 
+-- the texts that literals are
 abbrev pub texts_of : List Literal → Result (List (List ℕ)) Refusal
 texts_of [] = Ok []
 texts_of (asked.Quoted bs ∷ ls) = elim (texts_of ls) [ Ok bss ↦ Ok (bs ∷ bss) | Err r ↦ Err r ]
@@ -168,6 +171,7 @@ erase d o v i =
     with (vector_of v) (λ (k, zs, t). with (element_at zs i)
     (λ z. Reply Done (changed d o (Elements k (remove zs i) t))))
 
+-- the plan of a map's put, with the numbers of key and value
 abbrev pub put : Directory → Object → ScalarKind → ScalarKind → List NumberPair → List ℤ → Plan
 put d o k v ps (x ∷ y ∷ []) = elim (pair_at int_lt ps x) [
   | Some p ↦ Reply (Truth false) (changed d o (Pairs k v (put_pair int_lt (record p { value = y }) ps)))
@@ -181,6 +185,7 @@ shrunk_indexes d =
     let e : Directory = record d { named = shrunk_backing (live d) 8 (length (named_objects d)) d.named } in
     record e { unique = shrunk_backing (live e) 8 (length (unique_objects e)) e.unique }
 
+-- what a command does to a directory, unless the mode refuses it
 abbrev pub effect : Directory → Command → Plan
 effect d (asked.Construct key content) = elim (object_at d key) [
   | Some o ↦ Refuse Exists
@@ -257,14 +262,17 @@ effect d asked.ZeroFree = Reply Done d
 effect d asked.Sanity = Reply (Truth true) d
 effect d asked.AllDeallocated = Reply (Truth (length (live d).extents == 0)) d
 
+-- the mode refuses changes
 abbrev pub is_read_only : Mode → Bool
 is_read_only Write = false
 is_read_only ReadOnlyMode = true
 is_read_only CopyOnWrite = false
 
+-- the effect of a command, with ReadOnly first
 abbrev pub plan : Mode → Directory → Command → Plan
 plan mode d c = if is_read_only mode && is_changing c then Refuse ReadOnly else effect d c
 
+-- the answer to a command, and the next directory
 unfoldable pub step : Mode → Directory → Command → Answer × Directory
 unfolding live place regrow shrunk_backing free_bytes
 step mode d c = perform d (live d) (plan mode d c)

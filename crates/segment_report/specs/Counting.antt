@@ -31,6 +31,7 @@ free_len s = elim s.use_of [ None ↦ s.len | Some r ↦ 0 ]
 abbrev pub end_gap_in : List Span → ℕ
 end_gap_in ss = fold (λ n s. free_len s) 0 ss
 
+-- the counts of blocks and gaps, in order
 abbrev pub tally_in : List Span → Tally
 tally_in ss = record {
   gaps = usage_in None ss;
@@ -46,6 +47,7 @@ tally_in ss = record {
 abbrev pub more : Usage → ℕ → Usage
 more u len = record { count = u.count + 1; bytes = u.bytes + len }
 
+-- the counts with one more of any use
 abbrev pub counted : Tally → Option Role → ℕ → Tally
 counted t None len = record t { gaps = more t.gaps len; longest_gap = max t.longest_gap len; end_gap = len }
 counted t (Some ObjectRole) len = record t { objects = more t.objects len; end_gap = 0 }
@@ -57,5 +59,6 @@ counted t (Some Node) len = record t { nodes = more t.nodes len; end_gap = 0 }
 abbrev pub total_count : Tally → ℕ
 total_count t = t.gaps.count + (t.objects.count + (t.indexes.count + (t.storages.count + t.nodes.count)))
 
+-- the bytes of all blocks
 abbrev pub total_bytes : Tally → ℕ
 total_bytes t = t.gaps.bytes + (t.objects.bytes + (t.indexes.bytes + (t.storages.bytes + t.nodes.bytes)))

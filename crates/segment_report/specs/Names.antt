@@ -5,6 +5,7 @@ use Rattle.segment_lang.specs.Texts.{name_text}
 use Rattle.segment_manager.specs.Directory.{Directory}
 use Rattle.segment_manager.specs.indexes.Iterating.{names_of}
 
+-- the name begins with the text
 abbrev pub begins_with : List ℕ → List ℕ → Bool
 begins_with name prefix = starts_with ◌==◌ name prefix
 
@@ -22,6 +23,7 @@ names_text prefix most d = flat_map name_line (take most (filter (λ name. begin
 abbrev pub is_listed : List ℕ → ℕ → List ℕ → Bool
 is_listed prefix left name = not (left == 0) && begins_with name prefix
 
+-- the line of a name, if it is listed
 abbrev pub listed_line : List ℕ → ℕ → List ℕ → List ℕ
 listed_line prefix left name = if is_listed prefix left name then name_line name else []
 

@@ -26,6 +26,7 @@ objects_tally os = record {
   kinds = map (count_of_kind os) kinds;
 }
 
+-- how many objects there are of each class and kind
 abbrev pub object_tally_of : Directory → ObjectTally
 object_tally_of d = objects_tally d.objects
 
@@ -39,6 +40,7 @@ scalar_place I32 = 2
 scalar_place I64 = 3
 scalar_place U64 = 4
 
+-- the place of a kind in the tally
 abbrev pub kind_place : Kind → ℕ
 kind_place (Scalar k) = scalar_place k
 kind_place String = 5

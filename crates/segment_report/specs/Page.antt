@@ -74,14 +74,18 @@ rows_text d = flat_map object_row d.objects
 
 -- ---- the whole page
 
+-- the front of the page, with the picture
 abbrev pub picture_part : Directory → List ℕ
 picture_part d = page_head ++ picture_of d
 
+-- the figures of the page
 abbrev pub figures_part : Directory → List ℕ
 figures_part d = figures_head ++ stat_text d
 
+-- the table of objects, and the end of the page
 abbrev pub objects_part : Directory → List ℕ
 objects_part d = table_head ++ (rows_text d ++ page_end)
 
+-- an HTML page with the picture, the figures and a row for each object
 abbrev pub page_of : Directory → List ℕ
 page_of d = picture_part d ++ (figures_part d ++ objects_part d)

@@ -28,9 +28,11 @@ abbrev pub xml_from : ℕ → ℕ → List ℕ → List ℕ
 xml_from before last [] = []
 xml_from before last (b ∷ bs) = xml_byte before last b ++ xml_from last b bs
 
+-- bytes as XML: special characters by name, control characters as question marks
 abbrev pub xml_text : List ℕ → List ℕ
 xml_text bs = xml_from 0 0 bs
 
+-- a part of a page: bytes, a number, XML or a kind
 abbrev pub part_text : Part → List ℕ
 part_text (Bytes bytes) = bytes.now
 part_text (Number n) = decimal n

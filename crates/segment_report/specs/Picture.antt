@@ -26,9 +26,11 @@ bytes_in_row size = max 64 ((size + 255) / 256 * 16)
 abbrev pub left_of : ℕ → ℕ → ℕ
 left_of per at = 28 + at % per * 1024 / per
 
+-- the right edge of a byte
 abbrev pub right_of : ℕ → ℕ → ℕ
 right_of per at = 28 + (at % per + 1) * 1024 / per
 
+-- the top of a byte's row
 abbrev pub top_of : ℕ → ℕ → ℕ
 top_of per at = 72 + at / per * 32
 
@@ -63,6 +65,7 @@ shape_text per from len sort =
     outline_text (left_of per from) (right_of per (from + len - 1)) (top_of per from) (top_of per (from + len - 1))
     from len sort
 
+-- the style of a use
 abbrev pub sort_of : Option Role → List ℕ
 sort_of None = codes "free"
 sort_of (Some ObjectRole) = codes "object"
@@ -72,6 +75,7 @@ sort_of (Some Node) = codes "node"
 
 -- ---- what an object is called
 
+-- what an object is called
 abbrev pub called : Class → List ℕ → ℕ → List ℕ
 called Named name handle = xml_text name ++ codes ": "
 called Unique name handle = codes "@"
@@ -86,15 +90,18 @@ frame_at left width top =
     codes "<svg x='" ++ (decimal left ++ (codes "' y='" ++ (decimal top ++ (codes "' width='" ++ (decimal width ++
     codes "' height='32'><text x='4' y='21'>")))))
 
+-- the frame of a label
 abbrev pub frame_text : ℕ → ℕ → ℕ → List ℕ
 frame_text per from len =
     frame_at (left_of per from) (width_in (left_of per from) (right_of per (from + len - 1)) (top_of per from)
     (top_of per (from + len - 1))) (top_of per from)
 
+-- the label of a block
 abbrev pub label_text : ℕ → ℕ → ℕ → List ℕ → Kind → List ℕ
 label_text per from len name kind =
     frame_text per from len ++ (name ++ (xml_text (kind_text kind) ++ codes "</text></svg>\n"))
 
+-- the name and the kind of an object, in its shape
 abbrev pub object_label : ℕ → ℕ → ℕ → Option Object → List ℕ
 object_label per from len None = []
 object_label per from len (Some o) = label_text per from len (called o.class o.name (handle o.extent)) (kind_of o.value)
@@ -143,6 +150,7 @@ head_text size free = begin_text
 abbrev pub front_text : Directory → List ℕ
 front_text d = head_text d.size (free_bytes (live d)) ++ shape_text (bytes_in_row d.size) 0 128 (codes "header")
 
+-- the shapes of the blocks and gaps
 abbrev pub spans_text : Directory → List ℕ
 spans_text d = flat_map (span_text d) (spans (live d))
 
@@ -153,6 +161,7 @@ close_text = codes "</svg>\n"
 abbrev pub end_text : Directory → List ℕ
 end_text d = shape_text (bytes_in_row d.size) (d.size - 16) 16 (codes "end") ++ close_text
 
+-- an SVG of 16 rows, with each block and gap to scale
 abbrev pub picture_of : Directory → List ℕ
 picture_of d = front_text d ++ (spans_text d ++ end_text d)
 

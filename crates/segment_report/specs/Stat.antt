@@ -39,6 +39,7 @@ counted_line counts k = kind_line k (slice_index counts (kind_place k))
 abbrev pub kinds_text : (Kind → ℕ) → List ℕ
 kinds_text count = flat_map (λ k. kind_line k (count k)) kinds
 
+-- the figures of a directory, a line for each
 abbrev pub stat_text : Directory → List ℕ
 stat_text d =
     figures_text d.size (tally_of d) (object_tally_of d) d.named.capacity d.unique.capacity

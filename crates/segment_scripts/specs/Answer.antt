@@ -46,6 +46,7 @@ measure_words (Bytes bs t) = number_text (length bs) ∷ number_text t.capacity 
 measure_words (Texts ps t) = number_text (length ps) ∷ number_text t.capacity ∷ []
 measure_words (Pairs k v ps) = number_text (length ps) ∷ []
 
+-- the words of a class and a name
 abbrev pub class_words : Class → List ℕ → List (List ℕ)
 class_words Named name = codes "named" ∷ name_text name ∷ []
 class_words Unique name = codes "unique" ∷ codes "-" ∷ []
@@ -55,6 +56,7 @@ class_words Anonymous name = codes "anonymous" ∷ codes "-" ∷ []
 abbrev pub entry_words : Object → List (List ℕ)
 entry_words o = kind_text (kind_of o.value) ∷ number_text (count_of o.value) ∷ object_handle o ∷ []
 
+-- the word of a role
 abbrev pub role_word : Option Role → List ℕ
 role_word None = codes "free"
 role_word (Some ObjectRole) = codes "object"
@@ -75,6 +77,7 @@ abbrev pub listing : {A : Type 0} → (A → List (List ℕ)) → List A → Lis
 listing words [] = line (codes "end" ∷ [])
 listing words (x ∷ xs) = line (words x) ++ listing words xs
 
+-- the text of an answer
 abbrev pub answer_text : Answer → List ℕ
 answer_text Done = line (codes "ok" ∷ [])
 answer_text Absent = line (codes "none" ∷ [])

@@ -3,6 +3,7 @@ use Rattle.std.specs.Prelude.{ℕ, ◌==◌, ◌&&◌, Bool, true, false, IsTrue
 use Rattle.std.specs.Str.{bytes_eq}
 use Rattle.segment_scripts.specs.declared.language.CommandRow.{CommandRow}
 
+-- the words, the answer and the meaning of a command's row
 abbrev pub row_text : CommandRow → List ℕ
 row_text row = row.usage.now ++ (codes " -> "
     ++ (row.answer.now ++ (codes "\n    " ++ (row.does.now ++ (codes "\n" ++ [])))))

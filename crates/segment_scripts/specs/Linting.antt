@@ -44,6 +44,7 @@ expected rows wrong.UnknownCommand line = codes "a command"
 expected rows wrong.LineTooLong line = codes "at most 4096 bytes"
 expected rows wrong.BadSyntax line = usage_of rows (first_word line)
 
+-- the line that says where a line is wrong
 abbrev pub finding_text : List CommandRow → ℕ → LineError → List ℕ → List ℕ
 finding_text rows n e line =
     decimal n ++ (codes ":" ++ (decimal (column_of e line)
@@ -57,9 +58,11 @@ pub record LintState : Type 0 where
   pub found : Bool
   pub rows : List CommandRow
 
+-- the state before the first line
 abbrev pub start : List CommandRow → LintState
 start rows = record { line = 0; found = false; rows = rows }
 
+-- the state is this one
 abbrev pub is_at : ℕ → Bool → List CommandRow → LintState → Type 0
 is_at line found rows at = (line ≡ at.line) × (found ≡ at.found) × (rows ≡ at.rows)
 
@@ -70,6 +73,7 @@ tells at e line = (finding_text at.rows at.line e (without_return line), record 
 abbrev pub misses_line : List ℕ → Bool
 misses_line line = is_wrong (reading (whole_language current) line)
 
+-- what a reading prints, and the next directory
 abbrev pub respond : LintState → List ℕ → Reading → List ℕ × LintState
 respond at line Nothing = ([], at)
 respond at line (Asked c) = ([], at)

@@ -11,6 +11,7 @@ use Rattle.segment_scripts.specs.declared.answered.Answered.TheVariants.{Done, R
 use Rattle.segment_scripts.specs.Answer.{answer_text}
 use Rattle.segment_scripts.specs.Writing.{WritesFor}
 
+-- the answer says that its line was refused
 abbrev pub was_refused : Answered → Bool
 was_refused Done = false
 was_refused Refused = true

@@ -26,6 +26,7 @@ abbrev pub shown_of : Option Object → Answer
 shown_of None = Refused NotFound
 shown_of (Some o) = Shown o.value
 
+-- the answer of show for a key
 abbrev pub shown_at : Directory → Key → Answer
 shown_at d key = shown_of (object_at d key)
 
@@ -34,6 +35,7 @@ abbrev pub told_of : Option Object → Answer
 told_of None = Refused NotFound
 told_of (Some o) = Told o
 
+-- the answer of info for a key
 abbrev pub told_at : Directory → Key → Answer
 told_at d key = told_of (object_at d key)
 
@@ -46,6 +48,7 @@ abbrev pub text_in : Option Object → ℕ → Answer
 text_in None i = Refused NotFound
 text_in (Some o) i = text_of o.value i
 
+-- the answer of get for a text
 abbrev pub text_at : Directory → Key → ℕ → Answer
 text_at d key i = text_in (object_at d key) i
 

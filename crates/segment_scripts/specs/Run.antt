@@ -22,6 +22,7 @@ abbrev pub lines : List ℕ → List (List ℕ)
 lines [] = []
 lines (c ∷ cs) = if c == 0x0A then [] ∷ lines cs else onto_first c (lines cs)
 
+-- the line of an error
 abbrev pub error_line : LineError → List ℕ
 error_line e = line (line_error_text e ∷ [])
 
@@ -33,6 +34,7 @@ respond mode d UnknownCommand = (error_line wrong.UnknownCommand, d)
 respond mode d LineTooLong = (error_line wrong.LineTooLong, d)
 respond mode d BadSyntax = (error_line wrong.BadSyntax, d)
 
+-- what a list of lines prints, and the last directory
 abbrev pub run_lines : Language → Mode → Directory → List (List ℕ) → List ℕ × Directory
 run_lines language mode d [] = ([], d)
 run_lines language mode d (l ∷ ls) =

@@ -93,6 +93,7 @@ module _ {P : Type 0} (respond : P → List ℕ → List ℕ × P) (stops : P �
     pub parts : lines read ≡ ended_lines read ++ open_line read ∷ []
     pub ends : EndsBehind (ended_lines read) (open_line read) Stands taken
 
+  -- what the last line leaves
   abbrev pub LeavesLast : List ℕ → (P → Type 0) → List ℕ → End → Type 0
   LeavesLast read Stands taken Whole = IsThrough read Stands taken
   LeavesLast read Stands taken Refused = EndsAtLast read Stands taken

@@ -19,6 +19,7 @@ abbrev pub may_stop : Until → Bool
 may_stop ToTheEnd = false
 may_stop Refusal = true
 
+-- a run ends after this answer
 abbrev pub is_stop : Until → Answered → Bool
 is_stop until answered = may_stop until && was_refused answered
 

@@ -36,7 +36,8 @@ has_nothing_to_do d c = false
 abbrev pub changes_nothing : Mode → Directory → Command → Bool
 changes_nothing mode d c = is_untouched (step mode d c).0 || has_nothing_to_do d c
 
--- A command that changes nothing keeps what was known. Of the others one leaves zeros.
+-- the gaps are known to be zero after a line: `zero_free` makes them so, what changes nothing keeps it, all else loses
+-- it
 abbrev pub zeros_after : Mode → Directory → Reading → Bool → Bool
 zeros_after mode d (Asked c) known =
     if changes_nothing mode d c then known else if is_changing c then is_zero_free c else known

@@ -19,6 +19,7 @@ length_in (Err r) = 0
 abbrev pub walked_text : Spelling → ℕ → KindedPair → List ℕ
 walked_text s i ((k, x), (v, y)) = s.pair i k v (x, y)
 
+-- the text of a pair, by the caller's spelling
 abbrev pub pair_text : Spelling → ScalarKind → ScalarKind → ℕ → NumberPair → List ℕ
 pair_text s k v i p = s.pair i k v (item_of p)
 

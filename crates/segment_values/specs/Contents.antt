@@ -16,6 +16,7 @@ pub data ValueContent : Type 0 where
 abbrev pub bytes_in : OwnedText → List ℕ
 bytes_in p = p.bytes
 
+-- what a value of a directory holds
 abbrev pub content_of : directory.Value → ValueContent
 content_of (directory.Numbers k zs) = Scalars k zs
 content_of (directory.Elements k zs t) = Vector k zs

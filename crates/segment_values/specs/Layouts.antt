@@ -26,9 +26,11 @@ laid_out s (String bs) = s.text 0 bs
 laid_out s (Map k v ps) = laid_from (λ i p. s.pair i k v p) 0 ps
 laid_out s (Strings ts) = laid_from s.text 0 ts
 
+-- all elements of an object, in a spelling
 abbrev pub laid_object : Spelling → Object → List ℕ
 laid_object s o = laid_out s (content_of o.value)
 
+-- all elements of a key's object, in a spelling
 abbrev pub laid_at : Spelling → Directory → Key → List ℕ
 laid_at s d key = part_of (laid_object s) (object_at d key)
 
@@ -36,6 +38,7 @@ laid_at s d key = part_of (laid_object s) (object_at d key)
 abbrev pub object_count : Object → ℕ
 object_count o = count_of_content (content_of o.value)
 
+-- how many elements a key's object has
 abbrev pub count_at : Directory → Key → ℕ
 count_at d key = elim (object_at d key) [ None ↦ 0 | Some o ↦ object_count o ]
 
@@ -53,5 +56,6 @@ content_part s (Strings ts) i = part_of (s.text i) (slice_get ts i)
 abbrev pub object_part : Spelling → ℕ → Object → List ℕ
 object_part s i o = content_part s (content_of o.value) i
 
+-- one element of a key's object, in a spelling
 abbrev pub part_at : Spelling → Directory → Key → ℕ → List ℕ
 part_at s d key i = part_of (object_part s i) (object_at d key)

@@ -76,6 +76,7 @@ sizes_at d key = elim (object_at d key) [ None ↦ Err NotFound | Some o ↦ siz
 abbrev pub sizes_of_kind : Object → Kind → Result (ℕ × ℕ) Refusal
 sizes_of_kind o kind = if same_kind kind (kind_of o.value) then sizes_of o.value else Err WrongKind
 
+-- the length and the capacity of a key's object of a kind
 abbrev pub sizes_at_kind : Directory → Key → Kind → Result (ℕ × ℕ) Refusal
 sizes_at_kind d key kind = elim (object_at d key) [ None ↦ Err NotFound | Some o ↦ sizes_of_kind o kind ]
 
@@ -84,6 +85,7 @@ abbrev pub has_sizes : Kind → Bool
 has_sizes (Scalar k) = false
 has_sizes kind = true
 
+-- objects of the kind have storage of their own
 abbrev pub has_storage : Kind → Bool
 has_storage (Scalar k) = false
 has_storage (Map k v) = false

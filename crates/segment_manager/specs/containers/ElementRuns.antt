@@ -38,6 +38,7 @@ spelled_in (Bytes bs t) = bs
 spelled_in (Pairs k v ps) = []
 spelled_in (Texts ps t) = []
 
+-- the bytes of the elements in an image
 abbrev pub spelled_at : Directory → Key → List ℕ
 spelled_at d key = elim (object_at d key) as (λ _. List ℕ) [ None ↦ [] | Some o ↦ spelled_in o.value ]
 

@@ -35,6 +35,7 @@ pub record IsShapeOf (content : Content) (s : ObjectShape) : Type 0 where
 abbrev pub numbers_shape : ScalarKind → ℕ → ObjectShape
 numbers_shape k count = record { kind = Scalar k; count = count; len = size_of k * count }
 
+-- the shape of a container
 abbrev pub container_shape : Kind → ObjectShape
 container_shape kind = record { kind = kind; count = 1; len = 24 }
 

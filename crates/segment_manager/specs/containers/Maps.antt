@@ -63,6 +63,7 @@ answer_of_map d key k v say = elim (object_at d key) [
 abbrev pub pair_from : ℤ → List NumberPair → Option (ℤ × ℤ)
 pair_from from ps = option_map item_of (first_pair int_lt false from ps)
 
+-- the first pair above a key
 abbrev pub pair_above : ℤ → List NumberPair → Option (ℤ × ℤ)
 pair_above key ps = option_map item_of (first_pair int_lt true key ps)
 
@@ -70,9 +71,11 @@ pair_above key ps = option_map item_of (first_pair int_lt true key ps)
 abbrev pub pair_up_to : ℤ → List NumberPair → Option (ℤ × ℤ)
 pair_up_to to ps = option_map item_of (last_pair int_lt true to ps)
 
+-- the last pair below a key
 abbrev pub pair_below : ℤ → List NumberPair → Option (ℤ × ℤ)
 pair_below key ps = option_map item_of (last_pair int_lt false key ps)
 
+-- the last pair
 abbrev pub pair_at_end : List NumberPair → Option (ℤ × ℤ)
 pair_at_end ps = option_map item_of (final_pair ps)
 
@@ -80,6 +83,7 @@ pair_at_end ps = option_map item_of (final_pair ps)
 abbrev pub numbers_in : {K V : Type 0} → (K → ℤ) → (V → ℤ) → Option (K × V) → Option (ℤ × ℤ)
 numbers_in k v = option_map (λ (x, y). (k x, v y))
 
+-- a pair as numbers
 abbrev pub pair_result : {K V : Type 0} → (K → ℤ) → (V → ℤ) → Result (Option (K × V)) Refusal
     → Result (Option (ℤ × ℤ)) Refusal
 pair_result k v (Ok r) = Ok (numbers_in k v r)
@@ -90,6 +94,7 @@ abbrev pub value_or_absent : ScalarKind → Option ℤ → Answer
 value_or_absent k None = Absent
 value_or_absent k (Some z) = Element k z
 
+-- a value that was found, or none, as an answer
 abbrev pub value_answer : {T : Type 0} → ScalarKind → (T → ℤ) → Result (Option T) Refusal → Answer
 value_answer k w = answer_of (λ r. value_or_absent k (option_map w r))
 
@@ -98,5 +103,6 @@ abbrev pub any_or_absent : Option ScalarValue → Answer
 any_or_absent None = Absent
 any_or_absent (Some v) = Element (kind_of_scalar v) (value_of_scalar v)
 
+-- a value of any kind that was found, or none, as an answer
 abbrev pub any_value_answer : Result (Option ScalarValue) Refusal → Answer
 any_value_answer = answer_of any_or_absent

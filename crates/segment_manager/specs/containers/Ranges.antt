@@ -82,6 +82,7 @@ extend d o v more =
     with_capacity (size_of k) (capacity_for_more (length zs) (length more) t.capacity) t
     (λ u. Reply Done (changed d o (Elements k (zs ++ more) u))))
 
+-- the answer and the directory after a row is put at the end of a vector
 abbrev pub extended : Mode → Directory → Key → ScalarKind → List ℤ → Answer × Directory
 extended mode d key k more =
     perform d (live d) (if is_read_only mode then Refuse ReadOnly else

@@ -45,7 +45,7 @@ abbrev pub each_of : Kind → ℕ
 each_of (Vector k) = size_of k
 each_of kind = 1
 
--- some stand there
+-- elements of 1 to 8 bytes stand at a place
 pub record IsElements (b : List ℕ) (p : Place) (each : ℕ) : Type 0 where
   pub stands : IsStanding b p each
   pub some : 1 ≤ each

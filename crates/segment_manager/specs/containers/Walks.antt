@@ -44,6 +44,7 @@ pair_past above z ps = option_map item_of (first_pair int_lt above z ps)
 abbrev pub KindedPair : Type 0
 KindedPair = (ScalarKind × ℤ) × (ScalarKind × ℤ)
 
+-- a pair with its kinds
 abbrev pub item_of_kinds : ScalarKind → ScalarKind → ℤ × ℤ → KindedPair
 item_of_kinds k v (x, y) = ((k, x), (v, y))
 

@@ -34,9 +34,11 @@ list_at items d key kind = elim
 abbrev pub array_at : Directory → Key → ScalarKind → List ℤ
 array_at d key k = list_at numbers_in d key (ScalarOf k)
 
+-- the scalars of a key's vector
 abbrev pub vector_at : Directory → Key → ScalarKind → List ℤ
 vector_at d key k = list_at numbers_in d key (VectorOf k)
 
+-- the texts of a key's vector of strings
 abbrev pub texts_at : Directory → Key → List (List ℕ)
 texts_at d key = list_at texts_in d key StringsKind
 
@@ -47,6 +49,7 @@ abbrev pub first_size : Result (ℕ × ℕ) Refusal → Result ℕ Refusal
 first_size (Ok (n, places)) = Ok n
 first_size (Err why) = Err why
 
+-- the length of a key's object of a kind
 abbrev pub length_at_kind : Directory → Key → Kind → Result ℕ Refusal
 length_at_kind d key kind = first_size (sizes_at_kind d key kind)
 

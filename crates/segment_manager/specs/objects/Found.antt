@@ -22,6 +22,7 @@ abbrev pub found_or_absent : Option (ℕ × ℕ) → Answer
 found_or_absent None = Absent
 found_or_absent (Some (h, n)) = Found h n
 
+-- a handle with a count, or none, as an answer
 abbrev pub found_answer : Result (Option (ℕ × ℕ)) Refusal → Answer
 found_answer = answer_of found_or_absent
 
@@ -29,5 +30,6 @@ found_answer = answer_of found_or_absent
 abbrev pub found_object : ℕ × ℕ → Answer
 found_object (h, n) = Found h n
 
+-- the handle and the count of an object that is there, as an answer
 abbrev pub found_object_answer : Result (ℕ × ℕ) Refusal → Answer
 found_object_answer = answer_of found_object

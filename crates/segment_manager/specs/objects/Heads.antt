@@ -14,7 +14,7 @@ pub record IsEntry (m : Memory) (o : Object) : Type 0 where
   pub class : class_at m (handle o.extent) ≡ class_code o.class
   pub name : name_at m (handle o.extent) ≡ o.name
 
--- the law
+-- the law: the head of each object says what it is
 abbrev pub EntriesSayObjects : Type 0
 EntriesSayObjects =
     (format : ℕ) (b : List ℕ) (d : Directory) → Denotes format b d → AllByRecursion (IsEntry (bytes_of b)) d.objects

@@ -18,6 +18,7 @@ located o = record {
   count = count_of o.value;
 }
 
+-- what is said of a key's object
 abbrev pub located_at : Directory → Key → Option Located
 located_at d key = option_map located (object_at d key)
 

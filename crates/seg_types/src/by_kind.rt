@@ -19,7 +19,7 @@ macro_rules! by_kind {
 
 /// Makes one piece of code for what a value of each kind holds: a `bool`, a `u8`, and so on.
 ///
-/// Example: `by_value!(value, it => segment.vec_push(&key, it))`.
+/// Example: `by_value!(value, it => print(it))`.
 #[macro_export]
 macro_rules! by_value {
     ($value:expr, $it:ident => $work:expr) => {

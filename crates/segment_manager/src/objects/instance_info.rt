@@ -64,7 +64,7 @@ impl Segment {
     /// Tells whether an object of the segment has the handle. It is looked for among all blocks, from the nearest
     /// block hint on, since it may come from outside.
     ///
-    /// Example: `if segment.belongs(handle)`.
+    /// Example: `if segment.is_object_handle(handle)`.
     pub fn is_object_handle(&self, handle: Handle) -> bool
         ensures { AnswersWith self.now (λ d. is_object_at d handle) result }
     {

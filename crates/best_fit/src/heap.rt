@@ -6,7 +6,7 @@ ghost use Rattle.raw_region.specs.Memory.{HasBytesAt, bytes_of, read, whole, wor
 ghost use Rattle.raw_region.specs.Format.{current};
 ghost use Rattle.block_tags.specs.Format.{is_legal_size};
 ghost use Rattle.best_fit.specs.Extents.{Extent, free_bytes as free_bytes_of, spans};
-ghost use Rattle.block_tags.specs.Tiles.{tiles_of};
+ghost use Rattle.block_tags.specs.Tiles.{has_tags, tiles_of};
 ghost use Rattle.best_fit.specs.FreeTree.{span};
 ghost use Rattle.best_fit.specs.Heap.{ChangesBytes, FormatsHeap, IsHeap, IsTileOf, ZeroesFree, extent_at, has_room};
 ghost use Rattle.best_fit.specs.Heap.{is_live_in, live_of, payload_at, with_payload};
@@ -315,7 +315,8 @@ impl Heap {
 
     /// Tells whether the tags are whole, as they are in each heap.
     pub fn sanity(&self) -> bool
-        ensures { IsTrue result }
+        ensures result { IsTrue result }
+        ensures tags { result ≡ has_tags current (bytes_of self.now.bytes) (length self.now.bytes) }
     {
         block_tags::check(&self.gaps.window).is_ok()
     }

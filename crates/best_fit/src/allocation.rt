@@ -84,7 +84,7 @@ pub fn split_tail(touches: &mut TouchCounter, at: u64, len: u64) -> bool
         → SameExceptTags touches.old.gaps.now.window touches.new.gaps.now.window ts (cut_at at len ts) }
     ensures cut { (ts : List ATile) (t : ATile) → EncodesTiles touches.old.gaps.now.window ts
         → tile_in ts at ≡ Some t → result ≡ nat_le (len + 32) t.len }
-    ensures steps_exact { touches.new.count ≤ touches.old.count + 2 }
+    ensures steps_upper { touches.new.count ≤ touches.old.count + 2 }
     ensures steps_lower { touches.old.count ≤ touches.new.count }
     ensures same_borrow { touches.new.gaps.ghost_name ≡ touches.old.gaps.ghost_name }
 {

@@ -83,7 +83,7 @@ pub fn coalesce_next(touches: &mut TouchCounter, at: u64)
         → EncodesTiles touches.new.gaps.now.window (joined_free_at at ts) }
     ensures frame { (ts : List ATile) → EncodesTiles touches.old.gaps.now.window ts
         → SameExceptTags touches.old.gaps.now.window touches.new.gaps.now.window ts (joined_free_at at ts) }
-    ensures steps_exact { touches.new.count ≤ touches.old.count + 2 }
+    ensures steps_upper { touches.new.count ≤ touches.old.count + 2 }
     ensures steps_lower { touches.old.count ≤ touches.new.count }
     ensures same_borrow { touches.new.gaps.ghost_name ≡ touches.old.gaps.ghost_name }
 {
@@ -115,7 +115,7 @@ fn coalesce_previous(touches: &mut TouchCounter, at: u64)
         → EncodesTiles touches.new.gaps.now.window (joined_before at ts) }
     ensures frame { (ts : List ATile) → EncodesTiles touches.old.gaps.now.window ts
         → SameExceptTags touches.old.gaps.now.window touches.new.gaps.now.window ts (joined_before at ts) }
-    ensures steps_exact { touches.new.count ≤ touches.old.count + 3 }
+    ensures steps_upper { touches.new.count ≤ touches.old.count + 3 }
     ensures steps_lower { touches.old.count ≤ touches.new.count }
     ensures same_borrow { touches.new.gaps.ghost_name ≡ touches.old.gaps.ghost_name }
 {

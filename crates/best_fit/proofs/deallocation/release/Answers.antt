@@ -183,7 +183,7 @@ coalesce_previous-requires-clause-no_overflow c =
     let start = c.requires.no_overflow in let few =
     few_steps c.args.touches.now.gaps.now.window c.args.at c.requires.heap b in
     let n1 = c.blacken.ensures.steps_exact in let n2 = c.set_use.ensures.steps_exact in
-    let n3 = c.coalesce_next.ensures.steps_exact in omega arith
+    let n3 = c.coalesce_next.ensures.steps_upper in omega arith
 
 -- the block has become a gap with them
 freed : (c : After-coalesce_previous) (b : Block c.args.touches.now.gaps.now.window (c.args.at + 16))

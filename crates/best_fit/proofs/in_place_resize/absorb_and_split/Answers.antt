@@ -85,7 +85,7 @@ pub split_tail-is_cut-requires-clause-no_overflow : goal.split_tail-is_cut-requi
 split_tail-is_cut-requires-clause-no_overflow c =
     let g = goal.at.split_tail-is_cut-requires-clause-no_overflow c in let p = g.After-next-behind in
     let steps = (gone g.After-unlink_if_gap (block p) (behind p)).steps in let two =
-    c.coalesce_next.ensures.steps_exact in
+    c.coalesce_next.ensures.steps_upper in
     let few = few_steps c.args.touches.now.gaps.now.window c.args.at c.requires.heap (block p) c.args.wanted in
     let room = c.requires.no_overflow in omega arith
 
@@ -123,8 +123,8 @@ pub link_gap-requires-clause-no_overflow : goal.link_gap-requires-clause-no_over
 link_gap-requires-clause-no_overflow c =
     let g = goal.at.link_gap-requires-clause-no_overflow c in let p = g.After-next-behind in
     let steps = (gone g.After-unlink_if_gap (block p) (behind p)).steps in let two =
-    c.coalesce_next.ensures.steps_exact in
-    let more = c.split_tail-is_cut.ensures.steps_exact in
+    c.coalesce_next.ensures.steps_upper in
+    let more = c.split_tail-is_cut.ensures.steps_upper in
     let few = few_steps c.args.touches.now.gaps.now.window c.args.at c.requires.heap (block p) c.args.wanted in
     let room = c.requires.no_overflow in omega arith
 
@@ -139,8 +139,8 @@ pub returns-then-is_cut-clause-steps : goal.returns-then-is_cut-clause-steps
 returns-then-is_cut-clause-steps c =
     let g = goal.at.returns-then-is_cut-clause-steps c in let p = g.After-next-behind in let b = block p in
     let u = gone g.After-unlink_if_gap b (behind p) in let r = cut g.After-split_tail-is_cut b u in
-    let steps = u.steps in let two = c.coalesce_next.ensures.steps_exact in let more =
-    c.split_tail-is_cut.ensures.steps_exact in
+    let steps = u.steps in let two = c.coalesce_next.ensures.steps_upper in let more =
+    c.split_tail-is_cut.ensures.steps_upper in
     let last = c.link_gap.ensures.steps r.front r.gap r.back r.node (r.lacks c.if-is_cut.true) in let few = r.few in
     let fewer = bits-le (length (r.front ++ r.back) + 1) (length (gaps_in c.args.touches.now.gaps.now.window) + 1)
     (omega arith) in omega arith
@@ -154,5 +154,5 @@ pub returns-else-is_cut-clause-steps : goal.returns-else-is_cut-clause-steps
 returns-else-is_cut-clause-steps c =
     let g = goal.at.returns-else-is_cut-clause-steps c in let p = g.After-next-behind in
     let steps = (gone g.After-unlink_if_gap (block p) (behind p)).steps in let two =
-    c.coalesce_next.ensures.steps_exact in
-    let more = c.split_tail-is_cut.ensures.steps_exact in omega arith
+    c.coalesce_next.ensures.steps_upper in
+    let more = c.split_tail-is_cut.ensures.steps_upper in omega arith

@@ -32,10 +32,9 @@ pub fn allocate(touches: &mut TouchCounter, n: u64, role: Role) -> Result<u64, N
         return Err(NoSpace);
     }
     let wanted = room(n);
-    let Some(node) = touches.find_best_fit(wanted) else {
+    let Some(node) = touches.take_best_fit(wanted) else {
         return Err(NoSpace);
     };
-    touches.unlink_gap(node);
     take(touches, node - TAG_LEN, wanted, role);
     Ok(node)
 }

@@ -20,7 +20,7 @@ AreNone p = (h : ℕ) → IsHinted p h → ⊥
 abbrev pub LeadToBlocks : BlockHints → List ℕ → Type 0
 LeadToBlocks p b = (h : ℕ) → IsHinted p h → IsTrue (is_live_in (live_of b) h)
 
--- the bytes of a heap, with way-points that lead to its blocks
+-- the bytes of a heap, with block hints that lead to its blocks
 pub record IsHintedHeap (b : List ℕ) (p : BlockHints) : Type 0 where
   pub heap : IsHeap current b
-  pub points : LeadToBlocks p b
+  pub hints : LeadToBlocks p b

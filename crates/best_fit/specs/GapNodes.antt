@@ -50,6 +50,10 @@ stands_before gs sought n =
 abbrev pub from_first : ℕ → GapProbe
 from_first wanted = record { len = wanted; from = 0 }
 
+-- what a gap itself is looked for by
+abbrev pub own_probe : List Gap → ℕ → GapProbe
+own_probe gs n = record { len = len_in gs n; from = n }
+
 -- both links of a node lead to nodes, or nowhere
 abbrev pub links_among : Memory → List ℕ → ℕ → Bool
 links_among m ns n = leads (λ k. is_in k ns) (cells_of m n).left && leads (λ k. is_in k ns) (cells_of m n).right

@@ -32,10 +32,9 @@ pub fn allocate(touches: &mut TouchCounter, n: u64, role: Role) -> Result<u64, N
         return Err(NoSpace);
     }
     let wanted = room(n);
-    let Some(node) = touches.find_best_fit(wanted) else {
+    let Some(node) = touches.take_best_fit(wanted) else {
         return Err(NoSpace);
     };
-    touches.unlink_gap(node);
     take(touches, node - TAG_LEN, wanted, role);
     Ok(node)
 }
@@ -84,7 +83,7 @@ pub fn split_tail(touches: &mut TouchCounter, at: u64, len: u64) -> bool
         → SameExceptTags touches.old.gaps.now.window touches.new.gaps.now.window ts (cut_at at len ts) }
     ensures cut { (ts : List ATile) (t : ATile) → EncodesTiles touches.old.gaps.now.window ts
         → tile_in ts at ≡ Some t → result ≡ nat_le (len + 32) t.len }
-    ensures steps_exact { touches.new.count ≤ touches.old.count + 2 }
+    ensures steps_upper { touches.new.count ≤ touches.old.count + 2 }
     ensures steps_lower { touches.old.count ≤ touches.new.count }
     ensures same_borrow { touches.new.gaps.ghost_name ≡ touches.old.gaps.ghost_name }
 {

@@ -1,4 +1,4 @@
-//! Way-points: handles of blocks in use that are known, so that a handle is looked for from the nearest one on.
+//! Block hints: handles of blocks in use that are known, so that a handle is looked for from the nearest one on.
 ghost use Rattle.std.specs.Prelude.{◌≡◌, ◌≢◌, ℕ, ◌⊎◌, ◌<◌, ◌≤◌, IfSome, slice_index};
 ghost use Rattle.best_fit.specs.BlockHints.{AreNone, IsHinted, place_of};
 

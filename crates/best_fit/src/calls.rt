@@ -29,7 +29,7 @@ impl Heap {
         let result = allocation::allocate(&mut touches, n, role);
         steps.add(touches.count());
         if let Ok(handle) = &result {
-            self.points.insert(*handle);
+            self.hints.insert(*handle);
         }
         result
     }
@@ -42,7 +42,7 @@ impl Heap {
         ensures steps { steps.new ≤ steps.old + heap_touches (live_of self.old.bytes) }
     {
         let mut touches = TouchCounter::new(&mut self.gaps);
-        passing::retarget_hint(&mut touches, &mut self.points, handle);
+        passing::retarget_hint(&mut touches, &mut self.hints, handle);
         deallocation::release(&mut touches, handle - TAG_LEN);
         steps.add(touches.count());
     }

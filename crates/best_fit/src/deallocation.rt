@@ -1,7 +1,9 @@
 //! A block that is given back, and gaps that are joined.
-ghost use Rattle.std.specs.Prelude.{◌≡◌, ℕ, ◌+◌, ◌*◌, ◌^◌, ◌<◌, ◌≤◌, List, ◌++◌, IsTrue, length};
+ghost use Rattle.std.specs.Prelude.{◌≡◌, ℕ, ◌+◌, ◌*◌, ◌^◌, ◌<◌, ◌≤◌, List, Some, ◌++◌, IsTrue, length, true};
 ghost use Rattle.block_tags.specs.declared.tile.Tile.{Tile as ATile};
 ghost use Rattle.raw_region.specs.Format.{current};
+ghost use Rattle.block_tags.specs.Lists.{next_in, previous_in, tile_in};
+ghost use Rattle.block_tags.specs.Tiles.{is_free};
 ghost use Rattle.block_tags.specs.Windows.{HasTileAt, SameExceptTags, EncodesTiles};
 ghost use Rattle.link_tree.specs.Tree.{bits};
 ghost use Rattle.best_fit.specs.Extents.{Gap};
@@ -27,12 +29,14 @@ pub fn release(touches: &mut TouchCounter, at: u64)
 {
     let behind = touches.next(at);
     let before = touches.previous(at);
-    unlink_if_gap(touches, gap_at(behind));
-    unlink_if_gap(touches, gap_at(before));
+    let gap_behind = gap_at(behind);
+    let gap_before = gap_at(before);
+    unlink_if_gap(touches, gap_behind);
+    unlink_if_gap(touches, gap_before);
     touches.blacken(at);
     touches.set_use(at, None);
-    coalesce_next(touches, at);
-    coalesce_previous(touches, at);
+    coalesce_next(touches, at, gap_behind);
+    coalesce_previous(touches, at, gap_before);
     touches.link_gap(start(before, at) + TAG_LEN);
 }
 
@@ -75,19 +79,21 @@ fn start(before: Option<Tile>, at: u64) -> u64
     }
 }
 
-/// Joins the tile at `at` with the one after it, if there is one and it is free.
-pub fn coalesce_next(touches: &mut TouchCounter, at: u64)
+/// Joins the tile at `at` with the gap after it, if there is one. `gap` is where that begins.
+pub fn coalesce_next(touches: &mut TouchCounter, at: u64, gap: Option<u64>)
     requires tile { HasTileAt touches.old.gaps.now.window at }
-    requires no_overflow { touches.old.count + 2 < 2 ^ 64 }
+    requires gap { (ts : List ATile) → EncodesTiles touches.old.gaps.now.window ts
+        → gap_offset (next_in ts at) ≡ gap }
+    requires no_overflow { touches.old.count + 1 < 2 ^ 64 }
     ensures tags { (ts : List ATile) → EncodesTiles touches.old.gaps.now.window ts
         → EncodesTiles touches.new.gaps.now.window (joined_free_at at ts) }
     ensures frame { (ts : List ATile) → EncodesTiles touches.old.gaps.now.window ts
         → SameExceptTags touches.old.gaps.now.window touches.new.gaps.now.window ts (joined_free_at at ts) }
-    ensures steps_exact { touches.new.count ≤ touches.old.count + 2 }
+    ensures steps_upper { touches.new.count ≤ touches.old.count + 1 }
     ensures steps_lower { touches.old.count ≤ touches.new.count }
     ensures same_borrow { touches.new.gaps.ghost_name ≡ touches.old.gaps.ghost_name }
 {
-    if next_gap_len(touches, at) > 0 {
+    if gap.is_some() {
         touches.merge_next(at);
     }
 }
@@ -107,20 +113,23 @@ pub fn next_gap_len(touches: &mut TouchCounter, at: u64) -> u64
     }
 }
 
-/// Joins the free tile at `at` with the one before it, if there is one and it is free.
-fn coalesce_previous(touches: &mut TouchCounter, at: u64)
+/// Joins the free tile at `at` with the gap before it, if there is one. `gap` is where that begins.
+fn coalesce_previous(touches: &mut TouchCounter, at: u64, gap: Option<u64>)
     requires tile { HasTileAt touches.old.gaps.now.window at }
-    requires no_overflow { touches.old.count + 3 < 2 ^ 64 }
+    requires free { (ts : List ATile) (t : ATile) → EncodesTiles touches.old.gaps.now.window ts
+        → tile_in ts at ≡ Some t → is_free t ≡ true }
+    requires gap { (ts : List ATile) → EncodesTiles touches.old.gaps.now.window ts
+        → gap_offset (previous_in ts at) ≡ gap }
+    requires no_overflow { touches.old.count + 1 < 2 ^ 64 }
     ensures tags { (ts : List ATile) → EncodesTiles touches.old.gaps.now.window ts
         → EncodesTiles touches.new.gaps.now.window (joined_before at ts) }
     ensures frame { (ts : List ATile) → EncodesTiles touches.old.gaps.now.window ts
         → SameExceptTags touches.old.gaps.now.window touches.new.gaps.now.window ts (joined_before at ts) }
-    ensures steps_exact { touches.new.count ≤ touches.old.count + 3 }
+    ensures steps_upper { touches.new.count ≤ touches.old.count + 1 }
     ensures steps_lower { touches.old.count ≤ touches.new.count }
     ensures same_borrow { touches.new.gaps.ghost_name ≡ touches.old.gaps.ghost_name }
 {
-    match touches.previous(at) {
-        Some(tile) if tile.use_of.is_none() => coalesce_next(touches, tile.offset),
-        _ => {}
+    if let Some(before) = gap {
+        coalesce_next(touches, before, Some(at));
     }
 }

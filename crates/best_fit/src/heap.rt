@@ -6,7 +6,7 @@ ghost use Rattle.raw_region.specs.Memory.{HasBytesAt, bytes_of, read, whole, wor
 ghost use Rattle.raw_region.specs.Format.{current};
 ghost use Rattle.block_tags.specs.Format.{is_legal_size};
 ghost use Rattle.best_fit.specs.Extents.{Extent, free_bytes as free_bytes_of, spans};
-ghost use Rattle.block_tags.specs.Tiles.{tiles_of};
+ghost use Rattle.block_tags.specs.Tiles.{has_tags, tiles_of};
 ghost use Rattle.best_fit.specs.FreeTree.{span};
 ghost use Rattle.best_fit.specs.Heap.{ChangesBytes, FormatsHeap, IsHeap, IsTileOf, ZeroesFree, extent_at, has_room};
 ghost use Rattle.best_fit.specs.Heap.{is_live_in, live_of, payload_at, with_payload};
@@ -36,7 +36,7 @@ pub struct Heap {
     pub(crate) gaps: GapTree,
     /// Where to begin to look for a handle. Neither the bytes nor what is answered depend on it. Its room came with the
     /// window's region.
-    pub(crate) points: BlockHints,
+    pub(crate) hints: BlockHints,
 }
 
 impl Model for Heap {
@@ -47,7 +47,7 @@ impl Model for Heap {
 
     ghost view = { λ h. h.gaps.window };
 
-    ghost invariant = { λ h. IsHintedHeap h.gaps.window.bytes h.points };
+    ghost invariant = { λ h. IsHintedHeap h.gaps.window.bytes h.hints };
 }
 
 impl Heap {
@@ -72,7 +72,7 @@ impl Heap {
         ensures { result ≡ window }
     {
         let mut heap = Heap::adopt_without_hints(window);
-        tile_walk::note_blocks(&heap.gaps.window, &mut heap.points);
+        tile_walk::note_blocks(&heap.gaps.window, &mut heap.hints);
         heap
     }
 
@@ -82,9 +82,9 @@ impl Heap {
         ensures { result ≡ window }
     {
         let mut window = window;
-        let points = BlockHints::none_in(window.take_notes());
+        let hints = BlockHints::none_in(window.take_notes());
         let gaps = GapTree { window };
-        Heap { gaps, points }
+        Heap { gaps, hints }
     }
 
     /// Notes the handle of a block in use, from which blocks after it are looked for. No byte changes, and no tile is
@@ -93,7 +93,7 @@ impl Heap {
         requires { IsTrue (is_live_in (live_of self.old.bytes) handle) }
         ensures { self.new ≡ self.old }
     {
-        self.points.insert(handle);
+        self.hints.insert(handle);
     }
 
     /// Returns the heap's window, with the bytes that it has now. The room for hints goes with it.
@@ -101,9 +101,9 @@ impl Heap {
         ensures window { result ≡ self }
         ensures heap { IsHeap current result.bytes }
     {
-        let Heap { gaps, points } = self;
+        let Heap { gaps, hints } = self;
         let GapTree { mut window } = gaps;
-        window.keep_notes(points.into_notes());
+        window.keep_notes(hints.into_notes());
         window
     }
 
@@ -153,7 +153,7 @@ impl Heap {
     pub fn is_live(&self, handle: u64) -> bool
         ensures { result ≡ is_live_in (live_of self.now.bytes) handle }
     {
-        tile_walk::is_live(&self.gaps.window, &self.points, handle)
+        tile_walk::is_live(&self.gaps.window, &self.hints, handle)
     }
 
     /// Returns what the block of a handle is used for.
@@ -315,7 +315,8 @@ impl Heap {
 
     /// Tells whether the tags are whole, as they are in each heap.
     pub fn sanity(&self) -> bool
-        ensures { IsTrue result }
+        ensures result { IsTrue result }
+        ensures tags { result ≡ has_tags current (bytes_of self.now.bytes) (length self.now.bytes) }
     {
         block_tags::check(&self.gaps.window).is_ok()
     }

@@ -87,8 +87,9 @@ pub fn absorb_and_split(touches: &mut TouchCounter, at: u64, wanted: u64)
     ensures same_borrow { touches.new.gaps.ghost_name ≡ touches.old.gaps.ghost_name }
 {
     let behind = touches.next(at);
-    unlink_if_gap(touches, gap_at(behind));
-    coalesce_next(touches, at);
+    let gap = gap_at(behind);
+    unlink_if_gap(touches, gap);
+    coalesce_next(touches, at, gap);
     let is_cut = split_tail(touches, at, wanted);
     if is_cut {
         touches.link_gap(at + wanted + TAG_LEN);

@@ -1,4 +1,4 @@
-//! A way-point that leads to a block which is given back goes on to the block after it.
+//! A block hint that leads to a block which is given back goes on to the block after it.
 ghost use Rattle.std.specs.Prelude.{◌≡◌, ◌≢◌, ℕ, ◌+◌, ◌^◌, ◌<◌, ◌≤◌, IfSome, IsTrue};
 ghost use Rattle.raw_region.specs.Format.{current};
 ghost use Rattle.best_fit.specs.Heap.{IsHeap, is_live_in, live_of};
@@ -8,23 +8,23 @@ use crate::block_hints::BlockHints;
 use crate::heap::touch_counter::TouchCounter;
 use block_tags::TAG_LEN;
 
-/// Lets no way-point lead to the block of a handle: one that did leads to the block after it, if there is one.
-pub fn retarget_hint(touches: &mut TouchCounter, points: &mut BlockHints, handle: u64)
+/// Lets no block hint lead to the block of a handle: one that did leads to the block after it, if there is one.
+pub fn retarget_hint(touches: &mut TouchCounter, hints: &mut BlockHints, handle: u64)
     requires heap { IsHeap current touches.old.gaps.now.window.bytes }
-    requires points { LeadToBlocks points.old touches.old.gaps.now.window.bytes }
+    requires hints { LeadToBlocks hints.old touches.old.gaps.now.window.bytes }
     requires live { IsTrue (is_live_in (live_of touches.old.gaps.now.window.bytes) handle) }
     requires no_overflow { touches.old.count + 2 < 2 ^ 64 }
-    ensures points { (h : ℕ) → IsHinted points.new h
+    ensures hints { (h : ℕ) → IsHinted hints.new h
         → (h ≢ handle) × IsTrue (is_live_in (live_of touches.old.gaps.now.window.bytes) h) }
     ensures gaps { touches.new.gaps.now ≡ touches.old.gaps.now }
-    ensures steps_exact { touches.new.count ≤ touches.old.count + 2 }
+    ensures steps_upper { touches.new.count ≤ touches.old.count + 2 }
     ensures steps_lower { touches.old.count ≤ touches.new.count }
     ensures same_borrow { touches.new.gaps.ghost_name ≡ touches.old.gaps.ghost_name }
 {
-    if points.remove(handle)
+    if hints.remove(handle)
         && let Some(behind) = block_behind(touches, handle)
     {
-        points.insert(behind);
+        hints.insert(behind);
     }
 }
 
@@ -36,7 +36,7 @@ fn block_behind(touches: &mut TouchCounter, handle: u64) -> Option<u64>
     ensures block { IfSome result (λ h. (h ≢ handle)
         × IsTrue (is_live_in (live_of touches.old.gaps.now.window.bytes) h)) }
     ensures gaps { touches.new.gaps.now ≡ touches.old.gaps.now }
-    ensures steps_exact { touches.new.count ≤ touches.old.count + 2 }
+    ensures steps_upper { touches.new.count ≤ touches.old.count + 2 }
     ensures steps_lower { touches.old.count ≤ touches.new.count }
     ensures same_borrow { touches.new.gaps.ghost_name ≡ touches.old.gaps.ghost_name }
 {

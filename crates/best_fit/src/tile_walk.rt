@@ -12,11 +12,11 @@ use raw_region::Window;
 
 /// Tells whether a block in use has this handle. Any number may be asked for. The walk begins at the nearest block
 /// hint.
-pub fn is_live(window: &Window, points: &BlockHints, handle: u64) -> bool
-    requires { IsHintedHeap window.now.bytes points.now }
+pub fn is_live(window: &Window, hints: &BlockHints, handle: u64) -> bool
+    requires { IsHintedHeap window.now.bytes hints.now }
     ensures { result ≡ is_live_in (live_of window.now.bytes) handle }
 {
-    let mut ahead = match points.nearest(handle) {
+    let mut ahead = match hints.nearest(handle) {
         Some(known) => Some(tile_at(window, known - TAG_LEN)),
         None => first(window),
     };
@@ -30,14 +30,14 @@ pub fn is_live(window: &Window, points: &BlockHints, handle: u64) -> bool
 }
 
 /// Notes the first block in use of each piece of a heap's window, and reads all tiles.
-pub fn note_blocks(window: &Window, points: &mut BlockHints)
-    requires { IsHintedHeap window.now.bytes points.old }
-    ensures { LeadToBlocks points.new window.now.bytes }
+pub fn note_blocks(window: &Window, hints: &mut BlockHints)
+    requires { IsHintedHeap window.now.bytes hints.old }
+    ensures { LeadToBlocks hints.new window.now.bytes }
 {
     let mut ahead = first(window);
     'tiles: while let Some(tile) = ahead {
         if tile.use_of.is_some() {
-            points.insert(tile.offset + TAG_LEN);
+            hints.insert(tile.offset + TAG_LEN);
         }
         ahead = next(window, tile.offset);
     }

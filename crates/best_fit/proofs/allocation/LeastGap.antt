@@ -158,6 +158,19 @@ too_long c n role h l =
 
 -- ---- the gap that is found
 
+listed_by : (hs : List Gap) (wanted node : ℕ) (o : Option Gap) → least (filter (is_long wanted) hs) ≡ o
+    → Some node ≡ option_map node_of o → is_in node (payloads hs) ≡ true
+listed_by hs wanted node None e f = absurd (none_some node (sym f))
+listed_by hs wanted node (Some g) e f =
+    let i = least-IsOf hs wanted g e in
+    subst (λ k. is_in k (payloads hs) ≡ true) (sym (same_Some node (node_of g) f))
+    (subst (λ (gs : List Gap). is_in (node_of g) (payloads gs) ≡ true) (sym i.list) (in_here i.xs g i.ys))
+
+-- the least gap that is long enough is one of them
+pub least_listed : (hs : List Gap) (wanted node : ℕ)
+    → Some node ≡ option_map node_of (least (filter (is_long wanted) hs)) → is_in node (payloads hs) ≡ true
+least_listed hs wanted node e = listed_by hs wanted node (least (filter (is_long wanted) hs)) refl e
+
 -- a gap that a search of the tree found: the least that is long enough
 pub record Found (c : WindowState) (wanted node : ℕ) : Type 0 where
   pub gap : Gap
@@ -178,8 +191,7 @@ found_by c wanted node h (Some g) e f =
       gap = g;
       least_is = e;
       is = is;
-      listed = subst (λ k. is_in k (payloads (gaps_in c)) ≡ true) (sym is)
-          (subst (λ (hs : List Gap). is_in (node_of g) (payloads hs) ≡ true) (sym i.list) (in_here i.xs g i.ys));
+      listed = listed_by (gaps_in c) wanted node (Some g) e f;
       len = ap (len_in (gaps_in c)) is ∙ fits_one (gaps_in c) i.xs g i.ys whole.fits;
       enough = leb-true wanted g.len i.enough;
     }

@@ -1,7 +1,7 @@
 -- A block is given back: its free neighbours leave the tree, and the gap that it becomes with them enters it.
 use Rattle.best_fit.proofs.Common.{◌≡◌, refl, sym, ap, subst, ◌∙◌, ℕ, ◌+◌, ◌-◌, ◌*◌, ◌≤◌, false, List, [], ◌∷◌, ◌++◌}
 use Rattle.best_fit.proofs.Common.{length, append_assoc, arith, Option, Some, None, map, WindowState, bytes_of, Tile}
-use Rattle.best_fit.proofs.Common.{current}
+use Rattle.best_fit.proofs.Common.{current, gap_offset, is_free, tile_in, true}
 use Rattle.best_fit.proofs.Common.{first_in, last_in, next_in, previous_in, with_red_at, with_use_at, without_last}
 use Rattle.best_fit.proofs.Common.{HasTileAt, CanTakeUse, MayHaveColour, EncodesTiles, SameExceptTags, IsTree, bits}
 use Rattle.best_fit.proofs.Common.{is_in, tree_same, link_at, target_of, Gap, LiveSet, others, released, IsTreeOf}
@@ -18,7 +18,8 @@ use Rattle.best_fit.proofs.tags.TileJoins.{rest_of}
 use Rattle.best_fit.proofs.tags.TagsAndLiveSet.{SaysHeap, heap-says, said_row}
 use Rattle.best_fit.proofs.allocation.GapToBlock.{lays_out}
 use Rattle.best_fit.proofs.gaps.LinksOnly.{SplitsAlike, regrown_keeps, regrown_live, splits_alike, tree_says}
-use Rattle.best_fit.proofs.deallocation.OneGap.{Freed, colour_may, freed, stands2, stands3, use_may}
+use Rattle.best_fit.proofs.deallocation.OneGap.{Freed, before3, behind2, colour_may, free3, freed, stands2, stands3}
+use Rattle.best_fit.proofs.deallocation.OneGap.{use_may}
 use Rattle.best_fit.proofs.free_tree.LinkAndUnlink.{few_bits, lacking_node}
 use Rattle.best_fit.proofs.tags.TileRows.{Apart-is_merged, gaps_of-used, gaps_of-append}
 use Rattle.best_fit.proofs.tags.Writes.{Block}
@@ -61,6 +62,23 @@ same_start : (ts us : List Tile) (at : ℕ) → map plain us ≡ map plain ts
     → start_of (last_in us) at ≡ start_of (last_in ts) at
 same_start ts us at e = sym (start-plain us at) ∙ ap (λ (vs : List Tile). start_of (last_in vs) at) e
     ∙ start-plain ts at
+
+-- the first tile and the last begin a gap where they did
+pub first-plain : (ts us : List Tile) → map plain us ≡ map plain ts
+    → gap_offset (first_in us) ≡ gap_offset (first_in ts)
+first-plain ts us e = sym (first us) ∙ ap (λ (vs : List Tile). gap_offset (first_in vs)) e ∙ first ts
+  where
+    first : (vs : List Tile) → gap_offset (first_in (map plain vs)) ≡ gap_offset (first_in vs)
+    first [] = refl
+    first (v ∷ vs) = refl
+
+last-plain : (ts us : List Tile) → map plain us ≡ map plain ts → gap_offset (last_in us) ≡ gap_offset (last_in ts)
+last-plain ts us e = sym (last us) ∙ ap (λ (vs : List Tile). gap_offset (last_in vs)) e ∙ last ts
+  where
+    last : (vs : List Tile) → gap_offset (last_in (map plain vs)) ≡ gap_offset (last_in vs)
+    last [] = refl
+    last (v ∷ []) = refl
+    last (v ∷ u ∷ vs) = last (u ∷ vs)
 
 -- two regrowths of a tree, one after the other, are one
 pub regrown-trans : (a b c : WindowState) → ChangesGapTree a b → ChangesGapTree b c → ChangesGapTree a c
@@ -208,6 +226,12 @@ module _ (w : WindowState) (at : ℕ) (heap : IsHeap current w.bytes) (b : Block
         r_stands2 = stands2 d says_d at s.front' s.tile' s.back' b.role s.list used_d begins_d one paint
             paint_same two change change_same
 
+        -- the gap after it is where it was read
+        pub r_behind2 : (ts : List Tile) → EncodesTiles two ts
+            → gap_offset (next_in ts at) ≡ gap_offset (first_in b.back)
+        r_behind2 ts said = behind2 d says_d at s.front' s.tile' s.back' b.role s.list used_d begins_d one paint
+            paint_same two change change_same ts said ∙ first-plain b.back s.back' s.backs
+
         module _ (three : WindowState) (join : (ts : List Tile) → EncodesTiles two ts
             → EncodesTiles three (joined_free_at at ts))
             (join_same : (ts : List Tile) → EncodesTiles two ts
@@ -215,6 +239,17 @@ module _ (w : WindowState) (at : ℕ) (heap : IsHeap current w.bytes) (b : Block
           pub r_stands3 : HasTileAt three at
           r_stands3 = stands3 d says_d at s.front' s.tile' s.back' b.role s.list used_d begins_d one paint paint_same
               two change change_same three join join_same
+
+          -- the tile is free now
+          pub r_free3 : (ts : List Tile) (t : Tile) → EncodesTiles three ts → tile_in ts at ≡ Some t → is_free t ≡ true
+          r_free3 = free3 d says_d at s.front' s.tile' s.back' b.role s.list used_d begins_d one paint paint_same
+              two change change_same three join join_same
+
+          -- and the gap before it is where it was read
+          pub r_before3 : (ts : List Tile) → EncodesTiles three ts
+              → gap_offset (previous_in ts at) ≡ gap_offset (last_in b.front)
+          r_before3 ts said = before3 d says_d at s.front' s.tile' s.back' b.role s.list used_d begins_d one paint
+              paint_same two change change_same three join join_same ts said ∙ last-plain b.front s.front' s.fronts
 
           module _ (four : WindowState) (last_join : (ts : List Tile) → EncodesTiles three ts
               → EncodesTiles four (joined_before at ts)) (last_same : (ts : List Tile) → EncodesTiles three ts

@@ -2,6 +2,7 @@
 use Rattle.best_fit.proofs.Common.{◌≡◌, refl, sym, ap, subst, ◌∙◌, ℕ, ◌+◌, ◌-◌, Bool, true, false, List, [], ◌∷◌}
 use Rattle.best_fit.proofs.Common.{◌++◌, length, append_assoc, if◌then◌else◌, inl, inr, ◌⊎◌, Option, Some, None}
 use Rattle.best_fit.proofs.Common.{both_ways, cond-true, cond-false, WindowState, Role, Tile, previous_in, last_in}
+use Rattle.best_fit.proofs.Common.{first_in, gap_offset, next_in, same_Some, tile_in}
 use Rattle.best_fit.proofs.Common.{with_use_at, with_red_at, used_for, of_colour, is_free, EncodesTiles, SameExceptTags}
 use Rattle.best_fit.proofs.Common.{HasTileAt, CanTakeUse, MayHaveColour, Extent, others, released, KeepsBlocks, live_of}
 use Rattle.best_fit.proofs.Common.{joined_before, joined_free_at, with_free_behind, cons_option, bytes_of, word_at}
@@ -9,7 +10,8 @@ use Rattle.best_fit.proofs.Common.{without_last, tiles_are_read_off, is_in, Gap,
 use Rattle.best_fit.proofs.Common.{gaps_of, gaps_in, tiles_in, start_of}
 use Rattle.best_fit.proofs.tags.RowParts.{Away, last_in-EndsWith, is_free_option, last_free-last_in, apart_back}
 use Rattle.best_fit.proofs.tags.RowParts.{apart_front}
-use Rattle.best_fit.proofs.tags.RowParts.{apart_joined, away_front, changed_at-around, last_free, previous_in-around}
+use Rattle.best_fit.proofs.tags.RowParts.{apart_joined, away_front, changed_at-around, last_free, next_in-around}
+use Rattle.best_fit.proofs.tags.RowParts.{previous_in-around}
 use Rattle.best_fit.proofs.tags.RowParts.{tile_in-around}
 use Rattle.best_fit.proofs.tags.Frames.{keeps-trans}
 use Rattle.best_fit.proofs.tags.TileJoins.{JoinsTo, joins_to, extents_of-around, extents_of-around_free, others_between}
@@ -191,6 +193,10 @@ in_parts_wide u xs ys front mid back f g h =
       | inr b ↦ in_back u front (mid ++ back) (in_back u mid back (g b))
     ]
 
+-- the tags say one list
+pub one_list : (c : WindowState) (ts us : List Tile) → EncodesTiles c ts → EncodesTiles c us → ts ≡ us
+one_list c ts us said told = sym (tiles_are_read_off c ts said) ∙ tiles_are_read_off c us told
+
 -- what is known once the block at an offset, which stands between these tiles, is one gap with those before and
 -- after it
 pub record Freed (old new : WindowState) (at : ℕ) (front0 back0 : List Tile) : Type 0 where
@@ -280,6 +286,12 @@ module _ (old : WindowState) (says : SaysHeap old (tiles_in old)) (at : ℕ) (fr
         stands = tile_in-around at unused_tile back0 o front0 away0;
       }
 
+      -- and the gap after it where that stood
+      pub behind2 : (ts : List Tile) → EncodesTiles two ts → gap_offset (next_in ts at) ≡ gap_offset (first_in back0)
+      behind2 ts said =
+          ap (λ (us : List Tile). gap_offset (next_in us at)) (one_list two ts (front0 ++ (unused_tile ∷ back0)) said said2)
+          ∙ ap gap_offset (next_in-around at unused_tile back0 o front0 away0)
+
       module _ (three : WindowState) (join : (ts : List Tile) → EncodesTiles two ts
           → EncodesTiles three (joined_free_at at ts))
           (join_same : (ts : List Tile) → EncodesTiles two ts
@@ -305,6 +317,21 @@ module _ (old : WindowState) (says : SaysHeap old (tiles_in old)) (at : ℕ) (fr
           tile = joined;
           stands = tile_in-around at joined joins.left o front0 away0;
         }
+
+        -- the tile is free
+        pub free3 : (ts : List Tile) (t : Tile) → EncodesTiles three ts → tile_in ts at ≡ Some t → is_free t ≡ true
+        free3 ts t said e =
+            ap is_free (same_Some t joined (sym e
+            ∙ ap (λ (us : List Tile). tile_in us at) (one_list three ts (front0 ++ (joined ∷ joins.left)) said said3)
+            ∙ tile_in-around at joined joins.left o front0 away0))
+
+        -- and the gap before it where that stood
+        pub before3 : (ts : List Tile) → EncodesTiles three ts
+            → gap_offset (previous_in ts at) ≡ gap_offset (last_in front0)
+        before3 ts said =
+            ap (λ (us : List Tile). gap_offset (previous_in us at))
+            (one_list three ts (front0 ++ (joined ∷ joins.left)) said said3)
+            ∙ ap gap_offset (previous_in-around at joined joins.left o front0 away0)
 
         module _ (new : WindowState) (last : (ts : List Tile) → EncodesTiles three ts
             → EncodesTiles new (joined_before at ts))

@@ -1,8 +1,9 @@
 -- Where the removal of a gap from the tree begins, by what a search for it says.
 use Rattle.best_fit.proofs.Common.{◌≡◌, sym, ap, ◌∙◌, ℕ, true, List, Option, Some, None, IfSome}
 use Rattle.best_fit.proofs.Common.{WindowState, bytes_of, Tree, IsSearchTree, nodes_of, first_not_before, is_in}
-use Rattle.best_fit.proofs.Common.{link_at, Gap, payloads}
-use Rattle.best_fit.proofs.Common.{comes_before, gap_cells, gaps_in, len_in, stands_before, HasGapTree, CanBeginRemoval}
+use Rattle.best_fit.proofs.Common.{link_at, Gap, payloads, sorted_gaps}
+use Rattle.best_fit.proofs.Common.{comes_before, gap_cells, gaps_in, own_probe, stands_before, HasGapTree}
+use Rattle.best_fit.proofs.Common.{CanBeginRemoval}
 use Rattle.link_tree.specs.Ways.{remove_point_of}
 use Rattle.link_tree.proofs.Laws.{first_itself}
 use Rattle.best_fit.specs.GapLaws.{comes_irreflexive}
@@ -10,7 +11,8 @@ use Rattle.best_fit.specs.declared.heap.nodes.GapProbe.{GapProbe}
 use Rattle.best_fit.proofs.free_tree.Trees.{search_tree}
 use Rattle.best_fit.proofs.free_tree.LinkAndUnlink.{in_tree_of}
 
-at_exit : (exit o : Option ℕ) → exit ≡ o → IfSome exit (λ n. o ≡ Some n)
+-- a place that is there is the one that was computed
+pub at_exit : (exit o : Option ℕ) → exit ≡ o → IfSome exit (λ n. o ≡ Some n)
 at_exit None o e = tt
 at_exit (Some n) o e = sym e
 
@@ -27,9 +29,10 @@ may_begin c (Some n) exit says = record {
 
 -- a gap of the tree is what is found where it is looked for
 pub found_itself : (c : WindowState) (hs : List Gap) (h : HasGapTree c hs) (node : ℕ) (sought : GapProbe)
-    → is_in node (payloads hs) ≡ true → sought ≡ record { len = len_in (gaps_in c) node; from = node }
-    → first_not_before (stands_before (gaps_in c) sought) (nodes_of h.tree.tree) ≡ Some node
+    → is_in node (payloads hs) ≡ true → sought ≡ own_probe (gaps_in c) node
+    → first_not_before (stands_before (gaps_in c) sought) (payloads (sorted_gaps hs)) ≡ Some node
 found_itself c hs h node sought i e =
-    ap (λ (p : GapProbe). first_not_before (stands_before (gaps_in c) p) (nodes_of h.tree.tree)) e
+    ap (λ (p : GapProbe). first_not_before (stands_before (gaps_in c) p) (payloads (sorted_gaps hs))) e
+    ∙ ap (first_not_before (stands_before (gaps_in c) (own_probe (gaps_in c) node))) (sym h.tree.lists)
     ∙ first_itself (comes_before (gaps_in c)) (comes_irreflexive (gaps_in c)) (nodes_of h.tree.tree) node
     (search_tree c hs h).ordered (in_tree_of c hs node h i)

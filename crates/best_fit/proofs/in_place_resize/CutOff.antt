@@ -1,7 +1,7 @@
 -- A block takes the gap after it, which leaves the tree, and what is cut off enters it.
 use Rattle.best_fit.proofs.Common.{◌≡◌, refl, sym, ap, subst, ◌∙◌, ℕ, ◌+◌, ◌-◌, ◌*◌, ◌≤◌, Bool, true, false, List, []}
 use Rattle.best_fit.proofs.Common.{◌∷◌, ◌++◌, length, arith, nat_le, Option, Some, map, min, Memory, WindowState}
-use Rattle.best_fit.proofs.Common.{bytes_of}
+use Rattle.best_fit.proofs.Common.{bytes_of, gap_offset}
 use Rattle.best_fit.proofs.Common.{Tile, current, first_in, free_tile, next_in, tile_in, HasTileAt, EncodesTiles}
 use Rattle.best_fit.proofs.Common.{SameExceptTags, IsTree, bits, is_in, tree_same, link_at, target_of, Extent, Gap}
 use Rattle.best_fit.proofs.Common.{LiveSet, handle, end_of, gap_after, others, resized, share, IsTreeOf, cells_of}
@@ -18,13 +18,13 @@ use Rattle.best_fit.proofs.gaps.Nodes.{in_around}
 use Rattle.best_fit.proofs.gaps.Order.{in_sorted}
 use Rattle.best_fit.proofs.gaps.OneField.{same_gaps}
 use Rattle.best_fit.proofs.tags.TileJoins.{rest_of}
-use Rattle.best_fit.proofs.deallocation.Coalescing.{back_parts, same_rest}
+use Rattle.best_fit.proofs.deallocation.Coalescing.{back_parts, first-plain, same_rest}
 use Rattle.best_fit.proofs.tags.TagsAndLiveSet.{SaysHeap, heap-says, said_row}
 use Rattle.best_fit.proofs.allocation.GapToBlock.{lays_out}
 use Rattle.best_fit.proofs.gaps.LinksOnly.{SplitsAlike, regrown_block, regrown_keeps, regrown_live, splits_alike}
 use Rattle.best_fit.proofs.gaps.LinksOnly.{tree_says}
 use Rattle.best_fit.proofs.in_place_resize.NextGap.{gap_is, joins, t_cell, t_cut_at, t_cuts, t_gaps, t_in, t_joins}
-use Rattle.best_fit.proofs.in_place_resize.NextGap.{t_keeps, t_live}
+use Rattle.best_fit.proofs.in_place_resize.NextGap.{t_behind0, t_keeps, t_live}
 use Rattle.best_fit.proofs.in_place_resize.NextGap.{t_says, t_stands0, t_stands1, t_still, t_word}
 use Rattle.best_fit.proofs.tags.TileRows.{Apart-is_merged, extent_of, gaps_of-used, gaps_of-append}
 use Rattle.best_fit.proofs.tags.UnchangedTags.{In}
@@ -155,6 +155,11 @@ module _ (w : WindowState) (at : ℕ) (heap : IsHeap current w.bytes) (b : Block
     -- the tile of the block is there
     pub c_stands0 : HasTileAt d at
     c_stands0 = t_stands0 d says_d at s.front' s.tile' s.back' b.role s.list used_d begins_d wanted
+
+    -- and the gap after it is where it was read
+    pub c_behind0 : (ts : List Tile) → EncodesTiles d ts → gap_offset (next_in ts at) ≡ gap_offset (first_in b.back)
+    c_behind0 ts said = t_behind0 d says_d at s.front' s.tile' s.back' b.role s.list used_d begins_d wanted ts said
+        ∙ first-plain b.back s.back' s.backs
 
     module _ (mid : WindowState) (join : (ts : List Tile) → EncodesTiles d ts → EncodesTiles mid (joined_free_at at ts))
         (join_same : (ts : List Tile) → EncodesTiles d ts → SameExceptTags d mid ts (joined_free_at at ts)) where

@@ -2,7 +2,7 @@
 use Rattle.best_fit.proofs.Common.{◌≡◌, refl, sym, ap, subst, ◌∙◌, ℕ, ◌+◌, ◌-◌, ◌≤◌, inl, Bool, true, false, List, []}
 use Rattle.best_fit.proofs.Common.{◌∷◌, ◌++◌, length, arith, ◌==◌, IsTrue, Option, Some, None, find, min, eq-eqb}
 use Rattle.best_fit.proofs.Common.{both_ways, WindowState, bytes_of, Role, Tile, current, tile_in, is_free}
-use Rattle.best_fit.proofs.Common.{EncodesTiles}
+use Rattle.best_fit.proofs.Common.{EncodesTiles, first_in, gap_offset, next_in}
 use Rattle.best_fit.proofs.Common.{SameExceptTags, HasTileAt, Extent, handle, gap_after, insert, is_extent, others}
 use Rattle.best_fit.proofs.Common.{resized, share, IsHeap, KeepsBlocks, live_of, cut_to, free_behind, free_len}
 use Rattle.best_fit.proofs.Common.{joined_free_at, with_free_behind, word_at, tiles_are_read_off, is_in, Gap}
@@ -176,6 +176,13 @@ module _ (old : WindowState) (says : SaysHeap old (tiles_in old)) (at : ℕ) (fr
     tile = tile0;
     stands = tile_in-around at tile0 back0 o front0 t_away;
   }
+
+  -- and the gap after it where it was read
+  pub t_behind0 : (ts : List Tile) → EncodesTiles old ts → gap_offset (next_in ts at) ≡ gap_offset (first_in back0)
+  t_behind0 ts said =
+      ap (λ (us : List Tile). gap_offset (next_in us at))
+      (sym (tiles_are_read_off old ts said) ∙ tiles_are_read_off old (front0 ++ (tile0 ∷ back0)) said0)
+      ∙ ap gap_offset (next_in-around at tile0 back0 o front0 t_away)
 
   module _ (mid : WindowState) (join : (ts : List Tile) → EncodesTiles old ts → EncodesTiles mid (joined_free_at at ts))
       (join_same : (ts : List Tile) → EncodesTiles old ts → SameExceptTags old mid ts (joined_free_at at ts)) where

@@ -2,14 +2,14 @@
 use Rattle.best_fit.proofs.Common.{◌≡◌, refl, sym, ap, subst, ◌∙◌, ℕ, ◌+◌, ◌-◌, ◌<◌, ◌≤◌, List, [], ◌∷◌, ◌++◌, length}
 use Rattle.best_fit.proofs.Common.{append_assoc, arith, nat_lt, Option, Some, None, cond-true, cond-false, lt-ltb}
 use Rattle.best_fit.proofs.Common.{le-ltb, WindowState, Tile, first_in, in_two, next_in, previous_in, tile_in, is_free}
-use Rattle.best_fit.proofs.Common.{HasFreeNext, HasTileAt, EncodesTiles, one_tile_at_an_offset, cut_to, free_behind}
-use Rattle.best_fit.proofs.Common.{free_len, joined_free_at, with_free_behind}
+use Rattle.best_fit.proofs.Common.{HasFreeNext, HasTileAt, EncodesTiles, one_tile_at_an_offset, cut_to, gap_offset}
+use Rattle.best_fit.proofs.Common.{joined_free_at, with_free_behind, none-some, same_Some, true, false, if◌then◌else◌}
 use Rattle.block_tags.specs.Lists.{in_one, joined_at, split_at}
 use Rattle.block_tags.proofs.Laws.{tile_stands_in_list}
 use Rattle.best_fit.specs.Tiling.{cut_at}
-use Rattle.best_fit.proofs.tags.RowParts.{EndsWith, last_in-EndsWith, row_back, row_end}
+use Rattle.best_fit.proofs.tags.RowParts.{EndsWith, away_front, last_in-EndsWith, next_in-around}
 use Rattle.best_fit.proofs.tags.TagsAndLiveSet.{said_row}
-use Rattle.best_fit.proofs.tags.TileRows.{Row, unused, used, use_cases, unused-free, used-not_free}
+use Rattle.best_fit.proofs.tags.TileRows.{unused, used, use_cases, unused-free, used-not_free}
 
 -- a tile that is long enough is cut in two
 pub cut_list : (ts : List Tile) (at len : ℕ) (t : Tile) → tile_in ts at ≡ Some t → len + 32 ≤ t.len
@@ -31,68 +31,126 @@ kept_list ts at len t e l =
 
 -- ---- the tile after
 
-join_cases : (t : Tile) (back : List Tile) → 0 < free_len (first_in back) → with_free_behind t back ≡ in_one t back
-join_cases t [] l = absurd (omega arith)
-join_cases t (u ∷ back) l =
-    elim (use_cases u) [
-      | unused e ↦ cond-true (is_free u) (record t { len = t.len + u.len } ∷ back) (t ∷ u ∷ back) (unused-free u e)
-      | used role e ↦ let none : free_len (first_in (u ∷ back)) ≡ 0 = cond-false (is_free u) u.len 0
-          (used-not_free u role e) in absurd (omega arith)
-    ]
+-- a tile that is read, and is free
+pub record ReadGap (o : Option Tile) (at : ℕ) : Type 0 where
+  pub tile : Tile
+  pub is : o ≡ Some tile
+  pub free : is_free tile ≡ true
+  pub offset : tile.offset ≡ at
+
+-- where a gap begins, a free tile does
+pub read_gap : (o : Option Tile) (at : ℕ) → gap_offset o ≡ Some at → ReadGap o at
+read_gap None at e = absurd (none-some at e)
+read_gap (Some t) at e = elim (use_cases t) [
+  | unused f ↦ record {
+    tile = t;
+    is = refl;
+    free = unused-free t f;
+    offset = same_Some t.offset at (sym (cond-true (is_free t) (Some t.offset) None (unused-free t f)) ∙ e);
+  }
+  | used role f ↦ absurd (none-some at (sym (cond-false (is_free t) (Some t.offset) None (used-not_free t role f)) ∙ e))
+]
+
+-- no other tile is free
+pub no_free_tile : (t : Tile) → gap_offset (Some t) ≡ None → is_free t ≡ false
+no_free_tile t e = elim (use_cases t) [
+  | unused f ↦ absurd (none-some t.offset
+      (sym e ∙ cond-true (is_free t) (Some t.offset) None (unused-free t f)))
+  | used role f ↦ used-not_free t role f
+]
+
+join_cases : (t : Tile) (back : List Tile) (at : ℕ) → gap_offset (first_in back) ≡ Some at
+    → with_free_behind t back ≡ in_one t back
+join_cases t [] at e = absurd (none-some at e)
+join_cases t (u ∷ back) at e =
+    let f = read_gap (Some u) at e in
+    cond-true (is_free u) (record t { len = t.len + u.len } ∷ back) (t ∷ u ∷ back)
+    (ap is_free (same_Some u f.tile f.is) ∙ f.free)
 
 -- a free tile after this one is joined with it
-pub joined_list : (ts : List Tile) (at : ℕ) (t : Tile) → tile_in ts at ≡ Some t → 0 < free_behind at ts
-    → joined_free_at at ts ≡ joined_at at ts
-joined_list ts at t e l =
+pub joined_list : (ts : List Tile) (at : ℕ) (t : Tile) (gap : ℕ) → tile_in ts at ≡ Some t
+    → gap_offset (next_in ts at) ≡ Some gap → joined_free_at at ts ≡ joined_at at ts
+joined_list ts at t gap e is =
     let s = tile_stands_in_list ts at t e in
-    let next : free_behind at ts ≡ free_len (first_in s.back) = ap free_len s.next in
-    s.changed with_free_behind ∙ ap (λ (us : List Tile). s.front ++ us) (join_cases t s.back (omega arith))
+    s.changed with_free_behind
+    ∙ ap (λ (us : List Tile). s.front ++ us) (join_cases t s.back gap (ap gap_offset (sym s.next) ∙ is))
     ∙ sym (s.changed in_one)
 
-unjoined_cases : (t : Tile) (back : List Tile) (at : ℕ) (end : ℕ) → Row at back end → free_len (first_in back) ≤ 0
-    → with_free_behind t back ≡ t ∷ back
-unjoined_cases t [] at end row l = refl
-unjoined_cases t (u ∷ back) at end row l =
-    let long = row.1 in
-    elim (use_cases u) [
-      | unused e ↦ let some : free_len (first_in (u ∷ back)) ≡ u.len = cond-true (is_free u) u.len 0
-          (unused-free u e) in absurd (omega arith)
-      | used role e ↦ cond-false (is_free u) (record t { len = t.len + u.len } ∷ back) (t ∷ u ∷ back)
-          (used-not_free u role e)
-    ]
+unjoined_cases : (t : Tile) (back : List Tile) → gap_offset (first_in back) ≡ None → with_free_behind t back ≡ t ∷ back
+unjoined_cases t [] e = refl
+unjoined_cases t (u ∷ back) e =
+    cond-false (is_free u) (record t { len = t.len + u.len } ∷ back) (t ∷ u ∷ back) (no_free_tile u e)
 
 -- and nothing is joined where there is none
-pub unjoined_list : (c : WindowState) (ts : List Tile) (at : ℕ) (t : Tile) → EncodesTiles c ts → tile_in ts at ≡ Some t
-    → free_behind at ts ≤ 0 → joined_free_at at ts ≡ ts
-unjoined_list c ts at t said e l =
+pub unjoined_list : (ts : List Tile) (at : ℕ) (t : Tile) → tile_in ts at ≡ Some t → gap_offset (next_in ts at) ≡ None
+    → joined_free_at at ts ≡ ts
+unjoined_list ts at t e none =
     let s = tile_stands_in_list ts at t e in
-    let next : free_behind at ts ≡ free_len (first_in s.back) = ap free_len s.next in
-    let row = row_back 128 s.front (t ∷ s.back) (length c.bytes - 16)
-    (said_row c (s.front ++ (t ∷ s.back)) (subst (EncodesTiles c) s.is said)) in
-    s.changed with_free_behind ∙ ap (λ (us : List Tile). s.front ++ us)
-    (unjoined_cases t s.back (row_end 128 s.front + t.len) (length c.bytes - 16) row.3 (omega arith)) ∙ sym s.is
-
-free_next_cases : (c : WindowState) (at : ℕ) (ts : List Tile) (t : Tile) → EncodesTiles c ts → tile_in ts at ≡ Some t
-    → (o : Option Tile) → next_in ts at ≡ o → 0 < free_len o → HasFreeNext c at
-free_next_cases c at ts t said e None next l = absurd (omega arith)
-free_next_cases c at ts t said e (Some u) next l =
-    elim (use_cases u) [
-      | unused f ↦ record {
-        tiles = ts;
-        said = said;
-        tile = t;
-        stands = e;
-        next = u;
-        behind = next;
-        free = unused-free u f;
-      }
-      | used role f ↦ let none : free_len (Some u) ≡ 0 = cond-false (is_free u) u.len 0 (used-not_free u role f) in
-          absurd (omega arith)
-    ]
+    s.changed with_free_behind
+    ∙ ap (λ (us : List Tile). s.front ++ us) (unjoined_cases t s.back (ap gap_offset (sym s.next) ∙ none)) ∙ sym s.is
 
 -- a free tile stands after
-pub free_next : (c : WindowState) (at : ℕ) → (h : HasTileAt c at) → 0 < free_behind at h.tiles → HasFreeNext c at
-free_next c at h l = free_next_cases c at h.tiles h.tile h.said h.stands (next_in h.tiles at) refl l
+pub free_next : (c : WindowState) (at gap : ℕ) → (h : HasTileAt c at) → gap_offset (next_in h.tiles at) ≡ Some gap
+    → HasFreeNext c at
+free_next c at gap h e =
+    let f = read_gap (next_in h.tiles at) gap e in
+    record {
+      tiles = h.tiles;
+      said = h.said;
+      tile = h.tile;
+      stands = h.stands;
+      next = f.tile;
+      behind = f.is;
+      free = f.free;
+    }
+
+-- ---- the tile before
+
+-- the gap before is joined with its next one
+pub joined_after : (o : Option Tile) (ts : List Tile) (at : ℕ) → gap_offset o ≡ Some at
+    → elim o as (λ _. List Tile) [
+      | None ↦ ts
+      | Some p ↦ if is_free p then joined_free_at p.offset ts else ts
+    ] ≡ joined_free_at at ts
+joined_after None ts at e = absurd (none-some at e)
+joined_after (Some p) ts at e =
+    let f = read_gap (Some p) at e in let same = same_Some p f.tile f.is in
+    cond-true (is_free p) (joined_free_at p.offset ts) ts (ap is_free same ∙ f.free)
+    ∙ ap (λ k. joined_free_at k ts) (ap (λ (t : Tile). t.offset) same ∙ f.offset)
+
+-- and none stays as it is
+pub not_joined : (o : Option Tile) (ts : List Tile) → gap_offset o ≡ None
+    → elim o as (λ _. List Tile) [
+      | None ↦ ts
+      | Some p ↦ if is_free p then joined_free_at p.offset ts else ts
+    ] ≡ ts
+not_joined None ts e = refl
+not_joined (Some p) ts e = cond-false (is_free p) (joined_free_at p.offset ts) ts (no_free_tile p e)
+
+after_cases : (front : List Tile) (p : Tile) → EndsWith front p → (c : WindowState) (t : Tile) (back : List Tile)
+    → EncodesTiles c (front ++ (t ∷ back)) → next_in (front ++ (t ∷ back)) p.offset ≡ Some t
+after_cases front p ends c t back said =
+    let list : front ++ (t ∷ back) ≡ ends.front ++ (p ∷ (t ∷ back)) = ap (λ (ts : List Tile). ts ++ (t ∷ back))
+    ends.list ∙ append_assoc ends.front (p ∷ []) (t ∷ back) in
+    let said' : EncodesTiles c (ends.front ++ (p ∷ (t ∷ back))) = subst (EncodesTiles c) list said in
+    ap (λ (ts : List Tile). next_in ts p.offset) list
+    ∙ next_in-around p.offset p (t ∷ back) refl ends.front
+    (away_front 128 ends.front p (t ∷ back) (length c.bytes - 16)
+    (said_row c (ends.front ++ (p ∷ (t ∷ back))) said'))
+
+-- after the gap before a free tile stands this
+pub gap_after_previous : (c : WindowState) (ts : List Tile) (at : ℕ) (t : Tile) (before : ℕ) → EncodesTiles c ts
+    → tile_in ts at ≡ Some t → is_free t ≡ true → gap_offset (previous_in ts at) ≡ Some before
+    → gap_offset (next_in ts before) ≡ Some at
+gap_after_previous c ts at t before said e free is =
+    let s = tile_stands_in_list ts at t e in
+    let f = read_gap (previous_in ts at) before is in
+    let next : next_in (s.front ++ (t ∷ s.back)) f.tile.offset ≡ Some t =
+    after_cases s.front f.tile (last_in-EndsWith s.front f.tile (sym s.previous ∙ f.is)) c t s.back
+    (subst (EncodesTiles c) s.is said) in
+    ap gap_offset (ap (next_in ts) (sym f.offset) ∙ ap (λ (us : List Tile). next_in us f.tile.offset) s.is ∙ next)
+    ∙ cond-true (is_free t) (Some t.offset) None free
+    ∙ ap (λ k. let o : Option ℕ = Some k in o) s.offset
 
 -- the tile before one
 before_cases : (front : List Tile) (p : Tile) → EndsWith front p → (c : WindowState) (t : Tile) (back : List Tile)

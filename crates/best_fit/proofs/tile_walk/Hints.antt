@@ -1,4 +1,4 @@
--- Way-points lead to blocks in use, and a walk may begin at one.
+-- Block hints lead to blocks in use, and a walk may begin at one.
 use Rattle.best_fit.proofs.Common.{◌≡◌, ◌≢◌, refl, sym, ap, subst, ◌∙◌, ℕ, ◌+◌, ◌-◌, ◌<◌, ◌≤◌, ◌⊎◌, inl}
 use Rattle.best_fit.proofs.Common.{inr, Bool, true, false, ◌||◌, List, [], ◌∷◌, ◌++◌, length, append_assoc}
 use Rattle.best_fit.proofs.Common.{arith, ◌==◌, IsTrue, Option, Some, None, is_some, IfSome, list_any}
@@ -40,7 +40,7 @@ pub held-on : (p : BlockHints) (b b' : List ℕ) (live : LiveSet) → LeadToBloc
 held-on p b b' live lead laid stay =
     record {
       heap = laid-heap b' live laid;
-      points = λ h n. subst (λ (v : LiveSet). IsTrue (is_live_in v h)) (sym (lay_out_one current b' live laid))
+      hints = λ h n. subst (λ (v : LiveSet). IsTrue (is_live_in v h)) (sym (lay_out_one current b' live laid))
           (stay h (lead h n));
     }
 
@@ -208,7 +208,7 @@ beyond_next c k t back y = let l = y.2 in (y.0 + t.len, y.1.3, omega arith)
 pub beyond_other : (c : WindowState) (k : ℕ) (t : Tile) (back : List Tile) → Beyond c k (t ∷ back) → t.offset + 16 ≢ k
 beyond_other c k t back y = let l = y.2 in let o = y.1.0 in λ e. omega arith
 
--- ---- the nearest way-point
+-- ---- the nearest block hint
 
 -- it leads to a block that does not stand after the handle
 pub record Nearest (c : WindowState) (h known : ℕ) : Type 0 where
@@ -221,7 +221,7 @@ pub nearest_block : (c : WindowState) (p : BlockHints) (h known : ℕ) → IsHin
     → IfSome o (λ k. IsHinted p k × (k ≤ h)) → o ≡ Some known → Nearest c h known
 nearest_block c p h known held o is e =
     let two : IsHinted p known × (known ≤ h) = subst (λ v. IfSome v (λ k. IsHinted p k × (k ≤ h))) e is in
-    let live = held.points known two.0 in
+    let live = held.hints known two.0 in
     record { live = live; block = live_block c known held.heap live; near = two.1 }
 
 -- ---- what each call of the heap leaves
@@ -232,7 +232,7 @@ extended_cases : (p : BlockHints) (old new : WindowState) (h n : ℕ) (r : Bool)
 extended_cases p old new h n r held x None e =
     subst (λ (v : WindowState). IsHintedHeap v.bytes p) (sym (x.refused e).1) held
 extended_cases p old new h n r held x (Some y) e =
-    held-on p old.bytes new.bytes (resized (live_of old.bytes) y) held.points (x.lengthened y e).1.live
+    held-on p old.bytes new.bytes (resized (live_of old.bytes) y) held.hints (x.lengthened y e).1.live
     (resized-stay (live_of old.bytes) y)
 
 -- hints stay good if a block is lengthened where it stands
@@ -256,12 +256,12 @@ pub released-held : (p : BlockHints) (old new : WindowState) (k : ℕ)
 released-held p old new k lead x =
     record {
       heap = laid-heap new.bytes (released (live_of old.bytes) k) x.live;
-      points = λ h n. subst (λ (v : LiveSet). IsTrue (is_live_in v h))
+      hints = λ h n. subst (λ (v : LiveSet). IsTrue (is_live_in v h))
           (sym (lay_out_one current new.bytes (released (live_of old.bytes) k) x.live))
           (released-stay (live_of old.bytes) k h (lead h n).0 (lead h n).1);
     }
 
--- with the new block among the way-points, or not
+-- with the new block among the block hints, or not
 pub allocated-held : (p q : BlockHints) (old new : WindowState) (n : ℕ) (role : Role) (a : ℕ) → LeadToBlocks p old.bytes
     → AllocatesOk current old new n role a → ((h : ℕ) → IsHinted q h → (h ≡ a) ⊎ IsHinted p h)
     → IsHintedHeap new.bytes q
@@ -270,7 +270,7 @@ allocated-held p q old new n role a lead x more =
     (added-stay (live_of old.bytes) x.extent) in
     record {
       heap = held.heap;
-      points = noted-lead p q new.bytes a held.points (allocated-is_live current old new n role a x) more;
+      hints = noted-lead p q new.bytes a held.hints (allocated-is_live current old new n role a x) more;
     }
 
 -- none leads to the block k, and each to a block in use

@@ -1,6 +1,6 @@
 //! How the calls of a heap whose touches are bounded reach its tiles and the tree of its gaps: each touch is counted.
-ghost use Rattle.std.specs.Prelude.{◌≡◌, ℕ, ◌+◌, ◌*◌, ◌%◌, ◌^◌, ◌<◌, ◌≤◌, true, ◌-◌, Option, Some, List, ◌∷◌, ◌++◌};
-ghost use Rattle.std.specs.Prelude.{length, filter, option_map, false};
+ghost use Rattle.std.specs.Prelude.{◌≡◌, ℕ, ◌+◌, ◌*◌, ◌%◌, ◌^◌, ◌<◌, ◌≤◌, true, ◌-◌, Option, Some, None, IfSome, List};
+ghost use Rattle.std.specs.Prelude.{◌∷◌, ◌++◌, length, filter, is_some, option_map, false};
 ghost use Rattle.raw_region.specs.Memory.{cut_at, whole};
 ghost use Rattle.block_tags.specs.declared.tile.Role.{Role as ARole};
 ghost use Rattle.block_tags.specs.declared.tile.Tile.{Tile as ATile};
@@ -9,18 +9,20 @@ ghost use Rattle.block_tags.specs.Lists.{with_red_at, with_use_at, without_last}
 ghost use Rattle.block_tags.specs.Windows.{CanAppend, CanSplit, FrontSaysTiles, HasFreeLast, HasFreeNext, HasTileAt};
 ghost use Rattle.block_tags.specs.Windows.{IsTiledWindow, CanTakeUse, MayHaveColour, SameExceptTags, EncodesTiles};
 ghost use Rattle.link_tree.specs.Tree.{bits};
-ghost use Rattle.link_tree.specs.Nodes.{is_in};
+ghost use Rattle.link_tree.specs.Nodes.{first_not_before, is_in};
 ghost use Rattle.link_tree.specs.Searching.{path_length};
 ghost use Rattle.best_fit.specs.Extents.{Gap};
 ghost use Rattle.best_fit.specs.Fit.{least};
-ghost use Rattle.best_fit.specs.FreeTree.{payloads};
-ghost use Rattle.best_fit.specs.GapNodes.{from_first, gaps_in, is_gap_node, kept_of, stands_before};
-ghost use Rattle.best_fit.specs.GapTrees.{HasGapTree, LacksGap, CanBeginRemoval, ChangesGapTree, is_long, node_of};
-ghost use Rattle.best_fit.specs.GapTrees.{root_of_gaps};
+ghost use Rattle.best_fit.specs.FreeTree.{payloads, sorted_gaps};
+ghost use Rattle.best_fit.specs.GapNodes.{gaps_in, is_gap_node, kept_of, own_probe, stands_before};
+ghost use Rattle.best_fit.specs.GapTrees.{HasGapTree, LacksGap, CanBeginInsertion, CanBeginRemoval, ChangesGapTree};
+ghost use Rattle.best_fit.specs.GapTrees.{is_long, node_of, root_of_gaps};
 
 use crate::heap::nodes::{FREE_TREE_ROOT, GapProbe, GapTree, RIGHT_LINK, set_link};
 use block_tags::{Role, TAG_LEN, Tile};
-use link_tree::{RemovePoint, find_first_not_before, find_remove_point, insert, remove_at};
+use link_tree::{
+    InsertPoint, RemovePoint, find_insert_point, find_remove_point, insert_at, remove_at,
+};
 use offset_link::load;
 
 /// The gaps of a heap's window, and how often they were touched: by a step of their tree, or by a call on one tile.
@@ -47,19 +49,21 @@ impl<'a> TouchCounter<'a> {
         self.count
     }
 
-    /// Returns the payload of the first gap of the tree that has at least `wanted` bytes.
-    pub fn find_best_fit(&mut self, wanted: u64) -> Option<u64>
+    /// Takes the first gap of the tree that has at least `wanted` bytes out of it, and returns its payload. If there is
+    /// none, nothing changes.
+    pub fn take_best_fit(&mut self, wanted: u64) -> Option<u64>
         requires tree { (hs : List Gap) × HasGapTree self.old.gaps.now.window hs }
         requires no_overflow { self.old.count < 2 ^ 63 }
         ensures first { (hs : List Gap) → HasGapTree self.old.gaps.now.window hs
             → result ≡ option_map node_of (least (filter (is_long wanted) hs)) }
+        ensures tree { (xs : List Gap) (g : Gap) (ys : List Gap) → result ≡ Some (node_of g)
+            → HasGapTree self.old.gaps.now.window (xs ++ g ∷ ys) → HasGapTree self.new.gaps.now.window (xs ++ ys) }
+        ensures frame { ChangesGapTree self.old.gaps.now.window self.new.gaps.now.window }
+        ensures unchanged { result ≡ None → self.new.gaps.now ≡ self.old.gaps.now }
         ensures steps_lower { self.old.count ≤ self.new.count }
+        ensures progress { is_some result ≡ true → self.old.count < self.new.count }
         ensures steps { (hs : List Gap) → HasGapTree self.old.gaps.now.window hs
-            → self.new.count ≤ self.old.count + 2 * bits (length hs + 1) }
-        ensures steps_exact { (hs : List Gap) (h : HasGapTree self.old.gaps.now.window hs)
-            → self.new.count ≡ self.old.count
-            + path_length (stands_before (gaps_in self.old.gaps.now.window) (from_first wanted)) h.tree.tree }
-        ensures gaps { self.new.gaps.now ≡ self.old.gaps.now }
+            → self.new.count ≤ self.old.count + 32 * bits (length hs + 1) + 32 }
         ensures same_borrow { self.new.gaps.ghost_name ≡ self.old.gaps.ghost_name }
     {
         let root = load(&self.gaps.window, FREE_TREE_ROOT);
@@ -67,9 +71,11 @@ impl<'a> TouchCounter<'a> {
             len: wanted,
             from: 0,
         };
-        let found = find_first_not_before(&*self.gaps, root, &sought);
-        self.count += found.steps;
-        found.node
+        let best = way_to(&*self.gaps, root, &sought);
+        self.count += best.steps;
+        let node = best.node?;
+        self.take_out_at(root, best.exit, node);
+        Some(node)
     }
 
     /// Takes a gap out of the tree.
@@ -108,7 +114,8 @@ impl<'a> TouchCounter<'a> {
             → self.new.count ≤ self.old.count + 32 * bits (length hs + 1) + 33 }
         ensures same_borrow { self.new.gaps.ghost_name ≡ self.old.gaps.ghost_name }
     {
-        let way = way_out(&*self.gaps, root, node);
+        let sought = probe_of(&*self.gaps, node);
+        let way = way_to(&*self.gaps, root, &sought);
         // One more than the search, for the look at the gap's own tag.
         self.count += way.steps + 1;
         self.take_out_at(root, way.exit, node);
@@ -151,7 +158,9 @@ impl<'a> TouchCounter<'a> {
         self.count += 1;
         clear_links(self.gaps, node);
         let root = load(&self.gaps.window, FREE_TREE_ROOT);
-        let changed = insert(self.gaps, root, node);
+        let way = way_in(&*self.gaps, root, node);
+        self.count += way.steps;
+        let changed = insert_at(self.gaps, root, way.entry, node);
         self.count += changed.steps;
         set_link(&mut self.gaps.window, FREE_TREE_ROOT, changed.root);
     }
@@ -332,13 +341,44 @@ fn clear_links(gaps: &mut GapTree, node: u64)
     set_link(&mut gaps.window, node + RIGHT_LINK, None);
 }
 
-/// Returns the way from the root to a gap of the tree: where its removal begins.
-fn way_out(gaps: &GapTree, root: Option<u64>, node: u64) -> RemovePoint
-    requires root { root ≡ root_of_gaps gaps.now.window }
-    requires tree { (hs : List Gap) × HasGapTree gaps.now.window hs × (is_in node (payloads hs) ≡ true) }
-    ensures exit { CanBeginRemoval gaps.now.window node result.exit }
-    ensures steps { (hs : List Gap) → HasGapTree gaps.now.window hs → result.steps ≤ 2 * bits (length hs + 1) }
+/// Returns what a gap itself is looked for by.
+fn probe_of(gaps: &GapTree, node: u64) -> GapProbe
+    requires { is_gap_node gaps.now.window node ≡ true }
+    ensures { result ≡ own_probe (gaps_in gaps.now.window) node }
 {
     let len = block_tags::tile_at(&gaps.window, node - TAG_LEN).len;
-    find_remove_point(gaps, root, &GapProbe { len, from: node })
+    GapProbe { len, from: node }
+}
+
+/// Returns the first gap of the tree that does not stand before what is looked for, and where its removal begins.
+fn way_to(gaps: &GapTree, root: Option<u64>, sought: &GapProbe) -> RemovePoint
+    requires root { root ≡ root_of_gaps gaps.now.window }
+    requires tree { (hs : List Gap) × HasGapTree gaps.now.window hs }
+    ensures first { (hs : List Gap) → HasGapTree gaps.now.window hs → result.node
+        ≡ first_not_before (stands_before (gaps_in gaps.now.window) sought.now) (payloads (sorted_gaps hs)) }
+    ensures exit { IfSome result.node (λ n. CanBeginRemoval gaps.now.window n result.exit) }
+    ensures steps { (hs : List Gap) → HasGapTree gaps.now.window hs → result.steps ≤ 2 * bits (length hs + 1) }
+    ensures steps_exact { (hs : List Gap) (h : HasGapTree gaps.now.window hs)
+        → result.steps ≡ path_length (stands_before (gaps_in gaps.now.window) sought.now) h.tree.tree }
+{
+    find_remove_point(gaps, root, sought)
+}
+
+/// Returns where the insertion of a gap that the tree lacks begins. An empty tree needs no search.
+fn way_in(gaps: &GapTree, root: Option<u64>, node: u64) -> InsertPoint
+    requires root { root ≡ root_of_gaps gaps.now.window }
+    requires tree { (hs : List Gap) × HasGapTree gaps.now.window hs }
+    requires node { is_gap_node gaps.now.window node ≡ true }
+    ensures entry { CanBeginInsertion gaps.now.window node result.entry }
+    ensures steps { (hs : List Gap) → HasGapTree gaps.now.window hs → result.steps ≤ 2 * bits (length hs + 1) }
+{
+    if root.is_none() {
+        return InsertPoint {
+            node: None,
+            entry: None,
+            steps: 0,
+        };
+    }
+    let sought = probe_of(gaps, node);
+    find_insert_point(gaps, root, &sought)
 }

@@ -80,7 +80,7 @@ returns-then-is_cut-clause-steps c =
     let steps = c.link_gap.ensures.steps t.front t.gap t.back t.node (t.lacks c.if-is_cut.true) in
     let same : bits (length (t.front ++ t.back) + 1) ≡ bits (length (gaps_in c.args.touches.now.gaps.now.window)) =
     ap bits (sym t.count) in
-    let a = c.blacken.ensures.steps_exact in let b = c.split_tail-is_cut.ensures.steps_exact in
+    let a = c.blacken.ensures.steps_exact in let b = c.split_tail-is_cut.ensures.steps_upper in
     let d = c.set_use.ensures.steps_exact in omega arith
 
 pub returns-else-is_cut-clause-live : goal.returns-else-is_cut-clause-live

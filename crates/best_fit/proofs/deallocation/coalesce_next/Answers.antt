@@ -1,35 +1,44 @@
 -- The list that results is the one of the call that is made, or the old one.
-use Rattle.best_fit.proofs.Common.{◌≡◌, sym, subst, arith, HasFreeNext, SameExceptTags, EncodesTiles}
+use Rattle.best_fit.proofs.Common.{◌≡◌, refl, sym, subst, ◌∙◌, ℕ, true, false, Option, Some, None, is_some, false≢true}
+use Rattle.best_fit.proofs.Common.{SameExceptTags, EncodesTiles}
 use Rattle.best_fit.proofs.tags.TileCuts.{free_next, joined_list, unjoined_list}
 use Rattle.best_fit.proofs.tags.Writes.{tile_in_list}
 use Rattle.best_fit.proofs.deallocation.coalesce_next.Goals as goal
 
+-- what is there
+there : (o : Option ℕ) → is_some o ≡ true → (k : ℕ) × (o ≡ Some k)
+there None e = absurd (false≢true e)
+there (Some k) e = (k, refl)
+
+-- what is not
+not_there : (o : Option ℕ) → is_some o ≡ false → o ≡ None
+not_there None e = refl
+not_there (Some k) e = absurd (false≢true (sym e))
+
 pub merge_next-requires-clause-tile : goal.merge_next-requires-clause-tile
 merge_next-requires-clause-tile c =
-    let w = c.args.touches.now.gaps.now.window in let same : c.next_gap_len.new.touches.gaps.now.window ≡ w = cc in
-    let h = c.requires.tile in
-    let f : HasFreeNext w c.args.at = free_next w c.args.at h (omega arith) in
-    rw same f
+    let h = c.requires.tile in let g = there c.args.gap (sym c.is_some.ensures ∙ c.if-is_some.true) in
+    free_next c.args.touches.now.gaps.now.window c.args.at g.0 h (c.requires.gap h.tiles h.said ∙ g.1)
 
-pub returns-then-next_gap_len-gt0-clause-tags : goal.returns-then-next_gap_len-gt0-clause-tags
-returns-then-next_gap_len-gt0-clause-tags c ts said =
-    let w = c.args.touches.now.gaps.now.window in let same : c.next_gap_len.new.touches.gaps.now.window ≡ w = cc in
-    let h = c.requires.tile in
-    let t = tile_in_list w c.args.at h ts said in
-    subst (EncodesTiles c.merge_next.new.self.gaps.now.window) (sym (joined_list ts c.args.at h.tile t (omega arith)))
-    (c.merge_next.ensures.tags ts (rw same said))
+pub returns-then-is_some-clause-tags : goal.returns-then-is_some-clause-tags
+returns-then-is_some-clause-tags c ts said =
+    let w = c.args.touches.now.gaps.now.window in let h = c.requires.tile in
+    let g = there c.args.gap (sym c.is_some.ensures ∙ c.if-is_some.true) in
+    subst (EncodesTiles c.merge_next.new.self.gaps.now.window)
+    (sym (joined_list ts c.args.at h.tile g.0 (tile_in_list w c.args.at h ts said) (c.requires.gap ts said ∙ g.1)))
+    (c.merge_next.ensures.tags ts said)
 
-pub returns-then-next_gap_len-gt0-clause-frame : goal.returns-then-next_gap_len-gt0-clause-frame
-returns-then-next_gap_len-gt0-clause-frame c ts said =
-    let w = c.args.touches.now.gaps.now.window in let same : c.next_gap_len.new.touches.gaps.now.window ≡ w = cc in
-    let h = c.requires.tile in
-    let t = tile_in_list w c.args.at h ts said in
+pub returns-then-is_some-clause-frame : goal.returns-then-is_some-clause-frame
+returns-then-is_some-clause-frame c ts said =
+    let w = c.args.touches.now.gaps.now.window in let h = c.requires.tile in
+    let g = there c.args.gap (sym c.is_some.ensures ∙ c.if-is_some.true) in
     subst (SameExceptTags w c.merge_next.new.self.gaps.now.window ts)
-    (sym (joined_list ts c.args.at h.tile t (omega arith))) (rw same at (c.merge_next.ensures.frame ts (rw same said)))
+    (sym (joined_list ts c.args.at h.tile g.0 (tile_in_list w c.args.at h ts said) (c.requires.gap ts said ∙ g.1)))
+    (c.merge_next.ensures.frame ts said)
 
-pub returns-else-next_gap_len-gt0-clause-tags : goal.returns-else-next_gap_len-gt0-clause-tags
-returns-else-next_gap_len-gt0-clause-tags c ts said =
-    let w = c.args.touches.now.gaps.now.window in let same : c.next_gap_len.new.touches.gaps.now.window ≡ w = cc in
-    let h = c.requires.tile in
-    let t = tile_in_list w c.args.at h ts said in
-    rw same (subst (EncodesTiles w) (sym (unjoined_list w ts c.args.at h.tile said t (omega arith))) said)
+pub returns-else-is_some-clause-tags : goal.returns-else-is_some-clause-tags
+returns-else-is_some-clause-tags c ts said =
+    let w = c.args.touches.now.gaps.now.window in let h = c.requires.tile in
+    let none = not_there c.args.gap (sym c.is_some.ensures ∙ c.if-is_some.false) in
+    subst (EncodesTiles w) (sym (unjoined_list ts c.args.at h.tile (tile_in_list w c.args.at h ts said)
+    (c.requires.gap ts said ∙ none))) said

@@ -1,12 +1,37 @@
--- The tile before one stands in the list.
-use Rattle.best_fit.proofs.Common.{◌≡◌, sym, ◌∙◌, HasTileAt}
-use Rattle.best_fit.proofs.tags.TileCuts.{tile_before}
+-- The tile before one stands in the list, and this one after it.
+use Rattle.best_fit.proofs.Common.{◌≡◌, sym, subst, ◌∙◌, HasTileAt, SameExceptTags, EncodesTiles, previous_in}
+use Rattle.best_fit.proofs.tags.TileCuts.{read_gap, gap_after_previous, joined_after, not_joined, tile_before}
+use Rattle.best_fit.proofs.tags.Writes.{tile_in_list}
 use Rattle.best_fit.proofs.deallocation.coalesce_previous.Goals as goal
 
 pub coalesce_next-requires-clause-tile : goal.coalesce_next-requires-clause-tile
 coalesce_next-requires-clause-tile c =
-    let w = c.args.touches.now.gaps.now.window in let same : c.previous.new.self.gaps.now.window ≡ w = cc in
-    let h = c.requires.tile in
-    let t : HasTileAt w c.in-Some.tile.offset = tile_before w c.args.at c.in-Some.tile h
-    (sym (c.previous.ensures.tile h.tiles h.said) ∙ c.in-Some.is) in
-    rw same t
+    let w = c.args.touches.now.gaps.now.window in let h = c.requires.tile in
+    let f = read_gap (previous_in h.tiles c.args.at) c.in-Some.before
+    (c.requires.gap h.tiles h.said ∙ c.in-Some.is) in
+    subst (HasTileAt w) f.offset (tile_before w c.args.at f.tile h f.is)
+
+pub coalesce_next-requires-clause-gap : goal.coalesce_next-requires-clause-gap
+coalesce_next-requires-clause-gap c = λ ts said.
+    let w = c.args.touches.now.gaps.now.window in let h = c.requires.tile in
+    let stands = tile_in_list w c.args.at h ts said in
+    gap_after_previous w ts c.args.at h.tile c.in-Some.before said stands (c.requires.free ts h.tile said stands)
+    (c.requires.gap ts said ∙ c.in-Some.is)
+
+pub returns-in-Some-clause-tags : goal.returns-in-Some-clause-tags
+returns-in-Some-clause-tags c ts said =
+    subst (EncodesTiles c.coalesce_next.new.touches.gaps.now.window)
+    (sym (joined_after (previous_in ts c.args.at) ts c.in-Some.before (c.requires.gap ts said ∙ c.in-Some.is)))
+    (c.coalesce_next.ensures.tags ts said)
+
+pub returns-in-Some-clause-frame : goal.returns-in-Some-clause-frame
+returns-in-Some-clause-frame c ts said =
+    let w = c.args.touches.now.gaps.now.window in
+    subst (SameExceptTags w c.coalesce_next.new.touches.gaps.now.window ts)
+    (sym (joined_after (previous_in ts c.args.at) ts c.in-Some.before (c.requires.gap ts said ∙ c.in-Some.is)))
+    (c.coalesce_next.ensures.frame ts said)
+
+pub returns-in_default-clause-tags : goal.returns-in_default-clause-tags
+returns-in_default-clause-tags c ts said =
+    let w = c.args.touches.now.gaps.now.window in
+    subst (EncodesTiles w) (sym (not_joined (previous_in ts c.args.at) ts (c.requires.gap ts said ∙ c.in_default.is))) said

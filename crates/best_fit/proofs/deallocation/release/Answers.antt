@@ -1,19 +1,18 @@
 -- Seven steps: the neighbours leave the tree, the block becomes a gap with them, and that enters the tree.
-use Rattle.best_fit.proofs.Common.{◌≡◌, ap, ◌∙◌, ◌+◌, ◌*◌, ◌≤◌, ◌∷◌, ◌++◌, length, arith, refl, Option, Tile}
+use Rattle.best_fit.proofs.Common.{◌≡◌, sym, ap, ◌∙◌, ◌+◌, ◌*◌, ◌≤◌, ◌∷◌, ◌++◌, length, arith, refl, Option, Tile}
 use Rattle.best_fit.proofs.Common.{first_in, last_in, without_last, HasTileAt, EncodesTiles, bits, gaps_of, gaps_in}
 use Rattle.best_fit.proofs.Common.{HasGapTree, ChangesGapTree, gap_offset, tile_list, offset_of, start_of}
 use Rattle.best_fit.proofs.allocation.LeastGap.{bits-le}
 use Rattle.best_fit.proofs.deallocation.Coalescing.{GivenBack, HalfUprooted, Uprooted, few_steps, first_tree}
-use Rattle.best_fit.proofs.deallocation.Coalescing.{given_back}
+use Rattle.best_fit.proofs.deallocation.Coalescing.{given_back, r_before3, r_behind2, r_free3}
 use Rattle.best_fit.proofs.deallocation.Coalescing.{half_uprooted, next_is, previous_is, r_colour, r_stands2, r_stands3}
 use Rattle.best_fit.proofs.deallocation.Coalescing.{r_use}
 use Rattle.best_fit.proofs.deallocation.Coalescing.{uprooted}
 use Rattle.best_fit.proofs.tags.TileJoins.{rest_of}
 use Rattle.best_fit.proofs.free_tree.UnlinkIfGap.{option_few, option_offset}
 use Rattle.best_fit.proofs.tags.Writes.{Block, block_tile, live_block}
-use Rattle.best_fit.proofs.deallocation.release.Goals.{After-next-behind, After-previous-before, After-gap_at}
-use Rattle.best_fit.proofs.deallocation.release.Goals.{After-unlink_if_gap, After-gap_at-2, After-unlink_if_gap-2}
-use Rattle.best_fit.proofs.deallocation.release.Goals.{After-coalesce_previous}
+use Rattle.best_fit.proofs.deallocation.release.Goals.{After-next-behind, After-previous-before, After-unlink_if_gap}
+use Rattle.best_fit.proofs.deallocation.release.Goals.{After-unlink_if_gap-2, After-coalesce_previous}
 use Rattle.best_fit.proofs.deallocation.release.Goals as goal
 
 pub next-behind-requires-clause-tile : goal.next-behind-requires-clause-tile
@@ -47,7 +46,7 @@ unlink_if_gap-requires-clause-tree c =
     let p = (goal.at.unlink_if_gap-requires-clause-tree c).After-previous-before in
     let w = c.args.touches.now.gaps.now.window in let b = block p in
     let e : c.previous-before.new.self.gaps.now.window ≡ w = cc in
-    let is = c.gap_at.ensures ∙ ap gap_offset (behind p) ∙ option_offset (first_in b.back) in (
+    let is = c.gap_at-gap_behind.ensures ∙ ap gap_offset (behind p) ∙ option_offset (first_in b.back) in (
       gaps_of (without_last b.front) ++ gaps_of (tile_list (last_in b.front)),
       gaps_of (tile_list (first_in b.back)),
       gaps_of (rest_of b.back),
@@ -67,7 +66,7 @@ half c b behind_is =
     let init = gaps_of (without_last b.front) in let last = gaps_of (tile_list (last_in b.front)) in
     let first = gaps_of (tile_list (first_in b.back)) in let tail = gaps_of (rest_of b.back) in
     let e : c.previous-before.new.self.gaps.now.window ≡ w = cc in
-    let is : c.gap_at.result ≡ offset_of first = c.gap_at.ensures ∙ ap gap_offset behind_is
+    let is : c.gap_at-gap_behind.result ≡ offset_of first = c.gap_at-gap_behind.ensures ∙ ap gap_offset behind_is
     ∙ option_offset (first_in b.back) in
     let tree : HasGapTree c.previous-before.new.self.gaps.now.window ((init ++ last) ++ (first ++ tail)) =
     rw e (first_tree w c.args.at c.requires.heap b) in
@@ -80,7 +79,7 @@ half c b behind_is =
 pub unlink_if_gap-requires-2-clause-tree : goal.unlink_if_gap-requires-2-clause-tree
 unlink_if_gap-requires-2-clause-tree c =
     let g = goal.at.unlink_if_gap-requires-2-clause-tree c in let p = g.After-previous-before in let b = block p in
-    let is = c.gap_at-2.ensures ∙ ap gap_offset (before p) ∙ option_offset (last_in b.front) in (
+    let is = c.gap_at-gap_before.ensures ∙ ap gap_offset (before p) ∙ option_offset (last_in b.front) in (
       gaps_of (without_last b.front),
       gaps_of (tile_list (last_in b.front)),
       gaps_of (rest_of b.back),
@@ -109,7 +108,7 @@ both : (c : After-unlink_if_gap-2) (b : Block c.args.touches.now.gaps.now.window
 both c b before_is h =
     let init = gaps_of (without_last b.front) in let last = gaps_of (tile_list (last_in b.front)) in
     let tail = gaps_of (rest_of b.back) in
-    let is : c.gap_at-2.result ≡ offset_of last = c.gap_at-2.ensures ∙ ap gap_offset before_is
+    let is : c.gap_at-gap_before.result ≡ offset_of last = c.gap_at-gap_before.ensures ∙ ap gap_offset before_is
     ∙ option_offset (last_in b.front) in
     uprooted c.args.touches.now.gaps.now.window c.args.at c.requires.heap b c.unlink_if_gap.new.touches.gaps.now.window
     c.unlink_if_gap-2.new.touches.gaps.now.window c.args.touches.now.count c.unlink_if_gap.new.touches.count
@@ -157,6 +156,16 @@ coalesce_next-requires-clause-tile c =
     u.tree u.rest c.blacken.new.self.gaps.now.window c.blacken.ensures.tags c.blacken.ensures.frame
     c.set_use.new.self.gaps.now.window c.set_use.ensures.tags c.set_use.ensures.frame
 
+pub coalesce_next-requires-clause-gap : goal.coalesce_next-requires-clause-gap
+coalesce_next-requires-clause-gap c = λ ts said.
+    let g = goal.at.coalesce_next-requires-clause-gap c in let p = g.After-previous-before in let b = block p in
+    let u = both g.After-unlink_if_gap-2 b (before p) (half g.After-unlink_if_gap b (behind p)) in
+    r_behind2 c.args.touches.now.gaps.now.window c.args.at c.requires.heap b
+    c.unlink_if_gap-2.new.touches.gaps.now.window
+    u.tree u.rest c.blacken.new.self.gaps.now.window c.blacken.ensures.tags c.blacken.ensures.frame
+    c.set_use.new.self.gaps.now.window c.set_use.ensures.tags c.set_use.ensures.frame ts said
+    ∙ sym (c.gap_at-gap_behind.ensures ∙ ap gap_offset (behind p))
+
 pub coalesce_next-requires-clause-no_overflow : goal.coalesce_next-requires-clause-no_overflow
 coalesce_next-requires-clause-no_overflow c =
     let g = goal.at.coalesce_next-requires-clause-no_overflow c in let p = g.After-previous-before in let b = block p in
@@ -175,6 +184,27 @@ coalesce_previous-requires-clause-tile c =
     c.set_use.new.self.gaps.now.window c.set_use.ensures.tags c.set_use.ensures.frame
     c.coalesce_next.new.touches.gaps.now.window c.coalesce_next.ensures.tags c.coalesce_next.ensures.frame
 
+pub coalesce_previous-requires-clause-free : goal.coalesce_previous-requires-clause-free
+coalesce_previous-requires-clause-free c =
+    let g = goal.at.coalesce_previous-requires-clause-free c in let p = g.After-previous-before in let b = block p in
+    let u = both g.After-unlink_if_gap-2 b (before p) (half g.After-unlink_if_gap b (behind p)) in
+    r_free3 c.args.touches.now.gaps.now.window c.args.at c.requires.heap b
+    c.unlink_if_gap-2.new.touches.gaps.now.window
+    u.tree u.rest c.blacken.new.self.gaps.now.window c.blacken.ensures.tags c.blacken.ensures.frame
+    c.set_use.new.self.gaps.now.window c.set_use.ensures.tags c.set_use.ensures.frame
+    c.coalesce_next.new.touches.gaps.now.window c.coalesce_next.ensures.tags c.coalesce_next.ensures.frame
+
+pub coalesce_previous-requires-clause-gap : goal.coalesce_previous-requires-clause-gap
+coalesce_previous-requires-clause-gap c = λ ts said.
+    let g = goal.at.coalesce_previous-requires-clause-gap c in let p = g.After-previous-before in let b = block p in
+    let u = both g.After-unlink_if_gap-2 b (before p) (half g.After-unlink_if_gap b (behind p)) in
+    r_before3 c.args.touches.now.gaps.now.window c.args.at c.requires.heap b
+    c.unlink_if_gap-2.new.touches.gaps.now.window
+    u.tree u.rest c.blacken.new.self.gaps.now.window c.blacken.ensures.tags c.blacken.ensures.frame
+    c.set_use.new.self.gaps.now.window c.set_use.ensures.tags c.set_use.ensures.frame
+    c.coalesce_next.new.touches.gaps.now.window c.coalesce_next.ensures.tags c.coalesce_next.ensures.frame ts said
+    ∙ sym (c.gap_at-gap_before.ensures ∙ ap gap_offset (before p))
+
 pub coalesce_previous-requires-clause-no_overflow : goal.coalesce_previous-requires-clause-no_overflow
 coalesce_previous-requires-clause-no_overflow c =
     let g = goal.at.coalesce_previous-requires-clause-no_overflow c in let p = g.After-previous-before in let b =
@@ -183,7 +213,7 @@ coalesce_previous-requires-clause-no_overflow c =
     let start = c.requires.no_overflow in let few =
     few_steps c.args.touches.now.gaps.now.window c.args.at c.requires.heap b in
     let n1 = c.blacken.ensures.steps_exact in let n2 = c.set_use.ensures.steps_exact in
-    let n3 = c.coalesce_next.ensures.steps_exact in omega arith
+    let n3 = c.coalesce_next.ensures.steps_upper in omega arith
 
 -- the block has become a gap with them
 freed : (c : After-coalesce_previous) (b : Block c.args.touches.now.gaps.now.window (c.args.at + 16))

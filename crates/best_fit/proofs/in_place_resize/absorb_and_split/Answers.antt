@@ -1,14 +1,14 @@
 -- The gap after leaves the tree, the block takes it and is cut, and what is cut off enters the tree.
-use Rattle.best_fit.proofs.Common.{◌≡◌, refl, ap, ◌∙◌, ◌+◌, ◌++◌, ◌∷◌, length, arith, first_in, gaps_of, gaps_in}
+use Rattle.best_fit.proofs.Common.{◌≡◌, refl, sym, ap, ◌∙◌, ◌+◌, ◌++◌, ◌∷◌, length, arith, first_in, gaps_of, gaps_in}
 use Rattle.best_fit.proofs.Common.{HasGapTree, ChangesGapTree, gap_offset, tile_list, offset_of}
 use Rattle.best_fit.proofs.allocation.LeastGap.{bits-le}
 use Rattle.best_fit.proofs.tags.TileJoins.{rest_of}
-use Rattle.best_fit.proofs.in_place_resize.CutOff.{Recut, TailUprooted, behind_is, c_stands0, c_stands1, few_steps}
+use Rattle.best_fit.proofs.in_place_resize.CutOff.{Recut, TailUprooted, behind_is, c_behind0, c_stands0, c_stands1, few_steps}
 use Rattle.best_fit.proofs.in_place_resize.CutOff.{recut}
 use Rattle.best_fit.proofs.in_place_resize.CutOff.{tail_uprooted, tree_w}
 use Rattle.best_fit.proofs.free_tree.UnlinkIfGap.{option_few, option_offset}
 use Rattle.best_fit.proofs.tags.Writes.{Block, block_tile, live_block}
-use Rattle.best_fit.proofs.in_place_resize.absorb_and_split.Goals.{After-next-behind, After-gap_at, After-unlink_if_gap}
+use Rattle.best_fit.proofs.in_place_resize.absorb_and_split.Goals.{After-next-behind, After-unlink_if_gap}
 use Rattle.best_fit.proofs.in_place_resize.absorb_and_split.Goals.{After-split_tail-is_cut}
 use Rattle.best_fit.proofs.in_place_resize.absorb_and_split.Goals as goal
 
@@ -31,7 +31,7 @@ unlink_if_gap-requires-clause-tree c =
     c.args.touches.now.gaps.now.window in
     let b = block p in
     let e : c.next-behind.new.self.gaps.now.window ≡ w = cc in
-    let is = c.gap_at.ensures ∙ ap gap_offset (behind p) ∙ option_offset (first_in b.back) in (
+    let is = c.gap_at-gap.ensures ∙ ap gap_offset (behind p) ∙ option_offset (first_in b.back) in (
       gaps_of b.front,
       gaps_of (tile_list (first_in b.back)),
       gaps_of (rest_of b.back),
@@ -49,7 +49,7 @@ gone c b behind_is =
     let w = c.args.touches.now.gaps.now.window in let fs = gaps_of b.front in
     let first = gaps_of (tile_list (first_in b.back)) in let tail = gaps_of (rest_of b.back) in
     let e : c.next-behind.new.self.gaps.now.window ≡ w = cc in
-    let is : c.gap_at.result ≡ offset_of first = c.gap_at.ensures ∙ ap gap_offset behind_is
+    let is : c.gap_at-gap.result ≡ offset_of first = c.gap_at-gap.ensures ∙ ap gap_offset behind_is
     ∙ option_offset (first_in b.back) in
     let tree : HasGapTree c.next-behind.new.self.gaps.now.window (fs ++ (first ++ tail)) =
     rw e (tree_w w c.args.at c.requires.heap b c.args.wanted) in
@@ -65,6 +65,14 @@ coalesce_next-requires-clause-tile c =
     let u = gone g.After-unlink_if_gap b (behind p)
     in c_stands0 c.args.touches.now.gaps.now.window c.args.at c.requires.heap
     b c.args.wanted c.unlink_if_gap.new.touches.gaps.now.window u.tree u.rest
+
+pub coalesce_next-requires-clause-gap : goal.coalesce_next-requires-clause-gap
+coalesce_next-requires-clause-gap c = λ ts said.
+    let g = goal.at.coalesce_next-requires-clause-gap c in let p = g.After-next-behind in let b = block p in
+    let u = gone g.After-unlink_if_gap b (behind p) in
+    c_behind0 c.args.touches.now.gaps.now.window c.args.at c.requires.heap b c.args.wanted
+    c.unlink_if_gap.new.touches.gaps.now.window u.tree u.rest ts said
+    ∙ sym (c.gap_at-gap.ensures ∙ ap gap_offset (behind p))
 
 pub coalesce_next-requires-clause-no_overflow : goal.coalesce_next-requires-clause-no_overflow
 coalesce_next-requires-clause-no_overflow c =
@@ -85,7 +93,7 @@ pub split_tail-is_cut-requires-clause-no_overflow : goal.split_tail-is_cut-requi
 split_tail-is_cut-requires-clause-no_overflow c =
     let g = goal.at.split_tail-is_cut-requires-clause-no_overflow c in let p = g.After-next-behind in
     let steps = (gone g.After-unlink_if_gap (block p) (behind p)).steps in let two =
-    c.coalesce_next.ensures.steps_exact in
+    c.coalesce_next.ensures.steps_upper in
     let few = few_steps c.args.touches.now.gaps.now.window c.args.at c.requires.heap (block p) c.args.wanted in
     let room = c.requires.no_overflow in omega arith
 
@@ -123,8 +131,8 @@ pub link_gap-requires-clause-no_overflow : goal.link_gap-requires-clause-no_over
 link_gap-requires-clause-no_overflow c =
     let g = goal.at.link_gap-requires-clause-no_overflow c in let p = g.After-next-behind in
     let steps = (gone g.After-unlink_if_gap (block p) (behind p)).steps in let two =
-    c.coalesce_next.ensures.steps_exact in
-    let more = c.split_tail-is_cut.ensures.steps_exact in
+    c.coalesce_next.ensures.steps_upper in
+    let more = c.split_tail-is_cut.ensures.steps_upper in
     let few = few_steps c.args.touches.now.gaps.now.window c.args.at c.requires.heap (block p) c.args.wanted in
     let room = c.requires.no_overflow in omega arith
 
@@ -139,8 +147,8 @@ pub returns-then-is_cut-clause-steps : goal.returns-then-is_cut-clause-steps
 returns-then-is_cut-clause-steps c =
     let g = goal.at.returns-then-is_cut-clause-steps c in let p = g.After-next-behind in let b = block p in
     let u = gone g.After-unlink_if_gap b (behind p) in let r = cut g.After-split_tail-is_cut b u in
-    let steps = u.steps in let two = c.coalesce_next.ensures.steps_exact in let more =
-    c.split_tail-is_cut.ensures.steps_exact in
+    let steps = u.steps in let two = c.coalesce_next.ensures.steps_upper in let more =
+    c.split_tail-is_cut.ensures.steps_upper in
     let last = c.link_gap.ensures.steps r.front r.gap r.back r.node (r.lacks c.if-is_cut.true) in let few = r.few in
     let fewer = bits-le (length (r.front ++ r.back) + 1) (length (gaps_in c.args.touches.now.gaps.now.window) + 1)
     (omega arith) in omega arith
@@ -154,5 +162,5 @@ pub returns-else-is_cut-clause-steps : goal.returns-else-is_cut-clause-steps
 returns-else-is_cut-clause-steps c =
     let g = goal.at.returns-else-is_cut-clause-steps c in let p = g.After-next-behind in
     let steps = (gone g.After-unlink_if_gap (block p) (behind p)).steps in let two =
-    c.coalesce_next.ensures.steps_exact in
-    let more = c.split_tail-is_cut.ensures.steps_exact in omega arith
+    c.coalesce_next.ensures.steps_upper in
+    let more = c.split_tail-is_cut.ensures.steps_upper in omega arith

@@ -9,13 +9,13 @@ use Rattle.best_fit.proofs.tile_walk.is_live.Goals as goal
 
 pub overflow_sub-known : goal.overflow_sub-known
 overflow_sub-known c =
-    let n = nearest_block c.args.window.now c.args.points.now c.args.handle c.in-Some.known c.requires
+    let n = nearest_block c.args.window.now c.args.hints.now c.args.handle c.in-Some.known c.requires
     c.nearest.result c.nearest.ensures c.in-Some.is in
     let b = n.block in let o = b.at in omega arith
 
 pub tile_at-requires : goal.tile_at-requires
 tile_at-requires c =
-    let n = nearest_block c.args.window.now c.args.points.now c.args.handle c.in-Some.known c.requires
+    let n = nearest_block c.args.window.now c.args.hints.now c.args.handle c.in-Some.known c.requires
     c.nearest.result c.nearest.ensures c.in-Some.is in
     let b = n.block in block_tile c.args.window.now c.in-Some.known (c.in-Some.known - 16) b (omega arith)
 
@@ -27,7 +27,7 @@ tiles-init c =
     let w = c.args.window.now in let h = c.args.handle in
     elim c.match-nearest.branch [
       | in-Some v ↦
-          let n = nearest_block w c.args.points.now h v.in-Some.known c.requires c.nearest.result
+          let n = nearest_block w c.args.hints.now h v.in-Some.known c.requires c.nearest.result
           c.nearest.ensures v.in-Some.is in
           subst (λ (o : Option Tile). Left w o (StillNames w h)) (sym v.ahead-is)
           (left_from w h v.in-Some.known c.requires.heap n.live n.near v.tile_at.result v.tile_at.ensures)

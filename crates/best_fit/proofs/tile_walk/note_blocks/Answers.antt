@@ -12,7 +12,7 @@ pub tiles-init : goal.tiles-init
 tiles-init c =
     let w = c.args.window.now in (
       left_start w (λ (ts : List Tile). Unit {0}) c.requires.heap c.first-ahead.result c.first-ahead.ensures tt,
-      c.requires.points,
+      c.requires.hints,
     )
 
 pub overflow_add-tile : goal.overflow_add-tile
@@ -41,11 +41,11 @@ tiles-preserved c =
           c.next-ahead.ensures tt,
       elim c.if-is_some.branch [
         | then-is_some v ↦
-            subst (λ (p : BlockHints). LeadToBlocks p w.bytes) (sym v.points-is)
-            (noted-lead c.tiles.points v.insert.new.self w.bytes (t.offset + 16) c.tiles.invariant.1
+            subst (λ (p : BlockHints). LeadToBlocks p w.bytes) (sym v.hints-is)
+            (noted-lead c.tiles.hints v.insert.new.self w.bytes (t.offset + 16) c.tiles.invariant.1
             (used_is_live w (λ (ts : List Tile). Unit {0}) t n (sym c.is_some.ensures ∙ v.if-is_some.true))
             v.insert.ensures)
-        | else-is_some v ↦ subst (λ (p : BlockHints). LeadToBlocks p w.bytes) (sym v.points-is) c.tiles.invariant.1
+        | else-is_some v ↦ subst (λ (p : BlockHints). LeadToBlocks p w.bytes) (sym v.hints-is) c.tiles.invariant.1
       ],
     )
 

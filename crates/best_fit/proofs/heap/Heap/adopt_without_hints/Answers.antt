@@ -7,5 +7,5 @@ pub invariant_of-result : goal.invariant_of-result
 invariant_of-result c =
     record {
       heap = subst (λ (v : WindowState). IsHeap current v.bytes) (sym c.take_notes.ensures.unchanged) c.requires;
-      points = none-lead c.none_in-points.result c.take_notes.new.self.bytes c.none_in-points.ensures;
+      hints = none-lead c.none_in-hints.result c.take_notes.new.self.bytes c.none_in-hints.ensures;
     }

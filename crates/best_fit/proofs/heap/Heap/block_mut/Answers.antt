@@ -29,7 +29,7 @@ bytes_mut-requires c = let inside = (block (goal.at.bytes_mut-requires c).After-
 pub invariant_of-self-lent : goal.invariant_of-self-lent
 invariant_of-self-lent c =
     let w = c.self.inside.gaps.window in let b = block (goal.at.invariant_of-self-lent c).After-tile_at-len in
-    λ ws. held-same c.self.inside.points c.self.inside.gaps.window.bytes _ c.self.invariant.points
+    λ ws. held-same c.self.inside.hints c.self.inside.gaps.window.bytes _ c.self.invariant.hints
     (payload_written w c.args.handle (c.tile_at-len.result.len - 16) ws c.self.invariant.heap b.block b.payload).live
 
 pub returns : goal.returns

@@ -28,8 +28,8 @@ invariant_of-self c =
     c.args.from_at c.args.n (cc) c.self.invariant.heap c.requires.source in
     let b = spot c.args.self.now c.self.inside.gaps.window c.args.to c.args.to_at c.args.n (cc)
     c.self.invariant.heap c.requires.target in
-    held-same c.self.inside.points c.self.inside.gaps.window.bytes c.move_within.new.self.bytes
-    c.self.invariant.points (bytes_copied w c.move_within.new.self (c.args.from + c.args.from_at) c.args.to
+    held-same c.self.inside.hints c.self.inside.gaps.window.bytes c.move_within.new.self.bytes
+    c.self.invariant.hints (bytes_copied w c.move_within.new.self (c.args.from + c.args.from_at) c.args.to
     c.args.to_at c.args.n c.self.invariant.heap b a.inside c.move_within.ensures.changes).0.live
 
 pub returns-clause-changes : goal.returns-clause-changes

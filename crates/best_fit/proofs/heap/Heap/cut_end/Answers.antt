@@ -9,8 +9,8 @@ use Rattle.best_fit.proofs.heap.Heap.cut_end.Goals as goal
 pub invariant_of-self : goal.invariant_of-self
 invariant_of-self c =
     let w = c.self.inside.gaps.window in let f : c.new-touches.result.gaps.now.window ≡ w = cc in
-    held-on c.self.inside.points w.bytes c.cut_gap.new.touches.gaps.now.window.bytes
-    (of_size (live_of w.bytes) (least_size (live_of w.bytes))) c.self.invariant.points
+    held-on c.self.inside.hints w.bytes c.cut_gap.new.touches.gaps.now.window.bytes
+    (of_size (live_of w.bytes) (least_size (live_of w.bytes))) c.self.invariant.hints
     (subst (λ (v : WindowState). EncodesLiveSet current c.cut_gap.new.touches.gaps.now.window.bytes
     (of_size (live_of v.bytes) (least_size (live_of v.bytes)))) f c.cut_gap.ensures.changes.live) (λ h l. l)
 

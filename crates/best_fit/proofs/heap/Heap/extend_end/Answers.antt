@@ -46,8 +46,8 @@ invariant_of-self c =
     let p = (goal.at.invariant_of-self c).After-append_block-at in let w = c.self.inside.gaps.window in
     let moved = end_moved w c.append_block-at.new.touches.gaps.now.window c.args.extra c.append_block-at.result
     (block p) (place p) c.release.new.touches.gaps.now.window c.release.ensures.released in
-    held-on c.self.inside.points w.bytes c.release.new.touches.gaps.now.window.bytes
-    (of_size (live_of w.bytes) (length w.bytes + c.args.extra)) c.self.invariant.points moved.live (λ h l. l)
+    held-on c.self.inside.hints w.bytes c.release.new.touches.gaps.now.window.bytes
+    (of_size (live_of w.bytes) (length w.bytes + c.args.extra)) c.self.invariant.hints moved.live (λ h l. l)
 
 pub returns-clause-changes : goal.returns-clause-changes
 returns-clause-changes c =

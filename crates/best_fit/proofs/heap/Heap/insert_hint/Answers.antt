@@ -7,8 +7,8 @@ invariant_of-self c =
     let e : c.args.self.now ≡ c.self.inside.gaps.window = cc in
     record {
       heap = c.self.invariant.heap;
-      points = noted-lead c.self.inside.points c.insert.new.self c.self.inside.gaps.window.bytes c.args.handle
-          c.self.invariant.points
+      hints = noted-lead c.self.inside.hints c.insert.new.self c.self.inside.gaps.window.bytes c.args.handle
+          c.self.invariant.hints
           (subst (λ (v : WindowState). IsTrue (is_live_in (live_of v.bytes) c.args.handle)) e c.requires)
           c.insert.ensures;
     }

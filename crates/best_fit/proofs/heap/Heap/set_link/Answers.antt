@@ -22,7 +22,7 @@ invariant_of-self c =
     let w = c.self.inside.gaps.window in let s = spot c.args.self.now w c.args.handle c.args.at 8 (cc)
     c.self.invariant.heap c.requires.room in
     let e = c.set_link.ensures in
-    held-same c.self.inside.points c.self.inside.gaps.window.bytes c.set_link.new.window.bytes c.self.invariant.points
+    held-same c.self.inside.hints c.self.inside.gaps.window.bytes c.set_link.new.window.bytes c.self.invariant.hints
     (link_changed w c.set_link.new.window c.args.handle c.args.at c.self.invariant.heap s e.place e.len e.frame).live
 
 pub returns-clause-changes : goal.returns-clause-changes

@@ -25,7 +25,7 @@ invariant_of-self c =
     let is : IsTrue (is_node_in (live_of w.bytes) c.args.handle) =
     subst (λ (v : WindowState). IsTrue (is_node_in (live_of v.bytes) c.args.handle)) e c.requires in
     let b = (node_block w c.args.handle c.self.invariant.heap is).block in
-    held-same c.self.inside.points c.self.inside.gaps.window.bytes d.bytes c.self.invariant.points
+    held-same c.self.inside.hints c.self.inside.gaps.window.bytes d.bytes c.self.invariant.hints
     (recoloured w d c.args.handle (c.args.handle - 16) c.args.red c.self.invariant.heap b (omega arith)
     c.set_red.ensures.tags c.set_red.ensures.frame c.set_red.ensures.word).live
 

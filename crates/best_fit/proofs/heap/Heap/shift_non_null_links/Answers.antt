@@ -36,8 +36,8 @@ pub invariant_of-self : goal.invariant_of-self
 invariant_of-self c =
     let w = c.self.inside.gaps.window in let s = spot c.args.self.now c.self.inside.gaps.window c.args.to c.args.to_at
     (8 * c.args.n) (cc) c.self.invariant.heap c.requires.target in
-    held-same c.self.inside.points c.self.inside.gaps.window.bytes c.move_non_null_to.new.window.bytes
-    c.self.invariant.points
+    held-same c.self.inside.hints c.self.inside.gaps.window.bytes c.move_non_null_to.new.window.bytes
+    c.self.invariant.hints
     (links_changed w c.move_non_null_to.new.window c.args.to c.args.to_at (c.args.from + c.args.from_at) c.args.n
     (c.args.to + c.args.to_at) c.self.invariant.heap s refl c.move_non_null_to.ensures.output).live
 

@@ -93,8 +93,8 @@ pub invariant_of-self : goal.invariant_of-self
 invariant_of-self g c =
     let w = c.self.inside.gaps.window in let p = goal.at.invariant_of-self g c in
     let t = second g p.After-bytes_mut-bytes in
-    subst (λ (b : List ℕ). IsHintedHeap b c.self.inside.points) (sym (left g p.After-on_two t))
-    (held-same c.self.inside.points w.bytes _ c.self.invariant.points
+    subst (λ (b : List ℕ). IsHintedHeap b c.self.inside.hints) (sym (left g p.After-on_two t))
+    (held-same c.self.inside.hints w.bytes _ c.self.invariant.hints
     (payload_written w c.args.second (c.tile_at-other.result.len - 16) c.on_two.ensures.0 c.self.invariant.heap
     t.block t.payload).live)
 

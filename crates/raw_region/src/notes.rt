@@ -102,7 +102,8 @@ impl Notes {
     }
 }
 
-/// Returns room for the numbers of `capacity` bytes, or none if the allocator refuses it, or if one number would be all.
+/// Returns room for the numbers of `capacity` bytes, or none if the allocator refuses it, or if one number would be
+/// all.
 fn room_for(alloc: Global, capacity: u64) -> Option<Vec<u32>>
     ensures empty { numbers_in result ≡ [] }
     ensures capacity { IfSome result (λ room. vec_capacity room ≤ 4096) }

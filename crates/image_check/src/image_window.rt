@@ -26,7 +26,7 @@ use crate::versions::version_in;
 use block_tags::{CheckedTags, Tile, check_counted, first, next};
 pub(crate) use blocks::BlockTable;
 pub(crate) use objects::{Object, Value};
-use offset_link::{BadLink, load, load_checked};
+use offset_link::{BadLink, checked, load};
 pub(crate) use pairs::check_pairs;
 pub(crate) use places::{TileProbe, check_places, find_tile, has_good_links};
 use raw_region::{RawRegion, Window, bytes_are_octets};
@@ -112,7 +112,7 @@ impl ImageWindow {
         ensures on_ok { IfOk result (λ target. target ≡ link_at (bytes_of self.now.bytes) at) }
         ensures on_error { is_err result ≡ is_bad (length self.now.bytes) (link_at (bytes_of self.now.bytes) at) }
     {
-        load_checked(&self.window, at)
+        checked(&self.window, at)
     }
 
     /// Returns the version that the first bytes say.
@@ -154,7 +154,7 @@ impl ImageWindow {
         ensures on_ok { IfOk result (λ target. target ≡ link_at (bytes_of self.now.bytes) at) }
         ensures on_error { is_err result ≡ is_bad (length self.now.bytes) (link_at (bytes_of self.now.bytes) at) }
     {
-        load_checked(&self.window, at)
+        checked(&self.window, at)
     }
 
     /// Returns the first byte of the header from `from` on, below `to`, that is not 0.

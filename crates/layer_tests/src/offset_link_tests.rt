@@ -2,7 +2,7 @@
 //! without facts.
 use crate::checks::{done, holds, same};
 use offset_link::{
-    Places, all_lead, are_links, copy, load, load_checked, shift, shift_non_null, store, store_null,
+    Places, all_lead, are_links, checked, copy, load, shift, shift_non_null, store, store_null,
 };
 use raw_region::{RawRegion, Window};
 use std::process::Abort;
@@ -186,7 +186,7 @@ const WORDS: [(u64, Option<Option<u64>>); 10] = [
 fn is_checked(rt: &impl Abort, w: &mut Window, word: u64, target: Option<Option<u64>>) {
     holds(rt, w.in_range(24, 8));
     w.write_u64(24, word);
-    same(rt, load_checked(w, 24).ok(), target);
+    same(rt, checked(w, 24).ok(), target);
 }
 
 #[test]

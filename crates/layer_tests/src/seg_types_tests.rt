@@ -238,8 +238,9 @@ fn is_printed<T: Display + Drop>(rt: &impl Abort, alloc: Global, it: T, text: &s
     holds(rt, printed.as_str() == text);
 }
 
-const PRINTED: [(ScalarValue, &str); 5] = [
+const PRINTED: [(ScalarValue, &str); 6] = [
     (ScalarValue::Bool(true), "true"),
+    (ScalarValue::Bool(false), "false"),
     (ScalarValue::U8(200), "200"),
     (ScalarValue::I32(i32::MIN), "-2147483648"),
     (ScalarValue::I64(-1), "-1"),
@@ -259,6 +260,7 @@ fn keys_are_printed(rt: HostRuntime) {
     is_printed(&rt, rt.alloc(), Class::Anonymous, "anonymous");
     is_printed(&rt, rt.alloc(), Key::Handle(192), "#192");
     is_printed(&rt, rt.alloc(), Key::Unique(kind), "@map<u8,i64>");
+    is_printed(&rt, rt.alloc(), Key::Anonymous, "-");
     is_printed(&rt, rt.alloc(), NewKey::Anonymous, "-");
     is_printed(
         &rt,
@@ -268,9 +270,16 @@ fn keys_are_printed(rt: HostRuntime) {
     );
 }
 
+/// The longest name, which stands in quotes, and how it is printed.
+const LONGEST: (&str, &str) = (
+    "~~~~~~~~~~~~~~~~~~~~~~~~~~~~~~~~~~~~~~~~~~~~~~~~~~~~~~~~~~~~~~~~~~~~~~~~~~~~~~~~~~~~~~~~~~~~~~~~~~~~~~~~~~~~~~~~~~~~~~~~~~~~~~~~~~~~~~~~~~~~~~~~~~~~~~~~~~~~~~~~~~~~~~~~~~~~~~~~~~~~~~~~~~~~~~~~~~~~~~~~~~~~~~~~~~~~~~~~~~~~~~~~~~~~~~~~~~~~~~~~~~~~~~~~~~~~~~~",
+    "\"~~~~~~~~~~~~~~~~~~~~~~~~~~~~~~~~~~~~~~~~~~~~~~~~~~~~~~~~~~~~~~~~~~~~~~~~~~~~~~~~~~~~~~~~~~~~~~~~~~~~~~~~~~~~~~~~~~~~~~~~~~~~~~~~~~~~~~~~~~~~~~~~~~~~~~~~~~~~~~~~~~~~~~~~~~~~~~~~~~~~~~~~~~~~~~~~~~~~~~~~~~~~~~~~~~~~~~~~~~~~~~~~~~~~~~~~~~~~~~~~~~~~~~~~~~~~~~~\"",
+);
+
 #[test]
 fn names_are_printed(rt: HostRuntime) {
     for (name, text) in [
+        LONGEST,
         ("a.1", "a.1"),
         ("1 \"", "\"1 \\\"\""),
         ("\u{e4}", "\"\\xc3\\xa4\""),

@@ -66,7 +66,8 @@ fn stands_below<N: Nodes>(visits: &mut NodeCursor<N>, node: u64, high: Option<u6
 
 /// Checks the part that the link leads to, whose nodes must stand between `low` and `high`.
 ///
-/// No node is met twice between the same bounds, so this ends on a cycle, and at a shared node.
+/// No node is met twice between the same bounds, so this ends on a cycle, and at a shared node. Each call within it has
+/// a level less, so it is at most 82 calls deep, whatever the links are.
 fn check_below<N: Nodes>(
     visits: &mut NodeCursor<N>,
     link: Option<u64>,
@@ -75,6 +76,7 @@ fn check_below<N: Nodes>(
     red_above: bool,
     levels: u64,
 ) -> Option<Part>
+    requires height { levels ≤ 82 }
     requires link { leads (N.is_node visits.old.nodes.now) link ≡ true }
     requires min_value { leads (N.is_node visits.old.nodes.now) low ≡ true }
     requires max_value { leads (N.is_node visits.old.nodes.now) high ≡ true }

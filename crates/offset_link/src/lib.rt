@@ -5,5 +5,5 @@
 mod link;
 mod moves;
 
-pub use link::{BadLink, NULL, copy, load, load_checked, store, store_null};
+pub use link::{BadLink, NULL, checked, copy, load, store, store_null};
 pub use moves::{Places, all_lead, are_links, shift, shift_non_null};

@@ -72,7 +72,7 @@ pub fn copy(w: &mut Window, from: u64, to: u64)
 
 /// Returns the target of the link at `at` in a segment whose bytes may be anything. A target has to be a multiple of 16
 /// from 144 to the window's size less 32.
-pub fn load_checked(w: &Window, at: u64) -> Result<Option<u64>, BadLink>
+pub fn checked(w: &Window, at: u64) -> Result<Option<u64>, BadLink>
     requires aligned { at % 8 ≡ 0 }
     requires in_bounds { at + 8 ≤ length w.now.bytes }
     ensures on_ok { IfOk result (λ target. target ≡ link_at (bytes_of w.now.bytes) at) }

@@ -309,7 +309,7 @@ fn runs_down<const NON_NULL: bool>(bytes: &mut [u8], at: usize, n: usize, by: us
     }
 }
 
-/// Moves all runs towards the end, and returns what was seen of their words. Runs that are far look ahead.
+/// Moves all runs towards the start, and returns what was seen of their words. Runs that are far look ahead.
 #[inline(always)]
 fn all_turns_down<const NON_NULL: bool>(bytes: &mut [u8], at: usize, n: usize, by: usize) -> Seen
     requires source { at + 64 * n ≤ length bytes.old }

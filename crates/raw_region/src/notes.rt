@@ -1,5 +1,6 @@
 //! Numbers that are noted about memory, in room of their own beside it.
-ghost use Rattle.std.specs.Prelude.{◌≡◌, ℕ, [], length, slice_index, slice_set};
+ghost use Rattle.std.specs.Prelude.{◌≡◌, ◌≤◌, ℕ, IfSome, [], length, slice_index, slice_set, vec_capacity};
+ghost use Rattle.raw_region.specs.Notes.{numbers_in};
 
 use std::alloc::Global;
 use std::marker::Model;
@@ -18,12 +19,14 @@ pub struct Notes {
 }
 
 impl Model for Notes {
-    ghost use Rattle.std.specs.Prelude.{List, ℕ};
+    ghost use Rattle.std.specs.Prelude.{List, ℕ, ◌≤◌, length};
     ghost use Rattle.raw_region.specs.Notes.{numbers_in};
 
     ghost Value = { List ℕ };
 
     ghost view = { λ n. numbers_in n.numbers };
+
+    ghost invariant = { λ n. length (numbers_in n.numbers) ≤ 4096 };
 }
 
 impl Notes {
@@ -37,15 +40,8 @@ impl Notes {
     /// Makes notes with room for those of `capacity` bytes, or without room if the allocator has it not, or if one
     /// number would be all.
     pub(crate) fn about(alloc: Global, capacity: u64) -> Notes {
-        let others = (capacity / NOTED_LEN).min(MAX_NOTES - 1);
-        if others == 0 {
-            return Notes { numbers: None };
-        }
-        match Vec::with_capacity(alloc, others as usize + 1) {
-            Ok(numbers) => Notes {
-                numbers: Some(numbers),
-            },
-            Err(_) => Notes { numbers: None },
+        Notes {
+            numbers: room_for(alloc, capacity),
         }
     }
 
@@ -77,10 +73,13 @@ impl Notes {
         }
     }
 
-    /// Returns how many there are.
+    /// Returns how many there are: at most 4096.
     pub fn len(&self) -> usize
-        ensures { result ≡ length self.now }
+        ensures len { result ≡ length self.now }
+        ensures most { result ≤ 4096 }
     {
+        // The proof reads the bound from the field's type.
+        let _ = &self.numbers;
         self.as_slice().len()
     }
 
@@ -103,12 +102,26 @@ impl Notes {
     }
 }
 
-/// Returns as many zeros as there is room for, so that no memory is asked for.
+/// Returns room for the numbers of `capacity` bytes, or none if the allocator refuses it, or if one number would be
+/// all.
+fn room_for(alloc: Global, capacity: u64) -> Option<Vec<u32>>
+    ensures empty { numbers_in result ≡ [] }
+    ensures capacity { IfSome result (λ room. vec_capacity room ≤ 4096) }
+{
+    let others = (capacity / NOTED_LEN).min(MAX_NOTES - 1);
+    if others == 0 {
+        return None;
+    }
+    Vec::with_capacity(alloc, others as usize + 1).ok()
+}
+
+/// Returns as many zeros as there is room for, and at most 4096, so that no memory is asked for.
 fn filled(room: Vec<u32>) -> Vec<u32>
-    ensures { (i : ℕ) → slice_index result.items i ≡ 0 }
+    ensures zeros { (i : ℕ) → slice_index result.items i ≡ 0 }
+    ensures most { length result.items ≤ 4096 }
 {
     let mut zeros = room;
-    let count = zeros.capacity();
+    let count = zeros.capacity().min(MAX_NOTES as usize);
     zeros.clear();
     let _ = zeros.resize(count, 0);
     zeros

@@ -34,4 +34,5 @@ returns-in-Some-clause-frame c ts said =
 pub returns-in_default-clause-tags : goal.returns-in_default-clause-tags
 returns-in_default-clause-tags c ts said =
     let w = c.args.touches.now.gaps.now.window in
-    subst (EncodesTiles w) (sym (not_joined (previous_in ts c.args.at) ts (c.requires.gap ts said ∙ c.in_default.is))) said
+    subst (EncodesTiles w)
+        (sym (not_joined (previous_in ts c.args.at) ts (c.requires.gap ts said ∙ c.in_default.is))) said

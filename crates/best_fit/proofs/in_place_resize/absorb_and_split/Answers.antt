@@ -3,7 +3,8 @@ use Rattle.best_fit.proofs.Common.{◌≡◌, refl, sym, ap, ◌∙◌, ◌+◌,
 use Rattle.best_fit.proofs.Common.{HasGapTree, ChangesGapTree, gap_offset, tile_list, offset_of}
 use Rattle.best_fit.proofs.allocation.LeastGap.{bits-le}
 use Rattle.best_fit.proofs.tags.TileJoins.{rest_of}
-use Rattle.best_fit.proofs.in_place_resize.CutOff.{Recut, TailUprooted, behind_is, c_behind0, c_stands0, c_stands1, few_steps}
+use Rattle.best_fit.proofs.in_place_resize.CutOff.{Recut, TailUprooted, behind_is, c_behind0, c_stands0, c_stands1}
+use Rattle.best_fit.proofs.in_place_resize.CutOff.{few_steps}
 use Rattle.best_fit.proofs.in_place_resize.CutOff.{recut}
 use Rattle.best_fit.proofs.in_place_resize.CutOff.{tail_uprooted, tree_w}
 use Rattle.best_fit.proofs.free_tree.UnlinkIfGap.{option_few, option_offset}

@@ -56,6 +56,9 @@ lower_than h u l below most = omega arith
 falls : (l t : ℕ) → l ≡ t → (l ≡ 0 → ⊥) → l - 1 < t
 falls l t is some = omega arith
 
+one_less : (l : ℕ) → l ≤ 82 → l - 1 ≤ 82
+one_less l most = omega arith
+
 level_red : (red : Bool) (b : ℕ) → red ≡ true → cond red b (suc b) ≡ b
 level_red red b e = rw e refl
 
@@ -285,7 +288,8 @@ pub check_below-requires : goal.check_below-requires
 check_below-requires g t c =
     let r = read g t (goal.at.check_below-requires g t c).After-right-right in
     let asked = asked_left r c.requires.link c.requires.min_value c.requires.no_overflow in
-    λ κs lives. (falls _ _ c.decreases c.if-levels-eq0.false, (lives.0, (lives.1, asked)))
+    let deep = one_less _ c.requires.height in
+    λ κs lives. (falls _ _ c.decreases c.if-levels-eq0.false, (lives.0, (lives.1, (deep, asked))))
 
 pub returns-in_default-check_below-clause-complete : goal.returns-in_default-check_below-clause-complete
 returns-in_default-check_below-clause-complete g t c = λ u b k lower.
@@ -314,7 +318,8 @@ check_below-requires-2 g t c =
     (ap is_some c.in-Some-check_below.is) c.check_below.ensures.steps in
     let asked = asked_right r c.check_below.new.visits.nodes.now c.check_below.new.visits.steps
     c.check_below.ensures.nodes c.requires.link c.requires.max_value c.requires.no_overflow first in
-    λ κs lives. (falls _ _ c.decreases c.if-levels-eq0.false, (lives.0, (lives.1, asked)))
+    let deep = one_less _ c.requires.height in
+    λ κs lives. (falls _ _ c.decreases c.if-levels-eq0.false, (lives.0, (lives.1, (deep, asked))))
 
 pub returns-in_default-check_below-2-clause-complete : goal.returns-in_default-check_below-2-clause-complete
 returns-in_default-check_below-2-clause-complete g t c = λ u b k lower.

@@ -24,7 +24,7 @@ pub use Rattle.block_tags.specs.Windows.{SameExceptTags, EncodesTiles}
 pub use Rattle.block_tags.specs.declared.tile.Role.{Role}
 pub use Rattle.block_tags.specs.declared.tile.Role.TheVariants.{Index, Node, Object, Storage}
 pub use Rattle.block_tags.specs.declared.tile.Tile.{Tile}
-pub use Rattle.link_tree.proofs.Laws.{all_at, all_from, none_some, tree_same}
+pub use Rattle.link_tree.proofs.Laws.{all_from, none_some, tree_same}
 pub use Rattle.link_tree.specs.Nodes.{first_not_before, is_ordered_with, is_in, leads, insert_in_order, without}
 pub use Rattle.link_tree.specs.Tree.{Cell, IsSearchTree, IsTree, Tree, bits, fork, leaf, nodes_of, is_sorted}
 pub use Rattle.offset_link.proofs.Laws.{SameBytesExcept-link}
@@ -60,7 +60,7 @@ pub use Rattle.best_fit.specs.GapNodes.{len_in, lies_behind, own_from, own_probe
 pub use Rattle.best_fit.specs.GapNodes.{tiles_in}
 unfoldable pub use Rattle.best_fit.specs.GapNodes.{is_gap_node, kept_of}
 pub use Rattle.best_fit.specs.GapTrees.{AreSomeGaps, HaveGapLengths, HasGapTree, LacksGap, CanBeginRemoval}
-pub use Rattle.best_fit.specs.GapTrees.{IsUnlinkedGap, CanBeginInsertion, ChangesGapTree}
+pub use Rattle.best_fit.specs.GapTrees.{IsUnlinkedGap, ChangesGapTree}
 pub use Rattle.best_fit.specs.GapTrees.{AreAscending, gap_offset}
 pub use Rattle.best_fit.specs.GapTrees.{is_long, node_of, tile_list, offset_of, start_of}
 pub use Rattle.best_fit.specs.Heap.{Allocates, AllocatesOk, ChangesBytes, TryExtends, IsHeap, Recolours, Deallocates}

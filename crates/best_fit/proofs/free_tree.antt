@@ -5,5 +5,4 @@ pub mod Rebuild
 pub mod EmptyTree
 pub mod UnlinkIfGap
 pub mod ExitPoint
-pub mod EntryPoint
 pub mod WalkTurns

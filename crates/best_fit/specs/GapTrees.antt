@@ -1,15 +1,14 @@
 -- Trees of gaps while a heap changes: the tree at word 24 has some of the gaps, and nothing else changes.
 use Rattle.std.specs.Prelude.{◌≡◌, ℕ, ◌+◌, ◌≤◌, ◌<◌, ◌⊎◌, Bool, true, Option, Some, None, IfSome, if◌then◌else◌, List}
-use Rattle.std.specs.Prelude.{[], ◌∷◌, ◌++◌, length, map, not, IsTrue, nat_le}
+use Rattle.std.specs.Prelude.{[], ◌∷◌, ◌++◌, length, map, IsTrue, nat_le}
 use Rattle.std.specs.List.{AllByRecursion}
 use Rattle.raw_region.specs.Memory.{WindowState, SameSurroundings, bytes_of}
 use Rattle.block_tags.specs.declared.tile.Tile.{Tile}
 use Rattle.block_tags.specs.Tiles.{is_free, is_merged}
 use Rattle.block_tags.specs.Windows.{EncodesTiles}
 use Rattle.offset_link.specs.Link.{link_at}
-use Rattle.link_tree.specs.Nodes.{is_in, is_ordered_with}
-use Rattle.link_tree.specs.Tree.{nodes_of}
-use Rattle.link_tree.specs.Ways.{insert_point_of, remove_point_of}
+use Rattle.link_tree.specs.Nodes.{is_in}
+use Rattle.link_tree.specs.Ways.{remove_point_of}
 use Rattle.best_fit.specs.Extents.{Gap}
 use Rattle.best_fit.specs.FreeTree.{IsTreeOf, payloads, sorted_gaps}
 use Rattle.best_fit.specs.GapNodes.{comes_before, gaps_in, gaps_of, is_good, is_kept, len_in, plain, tiles_in}
@@ -52,12 +51,6 @@ root_of_gaps c = link_at (bytes_of c.bytes) 24
 pub record CanBeginRemoval (c : WindowState) (node : ℕ) (exit : Option ℕ) : Type 0 where
   pub begins : (hs : List Gap) (h : HasGapTree c hs)
       → IfSome exit (λ n. remove_point_of (comes_before (gaps_in c)) node h.tree.tree ≡ Some n)
-
--- where the insertion of a node that the tree lacks may begin: at the root, or at its entry
-pub record CanBeginInsertion (c : WindowState) (node : ℕ) (entry : Option ℕ) : Type 0 where
-  pub begins : (hs : List Gap) (h : HasGapTree c hs)
-      → is_ordered_with (comes_before (gaps_in c)) node (nodes_of h.tree.tree) ≡ true
-      → IfSome entry (λ n. insert_point_of (λ m. not (comes_before (gaps_in c) node m)) h.tree.tree ≡ Some n)
 
 -- good tags, and a tree of all gaps but one, whose links may be anything
 pub record LacksGap (c : WindowState) (xs : List Gap) (g : Gap) (ys : List Gap) : Type 0 where

@@ -11,8 +11,7 @@ use Rattle.best_fit.specs.declared.heap.nodes.GapProbe.{GapProbe}
 use Rattle.best_fit.proofs.free_tree.Trees.{search_tree}
 use Rattle.best_fit.proofs.free_tree.LinkAndUnlink.{in_tree_of}
 
--- a place that is there is the one that was computed
-pub at_exit : (exit o : Option ℕ) → exit ≡ o → IfSome exit (λ n. o ≡ Some n)
+at_exit : (exit o : Option ℕ) → exit ≡ o → IfSome exit (λ n. o ≡ Some n)
 at_exit None o e = tt
 at_exit (Some n) o e = sym e
 

@@ -15,14 +15,12 @@ ghost use Rattle.best_fit.specs.Extents.{Gap};
 ghost use Rattle.best_fit.specs.Fit.{least};
 ghost use Rattle.best_fit.specs.FreeTree.{payloads, sorted_gaps};
 ghost use Rattle.best_fit.specs.GapNodes.{gaps_in, is_gap_node, kept_of, own_probe, stands_before};
-ghost use Rattle.best_fit.specs.GapTrees.{HasGapTree, LacksGap, CanBeginInsertion, CanBeginRemoval, ChangesGapTree};
-ghost use Rattle.best_fit.specs.GapTrees.{is_long, node_of, root_of_gaps};
+ghost use Rattle.best_fit.specs.GapTrees.{HasGapTree, LacksGap, CanBeginRemoval, ChangesGapTree, is_long, node_of};
+ghost use Rattle.best_fit.specs.GapTrees.{root_of_gaps};
 
 use crate::heap::nodes::{FREE_TREE_ROOT, GapProbe, GapTree, RIGHT_LINK, set_link};
 use block_tags::{Role, TAG_LEN, Tile};
-use link_tree::{
-    InsertPoint, RemovePoint, find_insert_point, find_remove_point, insert_at, remove_at,
-};
+use link_tree::{RemovePoint, find_remove_point, insert, remove_at};
 use offset_link::load;
 
 /// The gaps of a heap's window, and how often they were touched: by a step of their tree, or by a call on one tile.
@@ -158,9 +156,7 @@ impl<'a> TouchCounter<'a> {
         self.count += 1;
         clear_links(self.gaps, node);
         let root = load(&self.gaps.window, FREE_TREE_ROOT);
-        let way = way_in(&*self.gaps, root, node);
-        self.count += way.steps;
-        let changed = insert_at(self.gaps, root, way.entry, node);
+        let changed = insert(self.gaps, root, node);
         self.count += changed.steps;
         set_link(&mut self.gaps.window, FREE_TREE_ROOT, changed.root);
     }
@@ -362,23 +358,4 @@ fn way_to(gaps: &GapTree, root: Option<u64>, sought: &GapProbe) -> RemovePoint
         → result.steps ≡ path_length (stands_before (gaps_in gaps.now.window) sought.now) h.tree.tree }
 {
     find_remove_point(gaps, root, sought)
-}
-
-/// Returns where the insertion of a gap that the tree lacks begins. An empty tree needs no search.
-fn way_in(gaps: &GapTree, root: Option<u64>, node: u64) -> InsertPoint
-    requires root { root ≡ root_of_gaps gaps.now.window }
-    requires tree { (hs : List Gap) × HasGapTree gaps.now.window hs }
-    requires node { is_gap_node gaps.now.window node ≡ true }
-    ensures entry { CanBeginInsertion gaps.now.window node result.entry }
-    ensures steps { (hs : List Gap) → HasGapTree gaps.now.window hs → result.steps ≤ 2 * bits (length hs + 1) }
-{
-    if root.is_none() {
-        return InsertPoint {
-            node: None,
-            entry: None,
-            steps: 0,
-        };
-    }
-    let sought = probe_of(gaps, node);
-    find_insert_point(gaps, root, &sought)
 }

@@ -242,23 +242,87 @@ static zx_code sync_name(zx_file *file, struct zx_held_file *held) {
 
 /* ---- a new file, which gets its name when all of it is synced */
 
-/* Gives a file the owner, group and rights of another, as far as the process may. Otherwise who saves is the owner, and
-   another group gets what others may do. */
-static bool take_rights(int made, const struct stat *old) {
-    struct stat own;
-    if (fstat(made, &own) != 0) return false;
-    mode_t mode = old->st_mode & 07777;
-    if ((own.st_uid != old->st_uid || own.st_gid != old->st_gid) && fchown(made, old->st_uid, old->st_gid) != 0) {
-        mode &= 0777;
-        if (own.st_gid != old->st_gid && fchown(made, (uid_t)-1, old->st_gid) != 0)
-            mode &= 0707 | (mode & 07) << 3;
-    }
-    return fchmod(made, mode) == 0;
+/* The mark of a file that will be replaced; the access control list; what the names of attributes of users begin
+   with. */
+static const char MARK[] = "user.zaluxhoni", LIST[] = "system.posix_acl_access", OF_USERS[] = "user.";
+
+/* The most bytes of a value, or of all names of attributes, that the system gives. */
+enum { ATTRIBUTE = 1 << 16 };
+
+/* Whether an errno says that the file has no such attribute. */
+static bool is_without(int error) { return error == ENODATA || error == ENOTSUP || error == ENOSYS; }
+
+/* Whether an errno says that the attribute can never be copied. A full disk, or one that fails, says that not. */
+static bool is_for_ever(int error) {
+    return is_without(error) || error == EPERM || error == EACCES || error == EINVAL || error == ERANGE ||
+           error == E2BIG;
 }
 
-/* Fills a new file that is locked. It gets the rights of `old`, if that is not null. */
-static bool fill(int made, const struct image *image, const struct stat *old) {
-    return (!old || take_rights(made, old)) && write_image(made, image) && sync_one(made);
+/* Returns the rights that give nobody more than `mode` with this list does (the system's spelling: 4 bytes, then 8 for
+   each entry). With a list the bits of the group are the mask. A user or group that the list names may belong to the
+   group or to the others. */
+static mode_t without_list(mode_t mode, const uint8_t *list, size_t len) {
+    enum { NAMED_USER = 0x02, OWN_GROUP = 0x04, NAMED_GROUP = 0x08 };
+    mode_t named = 7, mask = mode >> 3 & 7, group = mask, others = mode & 7;
+    for (size_t at = 4; at + 8 <= len; at += 8) {
+        unsigned tag = list[at] | (unsigned)list[at + 1] << 8;
+        if (tag == OWN_GROUP) group = list[at + 2] & mask;
+        if (tag == NAMED_USER || tag == NAMED_GROUP) named &= list[at + 2] & mask;
+    }
+    return (mode & ~(mode_t)077) | (group & named) << 3 | (others & named);
+}
+
+/* Gives a file the owner, group and rights of another, as far as the process may. Otherwise who saves is the owner, and
+   another group and the others get what both had. `list` is the other's access control list, of `len` bytes; a file
+   that is created in a folder may have got one from there. */
+static bool take_rights(int made, const struct stat *old, const uint8_t *list, size_t len) {
+    struct stat own;
+    if (fstat(made, &own) != 0) return false;
+    if (fremovexattr(made, LIST) != 0 && !is_without(errno)) return false;
+    mode_t mode = old->st_mode & 07777;
+    if (len > 0) mode = without_list(mode, list, len);
+    if ((own.st_uid != old->st_uid || own.st_gid != old->st_gid) && fchown(made, old->st_uid, old->st_gid) != 0) {
+        mode &= 0777;
+        if (own.st_gid != old->st_gid && fchown(made, (uid_t)-1, old->st_gid) != 0) {
+            mode_t both = mode >> 3 & mode & 07;
+            mode = (mode & 0700) | both << 3 | both;
+            len = 0;
+        }
+    }
+    if (fchmod(made, mode) != 0) return false;
+    return len == 0 || fsetxattr(made, LIST, list, len, 0) == 0 || is_for_ever(errno);
+}
+
+/* Copies the attributes of users, but for the mark, by way of `value`. Those that the process may not read, or the file
+   system does not take, are left out. */
+static bool copy_attributes(int made, int from, char *names, uint8_t *value) {
+    ssize_t len = flistxattr(from, names, ATTRIBUTE);
+    if (len < 0) return is_for_ever(errno);
+    for (const char *name = names; name < names + len; name += strlen(name) + 1) {
+        if (strncmp(name, OF_USERS, sizeof OF_USERS - 1) != 0 || strcmp(name, MARK) == 0) continue;
+        ssize_t size = fgetxattr(from, name, value, ATTRIBUTE);
+        bool is_copied = size >= 0 && fsetxattr(made, name, value, (size_t)size, 0) == 0;
+        if (!is_copied && !is_for_ever(errno)) return false;
+    }
+    return true;
+}
+
+/* Gives a file what another has beside its bytes. */
+static bool take_all_but_bytes(int made, int from, const struct stat *old) {
+    uint8_t *value = malloc(2 * ATTRIBUTE);
+    if (!value) return false;
+    ssize_t len = fgetxattr(from, LIST, value, ATTRIBUTE);
+    bool is_done = (len >= 0 || is_without(errno)) && take_rights(made, old, value, len > 0 ? (size_t)len : 0) &&
+                   copy_attributes(made, from, (char *)value + ATTRIBUTE, value);
+    int error = errno;
+    free(value);
+    errno = error;
+    return is_done;
+}
+
+/* Fills a new file that is locked. It gets the rights of the file `from`, which is `old`, if that is not null. */
+static bool fill(int made, const struct image *image, int from, const struct stat *old) {
+    return (!old || take_all_but_bytes(made, from, old)) && write_image(made, image) && sync_one(made);
 }
 
 /* Locks a new file. A file system without locks refuses nobody. Who opens an empty file before it is locked finds no
@@ -294,11 +358,11 @@ static int closed_with(int file, int error) {
 
 /* Creates a file that does not exist. It gets its name when it is whole; on a file system without unnamed files,
    before its first byte, and is removed if it does not become whole. -1 if it fails. */
-static int make(int folder, const char *name, const struct image *image, const struct stat *old) {
+static int make(int folder, const char *name, const struct image *image, int from, const struct stat *old) {
     mode_t mode = old ? 0600 : 0666;
     int made = openat(folder, ".", O_TMPFILE | O_RDWR | O_CLOEXEC, mode);
     if (made >= 0) {
-        if (!is_locked(made) || !fill(made, image, old)) return closed_with(made, errno);
+        if (!is_locked(made) || !fill(made, image, from, old)) return closed_with(made, errno);
         if (give_name(made, folder, name)) return made;
         if (errno == EEXIST) return closed_with(made, EEXIST);
         close(made);
@@ -308,7 +372,7 @@ static int make(int folder, const char *name, const struct image *image, const s
     // who does not hold it may not remove it: another may have put a file of its own there
     if (!is_locked(made)) return closed_with(made, EWOULDBLOCK);
     if (lost_its_name(made, folder, name)) return closed_with(made, EEXIST);
-    if (fill(made, image, old)) return made;
+    if (fill(made, image, from, old)) return made;
     int error = errno;
     unlinkat(folder, name, 0);
     return closed_with(made, error);
@@ -413,8 +477,6 @@ static zx_code find(zx_file *file, const char *path, struct zx_held_file **found
 
 /* ---- the mark of a file that is to be replaced: beside it a new one may stand, if whoever saved was killed. To ask
    for it takes a quarter of what it takes to look there */
-
-static const char MARK[] = "user.zaluxhoni";
 
 /* Marks a file. It goes without a mark if the file system has none, or the process may not write there any more. */
 static bool mark(int file) {
@@ -765,7 +827,7 @@ static zx_code open_unheld(zx_file *file, const char *path, uint32_t how) {
 
 /* Creates the file of a name. AGAIN if one exists now. */
 static zx_code make_held(zx_file *file, struct zx_held_file *held, const struct image *image) {
-    held->file = make(held->folder, held->name, image, NULL);
+    held->file = make(held->folder, held->name, image, -1, NULL);
     held->is_new = true;
     if (held->file >= 0) return ZX_DONE;
     return errno == EEXIST || errno == EWOULDBLOCK ? (zx_code)AGAIN : fault(file);
@@ -831,12 +893,12 @@ zx_code zx_file_open(zx_file *file, const char *path, uint32_t mode, uint64_t si
 static int make_spare(const struct zx_held_file *held, const char *spare, const struct image *image,
                       const struct stat *old) {
     if (!mark(held->file)) return -1;
-    int made = make(held->folder, spare, image, old);
+    int made = make(held->folder, spare, image, held->file, old);
     if (made >= 0 || errno != EEXIST) return made;
     // one that was killed left it, unless another holds what stands there now, and the spare name with it
     if (!leads_to(held->folder, held->name, old)) return errno = EEXIST, -1;
     unlinkat(held->folder, spare, 0);
-    return make(held->folder, spare, image, old);
+    return make(held->folder, spare, image, held->file, old);
 }
 
 /* Puts a new file with the image in the place of the one that is held. */
@@ -850,7 +912,9 @@ static zx_code replace(zx_file *file, struct zx_held_file *held, const struct im
     int made = make_spare(held, spare, image, &old);
     zx_code code = ZX_DONE;
     if (made < 0)
-        code = errno == EEXIST ? faulty(file, ZX_FILE_REPLACED, ESTALE) : fault(file);
+        code = errno == EEXIST ? faulty(file, ZX_FILE_REPLACED, ESTALE)
+               : errno == ENOMEM ? (zx_code)ZX_NO_MEMORY
+                                 : fault(file);
     else if (!leads_to(held->folder, held->name, &old))
         code = faulty(file, ZX_FILE_REPLACED, ESTALE);
     else if (renameat(held->folder, spare, held->folder, held->name) != 0)

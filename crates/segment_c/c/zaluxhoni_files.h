@@ -77,10 +77,10 @@ typedef struct {
 zx_code zx_file_open(zx_file *file, const char *path, uint32_t mode, uint64_t size);
 
 /* Saves the segment in its file, unless the file has these bytes already. If no call and no view can have changed a
-   byte, it compares none. For a mapped file it is zx_file_flush. The new file gets the rights of the old one, and its
-   owner and group if the process may set them. Other names of the old file (hard links) keep the old image. Errors:
-   ZX_CLOSED, ZX_READ_ONLY (opened read-only or copy-on-write), ZX_FILE_NONE, ZX_NO_MEMORY, ZX_FILE_FORKED,
-   ZX_FILE_REPLACED, ZX_FILE_FAULT; after ZX_FILE_UNSYNCED it is saved. */
+   byte, it compares none. For a mapped file it is zx_file_flush. The new file gets the rights, the access
+   control list and the user attributes of the old one, and its owner and group if the process may set them. Other names
+   of the old file (hard links) keep the old image. Errors: ZX_CLOSED, ZX_READ_ONLY (opened read-only or copy-on-write),
+   ZX_FILE_NONE, ZX_NO_MEMORY, ZX_FILE_FORKED, ZX_FILE_REPLACED, ZX_FILE_FAULT; after ZX_FILE_UNSYNCED it is saved. */
 zx_code zx_file_save(zx_file *file);
 
 /* Saves the image to the file at another path, and closes that file. ZX_CREATE_ONLY creates it, ZX_OPEN_ONLY replaces

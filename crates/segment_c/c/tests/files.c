@@ -109,9 +109,21 @@ int __wrap_renameat(int from, const char *one, int to, const char *other) {
     }
 
 MARKED(ssize_t, fgetxattr, (int file, const char *name, void *value, size_t room), file, name, value, room)
-MARKED(int, fsetxattr, (int file, const char *name, const void *value, size_t len, int how), file, name, value, len,
-       how)
+MARKED(ssize_t, flistxattr, (int file, char *names, size_t room), file, names, room)
 MARKED(int, fremovexattr, (int file, const char *name), file, name)
+
+/* The attribute that no file takes any more, and the reason. */
+static const char *untaken;
+static int why_untaken;
+
+int __real_fsetxattr(int file, const char *name, const void *value, size_t len, int how);
+int __wrap_fsetxattr(int file, const char *name, const void *value, size_t len, int how);
+int __wrap_fsetxattr(int file, const char *name, const void *value, size_t len, int how) {
+    if (lacks == NO_MARKS) return errno = ENOTSUP, -1;
+    if (untaken && strcmp(untaken, name) == 0) return errno = why_untaken, -1;
+    if (way == AT_ONCE && fails("fsetxattr", EIO)) return -1;
+    return __real_fsetxattr(file, name, value, len, how);
+}
 
 void *__real_mmap(void *at, size_t len, int protection, int flags, int file, off_t from);
 void *__wrap_mmap(void *at, size_t len, int protection, int flags, int file, off_t from);
@@ -828,6 +840,158 @@ static void rights(void) {
     lacks = HAS_ALL;
 }
 
+/* ---- access control lists and attributes of users: kept, and where a list cannot be kept, nobody may more */
+
+static const char LIST[] = "system.posix_acl_access";
+enum { USER_OBJ = 1, USER = 2, GROUP_OBJ = 4, GROUP = 8, MASK = 16, OTHER = 32, NAMED = 1234 };
+
+/* A list as the system spells it: the rights of the owner, of one who is named, of the group, the mask, of others. */
+static size_t spell_list(uint8_t list[44], int named_tag, int named, int group, int mask, int others) {
+    const int entries[5][3] = { { USER_OBJ, 6, -1 }, { named_tag, named, NAMED }, { GROUP_OBJ, group, -1 },
+                                { MASK, mask, -1 }, { OTHER, others, -1 } };
+    const int in_order[2][5] = { { 0, 1, 2, 3, 4 }, { 0, 2, 1, 3, 4 } };
+    memset(list, 0, 44);
+    list[0] = 2;
+    for (int i = 0; i < 5; i++) {
+        const int *entry = entries[in_order[named_tag == GROUP][i]];
+        uint8_t *at = list + 4 + 8 * i;
+        at[0] = (uint8_t)entry[0], at[2] = (uint8_t)entry[1];
+        for (int k = 0; k < 4; k++) at[4 + k] = (uint8_t)((unsigned)entry[2] >> 8 * k);
+    }
+    return 44;
+}
+
+/* The number of bytes of the file's list, and whether they are these; 0 where it has none. */
+static bool has_list(const uint8_t *list, size_t len) {
+    uint8_t found[200];
+    ssize_t is = getxattr(the_file(), LIST, found, sizeof found);
+    return len == 0 ? is < 0 : is == (ssize_t)len && memcmp(found, list, len) == 0;
+}
+
+static mode_t rights_of(const char *path) {
+    struct stat found;
+    return stat(path, &found) == 0 ? found.st_mode & 07777 : 0;
+}
+
+static bool has_lists(void) {
+    uint8_t list[44];
+    size_t len = spell_list(list, USER, 6, 0, 6, 0);
+    seed(5);
+    if (setxattr(the_file(), LIST, list, len, 0) == 0 && setxattr(the_file(), "user.note", "x", 1, 0) == 0) return true;
+    printf("no access control lists or attributes in %s: they are not tried\n", room);
+    return false;
+}
+
+/* The list stays. Without it the group has what its own entry gives, and nobody who is named with less gets more. */
+static void lists(void) {
+    static const struct {
+        int tag, named, group, mask, others;
+        mode_t shown, without;
+    } tried[] = { { USER, 6, 0, 6, 0, 0660, 0600 },   { USER, 6, 4, 6, 0, 0660, 0640 },
+                  { GROUP, 6, 0, 6, 0, 0660, 0600 },  { USER, 0, 4, 4, 4, 0644, 0600 },
+                  { GROUP, 4, 6, 4, 6, 0646, 0644 },  { USER, 6, 6, 0, 0, 0600, 0600 } };
+    for (size_t i = 0; i < 2 * (sizeof tried / sizeof *tried); i++) {
+        zx_file file = ZX_CLOSED_FILE;
+        uint8_t list[44];
+        const bool is_kept = i % 2 == 0;
+        size_t k = i / 2;
+        seed(5);
+        size_t len = spell_list(list, tried[k].tag, tried[k].named, tried[k].group, tried[k].mask, tried[k].others);
+        IS(setxattr(the_file(), LIST, list, len, 0), 0);
+        IS(rights_of(the_file()), tried[k].shown);
+        wanted_rights = is_kept ? tried[k].shown : tried[k].without;
+        untaken = is_kept ? NULL : LIST;
+        why_untaken = i % 4 == 1 ? ENOTSUP : EPERM;
+        IS(save_scene(&file), ZX_DONE);
+        IS(zx_file_close(&file), ZX_DONE);
+        wanted_rights = 0;
+        untaken = NULL;
+        IS(rights_of(the_file()), is_kept ? tried[k].shown : tried[k].without);
+        IS(has_list(list, is_kept ? len : 0), true);
+    }
+}
+
+/* What the folder would give to a new file, the one that was replaced did not give. */
+static void list_of_the_folder(void) {
+    zx_file file = ZX_CLOSED_FILE;
+    uint8_t list[44];
+    size_t len = spell_list(list, USER, 6, 6, 6, 6);
+    seed(5);
+    IS(chmod(the_file(), 0664), 0);
+    IS(setxattr(room, "system.posix_acl_default", list, len, 0), 0);
+    IS(save_scene(&file), ZX_DONE);
+    IS(zx_file_close(&file), ZX_DONE);
+    IS(removexattr(room, "system.posix_acl_default"), 0);
+    IS(has_list(NULL, 0), true);
+    IS(rights_of(the_file()), 0664);
+}
+
+/* Where the group cannot be kept, the list would give its rights to another group. */
+static void lists_without_owner(void) {
+    zx_file file = ZX_CLOSED_FILE;
+    uint8_t list[44];
+    if (geteuid() != 0) return;
+    for (gid_t group = 0; group <= 4321; group += 4321) {
+        seed(5);
+        IS(chown(the_file(), 1234, group), 0);
+        IS(chmod(the_file(), 06644), 0);
+        size_t len = spell_list(list, USER, 6, 4, 6, 0);
+        IS(setxattr(the_file(), LIST, list, len, 0), 0);
+        lacks = NO_OWNERS;
+        IS(save_scene(&file), ZX_DONE);
+        IS(zx_file_close(&file), ZX_DONE);
+        lacks = HAS_ALL;
+        IS(has_list(list, group == 0 ? len : 0), true);
+        IS(rights_of(the_file()), group == 0 ? 0660 : 0600);
+    }
+    // whom the old group had, others are now: they get no more than it had
+    seed(5);
+    IS(chown(the_file(), 0, 4321), 0);
+    IS(chmod(the_file(), 02606), 0);
+    lacks = NO_OWNERS;
+    IS(save_scene(&file), ZX_DONE);
+    IS(zx_file_close(&file), ZX_DONE);
+    lacks = HAS_ALL;
+    IS(rights_of(the_file()), 0600);
+}
+
+/* Attributes of users stay, but for the mark. A disk that is full for them is a fault, and the old file stays. */
+static void attributes(void) {
+    zx_file file = ZX_CLOSED_FILE;
+    char value[8] = "";
+    seed(5);
+    IS(setxattr(the_file(), "user.note", "told", 4, 0), 0);
+    IS(setxattr(the_file(), "user.empty", "", 0, 0), 0);
+    IS(save_scene(&file), ZX_DONE);
+    IS(getxattr(the_file(), "user.note", value, sizeof value), 4);
+    IS(memcmp(value, "told", 4), 0);
+    IS(getxattr(the_file(), "user.empty", value, sizeof value), 0);
+    IS(getxattr(the_file(), "user.zaluxhoni", value, sizeof value), -1);
+    IS(set(&file, 7), ZX_DONE);
+    untaken = "user.note";
+    why_untaken = ENOSPC;
+    IS(zx_file_save(&file), ZX_FILE_FAULT);
+    IS(file.error, ENOSPC);
+    IS(stands(the_file()), 6);
+    IS(count_in(room), 1);
+    why_untaken = ENOTSUP;
+    IS(zx_file_close(&file), ZX_DONE);
+    untaken = NULL;
+    IS(stands(the_file()), 7);
+    IS(getxattr(the_file(), "user.empty", value, sizeof value), 0);
+    IS(getxattr(the_file(), "user.note", value, sizeof value), -1);
+}
+
+static void kept_beside_the_bytes(void) {
+    if (has_lists()) {
+        lists();
+        list_of_the_folder();
+        lists_without_owner();
+        attributes();
+    }
+    unlink(the_file());
+}
+
 /* ---- threads: each adds to a file that all have, and to one of its own */
 
 enum { THREADS = 4, TIMES = 25 };
@@ -887,6 +1051,7 @@ int main(int count, char **words) {
     a_file_put_there_meanwhile();
     holes();
     rights();
+    kept_beside_the_bytes();
     threads();
     IS(rmdir(room), 0);
     printf("files: %d cases, %d wrong\n", cases, wrong);

@@ -506,6 +506,13 @@ static void remove_spare(const struct zx_held_file *held, bool has_one_name, enu
     if (may_unmark && has_one_name) fremovexattr(held->file, MARK);
 }
 
+/* Whether the lock of a file is the one that the zx_file holds, by another name of its file. */
+static bool is_own_lock(const zx_file *file, const struct stat *locked) {
+    struct stat own;
+    return file->held && is_own(file->held) && !file->held->is_read && fstat(file->held->file, &own) == 0 &&
+           is_same(&own, locked);
+}
+
 /* Opens and locks the file of a name that was seen. AGAIN if the name meanwhile leads to another one. */
 static zx_code lock(zx_file *file, struct zx_held_file *held, const struct sight *sight, struct stat *opened) {
     int how = held->is_read ? O_RDONLY : O_RDWR;
@@ -517,7 +524,7 @@ static zx_code lock(zx_file *file, struct zx_held_file *held, const struct sight
     if (fstat(held->file, opened) != 0) return fault(file);
     zx_code code = judge(file, opened);
     if (code != ZX_DONE) return code;
-    if (is_refused) return faulty(file, ZX_FILE_IN_USE, EWOULDBLOCK);
+    if (is_refused && !is_own_lock(file, opened)) return faulty(file, ZX_FILE_IN_USE, EWOULDBLOCK);
     if (!has_its_names(sight, opened) && !leads_to(held->folder, held->name, opened)) return AGAIN;
     if (held->is_read) return ZX_DONE;
     // a file that is opened by its path is mapped
@@ -961,17 +968,27 @@ zx_code zx_file_save(zx_file *file) {
     return answered(file, code);
 }
 
-/* Whether the path leads to the file that is held. */
-static bool leads_home(const struct zx_held_file *held, const char *path) {
-    struct stat named, own;
-    return held && stat(path, &named) == 0 && fstat(held->file, &own) == 0 && is_same(&named, &own);
-}
-
 /* Whether both have one name in one folder. */
 static bool is_one_name(const struct zx_held_file *held, const struct zx_held_file *other) {
     struct stat one, another;
     return held && strcmp(held->name, other->name) == 0 && fstat(held->folder, &one) == 0 &&
            fstat(other->folder, &another) == 0 && is_same(&one, &another);
+}
+
+/* Whether the path leads to the zx_file's own file, by the name that a save replaces. Of a mapped file, which is
+   changed in place, each name will do. */
+static bool leads_home(zx_file *file, const char *path) {
+    struct zx_held_file *other;
+    struct stat named, own;
+    if (stat(path, &named) != 0 || fstat(file->held->file, &own) != 0 || !is_same(&named, &own)) return false;
+    if (file->held->mapped) return true;
+    char *real = realpath(path, NULL);
+    bool is_found = real && find(file, real, &other) == ZX_DONE;
+    free(real);
+    if (!is_found) return false;
+    bool is_home = is_one_name(file->held, other);
+    release(other);
+    return is_home;
 }
 
 static zx_code put(zx_file *file, const char *path, uint32_t mode, const struct image *image) {
@@ -981,8 +998,10 @@ static zx_code put(zx_file *file, const char *path, uint32_t mode, const struct 
         zx_code code = hold(file, path, mode, false, &held, &found);
         if (code != ZX_DONE) return code;
         if (mode != ZX_CREATE_ONLY && is_one_name(file->held, held)) {
-            // its own file was there, and is not any more
-            code = faulty(file, ZX_FILE_REPLACED, ESTALE);
+            // its own file was there when it was opened
+            struct stat own;
+            bool is_there = held->file >= 0 && fstat(file->held->file, &own) == 0 && is_same(&own, &found);
+            code = is_there ? zx_file_save(file) : faulty(file, ZX_FILE_REPLACED, ESTALE);
         } else if (held->file < 0) {
             code = make_held(file, held, image);
             if (code == ZX_DONE) code = sync_name(file, held);
@@ -1002,7 +1021,7 @@ zx_code zx_file_save_as(zx_file *file, const char *path, uint32_t mode) {
     if (mode < ZX_CREATE_ONLY || mode > ZX_OPEN_OR_CREATE) return ZX_BAD_MODE;
     if (mode != ZX_CREATE_ONLY && file->held) {
         if (!is_own(file->held)) return faulty(file, ZX_FILE_FORKED, EPERM);
-        if (leads_home(file->held, path)) return zx_file_save(file);
+        if (leads_home(file, path)) return zx_file_save(file);
     }
     zx_code code = image_of(&file->segment, &image);
     if (code != ZX_DONE) return code;

@@ -84,10 +84,10 @@ zx_code zx_file_open(zx_file *file, const char *path, uint32_t mode, uint64_t si
 zx_code zx_file_save(zx_file *file);
 
 /* Saves the image to the file at another path, and closes that file. ZX_CREATE_ONLY creates it, ZX_OPEN_ONLY replaces
-   an existing file, whatever its bytes, and ZX_OPEN_OR_CREATE does either. With the last two, a path to the segment's
-   own file is a zx_file_save. The segment needs no file, and may be open in any mode. Errors: ZX_NULL_SLICE,
-   ZX_BAD_MODE, ZX_CLOSED, ZX_NO_MEMORY; ZX_FILE_IN_USE to ZX_FILE_REPLACED, ZX_FILE_FORKED; after ZX_FILE_UNSYNCED it
-   is saved. */
+   an existing file, whatever its bytes, and ZX_OPEN_OR_CREATE does either. With the last two, a path to the name of
+   the segment's own file is a zx_file_save; another name of that file (a hard link) gets a new file, and the own name
+   keeps the old one. The segment needs no file, and may be open in any mode. Errors: ZX_NULL_SLICE, ZX_BAD_MODE,
+   ZX_CLOSED, ZX_NO_MEMORY; ZX_FILE_IN_USE to ZX_FILE_REPLACED, ZX_FILE_FORKED; after ZX_FILE_UNSYNCED it is saved. */
 zx_code zx_file_save_as(zx_file *file, const char *path, uint32_t mode);
 
 /* Saves as zx_file_save does, if the file is open for writing, and closes it. Returns the code of the save. After

@@ -726,6 +726,39 @@ static void a_child_by_the_system_call(void) {
     waitpid(child, NULL, 0);
 }
 
+/* Another name of the own file gets the image, and the own name keeps the old one, with its lock, until it is saved.
+   A path or a link to the own name is the own file. */
+static void saved_by_another_name(void) {
+    const char *other = beside("other"), *link_to = beside("link");
+    char around[440];
+    snprintf(around, sizeof around, "%s/../files.room/./file", room);
+    for (int round = 0; round < 8; round++) {
+        zx_file file = ZX_CLOSED_FILE, second = ZX_CLOSED_FILE;
+        const uint32_t mode = round % 2 ? ZX_OPEN_ONLY : ZX_OPEN_OR_CREATE;
+        const bool is_home = round >= 4;
+        const char *const paths[] = { other, link_to, around, link_to };
+        seed(5);
+        IS(link(the_file(), other), 0);
+        IS(symlink(is_home ? the_file() : other, link_to), 0);
+        IS(zx_file_open(&file, the_file(), ZX_OPEN_ONLY, 0), ZX_DONE);
+        IS(set(&file, 6), ZX_DONE);
+        IS(zx_file_save_as(&file, other, ZX_CREATE_ONLY), ZX_FILE_EXISTS);
+        IS(zx_file_save_as(&file, paths[round / 2], mode), ZX_DONE);
+        IS(file.error, 0);
+        IS(stands(the_file()), is_home ? 6 : 5);
+        IS(stands(other), is_home ? 5 : 6);
+        IS(zx_file_open(&second, the_file(), ZX_OPEN_ONLY, 0), ZX_FILE_IN_USE);
+        if (!is_home) IS(zx_file_open(&second, other, ZX_OPEN_ONLY, 0), ZX_DONE);
+        zx_file_discard(&second);
+        IS(zx_file_close(&file), ZX_DONE);
+        IS(stands(the_file()), 6);
+        IS(count_in(room), 3);
+        unlink(other);
+        unlink(link_to);
+    }
+    seed(5);
+}
+
 /* A file that is put in the place of the one that is saved, at the last moment, stays. */
 static void a_file_put_there_meanwhile(void) {
     zx_file file = ZX_CLOSED_FILE;
@@ -1048,6 +1081,7 @@ int main(int count, char **words) {
     a_child_by_the_system_call();
     what_did_not_change();
     a_longer_file();
+    saved_by_another_name();
     a_file_put_there_meanwhile();
     holes();
     rights();

@@ -5,12 +5,15 @@
 #include <errno.h>
 #include <fcntl.h>
 #include <limits.h>
+#include <linux/magic.h>
 #include <pthread.h>
 #include <stdio.h>
 #include <stdlib.h>
 #include <sys/file.h>
 #include <sys/mman.h>
 #include <sys/stat.h>
+#include <sys/statfs.h>
+#include <sys/sysmacros.h>
 #include <sys/xattr.h>
 #include <time.h>
 #include <unistd.h>
@@ -600,9 +603,27 @@ static zx_code attach(zx_file *file, struct zx_held_file *held, uint64_t size, u
     return explained(file, code, held->at, size);
 }
 
+static size_t page_size(void) { return (size_t)sysconf(_SC_PAGESIZE); }
+
+/* Whether the file lies in a tmpfs, which lends it pages one by one and counts these alone as its blocks. */
+static bool is_in_memory(int file, const struct stat *found) {
+    struct statfs disk;
+    return major(found->st_dev) == 0 && (size_t)found->st_blksize == page_size() && fstatfs(file, &disk) == 0 &&
+           disk.f_type == TMPFS_MAGIC;
+}
+
+/* Whether a page of the file may have no block. The number of its blocks does not tell, since it counts those of its
+   attributes too. The exception is tmpfs, where the search for a hole would ask for each page. */
+static bool has_hole(int file, const struct stat *found) {
+    uint64_t len = (uint64_t)found->st_size, page = page_size(), blocks = (uint64_t)found->st_blocks * 512;
+    if (blocks < len) return true;
+    if (blocks == (len + page - 1) / page * page && is_in_memory(file, found)) return false;
+    return lseek(file, 0, SEEK_HOLE) < (off_t)len;
+}
+
 /* Gives the file blocks up to a length, so that no page that is written finds the disk full. */
 static bool allot(int file, const struct stat *found, uint64_t len) {
-    if ((uint64_t)found->st_size >= len && (uint64_t)found->st_blocks * 512 >= len) return true;
+    if ((uint64_t)found->st_size >= len && !has_hole(file, found)) return true;
     return fallocate(file, 0, 0, (off_t)len) == 0 || (errno == EOPNOTSUPP && ftruncate(file, (off_t)len) == 0);
 }
 
@@ -626,8 +647,6 @@ static struct {
     uint8_t *at;  /* null if there are no such pages */
     uint64_t len; /* of the file that was mapped last, in whole pages */
 } place;
-
-static size_t page_size(void) { return (size_t)sysconf(_SC_PAGESIZE); }
 
 /* How far from an end of a mapping another page lies that is read with it. When a mapping ends, the system takes the
    pages of each of its tables out of the processor one by one, up to 33 of a table, and under a hypervisor each of them

@@ -16,6 +16,7 @@
 #include <sys/file.h>
 #include <sys/mman.h>
 #include <sys/stat.h>
+#include <sys/statfs.h>
 #include <sys/syscall.h>
 #include <sys/wait.h>
 #include <sys/xattr.h>
@@ -123,6 +124,14 @@ int __wrap_fsetxattr(int file, const char *name, const void *value, size_t len, 
     if (untaken && strcmp(untaken, name) == 0) return errno = why_untaken, -1;
     if (way == AT_ONCE && fails("fsetxattr", EIO)) return -1;
     return __real_fsetxattr(file, name, value, len, how);
+}
+
+WRAPPED(int, fstatfs, (int file, struct statfs *found), file, found)
+
+off_t __real_lseek(int file, off_t at, int whence);
+off_t __wrap_lseek(int file, off_t at, int whence);
+off_t __wrap_lseek(int file, off_t at, int whence) {
+    return way == AT_ONCE && fails("lseek", EIO) ? -1 : __real_lseek(file, at, whence);
 }
 
 void *__real_mmap(void *at, size_t len, int protection, int flags, int file, off_t from);

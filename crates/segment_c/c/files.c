@@ -328,14 +328,25 @@ static bool fill(int made, const struct image *image, int from, const struct sta
     return (!old || take_all_but_bytes(made, from, old)) && write_image(made, image) && sync_one(made);
 }
 
-/* Locks a new file. A file system without locks refuses nobody. Who opens an empty file before it is locked finds no
-   segment in it, or puts another file in its place, and so gives the lock back soon. */
-static bool is_locked(int made) {
+/* Locks a file, without waiting. Returns 0, also on a file system without locks, which refuses nobody; otherwise an
+   errno: EWOULDBLOCK if another has the lock. */
+static int take_lock(int file, int how) {
     for (int tries = 0; tries < TRIES; tries++) {
-        if (flock(made, LOCK_EX | LOCK_NB) == 0 || errno != EWOULDBLOCK) return true;
-        usleep(1000);
+        if (flock(file, how | LOCK_NB) == 0 || errno == EOPNOTSUPP || errno == ENOSYS || errno == EINVAL) return 0;
+        if (errno != EINTR) break;
     }
-    return false;
+    return errno;
+}
+
+/* Locks a new file, as take_lock does. Who opens an empty file before it is locked finds no segment in it, or puts
+   another file in its place, and so gives the lock back soon. */
+static int lock_new(int made) {
+    int error = EWOULDBLOCK;
+    for (int tries = 0; tries < TRIES && error == EWOULDBLOCK; tries++) {
+        if (tries > 0) usleep(1000);
+        error = take_lock(made, LOCK_EX);
+    }
+    return error;
 }
 
 /* Whether a name surely leads no longer to a file that had it. */
@@ -365,7 +376,8 @@ static int make(int folder, const char *name, const struct image *image, int fro
     mode_t mode = old ? 0600 : 0666;
     int made = openat(folder, ".", O_TMPFILE | O_RDWR | O_CLOEXEC, mode);
     if (made >= 0) {
-        if (!is_locked(made) || !fill(made, image, from, old)) return closed_with(made, errno);
+        int refused = lock_new(made);
+        if (refused || !fill(made, image, from, old)) return closed_with(made, refused ? refused : errno);
         if (give_name(made, folder, name)) return made;
         if (errno == EEXIST) return closed_with(made, EEXIST);
         close(made);
@@ -373,10 +385,11 @@ static int make(int folder, const char *name, const struct image *image, int fro
     made = openat(folder, name, O_RDWR | O_CREAT | O_EXCL | O_NOFOLLOW | O_CLOEXEC, mode);
     if (made < 0) return made;
     // who does not hold it may not remove it: another may have put a file of its own there
-    if (!is_locked(made)) return closed_with(made, EWOULDBLOCK);
+    int error = lock_new(made);
+    if (error == EWOULDBLOCK) return closed_with(made, error);
     if (lost_its_name(made, folder, name)) return closed_with(made, EEXIST);
-    if (fill(made, image, from, old)) return made;
-    int error = errno;
+    if (!error && fill(made, image, from, old)) return made;
+    if (!error) error = errno;
     unlinkat(folder, name, 0);
     return closed_with(made, error);
 }
@@ -521,13 +534,12 @@ static zx_code lock(zx_file *file, struct zx_held_file *held, const struct sight
     int how = held->is_read ? O_RDONLY : O_RDWR;
     held->file = openat(held->folder, held->name, how | O_NOFOLLOW | O_NONBLOCK | O_NOCTTY | O_CLOEXEC);
     if (held->file < 0) return errno == ENOENT || errno == ELOOP ? (zx_code)AGAIN : fault(file);
-    // a file system without locks refuses nobody
-    how = held->is_read ? LOCK_SH : LOCK_EX;
-    bool is_refused = flock(held->file, how | LOCK_NB) != 0 && errno == EWOULDBLOCK;
+    int refused = take_lock(held->file, held->is_read ? LOCK_SH : LOCK_EX);
     if (fstat(held->file, opened) != 0) return fault(file);
     zx_code code = judge(file, opened);
     if (code != ZX_DONE) return code;
-    if (is_refused && !is_own_lock(file, opened)) return faulty(file, ZX_FILE_IN_USE, EWOULDBLOCK);
+    if (refused && (refused != EWOULDBLOCK || !is_own_lock(file, opened)))
+        return faulty(file, refused == EWOULDBLOCK ? ZX_FILE_IN_USE : ZX_FILE_FAULT, refused);
     if (!has_its_names(sight, opened) && !leads_to(held->folder, held->name, opened)) return AGAIN;
     if (held->is_read) return ZX_DONE;
     // a file that is opened by its path is mapped

@@ -165,10 +165,14 @@ int __wrap_fstat(int file, struct stat *found) {
     return answer;
 }
 
+/* How many locks are refused, and the reason. */
+static int unlocked, why_unlocked;
+
 int __real_flock(int file, int how);
 int __wrap_flock(int file, int how);
 int __wrap_flock(int file, int how) {
-    if (lacks == NO_LOCKS) return errno = ENOLCK, -1;
+    if (lacks == NO_LOCKS) return errno = EOPNOTSUPP, -1;
+    if (unlocked > 0 && how != LOCK_UN) return unlocked--, errno = why_unlocked, -1;
     if (way == AT_ONCE && fails("flock", EWOULDBLOCK)) return -1;
     void (*others)(void) = before_lock;
     before_lock = NULL;
@@ -719,6 +723,47 @@ static void a_new_file_that_another_replaces(void) {
     seed(5);
 }
 
+/* Only a file system without locks lets all write. A lock that fails for another reason is a fault, and one that was
+   interrupted is asked for again. */
+static void locks_that_fail(void) {
+    static const struct {
+        int error;
+        zx_code code;
+    } reasons[] = { { EOPNOTSUPP, ZX_DONE }, { ENOSYS, ZX_DONE }, { EINVAL, ZX_DONE }, { EINTR, ZX_DONE },
+                    { ENOLCK, ZX_FILE_FAULT }, { EIO, ZX_FILE_FAULT }, { EBADF, ZX_FILE_FAULT },
+                    { EWOULDBLOCK, ZX_FILE_IN_USE } };
+    for (size_t i = 0; i < sizeof reasons / sizeof *reasons; i++) {
+        zx_file file = ZX_CLOSED_FILE, other = ZX_CLOSED_FILE;
+        const int error = why_unlocked = reasons[i].error;
+        const zx_code code = reasons[i].code;
+        for (int is_mapped = 0; is_mapped < 2; is_mapped++) {
+            seed(5);
+            unlocked = 1;
+            IS(zx_file_open(&file, the_file(), ZX_OPEN_ONLY | (is_mapped ? ZX_MAPPED : 0), 0), code);
+            IS(unlocked, 0);
+            IS(file.error, code == ZX_DONE ? 0 : error);
+            // an interrupted one has the lock now
+            if (error == EINTR) IS(zx_file_open(&other, the_file(), ZX_OPEN_ONLY, 0), ZX_FILE_IN_USE);
+            zx_file_discard(&file);
+        }
+        // the new file of a save, which has no name yet or has one
+        for (lacks = HAS_ALL; lacks <= NO_NAMELESS; lacks++) {
+            const zx_code saved = error == EWOULDBLOCK ? (zx_code)ZX_DONE : code;
+            seed(5);
+            IS(zx_file_open(&file, the_file(), ZX_OPEN_ONLY, 0), ZX_DONE);
+            IS(set(&file, 6), ZX_DONE);
+            unlocked = 1;
+            IS(zx_file_save(&file), saved);
+            IS(stands(the_file()), saved == ZX_DONE ? 6 : 5);
+            IS(unlocked, 0);
+            if (error == EINTR) IS(zx_file_open(&other, the_file(), ZX_OPEN_ONLY, 0), ZX_FILE_IN_USE);
+            zx_file_discard(&file);
+            IS(count_in(room), 1);
+        }
+        lacks = HAS_ALL;
+    }
+}
+
 /* A child that the C library does not know of has a copy of the lock, which ends with the parent's. */
 static void a_child_by_the_system_call(void) {
     zx_file file = ZX_CLOSED_FILE;
@@ -1087,6 +1132,7 @@ int main(int count, char **words) {
     a_pipe_behind_the_look();
     names_behind_the_look();
     a_new_file_that_another_replaces();
+    locks_that_fail();
     a_child_by_the_system_call();
     what_did_not_change();
     a_longer_file();

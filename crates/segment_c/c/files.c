@@ -27,11 +27,12 @@ enum { AGAIN = 1 };
 struct zx_held_file {
     struct zx_held_file *next; /* in the list of all of this process */
     zx_segment *mapped;        /* the segment that lies in its mapping, or null */
-    uint8_t *at;               /* the mapping, of `len` bytes */
+    uint8_t *at;               /* the mapping, of `len` bytes, or null: it keeps the lock as a descriptor does */
     uint64_t len;
     unsigned forks;            /* of the process that opened it */
     int folder;                /* of the name; AT_FDCWD for a mapped file that existed, whose name is a path */
     int file;                  /* with its lock; -1 if none exists under the name */
+    int made;                  /* the new file that gets the name, with its lock; -1 if there is none */
     bool is_read;              /* mapped and not changed: others may map it too */
     bool is_new;               /* created and never saved */
     bool is_unsynced;          /* saved, but the folder was not synced */
@@ -96,8 +97,9 @@ static void after_fork(void) { pthread_mutex_unlock(&guard); }
 
 static void close_all(struct zx_held_file *held) {
     if (held->file >= 0) close(held->file);
+    if (held->made >= 0) close(held->made);
     if (held->folder >= 0) close(held->folder);
-    held->file = held->folder = -1;
+    held->file = held->made = held->folder = -1;
 }
 
 /* A child has no mapping either, so its segment is closed, and no view is current. The box of its handle stays
@@ -106,8 +108,8 @@ static void in_child(void) {
     forks++;
     for (struct zx_held_file *each = all_held; each; each = each->next) {
         close_all(each);
+        if (each->at) munmap(each->at, each->len);
         if (!each->mapped) continue;
-        munmap(each->at, each->len);
         each->mapped->at = NULL;
         each->mapped->changes++;
     }
@@ -125,15 +127,45 @@ static void enlist(struct zx_held_file *held) {
     pthread_mutex_unlock(&guard);
 }
 
+/* Opens a descriptor of a file in the list. A process that forks at any time has it in its list, and the child closes
+   its copy: a lock lasts as long as a copy does. So the list is held while the file is opened. */
+static bool open_listed(int *descriptor, int folder, const char *name, int how, mode_t mode) {
+    pthread_mutex_lock(&guard);
+    *descriptor = openat(folder, name, how | O_CLOEXEC, mode);
+    pthread_mutex_unlock(&guard);
+    return *descriptor >= 0;
+}
+
+/* Closes a descriptor of a file in the list. errno stays. */
+static void close_listed(int *descriptor) {
+    int error = errno;
+    pthread_mutex_lock(&guard);
+    if (*descriptor >= 0) close(*descriptor);
+    *descriptor = -1;
+    pthread_mutex_unlock(&guard);
+    errno = error;
+}
+
+/* Takes the new file for the old one, whose lock it gives back. */
+static void take_made(struct zx_held_file *held) {
+    pthread_mutex_lock(&guard);
+    int before = held->file;
+    held->file = held->made;
+    held->made = before;
+    pthread_mutex_unlock(&guard);
+    if (before >= 0) flock(before, LOCK_UN);
+    close_listed(&held->made);
+}
+
 /* Gives the right to write back, even if a child that fork knows nothing of has a copy of the descriptor. */
 static void release(struct zx_held_file *held) {
+    if (held->file >= 0 && is_own(held)) flock(held->file, LOCK_UN);
     pthread_mutex_lock(&guard);
     struct zx_held_file **at = &all_held;
     while (*at && *at != held) at = &(*at)->next;
     if (*at) *at = held->next;
-    pthread_mutex_unlock(&guard);
-    if (held->file >= 0 && is_own(held)) flock(held->file, LOCK_UN);
     close_all(held);
+    pthread_mutex_unlock(&guard);
     free(held);
 }
 
@@ -323,9 +355,10 @@ static bool take_all_but_bytes(int made, int from, const struct stat *old) {
     return is_done;
 }
 
-/* Fills a new file that is locked. It gets the rights of the file `from`, which is `old`, if that is not null. */
-static bool fill(int made, const struct image *image, int from, const struct stat *old) {
-    return (!old || take_all_but_bytes(made, from, old)) && write_image(made, image) && sync_one(made);
+/* Fills the new file, which is locked. If the old one is not null, it gets that one's rights. */
+static bool fill(struct zx_held_file *held, const struct image *image, const struct stat *old) {
+    return (!old || take_all_but_bytes(held->made, held->file, old)) && write_image(held->made, image) &&
+           sync_one(held->made);
 }
 
 /* Locks a file, without waiting. Returns 0, also on a file system without locks, which refuses nobody; otherwise an
@@ -364,34 +397,33 @@ static bool give_name(int made, int folder, const char *name) {
            (errno == ENOENT && linkat(made, "", folder, name, AT_EMPTY_PATH) == 0);
 }
 
-static int closed_with(int file, int error) {
-    close(file);
+/* Closes the new file. Returns false, with this errno. */
+static bool unmade(struct zx_held_file *held, int error) {
+    close_listed(&held->made);
     errno = error;
-    return -1;
+    return false;
 }
 
-/* Creates a file that does not exist. It gets its name when it is whole; on a file system without unnamed files,
-   before its first byte, and is removed if it does not become whole. -1 if it fails. */
-static int make(int folder, const char *name, const struct image *image, int from, const struct stat *old) {
+/* Creates a file that does not exist, as the new one of `held`, in its folder. The file gets its name when it is whole;
+   on a file system without unnamed files, before its first byte, and is removed if it does not become whole. */
+static bool make(struct zx_held_file *held, const char *name, const struct image *image, const struct stat *old) {
     mode_t mode = old ? 0600 : 0666;
-    int made = openat(folder, ".", O_TMPFILE | O_RDWR | O_CLOEXEC, mode);
-    if (made >= 0) {
-        int refused = lock_new(made);
-        if (refused || !fill(made, image, from, old)) return closed_with(made, refused ? refused : errno);
-        if (give_name(made, folder, name)) return made;
-        if (errno == EEXIST) return closed_with(made, EEXIST);
-        close(made);
+    if (open_listed(&held->made, held->folder, ".", O_TMPFILE | O_RDWR, mode)) {
+        int refused = lock_new(held->made);
+        if (refused || !fill(held, image, old)) return unmade(held, refused ? refused : errno);
+        if (give_name(held->made, held->folder, name)) return true;
+        if (errno == EEXIST) return unmade(held, EEXIST);
+        close_listed(&held->made);
     }
-    made = openat(folder, name, O_RDWR | O_CREAT | O_EXCL | O_NOFOLLOW | O_CLOEXEC, mode);
-    if (made < 0) return made;
+    if (!open_listed(&held->made, held->folder, name, O_RDWR | O_CREAT | O_EXCL | O_NOFOLLOW, mode)) return false;
     // who does not hold it may not remove it: another may have put a file of its own there
-    int error = lock_new(made);
-    if (error == EWOULDBLOCK) return closed_with(made, error);
-    if (lost_its_name(made, folder, name)) return closed_with(made, EEXIST);
-    if (!error && fill(made, image, from, old)) return made;
+    int error = lock_new(held->made);
+    if (error == EWOULDBLOCK) return unmade(held, error);
+    if (lost_its_name(held->made, held->folder, name)) return unmade(held, EEXIST);
+    if (!error && fill(held, image, old)) return true;
     if (!error) error = errno;
-    unlinkat(folder, name, 0);
-    return closed_with(made, error);
+    unlinkat(held->folder, name, 0);
+    return unmade(held, error);
 }
 
 /* The name of the file that will replace the one of a name, made of that name (FNV-1a): only who holds the file that
@@ -452,7 +484,7 @@ static zx_code keep(const char *path, struct zx_held_file **found) {
     if (!held) return ZX_NO_MEMORY;
     strcpy(held->name, path);
     held->forks = forks;
-    held->file = -1;
+    held->file = held->made = -1;
     held->folder = AT_FDCWD;
     enlist(held);
     *found = held;
@@ -471,24 +503,26 @@ static zx_code find(zx_file *file, const char *path, struct zx_held_file **found
     if (len == 0) return faulty(file, before ? ZX_FILE_FOLDER : ZX_FILE_MISSING, before ? EISDIR : ENOENT);
     struct zx_held_file *held = calloc(1, sizeof *held + len + 1);
     char *folder = malloc(before + 2);
-    if (held && folder) {
-        memcpy(held->name, name, len);
-        memcpy(folder, path, before);
-        memcpy(folder + before, ".", 2);
-        held->forks = forks;
-        held->file = -1;
-        held->folder = open(folder, O_PATH | O_DIRECTORY | O_CLOEXEC);
+    if (!held || !folder) {
+        free(held);
+        free(folder);
+        return ZX_NO_MEMORY;
     }
+    memcpy(held->name, name, len);
+    memcpy(folder, path, before);
+    memcpy(folder + before, ".", 2);
+    held->forks = forks;
+    held->file = held->made = held->folder = -1;
+    enlist(held);
+    bool is_open = open_listed(&held->folder, AT_FDCWD, folder, O_PATH | O_DIRECTORY, 0);
     int error = errno;
-    bool has_memory = held && folder;
     free(folder);
-    if (has_memory && held->folder >= 0) {
-        enlist(held);
-        *found = held;
-        return ZX_DONE;
+    if (!is_open) {
+        release(held);
+        return faulty(file, error == ENOENT ? ZX_FILE_MISSING : ZX_FILE_FAULT, error);
     }
-    free(held);
-    return has_memory ? faulty(file, error == ENOENT ? ZX_FILE_MISSING : ZX_FILE_FAULT, error) : (zx_code)ZX_NO_MEMORY;
+    *found = held;
+    return ZX_DONE;
 }
 
 /* ---- the mark of a file that is to be replaced: beside it a new one may stand, if whoever saved was killed. To ask
@@ -532,8 +566,8 @@ static bool is_own_lock(const zx_file *file, const struct stat *locked) {
 /* Opens and locks the file of a name that was seen. AGAIN if the name meanwhile leads to another one. */
 static zx_code lock(zx_file *file, struct zx_held_file *held, const struct sight *sight, struct stat *opened) {
     int how = held->is_read ? O_RDONLY : O_RDWR;
-    held->file = openat(held->folder, held->name, how | O_NOFOLLOW | O_NONBLOCK | O_NOCTTY | O_CLOEXEC);
-    if (held->file < 0) return errno == ENOENT || errno == ELOOP ? (zx_code)AGAIN : fault(file);
+    if (!open_listed(&held->file, held->folder, held->name, how | O_NOFOLLOW | O_NONBLOCK | O_NOCTTY, 0))
+        return errno == ENOENT || errno == ELOOP ? (zx_code)AGAIN : fault(file);
     int refused = take_lock(held->file, held->is_read ? LOCK_SH : LOCK_EX);
     if (fstat(held->file, opened) != 0) return fault(file);
     zx_code code = judge(file, opened);
@@ -705,11 +739,30 @@ static void move_place(size_t page, uint64_t len) {
 static void *place_for(uint64_t len) {
     size_t page = page_size();
     len = (len + page - 1) / page * page;
-    pthread_mutex_lock(&guard);
     if (!place.at || place.len != len) move_place(page, len);
-    void *at = place.at;
+    return place.at;
+}
+
+/* Maps a file in the list. A child that is forked at any time ends its copy of the mapping. */
+static bool map_listed(struct zx_held_file *held, uint64_t len, int protection, int flags) {
+    pthread_mutex_lock(&guard);
+    void *wanted = place_for(len), *at = mmap(wanted, len, protection, flags, held->file, 0);
+    bool is_mapped = at != MAP_FAILED, is_in_place = is_mapped && at == wanted;
+    if (is_mapped) {
+        held->at = at;
+        held->len = len;
+    }
     pthread_mutex_unlock(&guard);
-    return at;
+    if (is_in_place && flags == MAP_SHARED) read_apart(at, len);
+    return is_mapped;
+}
+
+static void unmap_listed(struct zx_held_file *held) {
+    pthread_mutex_lock(&guard);
+    munmap(held->at, held->len);
+    held->at = NULL;
+    held->mapped = NULL;
+    pthread_mutex_unlock(&guard);
 }
 
 static zx_code map_anew(zx_file *file, struct zx_held_file *held, uint32_t how);
@@ -721,20 +774,15 @@ static zx_code map(zx_file *file, struct zx_held_file *held, const struct stat *
     if (len == 0 || len % 16 != 0) return read_segment(file, held->file, how);
     if (how == ZX_WRITE && !allot(held->file, found, len)) return fault(file);
     int protection = how == ZX_READ ? PROT_READ : PROT_READ | PROT_WRITE;
-    void *wanted = place_for(len);
-    void *at = mmap(wanted, len, protection, how == ZX_WRITE ? MAP_SHARED : MAP_PRIVATE, held->file, 0);
-    if (at == MAP_FAILED) return fault(file);
-    if (at == wanted && how == ZX_WRITE) read_apart(at, len);
-    held->at = at;
-    held->len = len;
+    if (!map_listed(held, len, protection, how == ZX_WRITE ? MAP_SHARED : MAP_PRIVATE)) return fault(file);
     zx_code code = attach(file, held, len, how);
     // a process that was killed while it changed the length leaves an image with more behind it
-    uint64_t said = code == ZX_BAD_IMAGE_SIZE ? size_said(at) : len;
+    uint64_t said = code == ZX_BAD_IMAGE_SIZE ? size_said(held->at) : len;
     bool is_longer = said < len && attach(file, held, said, how) == ZX_DONE;
     if (is_longer) code = ZX_DONE;
     bool is_cut = is_longer && how == ZX_WRITE;
     if (is_cut) zx_close(&file->segment);
-    if (code != ZX_DONE || is_cut) munmap(at, len);
+    if (code != ZX_DONE || is_cut) unmap_listed(held);
     if (is_cut) return cut(held->file, said) ? map_anew(file, held, how) : fault(file);
     if (code != ZX_DONE) return code;
     held->mapped = &file->segment;
@@ -757,11 +805,7 @@ static void unmap(zx_file *file, struct zx_held_file *held) {
                    (size != held->len || held->is_uncut);
     zx_close(&file->segment);
     if (!is_own(held)) return;
-    // a child that is forked from here on has another mapping there, maybe
-    pthread_mutex_lock(&guard);
-    held->mapped = NULL;
-    pthread_mutex_unlock(&guard);
-    munmap(held->at, held->len);
+    unmap_listed(held);
     if (is_long && !cut(held->file, size)) cut(held->file, size);
 }
 
@@ -865,9 +909,10 @@ static zx_code open_unheld(zx_file *file, const char *path, uint32_t how) {
 
 /* Creates the file of a name. AGAIN if one exists now. */
 static zx_code make_held(zx_file *file, struct zx_held_file *held, const struct image *image) {
-    held->file = make(held->folder, held->name, image, -1, NULL);
+    bool is_made = make(held, held->name, image, NULL);
     held->is_new = true;
-    if (held->file >= 0) return ZX_DONE;
+    if (is_made) take_made(held);
+    if (is_made) return ZX_DONE;
     return errno == EEXIST || errno == EWOULDBLOCK ? (zx_code)AGAIN : fault(file);
 }
 
@@ -928,15 +973,15 @@ zx_code zx_file_open(zx_file *file, const char *path, uint32_t mode, uint64_t si
 /* ---- a file saved */
 
 /* Creates the file that is to replace the one that is held, which is marked first. EEXIST if another holds the name. */
-static int make_spare(const struct zx_held_file *held, const char *spare, const struct image *image,
-                      const struct stat *old) {
-    if (!mark(held->file)) return -1;
-    int made = make(held->folder, spare, image, held->file, old);
-    if (made >= 0 || errno != EEXIST) return made;
+static bool make_spare(struct zx_held_file *held, const char *spare, const struct image *image,
+                       const struct stat *old) {
+    if (!mark(held->file)) return false;
+    if (make(held, spare, image, old)) return true;
+    if (errno != EEXIST) return false;
     // one that was killed left it, unless another holds what stands there now, and the spare name with it
-    if (!leads_to(held->folder, held->name, old)) return errno = EEXIST, -1;
+    if (!leads_to(held->folder, held->name, old)) return errno = EEXIST, false;
     unlinkat(held->folder, spare, 0);
-    return make(held->folder, spare, image, held->file, old);
+    return make(held, spare, image, old);
 }
 
 /* Puts a new file with the image in the place of the one that is held. */
@@ -947,9 +992,9 @@ static zx_code replace(zx_file *file, struct zx_held_file *held, const struct im
     // another may hold what stands there now
     if (!leads_to(held->folder, held->name, &old)) return faulty(file, ZX_FILE_REPLACED, ESTALE);
     spare_name(spare, held->name);
-    int made = make_spare(held, spare, image, &old);
+    bool is_made = make_spare(held, spare, image, &old);
     zx_code code = ZX_DONE;
-    if (made < 0)
+    if (!is_made)
         code = errno == EEXIST ? faulty(file, ZX_FILE_REPLACED, ESTALE)
                : errno == ENOMEM ? (zx_code)ZX_NO_MEMORY
                                  : fault(file);
@@ -958,15 +1003,12 @@ static zx_code replace(zx_file *file, struct zx_held_file *held, const struct im
     else if (renameat(held->folder, spare, held->folder, held->name) != 0)
         code = fault(file);
     if (code != ZX_DONE) {
-        bool is_left = made >= 0 && unlinkat(held->folder, spare, 0) != 0;
-        if (made >= 0) close(made);
+        bool is_left = is_made && unlinkat(held->folder, spare, 0) != 0;
+        close_listed(&held->made);
         if (!is_left && old.st_nlink == 1) fremovexattr(held->file, MARK);
         return code;
     }
-    int before = held->file;
-    held->file = made;
-    flock(before, LOCK_UN);
-    close(before);
+    take_made(held);
     return sync_name(file, held);
 }
 

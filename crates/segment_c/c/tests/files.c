@@ -9,6 +9,7 @@
 #include <errno.h>
 #include <fcntl.h>
 #include <pthread.h>
+#include <semaphore.h>
 #include <signal.h>
 #include <stdarg.h>
 #include <stdio.h>
@@ -20,6 +21,7 @@
 #include <sys/syscall.h>
 #include <sys/wait.h>
 #include <sys/xattr.h>
+#include <time.h>
 #include <unistd.h>
 
 static int wrong, cases;
@@ -66,8 +68,34 @@ static const char *of_case(void) {
     return all;
 }
 
+/* Another thread forks before a call, and the child sleeps. It cannot fork as long as this thread holds the list of
+   files: then the call goes on. */
+static __thread int before_fork;
+static bool is_killed_then;
+static sem_t fork_wanted, fork_done;
+
+static void *fork_once(void *none) {
+    sem_wait(&fork_wanted);
+    if (fork() == 0)
+        for (;;) pause();
+    sem_post(&fork_done);
+    return none;
+}
+
+static void fork_beside(void) {
+    struct timespec until;
+    clock_gettime(CLOCK_REALTIME, &until);
+    until.tv_nsec += 20000000;
+    until.tv_sec += until.tv_nsec / 1000000000;
+    until.tv_nsec %= 1000000000;
+    sem_post(&fork_wanted);
+    sem_timedwait(&fork_done, &until);
+    if (is_killed_then) raise(SIGKILL);
+}
+
 /* Whether the next call fails. */
 static bool fails(const char *name, int error) {
+    if (before_fork > 0 && --before_fork == 0) fork_beside();
     if (countdown == 0 || --countdown != 0) return false;
     failed = name;
     errno = error;
@@ -522,6 +550,61 @@ static void who_saves_is_killed(void) {
         }
     }
     lacks = HAS_ALL;
+}
+
+/* Whether a process forks before a call of a scene, and is killed then or later. Its file is free, though the child still
+   sleeps. */
+static bool is_free_beside_a_child(const struct scene *scene, int at, bool is_killed_at_once) {
+    zx_file file = ZX_CLOSED_FILE;
+    int status = 0;
+    if (scene->before < 0)
+        unlink(the_file());
+    else
+        seed(scene->before);
+    pid_t parent = fork();
+    if (parent == 0) {
+        pthread_t thread;
+        setpgid(0, 0);
+        sem_init(&fork_wanted, 0, 0);
+        sem_init(&fork_done, 0, 0);
+        if (pthread_create(&thread, NULL, fork_once, NULL) != 0) _exit(1);
+        is_killed_then = is_killed_at_once;
+        before_fork = at;
+        scene->run(&file);
+        if (before_fork > 0) _exit(3);
+        raise(SIGKILL);
+    }
+    IS(waitpid(parent, &status, 0), parent);
+    bool is_hit = WIFSIGNALED(status) && WTERMSIG(status) == SIGKILL;
+    if (!is_hit) IS(WIFEXITED(status) && WEXITSTATUS(status) == 3, true);
+    // a child closes its copies as soon as it runs
+    zx_code code = ZX_FILE_IN_USE;
+    const uint32_t mode = ZX_OPEN_OR_CREATE | (scene->is_mapped ? ZX_MAPPED : 0);
+    for (int tries = 0; is_hit && tries < 1000 && code == ZX_FILE_IN_USE; tries++) {
+        if (tries > 0) usleep(1000);
+        code = zx_file_open(&file, the_file(), mode, 66560);
+    }
+    // a new file that has its name before its bytes may not be whole
+    bool may_be_cut = lacks == NO_NAMELESS && scene->before < 0;
+    if (is_hit) IS(code == ZX_DONE || (may_be_cut && code >= ZX_TRUNCATED), true);
+    if (is_hit && file.held) IS(set(&file, 7), ZX_DONE);
+    if (is_hit && file.held) IS(zx_file_close(&file), ZX_DONE);
+    zx_file_discard(&file);
+    kill(-parent, SIGKILL);
+    return is_hit;
+}
+
+static void who_forked_is_killed(void) {
+    for (lacks = HAS_ALL; lacks <= NO_NAMELESS; lacks++) {
+        for (size_t i = 0; i < 2 * (sizeof scenes / sizeof scenes[0]); i++) {
+            int at = 1;
+            while (is_free_beside_a_child(&scenes[i / 2], at, i % 2)) at++;
+            if (lacks == HAS_ALL) printf("%s: forked before %d calls\n", scenes[i / 2].name, at - 1);
+            IS(at > 5, true);
+        }
+    }
+    lacks = HAS_ALL;
+    unlink(the_file());
 }
 
 /* ---- what is passed */
@@ -1126,6 +1209,7 @@ int main(int count, char **words) {
     IS(mkdir(room, 0700), 0);
     if (count < 3) where_the_system_fails();
     if (count < 3) who_saves_is_killed();
+    if (count < 3) who_forked_is_killed();
     if (count < 3) unlink(the_file());
     seed(5);
     what_is_passed();

@@ -18,7 +18,7 @@
 #include <time.h>
 #include <unistd.h>
 
-enum { LARGEST = 1 << 30, TRIES = 64, PAGE = 4096, PIECE = 8 * PAGE };
+enum { LARGEST = 1 << 30, TRIES = 64, SPARES = 8, PAGE = 4096, PIECE = 8 * PAGE };
 
 /* The name meanwhile leads elsewhere: a code that no caller sees. */
 enum { AGAIN = 1 };
@@ -83,10 +83,13 @@ const char *zx_message(zx_code code) {
     return message;
 }
 
+/* Whether a signal interrupted a call, which is to be made once more, as long as that does not go on for ever. */
+static bool is_interrupted(int *tries) { return errno == EINTR && ++*tries < TRIES; }
+
 /* ---- all files that are held: a forked process closes its copies, or it would keep its parent's locks */
 
 static pthread_mutex_t guard = PTHREAD_MUTEX_INITIALIZER;
-static pthread_once_t is_watching = PTHREAD_ONCE_INIT;
+static bool is_watching; /* whether a fork takes the list apart in the child */
 static struct zx_held_file *all_held;
 static unsigned forks; /* how often this process was forked off, with its parents: in a child it is another number */
 
@@ -117,21 +120,31 @@ static void in_child(void) {
     pthread_mutex_unlock(&guard);
 }
 
-static void watch(void) { pthread_atfork(before_fork, after_fork, in_child); }
-
-static void enlist(struct zx_held_file *held) {
-    pthread_once(&is_watching, watch);
+/* Puts a file into the list, before it is opened. Frees it, and returns null, if there is no memory to watch forks. */
+static struct zx_held_file *enlist(struct zx_held_file *held) {
+    held->forks = forks;
+    held->file = held->made = -1;
     pthread_mutex_lock(&guard);
-    held->next = all_held;
-    all_held = held;
+    if (!is_watching) is_watching = pthread_atfork(before_fork, after_fork, in_child) == 0;
+    bool is_watched = is_watching;
+    if (is_watched) {
+        held->next = all_held;
+        all_held = held;
+    }
     pthread_mutex_unlock(&guard);
+    if (is_watched) return held;
+    free(held);
+    return NULL;
 }
 
 /* Opens a descriptor of a file in the list. A process that forks at any time has it in its list, and the child closes
    its copy: a lock lasts as long as a copy does. So the list is held while the file is opened. */
 static bool open_listed(int *descriptor, int folder, const char *name, int how, mode_t mode) {
+    int tries = 0;
     pthread_mutex_lock(&guard);
-    *descriptor = openat(folder, name, how | O_CLOEXEC, mode);
+    do {
+        *descriptor = openat(folder, name, how | O_CLOEXEC, mode);
+    } while (*descriptor < 0 && is_interrupted(&tries));
     pthread_mutex_unlock(&guard);
     return *descriptor >= 0;
 }
@@ -177,6 +190,18 @@ static bool is_same(const struct stat *one, const struct stat *other) {
 static bool leads_to(int folder, const char *name, const struct stat *file) {
     struct stat named;
     return fstatat(folder, name, &named, AT_SYMLINK_NOFOLLOW) == 0 && is_same(&named, file);
+}
+
+/* Returns ZX_FILE_REPLACED if the name of a file that is held leads elsewhere by now, or nowhere. A mapped file, which
+   keeps its bytes under any name, has lost the last one. */
+static zx_code still_named(zx_file *file, const struct zx_held_file *held) {
+    struct stat own, named;
+    if (fstat(held->file, &own) != 0) return fault(file);
+    bool is_named = held->mapped ? own.st_nlink > 0
+                                 : fstatat(held->folder, held->name, &named, AT_SYMLINK_NOFOLLOW) == 0;
+    if (!is_named && !held->mapped && errno != ENOENT) return fault(file);
+    if (is_named && !held->mapped) is_named = is_same(&own, &named);
+    return is_named ? (zx_code)ZX_DONE : faulty(file, ZX_FILE_REPLACED, ESTALE);
 }
 
 /* Removes the file if it was created and never saved, and releases it. */
@@ -229,6 +254,13 @@ static bool write_at(int file, const uint8_t *bytes, size_t len, off_t from) {
     return true;
 }
 
+static bool set_length(int file, uint64_t len) {
+    int tries = 0;
+    while (ftruncate(file, (off_t)len) != 0)
+        if (!is_interrupted(&tries)) return false;
+    return true;
+}
+
 static size_t at_most(size_t len, size_t most) { return len < most ? len : most; }
 
 static bool is_zero(const uint8_t *bytes, size_t len) {
@@ -245,7 +277,7 @@ static bool write_image(int file, const struct image *image) {
         if (!write_at(file, image->bytes + at, end - at, (off_t)at)) return false;
         at = end < image->len ? end + at_most(image->len - end, PAGE) : end;
     }
-    return ftruncate(file, (off_t)image->len) == 0;
+    return set_length(file, image->len);
 }
 
 /* Whether the file has just the bytes of the image. */
@@ -262,7 +294,12 @@ static bool has_image(int file, const struct image *image) {
 }
 
 /* Syncs a file or a folder. What does not support that is on no disk. */
-static bool sync_one(int file) { return fsync(file) == 0 || errno == EINVAL; }
+static bool sync_one(int file) {
+    int tries = 0;
+    while (fsync(file) != 0)
+        if (!is_interrupted(&tries)) return errno == EINVAL;
+    return true;
+}
 
 /* Syncs the folder, or all of its disk if the folder may not be read. */
 static zx_code sync_name(zx_file *file, struct zx_held_file *held) {
@@ -364,11 +401,12 @@ static bool fill(struct zx_held_file *held, const struct image *image, const str
 /* Locks a file, without waiting. Returns 0, also on a file system without locks, which refuses nobody; otherwise an
    errno: EWOULDBLOCK if another has the lock. */
 static int take_lock(int file, int how) {
-    for (int tries = 0; tries < TRIES; tries++) {
-        if (flock(file, how | LOCK_NB) == 0 || errno == EOPNOTSUPP || errno == ENOSYS || errno == EINVAL) return 0;
-        if (errno != EINTR) break;
+    int tries = 0;
+    while (flock(file, how | LOCK_NB) != 0) {
+        if (errno == EOPNOTSUPP || errno == ENOSYS || errno == EINVAL) return 0;
+        if (!is_interrupted(&tries)) return errno;
     }
-    return errno;
+    return 0;
 }
 
 /* Locks a new file, as take_lock does. Who opens an empty file before it is locked finds no segment in it, or puts
@@ -426,11 +464,12 @@ static bool make(struct zx_held_file *held, const char *name, const struct image
     return unmade(held, error);
 }
 
-/* The name of the file that will replace the one of a name, made of that name (FNV-1a): only who holds the file that
-   the name leads to uses it. */
-static void spare_name(char spare[40], const char *name) {
+/* A name for the file that will replace the one of a name, made of that name (FNV-1a): only who holds the file that the
+   name leads to uses it. Something that cannot be removed may have it, and so there are a few. */
+static void spare_name(char spare[40], const char *name, int turn) {
     uint64_t hash = 0xcbf29ce484222325;
     for (; *name; name++) hash = (hash ^ (unsigned char)*name) * 0x100000001b3;
+    hash += (uint64_t)turn;
     memcpy(spare, ".zaluxhoni-", 11);
     for (int i = 0; i < 16; i++) spare[11 + i] = "0123456789abcdef"[hash >> (60 - 4 * i) & 15];
     spare[27] = 0;
@@ -483,12 +522,9 @@ static zx_code keep(const char *path, struct zx_held_file **found) {
     struct zx_held_file *held = calloc(1, sizeof *held + strlen(path) + 1);
     if (!held) return ZX_NO_MEMORY;
     strcpy(held->name, path);
-    held->forks = forks;
-    held->file = held->made = -1;
     held->folder = AT_FDCWD;
-    enlist(held);
-    *found = held;
-    return ZX_DONE;
+    *found = enlist(held);
+    return *found ? ZX_DONE : ZX_NO_MEMORY;
 }
 
 static const char *last_name(const char *path) {
@@ -511,12 +547,12 @@ static zx_code find(zx_file *file, const char *path, struct zx_held_file **found
     memcpy(held->name, name, len);
     memcpy(folder, path, before);
     memcpy(folder + before, ".", 2);
-    held->forks = forks;
-    held->file = held->made = held->folder = -1;
-    enlist(held);
-    bool is_open = open_listed(&held->folder, AT_FDCWD, folder, O_PATH | O_DIRECTORY, 0);
+    held->folder = -1;
+    held = enlist(held);
+    bool is_open = held && open_listed(&held->folder, AT_FDCWD, folder, O_PATH | O_DIRECTORY, 0);
     int error = errno;
     free(folder);
+    if (!held) return ZX_NO_MEMORY;
     if (!is_open) {
         release(held);
         return faulty(file, error == ENOENT ? ZX_FILE_MISSING : ZX_FILE_FAULT, error);
@@ -527,12 +563,6 @@ static zx_code find(zx_file *file, const char *path, struct zx_held_file **found
 
 /* ---- the mark of a file that is to be replaced: beside it a new one may stand, if whoever saved was killed. To ask
    for it takes a quarter of what it takes to look there */
-
-/* Marks a file. It goes without a mark if the file system has none, or the process may not write there any more. */
-static bool mark(int file) {
-    return fsetxattr(file, MARK, "1", 1, 0) == 0 || errno == ENOTSUP || errno == ENOSYS || errno == EPERM ||
-           errno == EACCES;
-}
 
 enum marked { NO, YES, UNKNOWN };
 
@@ -550,9 +580,13 @@ static void remove_spare(const struct zx_held_file *held, bool has_one_name, enu
     char spare[PATH_MAX + 40];
     if (before >= PATH_MAX) return;
     memcpy(spare, held->name, before);
-    spare_name(spare + before, name);
-    bool was_there = unlinkat(held->folder, spare, 0) == 0;
-    bool may_unmark = was_there || (errno == ENOENT && marked == YES);
+    bool was_there = false, is_gone = false;
+    for (int turn = 0; turn < SPARES && !is_gone; turn++) {
+        spare_name(spare + before, name, turn);
+        was_there = unlinkat(held->folder, spare, 0) == 0;
+        is_gone = was_there || errno == ENOENT;
+    }
+    bool may_unmark = was_there || (is_gone && marked == YES);
     if (may_unmark && has_one_name) fremovexattr(held->file, MARK);
 }
 
@@ -670,13 +704,16 @@ static bool has_hole(int file, const struct stat *found) {
 /* Gives the file blocks up to a length, so that no page that is written finds the disk full. */
 static bool allot(int file, const struct stat *found, uint64_t len) {
     if ((uint64_t)found->st_size >= len && !has_hole(file, found)) return true;
-    return fallocate(file, 0, 0, (off_t)len) == 0 || (errno == EOPNOTSUPP && ftruncate(file, (off_t)len) == 0);
+    int tries = 0;
+    while (fallocate(file, 0, 0, (off_t)len) != 0)
+        if (!is_interrupted(&tries)) return errno == EOPNOTSUPP && set_length(file, len);
+    return true;
 }
 
 /* Makes the file just as long as its image. */
 static bool cut(int file, uint64_t size) {
     struct stat found;
-    return fstat(file, &found) == 0 && ((uint64_t)found.st_size == size || ftruncate(file, (off_t)size) == 0);
+    return fstat(file, &found) == 0 && ((uint64_t)found.st_size == size || set_length(file, size));
 }
 
 /* The size that an image says (docs/FORMAT.md). */
@@ -798,15 +835,20 @@ static zx_code map_anew(zx_file *file, struct zx_held_file *held, uint32_t how) 
     return fstat(held->file, &found) == 0 ? map(file, held, &found, how) : fault(file);
 }
 
-/* Ends the mapping. A file that could not be cut before is tried once more. */
+/* Whether a mapped file that this process writes is longer than its image, and how long that is. */
+static bool is_too_long(zx_file *file, struct zx_held_file *held, uint64_t *size) {
+    return !held->is_read && is_own(held) && file->segment.lent && zx_size(&file->segment, size) == ZX_DONE &&
+           (*size != held->len || held->is_uncut);
+}
+
+/* Ends the mapping. A file that is too long is cut, if that can be. */
 static void unmap(zx_file *file, struct zx_held_file *held) {
     uint64_t size;
-    bool is_long = !held->is_read && file->segment.lent && zx_size(&file->segment, &size) == ZX_DONE &&
-                   (size != held->len || held->is_uncut);
+    bool is_long = is_too_long(file, held, &size);
     zx_close(&file->segment);
     if (!is_own(held)) return;
     unmap_listed(held);
-    if (is_long && !cut(held->file, size)) cut(held->file, size);
+    if (is_long) cut(held->file, size);
 }
 
 /* Makes a mapped file as long as its image, and notes where it is not. */
@@ -893,18 +935,26 @@ zx_code zx_file_flush(zx_file *file) {
     if (held->is_read) return ZX_READ_ONLY;
     if (!is_own(held)) return faulty(file, ZX_FILE_FORKED, EPERM);
     if (msync(held->at, held->len, MS_SYNC) != 0) return fault(file);
+    zx_code code = still_named(file, held);
+    if (code != ZX_DONE) return code;
     return held->is_unsynced ? sync_name(file, held) : (zx_code)ZX_DONE;
 }
 
 static zx_code open_unheld(zx_file *file, const char *path, uint32_t how) {
-    struct sight sight;
-    zx_code code = look(file, path, &sight);
-    if (code != ZX_DONE) return code;
-    int from = open(path, O_RDONLY | O_NONBLOCK | O_NOCTTY | O_CLOEXEC);
-    if (from < 0) return fault(file);
-    code = read_segment(file, from, how);
-    close(from);
-    return code;
+    for (int tries = 0; tries < TRIES; tries++) {
+        struct sight sight;
+        zx_code code = look(file, path, &sight);
+        if (code != ZX_DONE) return code;
+        int from = open(path, O_RDONLY | O_NONBLOCK | O_NOCTTY | O_CLOEXEC);
+        if (from >= 0) {
+            code = read_segment(file, from, how);
+            close(from);
+            return code;
+        }
+        // the name led to a file when it was looked at, and is looked at once more
+        if (errno != ENOENT && errno != EINTR) break;
+    }
+    return errno == ENOENT ? faulty(file, ZX_FILE_MISSING, ENOENT) : fault(file);
 }
 
 /* Creates the file of a name. AGAIN if one exists now. */
@@ -972,16 +1022,21 @@ zx_code zx_file_open(zx_file *file, const char *path, uint32_t mode, uint64_t si
 
 /* ---- a file saved */
 
-/* Creates the file that is to replace the one that is held, which is marked first. EEXIST if another holds the name. */
-static bool make_spare(struct zx_held_file *held, const char *spare, const struct image *image,
-                       const struct stat *old) {
-    if (!mark(held->file)) return false;
-    if (make(held, spare, image, old)) return true;
-    if (errno != EEXIST) return false;
-    // one that was killed left it, unless another holds what stands there now, and the spare name with it
-    if (!leads_to(held->folder, held->name, old)) return errno = EEXIST, false;
-    unlinkat(held->folder, spare, 0);
-    return make(held, spare, image, old);
+/* Creates the file that is to replace the one that is held, and tells its name. ESTALE if another holds the name of the
+   file. A file that takes no mark goes without. */
+static bool make_spare(struct zx_held_file *held, char spare[40], const struct image *image, const struct stat *old) {
+    (void)fsetxattr(held->file, MARK, "1", 1, 0);
+    for (int turn = 0; turn < SPARES; turn++) {
+        spare_name(spare, held->name, turn);
+        if (make(held, spare, image, old)) return true;
+        if (errno != EEXIST) return false;
+        // one that was killed left it, unless another holds what stands there now, and the spare name with it
+        if (!leads_to(held->folder, held->name, old)) return errno = ESTALE, false;
+        if (unlinkat(held->folder, spare, 0) != 0) continue;
+        if (make(held, spare, image, old)) return true;
+        if (errno != EEXIST) return false;
+    }
+    return errno = EEXIST, false;
 }
 
 /* Puts a new file with the image in the place of the one that is held. */
@@ -991,11 +1046,10 @@ static zx_code replace(zx_file *file, struct zx_held_file *held, const struct im
     if (fstat(held->file, &old) != 0) return fault(file);
     // another may hold what stands there now
     if (!leads_to(held->folder, held->name, &old)) return faulty(file, ZX_FILE_REPLACED, ESTALE);
-    spare_name(spare, held->name);
     bool is_made = make_spare(held, spare, image, &old);
     zx_code code = ZX_DONE;
     if (!is_made)
-        code = errno == EEXIST ? faulty(file, ZX_FILE_REPLACED, ESTALE)
+        code = errno == ESTALE ? faulty(file, ZX_FILE_REPLACED, ESTALE)
                : errno == ENOMEM ? (zx_code)ZX_NO_MEMORY
                                  : fault(file);
     else if (!leads_to(held->folder, held->name, &old))
@@ -1019,6 +1073,8 @@ static bool is_saved(const zx_segment *segment, const struct zx_held_file *held)
 
 static zx_code save_held(zx_file *file, struct zx_held_file *held, const struct image *image) {
     if (!has_image(held->file, image)) return replace(file, held, image);
+    zx_code code = still_named(file, held);
+    if (code != ZX_DONE) return code;
     return held->is_new || held->is_unsynced ? sync_name(file, held) : (zx_code)ZX_DONE;
 }
 
@@ -1032,7 +1088,7 @@ zx_code zx_file_save(zx_file *file) {
     if (!file->held) return ZX_FILE_NONE;
     if (!is_own(file->held)) return faulty(file, ZX_FILE_FORKED, EPERM);
     if (file->held->mapped) return zx_file_flush(file);
-    if (is_saved(&file->segment, file->held)) return ZX_DONE;
+    if (is_saved(&file->segment, file->held)) return still_named(file, file->held);
     code = image_of(&file->segment, &image);
     if (code != ZX_DONE) return code;
     code = save_held(file, file->held, &image);
@@ -1105,9 +1161,22 @@ zx_code zx_file_save_as(zx_file *file, const char *path, uint32_t mode) {
 
 /* ---- a file closed */
 
+/* What a close asks first of a mapped file: that it is as long as its image, and has a name. */
+static zx_code end_mapped(zx_file *file, struct zx_held_file *held) {
+    uint64_t size;
+    if (held->is_read || !is_own(held)) return ZX_DONE;
+    if (is_too_long(file, held, &size) && !cut_mapped(held, size)) return fault(file);
+    return still_named(file, held);
+}
+
 zx_code zx_file_close(zx_file *file) {
-    bool saves = file->held && !file->held->mapped && file->segment.at;
-    zx_code code = saves ? zx_file_save(file) : (zx_code)ZX_DONE;
+    struct zx_held_file *held = file->held;
+    zx_code code = ZX_DONE;
+    file->error = 0;
+    if (held && held->mapped)
+        code = end_mapped(file, held);
+    else if (held && file->segment.at)
+        code = zx_file_save(file);
     if (code != ZX_DONE && code != ZX_FILE_UNSYNCED) return code;
     int32_t error = code == ZX_DONE ? 0 : file->error;
     zx_file_discard(file);

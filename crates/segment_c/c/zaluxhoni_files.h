@@ -33,7 +33,7 @@ enum {
     ZX_FILE_PIPE = 48,      /* the path leads to a pipe or a socket */
     ZX_FILE_TOO_LARGE = 49, /* the file has more than 1073741824 bytes */
     ZX_FILE_FAULT = 50,     /* the system refused, for the reason in `error` */
-    ZX_FILE_REPLACED = 51,  /* the name leads to another file now, which is left alone */
+    ZX_FILE_REPLACED = 51,  /* the name leads to another file now, which is left alone, or to none */
     ZX_FILE_UNSYNCED = 52,  /* saved, but the folder is not synced: a power failure may restore the old file */
     ZX_FILE_FORKED = 53     /* the file belongs to the parent of this forked process */
 };
@@ -90,8 +90,9 @@ zx_code zx_file_save(zx_file *file);
    ZX_CLOSED, ZX_NO_MEMORY; ZX_FILE_IN_USE to ZX_FILE_REPLACED, ZX_FILE_FORKED; after ZX_FILE_UNSYNCED it is saved. */
 zx_code zx_file_save_as(zx_file *file, const char *path, uint32_t mode);
 
-/* Saves as zx_file_save does, if the file is open for writing, and closes it. Returns the code of the save. After
-   ZX_FILE_UNSYNCED the file is saved and closed; after any other error it is still open. */
+/* Saves as zx_file_save does, if the file is open for writing, and closes it. A mapped file is cut to its image in place
+   of that. Returns the code of the save. After ZX_FILE_UNSYNCED the file is saved and closed; after any other error it
+   is still open. */
 zx_code zx_file_close(zx_file *file);
 
 /* Closes without saving. Removes a file that zx_file_open created and nobody saved. A mapped file stays, with all

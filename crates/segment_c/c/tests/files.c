@@ -59,8 +59,10 @@ static bool is_killed;
 static bool is_blind;
 /* Whether files are dated by whole seconds, as on some file systems. */
 static bool is_coarse;
-/* What others do between the opening of a file and its lock. */
-static __thread void (*before_lock)(void);
+/* What others do between the opening of a file and its lock, and between the look at a path and its opening. */
+static __thread void (*before_lock)(void), (*before_open)(void);
+/* How often bytes of a file were read or written. */
+static __thread int transfers;
 
 static const char *of_case(void) {
     static __thread char all[200];
@@ -110,15 +112,43 @@ static bool fails(const char *name, int error) {
         return __real_##name(__VA_ARGS__); \
     }
 
+/* What a call that the library makes again says: it fails for a reason, or a signal interrupts it. */
+#define INTERRUPTIBLE(answer, name, parameters, ...) \
+    answer __real_##name parameters; \
+    answer __wrap_##name parameters; \
+    answer __wrap_##name parameters { \
+        if (way != IN_PART && fails(#name, way == INTERRUPTED ? EINTR : EIO)) return -1; \
+        return __real_##name(__VA_ARGS__); \
+    }
+
 WRAPPED(int, stat, (const char *path, struct stat *found), path, found)
 WRAPPED(int, fstatat, (int folder, const char *path, struct stat *found, int flags), folder, path, found, flags)
-WRAPPED(int, ftruncate, (int file, off_t len), file, len)
-WRAPPED(int, fsync, (int file), file)
+INTERRUPTIBLE(int, fsync, (int file), file)
 WRAPPED(int, syncfs, (int file), file)
 WRAPPED(int, fchmod, (int file, mode_t mode), file, mode)
 WRAPPED(int, unlinkat, (int folder, const char *path, int flags), folder, path, flags)
 WRAPPED(int, msync, (void *at, size_t len, int flags), at, len, flags)
-WRAPPED(int, fallocate, (int file, int mode, off_t at, off_t len), file, mode, at, len)
+INTERRUPTIBLE(int, fallocate, (int file, int mode, off_t at, off_t len), file, mode, at, len)
+
+/* How often no file becomes shorter or longer. */
+static int uncut;
+
+int __real_ftruncate(int file, off_t len);
+int __wrap_ftruncate(int file, off_t len);
+int __wrap_ftruncate(int file, off_t len) {
+    if (uncut > 0) return uncut--, errno = EIO, -1;
+    if (way != IN_PART && fails("ftruncate", way == INTERRUPTED ? EINTR : EIO)) return -1;
+    return __real_ftruncate(file, len);
+}
+
+/* Whether there is no memory to watch forks. */
+static bool is_unwatched;
+
+int __real_pthread_atfork(void (*before)(void), void (*after)(void), void (*in_child)(void));
+int __wrap_pthread_atfork(void (*before)(void), void (*after)(void), void (*in_child)(void));
+int __wrap_pthread_atfork(void (*before)(void), void (*after)(void), void (*in_child)(void)) {
+    return is_unwatched ? ENOMEM : __real_pthread_atfork(before, after, in_child);
+}
 
 int __real_renameat(int from, const char *one, int to, const char *other);
 int __wrap_renameat(int from, const char *one, int to, const char *other);
@@ -201,7 +231,7 @@ int __wrap_flock(int file, int how);
 int __wrap_flock(int file, int how) {
     if (lacks == NO_LOCKS) return errno = EOPNOTSUPP, -1;
     if (unlocked > 0 && how != LOCK_UN) return unlocked--, errno = why_unlocked, -1;
-    if (way == AT_ONCE && fails("flock", EWOULDBLOCK)) return -1;
+    if (way != IN_PART && fails("flock", way == INTERRUPTED ? EINTR : EWOULDBLOCK)) return -1;
     void (*others)(void) = before_lock;
     before_lock = NULL;
     if (others) others();
@@ -227,7 +257,10 @@ int __wrap_linkat(int from, const char *one, int to, const char *other, int flag
 int __real_open(const char *path, int flags, ...);
 int __wrap_open(const char *path, int flags, ...);
 int __wrap_open(const char *path, int flags, ...) {
-    if (way == AT_ONCE && fails("open", EIO)) return -1;
+    void (*others)(void) = before_open;
+    before_open = NULL;
+    if (others) others();
+    if (way != IN_PART && fails("open", way == INTERRUPTED ? EINTR : EIO)) return -1;
     return __real_open(path, flags);
 }
 
@@ -240,13 +273,14 @@ int __wrap_openat(int folder, const char *path, int flags, ...) {
     va_end(rest);
     if (flags & O_CREAT && wanted_rights) IS(mode, 0600);
     if ((flags & O_TMPFILE) == O_TMPFILE && lacks == NO_NAMELESS) return errno = EOPNOTSUPP, -1;
-    if (way == AT_ONCE && fails("openat", EIO)) return -1;
+    if (way != IN_PART && fails("openat", way == INTERRUPTED ? EINTR : EIO)) return -1;
     return __real_openat(folder, path, flags, mode);
 }
 
 ssize_t __real_pread(int file, void *bytes, size_t len, off_t at);
 ssize_t __wrap_pread(int file, void *bytes, size_t len, off_t at);
 ssize_t __wrap_pread(int file, void *bytes, size_t len, off_t at) {
+    transfers++;
     if (fails("pread", way == INTERRUPTED ? EINTR : EIO)) {
         if (way != IN_PART) return -1;
         len = len / 2 + 1;
@@ -262,6 +296,7 @@ ssize_t __wrap_pwrite(int file, const void *bytes, size_t len, off_t at) {
     // where a file without a name is refused, it has its name from the start
     bool has_name = failed && (strcmp(failed, "openat") == 0 || strcmp(failed, "linkat") == 0);
     if (absent && !has_name) IS(access(absent, F_OK), -1);
+    transfers++;
     if (fails("pwrite", way == INTERRUPTED ? EINTR : ENOSPC)) {
         if (way != IN_PART) return -1;
         len = len / 2 + 1;
@@ -896,6 +931,137 @@ static void saved_by_another_name(void) {
     seed(5);
 }
 
+/* Without a name there is no file to find again: a save and a close say so, also where no byte has changed, and the
+   segment goes to another file. */
+static void a_name_that_is_gone(void) {
+    for (int round = 0; round < 16; round++) {
+        zx_file file = ZX_CLOSED_FILE;
+        const bool is_mapped = round & 1, is_changed = round & 2, is_replaced = round & 4, is_again = round & 8;
+        const zx_code told = ZX_FILE_REPLACED;
+        if (is_replaced) {
+            seed(50);
+            IS(rename(the_file(), beside("new")), 0);
+        }
+        seed(5);
+        IS(zx_file_open(&file, the_file(), ZX_OPEN_ONLY | (is_mapped ? ZX_MAPPED : 0), 0), ZX_DONE);
+        if (is_changed) IS(set(&file, is_again ? 5 : 6), ZX_DONE);
+        IS(is_replaced ? rename(beside("new"), the_file()) : unlink(the_file()), 0);
+        IS(zx_file_save(&file), told);
+        IS(file.error, ESTALE);
+        IS(zx_file_close(&file), told);
+        IS(file.error, ESTALE);
+        IS(stands(the_file()), is_replaced ? 50 : -1);
+        IS(zx_file_save_as(&file, beside("kept"), ZX_CREATE_ONLY), ZX_DONE);
+        IS(stands(beside("kept")), is_changed && !is_again ? 6 : 5);
+        zx_file_discard(&file);
+        IS(stands(the_file()), is_replaced ? 50 : -1);
+        IS(unlink(beside("kept")), 0);
+    }
+    seed(5);
+}
+
+/* A mapped file that cannot be cut to its image is not closed, so that a reader by copy never finds it too long behind a
+   close that was done. */
+static void a_file_that_stays_too_long(void) {
+    zx_file file = ZX_CLOSED_FILE;
+    struct stat found;
+    uint64_t size;
+    seed(5);
+    IS(zx_file_open(&file, the_file(), ZX_OPEN_ONLY | ZX_MAPPED, 0), ZX_DONE);
+    uncut = 2;
+    IS(zx_file_shrink(&file), ZX_FILE_FAULT);
+    IS(file.error, EIO);
+    IS(zx_file_close(&file), ZX_FILE_FAULT);
+    IS(file.error, EIO);
+    IS(uncut, 0);
+    IS(zx_size(&file.segment, &size), ZX_DONE);
+    IS(zx_file_close(&file), ZX_DONE);
+    IS(stat(the_file(), &found), 0);
+    IS(found.st_size, size);
+    IS(stands(the_file()), 5);
+}
+
+/* Something that cannot be removed has the name for the new file, and the name behind it too: a third one is taken, and
+   what one that was killed left there is removed. */
+static void a_folder_in_the_way(void) {
+    char spares[3][440];
+    uint64_t hash = 0xcbf29ce484222325;
+    for (const char *at = "file"; *at; at++) hash = (hash ^ (unsigned char)*at) * 0x100000001b3;
+    for (unsigned i = 0; i < 3; i++)
+        snprintf(spares[i], sizeof spares[i], "%s/.zaluxhoni-%016llx", room, (unsigned long long)hash + i);
+    seed(5);
+    IS(mkdir(spares[0], 0700), 0);
+    IS(mkdir(spares[1], 0700), 0);
+    for (int round = 0; round < 3; round++) {
+        zx_file file = ZX_CLOSED_FILE;
+        int status = 0;
+        pid_t child = fork();
+        if (child == 0) {
+            is_killed = true;
+            save_scene(&file);
+            _exit(1);
+        }
+        IS(waitpid(child, &status, 0) == child && WIFSIGNALED(status), true);
+        IS(access(spares[2], F_OK), 0);
+        if (round < 2) IS(zx_file_open(&file, the_file(), ZX_OPEN_ONLY | (round ? ZX_MAPPED : 0), 0), ZX_DONE);
+        IS(access(spares[2], F_OK), round < 2 ? -1 : 0);
+        if (round == 2) IS(save_scene(&file), ZX_DONE);
+        IS(zx_file_close(&file), ZX_DONE);
+        IS(stands(the_file()), round == 2 ? 6 : 5);
+        IS(count_in(room), 3);
+    }
+    IS(rmdir(spares[0]), 0);
+    IS(rmdir(spares[1]), 0);
+}
+
+/* A file that has no room for the mark is saved without. */
+static void no_room_for_the_mark(void) {
+    const int reasons[] = { ENOSPC, EDQUOT, E2BIG, EPERM, EIO };
+    for (size_t i = 0; i < sizeof reasons / sizeof *reasons; i++) {
+        zx_file file = ZX_CLOSED_FILE;
+        seed(5);
+        untaken = "user.zaluxhoni";
+        why_untaken = reasons[i];
+        IS(save_scene(&file), ZX_DONE);
+        IS(zx_file_close(&file), ZX_DONE);
+        untaken = NULL;
+        IS(stands(the_file()), 6);
+    }
+}
+
+/* A name that is taken away between the look and the opening of a reader is a file that is missing, and one that is
+   given again is found. */
+static void taken_away(void) { rename(the_file(), beside("old")); }
+static void behind_the_look_of_a_reader(void) {
+    for (int round = 0; round < 4; round++) {
+        zx_file file = ZX_CLOSED_FILE;
+        const bool is_replaced = round & 1;
+        seed(50);
+        IS(rename(the_file(), beside("new")), 0);
+        seed(5);
+        before_open = is_replaced ? replaced : taken_away;
+        zx_code code = zx_file_open(&file, the_file(), round & 2 ? ZX_OPEN_READ_ONLY : ZX_OPEN_COPY_ON_WRITE, 0);
+        IS(code, is_replaced ? ZX_DONE : ZX_FILE_MISSING);
+        IS(file.error, is_replaced ? 0 : ENOENT);
+        before_open = NULL;
+        zx_file_discard(&file);
+        unlink(beside("new"));
+        unlink(beside("old"));
+    }
+    seed(5);
+}
+
+/* A file whose lock a child might keep, since nothing is told of forks, is not opened. */
+static void forks_that_are_not_watched(void) {
+    zx_file file = ZX_CLOSED_FILE;
+    is_unwatched = true;
+    IS(zx_file_open(&file, the_file(), ZX_CREATE_ONLY, 1024), ZX_NO_MEMORY);
+    IS(zx_file_open(&file, the_file(), ZX_CREATE_ONLY | ZX_MAPPED, 1024), ZX_NO_MEMORY);
+    IS(file.error, 0);
+    IS(count_in(room), 0);
+    is_unwatched = false;
+}
+
 /* A file that is put in the place of the one that is saved, at the last moment, stays. */
 static void a_file_put_there_meanwhile(void) {
     zx_file file = ZX_CLOSED_FILE;
@@ -927,11 +1093,9 @@ static void what_did_not_change(void) {
     IS(zx_file_open(&file, the_file(), ZX_OPEN_ONLY, 0), ZX_DONE);
     IS(zx_get(&file.segment, &key, 0, &value), ZX_DONE);
     IS(zx_view(&file.segment, &key, &number), ZX_DONE);
-    way = AT_ONCE;
-    countdown = 1;
+    const int before = transfers;
     IS(zx_file_save(&file), ZX_DONE);
-    IS(countdown, 1);
-    countdown = 0;
+    IS(transfers, before);
     IS(zx_view_mut(&file.segment, &key, &number), ZX_DONE);
     *(int64_t *)zx_elements_mut(&file.segment, &number) = 6;
     IS(zx_file_save(&file), ZX_DONE);
@@ -1207,6 +1371,7 @@ int main(int count, char **words) {
     if (count < 2) return 2;
     snprintf(room, sizeof room, "%s/files.room", words[1]);
     IS(mkdir(room, 0700), 0);
+    forks_that_are_not_watched();
     if (count < 3) where_the_system_fails();
     if (count < 3) who_saves_is_killed();
     if (count < 3) who_forked_is_killed();
@@ -1221,6 +1386,11 @@ int main(int count, char **words) {
     what_did_not_change();
     a_longer_file();
     saved_by_another_name();
+    a_name_that_is_gone();
+    a_file_that_stays_too_long();
+    a_folder_in_the_way();
+    no_room_for_the_mark();
+    behind_the_look_of_a_reader();
     a_file_put_there_meanwhile();
     holes();
     rights();

@@ -360,14 +360,20 @@ static void by_its_path(void) {
     IS(unlink(path), 0);
     for (uint32_t mode = READ; mode <= COPY; mode++) IS(zx_file_open(&file, link, mode, 0), ZX_FILE_DANGLES);
     IS(unlink(link), 0);
-    /* a file that has lost its name is changed, and no other is made */
-    seed(5);
-    DONE(zx_file_open(&file, path, WRITE, 0));
-    IS(unlink(path), 0);
-    DONE(set(&file, 6));
-    DONE(zx_file_flush(&file));
-    DONE(zx_file_close(&file));
-    IS(length(), -1);
+    /* a file that has lost its name is changed, and no other is made; under another name it is found again */
+    for (int is_moved = 0; is_moved < 2; is_moved++) {
+        const zx_code code = is_moved ? (zx_code)ZX_DONE : (zx_code)ZX_FILE_REPLACED;
+        seed(5);
+        DONE(zx_file_open(&file, path, WRITE, 0));
+        IS(is_moved ? rename(path, link) : unlink(path), 0);
+        DONE(set(&file, 6));
+        IS(zx_file_flush(&file), code);
+        IS(zx_file_close(&file), code);
+        zx_file_discard(&file);
+        IS(length(), -1);
+    }
+    IS(rename(link, path), 0);
+    IS(stands(), 6);
 }
 
 /* What a saver that was killed left beside a file is removed by who opens that for writing. */

@@ -1,8 +1,10 @@
 /* files FOLDER: zaluxhoni_files.h where the system fails. Each call of files.c that the system can refuse is made to
    fail once, in each of a few scenes, on a system that has files without names and on ones that lack what they take;
-   and threads have a file each. It is linked over wrappers of these calls, which .ci/c-tests names, and files.c
-   itself. */
+   and threads have a file each. It is linked with files.c itself, which takes its calls of the system from the table
+   below. */
 #define _GNU_SOURCE
+#undef ZX_TEST_SYSTEM
+#define ZX_TEST_TABLE
 #include "zaluxhoni_files.h"
 
 #include <dirent.h>
@@ -11,7 +13,6 @@
 #include <pthread.h>
 #include <semaphore.h>
 #include <signal.h>
-#include <stdarg.h>
 #include <stdio.h>
 #include <stdlib.h>
 #include <sys/file.h>
@@ -23,6 +24,8 @@
 #include <sys/xattr.h>
 #include <time.h>
 #include <unistd.h>
+
+#include "../files/system.h"
 
 static int wrong, cases;
 static char room[400];
@@ -105,20 +108,16 @@ static bool fails(const char *name, int error) {
 }
 
 #define WRAPPED(answer, name, parameters, ...) \
-    answer __real_##name parameters; \
-    answer __wrap_##name parameters; \
-    answer __wrap_##name parameters { \
+    static answer system_##name parameters { \
         if (way == AT_ONCE && fails(#name, EIO)) return -1; \
-        return __real_##name(__VA_ARGS__); \
+        return name(__VA_ARGS__); \
     }
 
 /* What a call that the library makes again says: it fails for a reason, or a signal interrupts it. */
 #define INTERRUPTIBLE(answer, name, parameters, ...) \
-    answer __real_##name parameters; \
-    answer __wrap_##name parameters; \
-    answer __wrap_##name parameters { \
+    static answer system_##name parameters { \
         if (way != IN_PART && fails(#name, way == INTERRUPTED ? EINTR : EIO)) return -1; \
-        return __real_##name(__VA_ARGS__); \
+        return name(__VA_ARGS__); \
     }
 
 WRAPPED(int, stat, (const char *path, struct stat *found), path, found)
@@ -133,38 +132,30 @@ INTERRUPTIBLE(int, fallocate, (int file, int mode, off_t at, off_t len), file, m
 /* How often no file becomes shorter or longer. */
 static int uncut;
 
-int __real_ftruncate(int file, off_t len);
-int __wrap_ftruncate(int file, off_t len);
-int __wrap_ftruncate(int file, off_t len) {
+static int system_ftruncate(int file, off_t len) {
     if (uncut > 0) return uncut--, errno = EIO, -1;
     if (way != IN_PART && fails("ftruncate", way == INTERRUPTED ? EINTR : EIO)) return -1;
-    return __real_ftruncate(file, len);
+    return ftruncate(file, len);
 }
 
 /* Whether there is no memory to watch forks. */
 static bool is_unwatched;
 
-int __real_pthread_atfork(void (*before)(void), void (*after)(void), void (*in_child)(void));
-int __wrap_pthread_atfork(void (*before)(void), void (*after)(void), void (*in_child)(void));
-int __wrap_pthread_atfork(void (*before)(void), void (*after)(void), void (*in_child)(void)) {
-    return is_unwatched ? ENOMEM : __real_pthread_atfork(before, after, in_child);
+static int system_pthread_atfork(void (*before)(void), void (*after)(void), void (*in_child)(void)) {
+    return is_unwatched ? ENOMEM : pthread_atfork(before, after, in_child);
 }
 
-int __real_renameat(int from, const char *one, int to, const char *other);
-int __wrap_renameat(int from, const char *one, int to, const char *other);
-int __wrap_renameat(int from, const char *one, int to, const char *other) {
+static int system_renameat(int from, const char *one, int to, const char *other) {
     if (is_killed) raise(SIGKILL);
     if (way == AT_ONCE && fails("renameat", EIO)) return -1;
-    return __real_renameat(from, one, to, other);
+    return renameat(from, one, to, other);
 }
 
 #define MARKED(answer, name, parameters, ...) \
-    answer __real_##name parameters; \
-    answer __wrap_##name parameters; \
-    answer __wrap_##name parameters { \
+    static answer system_##name parameters { \
         if (lacks == NO_MARKS) return errno = ENOTSUP, -1; \
         if (way == AT_ONCE && fails(#name, EIO)) return -1; \
-        return __real_##name(__VA_ARGS__); \
+        return name(__VA_ARGS__); \
     }
 
 MARKED(ssize_t, fgetxattr, (int file, const char *name, void *value, size_t room), file, name, value, room)
@@ -175,50 +166,38 @@ MARKED(int, fremovexattr, (int file, const char *name), file, name)
 static const char *untaken;
 static int why_untaken;
 
-int __real_fsetxattr(int file, const char *name, const void *value, size_t len, int how);
-int __wrap_fsetxattr(int file, const char *name, const void *value, size_t len, int how);
-int __wrap_fsetxattr(int file, const char *name, const void *value, size_t len, int how) {
+static int system_fsetxattr(int file, const char *name, const void *value, size_t len, int how) {
     if (lacks == NO_MARKS) return errno = ENOTSUP, -1;
     if (untaken && strcmp(untaken, name) == 0) return errno = why_untaken, -1;
     if (way == AT_ONCE && fails("fsetxattr", EIO)) return -1;
-    return __real_fsetxattr(file, name, value, len, how);
+    return fsetxattr(file, name, value, len, how);
 }
 
 WRAPPED(int, fstatfs, (int file, struct statfs *found), file, found)
 
-off_t __real_lseek(int file, off_t at, int whence);
-off_t __wrap_lseek(int file, off_t at, int whence);
-off_t __wrap_lseek(int file, off_t at, int whence) {
-    return way == AT_ONCE && fails("lseek", EIO) ? -1 : __real_lseek(file, at, whence);
+static off_t system_lseek(int file, off_t at, int whence) {
+    return way == AT_ONCE && fails("lseek", EIO) ? -1 : lseek(file, at, whence);
 }
 
-void *__real_mmap(void *at, size_t len, int protection, int flags, int file, off_t from);
-void *__wrap_mmap(void *at, size_t len, int protection, int flags, int file, off_t from);
-void *__wrap_mmap(void *at, size_t len, int protection, int flags, int file, off_t from) {
-    return way == AT_ONCE && fails("mmap", EIO) ? MAP_FAILED : __real_mmap(at, len, protection, flags, file, from);
+static void *system_mmap(void *at, size_t len, int protection, int flags, int file, off_t from) {
+    return way == AT_ONCE && fails("mmap", EIO) ? MAP_FAILED : mmap(at, len, protection, flags, file, from);
 }
 
-void *__real_mremap(void *at, size_t len, size_t wanted, int flags, ...);
-void *__wrap_mremap(void *at, size_t len, size_t wanted, int flags, ...);
-void *__wrap_mremap(void *at, size_t len, size_t wanted, int flags, ...) {
-    return way == AT_ONCE && fails("mremap", ENOMEM) ? MAP_FAILED : __real_mremap(at, len, wanted, flags);
+static void *system_mremap(void *at, size_t len, size_t wanted, int flags) {
+    return way == AT_ONCE && fails("mremap", ENOMEM) ? MAP_FAILED : mremap(at, len, wanted, flags);
 }
 
-int __real_lstat(const char *path, struct stat *found);
-int __wrap_lstat(const char *path, struct stat *found);
-int __wrap_lstat(const char *path, struct stat *found) {
+static int system_lstat(const char *path, struct stat *found) {
     if (way == AT_ONCE && fails("lstat", EIO)) return -1;
-    int answer = __real_lstat(path, found);
+    int answer = lstat(path, found);
     if (is_blind) found->st_mode = S_IFREG | 0644;
     if (is_coarse) found->st_ctim.tv_nsec = 0;
     return answer;
 }
 
-int __real_fstat(int file, struct stat *found);
-int __wrap_fstat(int file, struct stat *found);
-int __wrap_fstat(int file, struct stat *found) {
+static int system_fstat(int file, struct stat *found) {
     if (way == AT_ONCE && fails("fstat", EIO)) return -1;
-    int answer = __real_fstat(file, found);
+    int answer = fstat(file, found);
     if (is_coarse) found->st_ctim.tv_nsec = 0;
     return answer;
 }
@@ -226,73 +205,55 @@ int __wrap_fstat(int file, struct stat *found) {
 /* How many locks are refused, and the reason. */
 static int unlocked, why_unlocked;
 
-int __real_flock(int file, int how);
-int __wrap_flock(int file, int how);
-int __wrap_flock(int file, int how) {
+static int system_flock(int file, int how) {
     if (lacks == NO_LOCKS) return errno = EOPNOTSUPP, -1;
     if (unlocked > 0 && how != LOCK_UN) return unlocked--, errno = why_unlocked, -1;
     if (way != IN_PART && fails("flock", way == INTERRUPTED ? EINTR : EWOULDBLOCK)) return -1;
     void (*others)(void) = before_lock;
     before_lock = NULL;
     if (others) others();
-    return __real_flock(file, how);
+    return flock(file, how);
 }
 
-int __real_fchown(int file, uid_t user, gid_t group);
-int __wrap_fchown(int file, uid_t user, gid_t group);
-int __wrap_fchown(int file, uid_t user, gid_t group) {
+static int system_fchown(int file, uid_t user, gid_t group) {
     if (lacks == NO_OWNERS) return errno = EPERM, -1;
-    return __real_fchown(file, user, group);
+    return fchown(file, user, group);
 }
 
-int __real_linkat(int from, const char *one, int to, const char *other, int flags);
-int __wrap_linkat(int from, const char *one, int to, const char *other, int flags);
-int __wrap_linkat(int from, const char *one, int to, const char *other, int flags) {
+static int system_linkat(int from, const char *one, int to, const char *other, int flags) {
     if (lacks == NO_NAMING || (lacks == NO_PROC && one[0])) return errno = ENOENT, -1;
     if (way == AT_ONCE && fails("linkat", EIO)) return -1;
     if (swapped) rename(swapped[0], swapped[1]);
-    return __real_linkat(from, one, to, other, flags);
+    return linkat(from, one, to, other, flags);
 }
 
-int __real_open(const char *path, int flags, ...);
-int __wrap_open(const char *path, int flags, ...);
-int __wrap_open(const char *path, int flags, ...) {
+static int system_open(const char *path, int flags) {
     void (*others)(void) = before_open;
     before_open = NULL;
     if (others) others();
     if (way != IN_PART && fails("open", way == INTERRUPTED ? EINTR : EIO)) return -1;
-    return __real_open(path, flags);
+    return open(path, flags);
 }
 
-int __real_openat(int folder, const char *path, int flags, ...);
-int __wrap_openat(int folder, const char *path, int flags, ...);
-int __wrap_openat(int folder, const char *path, int flags, ...) {
-    va_list rest;
-    va_start(rest, flags);
-    mode_t mode = flags & (O_CREAT | O_TMPFILE) ? va_arg(rest, mode_t) : 0;
-    va_end(rest);
+static int system_openat(int folder, const char *path, int flags, mode_t mode) {
     if (flags & O_CREAT && wanted_rights) IS(mode, 0600);
     if ((flags & O_TMPFILE) == O_TMPFILE && lacks == NO_NAMELESS) return errno = EOPNOTSUPP, -1;
     if (way != IN_PART && fails("openat", way == INTERRUPTED ? EINTR : EIO)) return -1;
-    return __real_openat(folder, path, flags, mode);
+    return openat(folder, path, flags, mode);
 }
 
-ssize_t __real_pread(int file, void *bytes, size_t len, off_t at);
-ssize_t __wrap_pread(int file, void *bytes, size_t len, off_t at);
-ssize_t __wrap_pread(int file, void *bytes, size_t len, off_t at) {
+static ssize_t system_pread(int file, void *bytes, size_t len, off_t at) {
     transfers++;
     if (fails("pread", way == INTERRUPTED ? EINTR : EIO)) {
         if (way != IN_PART) return -1;
         len = len / 2 + 1;
     }
-    return __real_pread(file, bytes, len, at);
+    return pread(file, bytes, len, at);
 }
 
-ssize_t __real_pwrite(int file, const void *bytes, size_t len, off_t at);
-ssize_t __wrap_pwrite(int file, const void *bytes, size_t len, off_t at);
-ssize_t __wrap_pwrite(int file, const void *bytes, size_t len, off_t at) {
+static ssize_t system_pwrite(int file, const void *bytes, size_t len, off_t at) {
     struct stat found;
-    if (wanted_rights && __real_fstat(file, &found) == 0) IS(found.st_mode & 07777, wanted_rights);
+    if (wanted_rights && fstat(file, &found) == 0) IS(found.st_mode & 07777, wanted_rights);
     // where a file without a name is refused, it has its name from the start
     bool has_name = failed && (strcmp(failed, "openat") == 0 || strcmp(failed, "linkat") == 0);
     if (absent && !has_name) IS(access(absent, F_OK), -1);
@@ -301,24 +262,55 @@ ssize_t __wrap_pwrite(int file, const void *bytes, size_t len, off_t at) {
         if (way != IN_PART) return -1;
         len = len / 2 + 1;
     }
-    return __real_pwrite(file, bytes, len, at);
+    return pwrite(file, bytes, len, at);
 }
 
-void *__real_malloc(size_t size);
-void *__wrap_malloc(size_t size);
-void *__wrap_malloc(size_t size) { return way == AT_ONCE && fails("malloc", ENOMEM) ? NULL : __real_malloc(size); }
+static void *system_malloc(size_t size) { return way == AT_ONCE && fails("malloc", ENOMEM) ? NULL : malloc(size); }
 
-void *__real_calloc(size_t count, size_t size);
-void *__wrap_calloc(size_t count, size_t size);
-void *__wrap_calloc(size_t count, size_t size) {
-    return way == AT_ONCE && fails("calloc", ENOMEM) ? NULL : __real_calloc(count, size);
+static void *system_calloc(size_t count, size_t size) {
+    return way == AT_ONCE && fails("calloc", ENOMEM) ? NULL : calloc(count, size);
 }
 
-char *__real_realpath(const char *path, char *found);
-char *__wrap_realpath(const char *path, char *found);
-char *__wrap_realpath(const char *path, char *found) {
-    return way == AT_ONCE && fails("realpath", EACCES) ? NULL : __real_realpath(path, found);
+static char *system_realpath(const char *path, char *found) {
+    return way == AT_ONCE && fails("realpath", EACCES) ? NULL : realpath(path, found);
 }
+
+/* The calls that files.c makes. */
+struct zx_system zx_system = {
+    .open = system_open,
+    .openat = system_openat,
+    .pread = system_pread,
+    .pwrite = system_pwrite,
+    .ftruncate = system_ftruncate,
+    .fallocate = system_fallocate,
+    .lseek = system_lseek,
+    .fsync = system_fsync,
+    .syncfs = system_syncfs,
+    .flock = system_flock,
+    .lstat = system_lstat,
+    .stat = system_stat,
+    .fstat = system_fstat,
+    .fstatat = system_fstatat,
+    .fstatfs = system_fstatfs,
+    .fchmod = system_fchmod,
+    .fchown = system_fchown,
+    .fgetxattr = system_fgetxattr,
+    .fsetxattr = system_fsetxattr,
+    .fremovexattr = system_fremovexattr,
+    .flistxattr = system_flistxattr,
+    .linkat = system_linkat,
+    .renameat = system_renameat,
+    .unlinkat = system_unlinkat,
+    .mmap = system_mmap,
+    .mremap = system_mremap,
+    .munmap = munmap,
+    .msync = system_msync,
+    .close = close,
+    .malloc = system_malloc,
+    .calloc = system_calloc,
+    .realpath = system_realpath,
+    .pthread_atfork = system_pthread_atfork,
+};
 
 /* ---- what is there */
 
@@ -790,7 +782,7 @@ static void let_go(void) { close(theirs), theirs = -1; }
 
 static void held(void) {
     theirs = open(the_file(), O_RDWR);
-    IS(theirs >= 0 && __real_flock(theirs, LOCK_EX | LOCK_NB) == 0, true);
+    IS(theirs >= 0 && flock(theirs, LOCK_EX | LOCK_NB) == 0, true);
 }
 
 static void held_and_replaced(void) {

@@ -44,9 +44,10 @@ static bool has_its_names(const struct sight *sight, const struct stat *file) {
 
 /* Keeps the path, which nobody asks for once the file is open. */
 static zx_code keep(const char *path, struct zx_held_file **found) {
-    struct zx_held_file *held = calloc(1, sizeof *held + strlen(path) + 1);
+    size_t room = strlen(path) + 1;
+    struct zx_held_file *held = calloc(1, sizeof *held + room);
     if (!held) return ZX_NO_MEMORY;
-    strcpy(held->name, path);
+    memcpy(held->name, path, room);
     held->folder = AT_FDCWD;
     *found = enlist(held);
     return *found ? ZX_DONE : ZX_NO_MEMORY;
@@ -69,7 +70,7 @@ static zx_code find(zx_file *file, const char *path, struct zx_held_file **found
         free(folder);
         return ZX_NO_MEMORY;
     }
-    memcpy(held->name, name, len);
+    memcpy(held->name, name, len + 1);
     memcpy(folder, path, before);
     memcpy(folder + before, ".", 2);
     held->folder = -1;

@@ -83,7 +83,7 @@ const char *zx_message(zx_code code) {
     static _Thread_local char message[64];
     zx_text words;
     zx_file_words(code, &words);
-    snprintf(message, sizeof message, "%.*s", (int)words.len, (const char *)words.at);
+    (void)snprintf(message, sizeof message, "%.*s", (int)words.len, (const char *)words.at);
     return message;
 }
 

@@ -246,7 +246,7 @@ zx_code zx_file_grow(zx_file *file, uint64_t extra) {
 /* Makes a mapped file as short as its segment became by a call, which returned the code. */
 static zx_code fit(zx_file *file, zx_code code) {
     struct zx_held_file *held = file->held;
-    uint64_t size;
+    uint64_t size = 0;
     if (code == ZX_DONE) code = zx_size(&file->segment, &size);
     if (code != ZX_DONE || !held || !held->mapped || held->state == READ || size == held->len) return code;
     return remap(file, held, size, size);

@@ -68,7 +68,7 @@ static bool copy_attributes(int made, int from, char *names, uint8_t *value) {
 
 /* Gives a file what another has beside its bytes. */
 static bool take_all_but_bytes(int made, int from, const struct stat *old) {
-    uint8_t *value = malloc(2 * ATTRIBUTE);
+    uint8_t *value = malloc((size_t)2 * ATTRIBUTE);
     if (!value) return false;
     ssize_t len = fgetxattr(from, LIST, value, ATTRIBUTE);
     bool is_done = (len >= 0 || is_without(errno)) && take_rights(made, old, value, len > 0 ? (size_t)len : 0) &&
@@ -134,7 +134,7 @@ static bool lost_its_name(int made, int folder, const char *name) {
 /* Gives a name to a file that has none. EEXIST if something has it. */
 static bool give_name(int made, int folder, const char *name) {
     char self[40];
-    snprintf(self, sizeof self, "/proc/self/fd/%d", made);
+    (void)snprintf(self, sizeof self, "/proc/self/fd/%d", made);
     return linkat(AT_FDCWD, self, folder, name, AT_SYMLINK_FOLLOW) == 0 ||
            (errno == ENOENT && linkat(made, "", folder, name, AT_EMPTY_PATH) == 0);
 }

@@ -37,7 +37,7 @@ static mode_t without_list(mode_t mode, const uint8_t *list, size_t len) {
 static bool take_rights(int made, const struct stat *old, const uint8_t *list, size_t len) {
     struct stat own;
     if (fstat(made, &own) != 0) return false;
-    if (fremovexattr(made, LIST) != 0 && !is_without(errno)) return false;
+    if (fgetxattr(made, LIST, NULL, 0) >= 0 && fremovexattr(made, LIST) != 0) return false;
     mode_t mode = old->st_mode & 07777;
     if (len > 0) mode = without_list(mode, list, len);
     if ((own.st_uid != old->st_uid || own.st_gid != old->st_gid) && fchown(made, old->st_uid, old->st_gid) != 0) {
@@ -66,12 +66,14 @@ static bool copy_attributes(int made, int from, char *names, uint8_t *value) {
     return true;
 }
 
-/* Gives a file what another has beside its bytes. */
+/* Gives a file what another has beside its bytes. If nobody tells whether that has a list, only the owner gets rights. */
 static bool take_all_but_bytes(int made, int from, const struct stat *old) {
     uint8_t *value = malloc((size_t)2 * ATTRIBUTE);
     if (!value) return false;
+    struct stat given = *old;
     ssize_t len = fgetxattr(from, LIST, value, ATTRIBUTE);
-    bool is_done = (len >= 0 || is_without(errno)) && take_rights(made, old, value, len > 0 ? (size_t)len : 0) &&
+    if (len < 0 && !is_without(errno)) given.st_mode &= ~(mode_t)06077;
+    bool is_done = (len >= 0 || is_for_ever(errno)) && take_rights(made, &given, value, len > 0 ? (size_t)len : 0) &&
                    copy_attributes(made, from, (char *)value + ATTRIBUTE, value);
     int error = errno;
     free(value);

@@ -158,13 +158,19 @@ static int system_renameat(int from, const char *one, int to, const char *other)
         return name(__VA_ARGS__); \
     }
 
-MARKED(ssize_t, fgetxattr, (int file, const char *name, void *value, size_t room), file, name, value, room)
 MARKED(ssize_t, flistxattr, (int file, char *names, size_t room), file, names, room)
 MARKED(int, fremovexattr, (int file, const char *name), file, name)
 
-/* The attribute that no file takes any more, and the reason. */
-static const char *untaken;
+/* The attribute that nobody may read; the one that no file takes any more, and the reason. */
+static const char *unread, *untaken;
 static int why_untaken;
+
+static ssize_t system_fgetxattr(int file, const char *name, void *value, size_t size) {
+    if (lacks == NO_MARKS) return errno = ENOTSUP, -1;
+    if (unread && strcmp(unread, name) == 0) return errno = EPERM, -1;
+    if (way == AT_ONCE && fails("fgetxattr", EIO)) return -1;
+    return fgetxattr(file, name, value, size);
+}
 
 static int system_fsetxattr(int file, const char *name, const void *value, size_t len, int how) {
     if (lacks == NO_MARKS) return errno = ENOTSUP, -1;
@@ -1237,6 +1243,21 @@ static void lists(void) {
     }
 }
 
+/* A list that the process may not read may deny what the bits of the group, which are its mask, give. */
+static void list_that_is_hidden(void) {
+    zx_file file = ZX_CLOSED_FILE;
+    uint8_t list[44];
+    seed(5);
+    IS(setxattr(the_file(), LIST, list, spell_list(list, USER, 6, 0, 6, 4), 0), 0);
+    IS(rights_of(the_file()), 0664);
+    unread = LIST;
+    IS(save_scene(&file), ZX_DONE);
+    IS(zx_file_close(&file), ZX_DONE);
+    unread = NULL;
+    IS(rights_of(the_file()), 0600);
+    IS(stands(the_file()), 6);
+}
+
 /* What the folder would give to a new file, the one that was replaced did not give. */
 static void list_of_the_folder(void) {
     zx_file file = ZX_CLOSED_FILE;
@@ -1311,6 +1332,7 @@ static void attributes(void) {
 static void kept_beside_the_bytes(void) {
     if (has_lists()) {
         lists();
+        list_that_is_hidden();
         list_of_the_folder();
         lists_without_owner();
         attributes();

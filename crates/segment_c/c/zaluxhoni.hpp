@@ -61,9 +61,9 @@ inline std::string words(zx_code code) {
     return std::string(reinterpret_cast<const char *>(text.at), text.len);
 }
 
-/// The base of all errors: `refused`, `file_error` and `outdated`. Each of them derives from an exception of std, too, and
-/// `error` converts to `const std::exception &`. `code()` is one of ZX_.. in zaluxhoni.h and zaluxhoni_files.h, or 0 for
-/// `outdated`, and `what()` says it in words.
+/// The base of all errors: `refused`, `file_error` and `outdated`. Each of them derives from an exception of std, too,
+/// and `error` converts to `const std::exception &`. `code()` is one of ZX_.. in zaluxhoni.h and zaluxhoni_files.h, or
+/// 0 for `outdated`, and `what()` says it in words.
 class error {
   public:
     zx_code code() const noexcept { return code_; }
@@ -640,8 +640,8 @@ struct state {
         if (code == ZX_NO_SPACE && grows) check(in_more_space(call));
         else check_code(code);
     }
-    /// Throws what the library answers if the segment can never have so many elements of a width, before memory is taken
-    /// for them.
+    /// Throws what the library answers if the segment can never have so many elements of a width, before memory is
+    /// taken for them.
     void check_room(std::uint64_t count, std::uint64_t width) {
         std::uint64_t most = largest;
         std::uint32_t mode = ZX_WRITE;
@@ -984,8 +984,8 @@ template <class T> class arrow {
     T value_;
 };
 
-/// What `*` of an element reads into, so that `&item::weight` is a projection of elements: `std::invoke` takes the member
-/// of what `*` gives. A scalar has no members.
+/// What `*` of an element reads into, so that `&item::weight` is a projection of elements: `std::invoke` takes the
+/// member of what `*` gives. A scalar has no members.
 template <class T, bool = std::is_class_v<T>> class value_kept {};
 template <class T> class value_kept<T, true> {
   public:

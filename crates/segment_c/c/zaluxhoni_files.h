@@ -90,9 +90,9 @@ zx_code zx_file_save(zx_file *file);
    ZX_CLOSED, ZX_NO_MEMORY; ZX_FILE_IN_USE to ZX_FILE_REPLACED, ZX_FILE_FORKED; after ZX_FILE_UNSYNCED it is saved. */
 zx_code zx_file_save_as(zx_file *file, const char *path, uint32_t mode);
 
-/* Saves as zx_file_save does, if the file is open for writing, and closes it. A mapped file is cut to its image in place
-   of that. Returns the code of the save. After ZX_FILE_UNSYNCED the file is saved and closed; after any other error it
-   is still open. */
+/* Saves as zx_file_save does, if the file is open for writing, and closes it. A mapped file is cut to its image in
+   place of that. Returns the code of the save. After ZX_FILE_UNSYNCED the file is saved and closed; after any other
+   error it is still open. */
 zx_code zx_file_close(zx_file *file);
 
 /* Closes without saving. Removes a file that zx_file_open created and nobody saved. A mapped file stays, with all

@@ -66,7 +66,8 @@ static bool copy_attributes(int made, int from, char *names, uint8_t *value) {
     return true;
 }
 
-/* Gives a file what another has beside its bytes. If nobody tells whether that has a list, only the owner gets rights. */
+/* Gives a file what another has beside its bytes. If nobody tells whether that has a list, only the owner gets rights.
+   */
 static bool take_all_but_bytes(int made, int from, const struct stat *old) {
     uint8_t *value = malloc((size_t)2 * ATTRIBUTE);
     if (!value) return false;

@@ -1,6 +1,6 @@
 /* A part of files.c: the calls of the system that it makes, and those for memory. A test compiles it with
-   ZX_TEST_SYSTEM, and then each of them goes through one table of functions, which the test fills; ZX_TEST_TABLE gives the
-   test the table alone. In the library they are the system's own. */
+   ZX_TEST_SYSTEM, and then each of them goes through one table of functions, which the test fills; ZX_TEST_TABLE gives
+   the test the table alone. In the library they are the system's own. */
 #if defined ZX_TEST_SYSTEM || defined ZX_TEST_TABLE
 
 struct zx_system {

@@ -585,8 +585,8 @@ static void who_saves_is_killed(void) {
     lacks = HAS_ALL;
 }
 
-/* Whether a process forks before a call of a scene, and is killed then or later. Its file is free, though the child still
-   sleeps. */
+/* Whether a process forks before a call of a scene, and is killed then or later. Its file is free, though the child
+   still sleeps. */
 static bool is_free_beside_a_child(const struct scene *scene, int at, bool is_killed_at_once) {
     zx_file file = ZX_CLOSED_FILE;
     int status = 0;
@@ -958,8 +958,8 @@ static void a_name_that_is_gone(void) {
     seed(5);
 }
 
-/* A mapped file that cannot be cut to its image is not closed, so that a reader by copy never finds it too long behind a
-   close that was done. */
+/* A mapped file that cannot be cut to its image is not closed, so that a reader by copy never finds it too long behind
+   a close that was done. */
 static void a_file_that_stays_too_long(void) {
     zx_file file = ZX_CLOSED_FILE;
     struct stat found;

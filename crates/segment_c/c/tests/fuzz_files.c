@@ -1,8 +1,8 @@
-/* fuzz_files [CORPUS] [FLAGS OF libFuzzer]: random calls of zaluxhoni_files.h on three names in one folder, while calls of
-   the system fail, others change the folder between two of them, and processes are killed and forked. After each call a
-   name leads to the image that it had, or to the one that was saved, and never to anything else; the code says which; and
-   nobody may do more with it than before. It is linked with files.c, which takes its calls of the system from the table
-   below. The folder is in FUZZ_FOLDER, or in /dev/shm. */
+/* fuzz_files [CORPUS] [FLAGS OF libFuzzer]: random calls of zaluxhoni_files.h on three names in one folder, while calls
+   of the system fail, others change the folder between two of them, and processes are killed and forked. After each
+   call a name leads to the image that it had, or to the one that was saved, and never to anything else; the code says
+   which; and nobody may do more with it than before. It is linked with files.c, which takes its calls of the system
+   from the table below. The folder is in FUZZ_FOLDER, or in /dev/shm. */
 #define _GNU_SOURCE
 #undef ZX_TEST_SYSTEM
 #define ZX_TEST_TABLE
@@ -26,7 +26,9 @@
 
 #include "../files/system.h"
 
-enum { NAMES = 3, FILES = 2, SIZE = 4096, LIST_LEN = 44, MISSING = -1, NO_IMAGE = -2, NAMED = 1234, OTHERS_NUMBER = 1000 };
+enum { NAMES = 3, FILES = 2, SIZE = 4096, LIST_LEN = 44, NAMED = 1234 };
+enum { MISSING = -1, NO_IMAGE = -2, OTHERS_NUMBER = 1000 };
+static const char LIST[] = "system.posix_acl_access";
 
 /* ---- what happens to the calls of the system: one fails, or others act before it, or the process is killed */
 
@@ -69,14 +71,15 @@ CALL(int, -1, fstatfs, (int file, struct statfs *disk), file, disk)
 CALL(int, -1, fchmod, (int file, mode_t mode), file, mode)
 CALL(int, -1, fchown, (int file, uid_t user, gid_t group), file, user, group)
 CALL(ssize_t, -1, fgetxattr, (int file, const char *name, void *value, size_t room), file, name, value, room)
-CALL(int, -1, fsetxattr, (int file, const char *name, const void *value, size_t len, int how), file, name, value, len, how)
+CALL(int, -1, fsetxattr, (int file, const char *name, const void *value, size_t len, int how), file, name, value, len,
+     how)
 CALL(int, -1, fremovexattr, (int file, const char *name), file, name)
 CALL(ssize_t, -1, flistxattr, (int file, char *names, size_t room), file, names, room)
 CALL(int, -1, linkat, (int from, const char *one, int to, const char *other, int how), from, one, to, other, how)
 CALL(int, -1, renameat, (int from, const char *one, int to, const char *other), from, one, to, other)
 CALL(int, -1, unlinkat, (int folder, const char *path, int how), folder, path, how)
-CALL(void *, MAP_FAILED, mmap, (void *at, size_t len, int protection, int how, int file, off_t from), at, len, protection, how,
-     file, from)
+CALL(void *, MAP_FAILED, mmap, (void *at, size_t len, int protection, int how, int file, off_t from), at, len,
+     protection, how, file, from)
 CALL(void *, MAP_FAILED, mremap, (void *at, size_t len, size_t wanted, int how), at, len, wanted, how)
 CALL(int, -1, msync, (void *at, size_t len, int how), at, len, how)
 CALL(void *, NULL, malloc, (size_t size), size)
@@ -148,7 +151,7 @@ static struct standing stands(int name) {
     zx_code code = zx_file_open(&file, paths[name], ZX_OPEN_READ_ONLY, 0);
     now.number = code == ZX_DONE ? get(&file) : NO_IMAGE;
     zx_file_discard(&file);
-    now.list_len = getxattr(paths[name], "system.posix_acl_access", now.list, sizeof now.list);
+    now.list_len = getxattr(paths[name], LIST, now.list, sizeof now.list);
     if (now.list_len < 0) now.list_len = 0;
     return now;
 }
@@ -156,7 +159,8 @@ static struct standing stands(int name) {
 /* ---- what others do */
 
 static size_t spell_list(uint8_t list[LIST_LEN], int named, int group, int mask, int others) {
-    const int entries[5][3] = { { 1, 6, -1 }, { 2, named, NAMED }, { 4, group, -1 }, { 16, mask, -1 }, { 32, others, -1 } };
+    const int entries[5][3] = { { 1, 6, -1 }, { 2, named, NAMED }, { 4, group, -1 }, { 16, mask, -1 },
+                                { 32, others, -1 } };
     memset(list, 0, LIST_LEN);
     list[0] = 2;
     for (int i = 0; i < 5; i++) {
@@ -195,7 +199,7 @@ static void act(int which) {
     if (kind == 2) link(path, other);
     if (kind == 3) rename(path, other);
     if (kind == 4) chmod(path, modes[detail % 8]);
-    if (kind == 5) setxattr(path, "system.posix_acl_access", list, spell_list(list, detail % 8, detail / 2 % 8, 7, detail % 3), 0);
+    if (kind == 5) setxattr(path, LIST, list, spell_list(list, detail % 8, detail / 2 % 8, 7, detail % 3), 0);
     if (kind == 6 && geteuid() == 0 && chown(path, detail % 2 ? NAMED : 0, detail / 2 % 2 ? 4321 : 0) == 0) return;
     if (kind == 7) setxattr(folder, "system.posix_acl_default", list, spell_list(list, 7, 7, 7, 7), 0);
 }
@@ -224,14 +228,17 @@ static void check_rights(const struct standing *before, const struct standing *a
         uid_t user;
         gid_t group;
     } all[] = { { NAMED, 1 }, { NAMED, 4321 }, { NAMED, 0 }, { 77, 1 }, { 77, 4321 }, { 77, 0 } };
-    for (size_t i = 0; i < sizeof all / sizeof *all; i++)
-        if (may(after, all[i].user, all[i].group) & ~may(before, all[i].user, all[i].group)) fail("rights are wider", (int)i);
+    for (size_t i = 0; i < sizeof all / sizeof *all; i++) {
+        int gained = may(after, all[i].user, all[i].group) & ~may(before, all[i].user, all[i].group);
+        if (gained) fail("rights are wider", (int)i);
+    }
     bool is_moved = before->found.st_uid != after->found.st_uid || before->found.st_gid != after->found.st_gid;
     if (is_moved && after->found.st_mode & 06000) fail("another owner has a set-ID bit", (int)after->found.st_mode);
 }
 
 /* What stands under each name behind a call that may save `number` under `target`. */
-static void check(const struct standing before[NAMES], int target, int64_t number, bool may_save, bool is_saved, bool is_mapped) {
+static void check(const struct standing before[NAMES], int target, int64_t number, bool may_save, bool is_saved,
+                  bool is_mapped) {
     bool others_acted = is_disturbed && acts_at != 0 && calls >= acts_at;
     for (int i = 0; i < NAMES; i++) {
         struct standing now = stands(i);
@@ -298,7 +305,8 @@ static void save_one(struct model *of, bool closes) {
     fails_at = fails, acts_at = acts, calls = 0;
     zx_code code = closes ? zx_file_close(&of->file) : zx_file_save(&of->file);
     bool is_saved = was_open && of->is_written && is_done(code);
-    if (was_open && of->is_written && !is_disturbed && is_done(code) != was_home) fail("home and code differ", (int)code);
+    bool is_certain = was_open && of->is_written && !is_disturbed;
+    if (is_certain && is_done(code) != was_home) fail("home and code differ", (int)code);
     check(before, of->name, of->number, was_open && of->is_written, is_saved, of->is_mapped);
     if (is_saved && !closes && !of->is_mapped) note_inode(of);
 }
@@ -339,7 +347,7 @@ static void kill_one(struct input *input) {
     is_disturbed = false;
     check(before, name, number, before[name].number != MISSING, false, WIFSIGNALED(status) || WEXITSTATUS(status) == 0);
     struct standing now = stands(name);
-    if (now.number != before[name].number && now.number != number) fail("killed, and neither old nor new", (int)now.number);
+    if (now.number != before[name].number && now.number != number) fail("neither old nor new", (int)now.number);
     if (now.number == number && now.found.st_ino != before[name].found.st_ino) check_rights(&before[name], &now);
 }
 

@@ -1,5 +1,6 @@
-/* mapped FOLDER KILLS [SMALL [BLOCKS]]: files that are mapped, by zaluxhoni_files.h. So many processes are killed within
-   a call. SMALL is a folder on a disk of 1 MiB, and BLOCKS one on a small disk whose files have blocks of attributes. */
+/* mapped FOLDER KILLS [SMALL [BLOCKS]]: files that are mapped, by zaluxhoni_files.h. So many processes are killed
+   within a call. SMALL is a folder on a disk of 1 MiB, and BLOCKS one on a small disk whose files have blocks of
+   attributes. */
 #define _GNU_SOURCE
 #include "zaluxhoni_files.h"
 
@@ -626,7 +627,8 @@ static void hole_on_a_full_disk(const char *small) {
     IS(fsync(full) == 0 || errno == ENOSPC, true);
     IS(zx_file_open(&file, there, WRITE, 0), ZX_FILE_FAULT);
     IS(file.error, ENOSPC);
-    printf("a hole on a full disk: %lld bytes, %lld in blocks\n", (long long)found.st_size, 512 * (long long)found.st_blocks);
+    const long long blocks = 512 * (long long)found.st_blocks;
+    printf("a hole on a full disk: %lld bytes, %lld in blocks\n", (long long)found.st_size, blocks);
     IS(close(full), 0);
     IS(unlink(filling), 0);
     DONE(zx_file_open(&file, there, WRITE, 0));

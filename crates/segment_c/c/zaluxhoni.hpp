@@ -11,6 +11,10 @@
 #ifndef ZALUXHONI_HPP
 #define ZALUXHONI_HPP
 
+#if __cplusplus < 201703L
+#error "zaluxhoni.hpp needs C++17 or later: compile with -std=c++17"
+#endif
+
 #include "zaluxhoni.h"
 #include "zaluxhoni_files.h"
 
@@ -26,6 +30,7 @@
 #include <limits>
 #include <map>
 #include <memory>
+#include <new>
 #include <optional>
 #include <stdexcept>
 #include <string>
@@ -56,20 +61,41 @@ inline std::string words(zx_code code) {
     return std::string(reinterpret_cast<const char *>(text.at), text.len);
 }
 
-/// The base of all errors. `code()` is one of ZX_.. in zaluxhoni.h, and `what()` its words.
-class error : public std::runtime_error {
+/// The base of all errors: `refused`, `file_error` and `outdated`. Each of them derives from an exception of std, too,
+/// and `error` converts to `const std::exception &`. `code()` is one of ZX_.. in zaluxhoni.h and zaluxhoni_files.h, or
+/// 0 for `outdated`, and `what()` says it in words.
+class error {
   public:
-    explicit error(zx_code code) : std::runtime_error(words(code)), code_(code) {}
     zx_code code() const noexcept { return code_; }
+    virtual const char *what() const noexcept = 0;
+    operator const std::exception &() const noexcept { return standard(); }
+
+  protected:
+    explicit error(zx_code code) noexcept : code_(code) {}
+    error(const error &) = default;
+    error &operator=(const error &) = default;
+    ~error() = default;
 
   private:
+    virtual const std::exception &standard() const noexcept = 0;
+
     zx_code code_;
 };
 
-/// The error of one code, so that a program can catch it alone.
-template <zx_code CODE> class error_of : public error {
+/// The library refused a call.
+class refused : public std::runtime_error, public error {
   public:
-    error_of() : error(CODE) {}
+    explicit refused(zx_code code) : std::runtime_error(words(code)), error(code) {}
+    const char *what() const noexcept override { return std::runtime_error::what(); }
+
+  private:
+    const std::exception &standard() const noexcept override { return *this; }
+};
+
+/// The error of one code, so that a program can catch it alone.
+template <zx_code CODE> class error_of : public refused {
+  public:
+    error_of() : refused(CODE) {}
 };
 
 using read_only = error_of<ZX_READ_ONLY>;
@@ -98,9 +124,9 @@ using no_file = error_of<ZX_FILE_NONE>;
 
 /// The bytes are no image of a segment. `number()` is the class of docs/FORMAT.md, from 1 to 12, and `place()` the
 /// offset of a byte that shows it, as `zx_explain` says.
-class bad_image : public error {
+class bad_image : public refused {
   public:
-    explicit bad_image(zx_code code, std::uint64_t place = 0) : error(code), place_(place) {}
+    explicit bad_image(zx_code code, std::uint64_t place = 0) : refused(code), place_(place) {}
     int number() const noexcept { return static_cast<int>(code()) - 100; }
     std::uint64_t place() const noexcept { return place_; }
 
@@ -135,25 +161,27 @@ class bad_image : public error {
     case ZX_FILE_NONE: throw no_file();
     default:
         if (ZX_TRUNCATED <= code && code <= ZX_ORPHAN_BLOCK) throw bad_image(code, place);
-        throw error(code);
+        throw refused(code);
     }
 }
 
 /// A file was refused. `code()` is the error of the system, and `file_code()` one of ZX_FILE_.. in zaluxhoni_files.h.
-class file_error : public std::system_error {
+class file_error : public std::system_error, public error {
   public:
-    file_error(zx_code code, int error, const std::string &path)
-        : std::system_error(error, std::generic_category(), path + ": " + words(code)), code_(code) {}
-    zx_code file_code() const noexcept { return code_; }
+    file_error(zx_code code, int number, const std::string &path)
+        : std::system_error(number, std::generic_category(), path + ": " + words(code)), zaluxhoni::error(code) {}
+    using std::system_error::code;
+    zx_code file_code() const noexcept { return zaluxhoni::error::code(); }
+    const char *what() const noexcept override { return std::system_error::what(); }
 
   private:
-    zx_code code_;
+    const std::exception &standard() const noexcept override { return *this; }
 };
 
 /// The error of one code, so that a program can catch it alone.
 template <zx_code CODE> class file_error_of : public file_error {
   public:
-    file_error_of(int error, const std::string &path) : file_error(CODE, error, path) {}
+    file_error_of(int number, const std::string &path) : file_error(CODE, number, path) {}
 };
 
 using file_in_use = file_error_of<ZX_FILE_IN_USE>;
@@ -612,8 +640,17 @@ struct state {
         if (code == ZX_NO_SPACE && grows) check(in_more_space(call));
         else check_code(code);
     }
+    /// Throws what the library answers if the segment can never have so many elements of a width, before memory is
+    /// taken for them.
+    void check_room(std::uint64_t count, std::uint64_t width) {
+        std::uint64_t most = largest;
+        std::uint32_t mode = ZX_WRITE;
+        if (!grows) check_code(zx_size(raw(), &most));
+        if (count <= most / width) return;
+        check_code(zx_mode(raw(), &mode));
+        throw_code(mode == ZX_READ ? ZX_READ_ONLY : grows ? ZX_TOO_LARGE : ZX_NO_SPACE);
+    }
     zx_code grow_by_half() {
-        const std::uint64_t largest = std::uint64_t{1} << 30;
         std::uint64_t size = 0;
         const zx_code code = zx_size(raw(), &size);
         if (code != ZX_DONE) return code;
@@ -622,6 +659,8 @@ struct state {
     }
 
   private:
+    static constexpr std::uint64_t largest = std::uint64_t{1} << 30;
+
     /// If the segment cannot become long enough, it gets its old length back.
     template <class Call> zx_code in_more_space(Call call) {
         std::uint64_t before = 0, size = 0;
@@ -631,8 +670,12 @@ struct state {
             code = grow_by_half();
             if (code == ZX_DONE) code = call(raw());
         } while (code == ZX_NO_SPACE);
-        if (code != ZX_DONE && zx_file_shrink(&file) == ZX_DONE && zx_size(raw(), &size) == ZX_DONE && size < before)
+        if (code == ZX_DONE) return code;
+        // the calls below have an errno of their own
+        const std::int32_t error = file.error;
+        if (zx_file_shrink(&file) == ZX_DONE && zx_size(raw(), &size) == ZX_DONE && size < before)
             static_cast<void>(zx_file_grow(&file, before - size));
+        file.error = error;
         return code;
     }
 };
@@ -941,9 +984,25 @@ template <class T> class arrow {
     T value_;
 };
 
+/// What `*` of an element reads into, so that `&item::weight` is a projection of elements: `std::invoke` takes the
+/// member of what `*` gives. A scalar has no members.
+template <class T, bool = std::is_class_v<T>> class value_kept {};
+template <class T> class value_kept<T, true> {
+  public:
+    value_kept() noexcept {}
+    value_kept(const value_kept &) noexcept {}
+    value_kept &operator=(const value_kept &) noexcept { return *this; }
+
+  protected:
+    const T &keep(const T &value) const noexcept { return *::new (static_cast<void *>(bytes_)) T(value); }
+
+  private:
+    alignas(T) mutable unsigned char bytes_[sizeof(T)];
+};
+
 /// One element. It reads when a value is needed, and writes when one is assigned. It stays valid as long as the
 /// segment.
-template <class Access> class element {
+template <class Access> class element : private value_kept<typename Access::value_type> {
   public:
     using value_type = typename Access::value_type;
     using value_of_element = value_type;
@@ -953,6 +1012,10 @@ template <class Access> class element {
 
     [[nodiscard]] value_type value() const { return Access::get(of_, at_); }
     operator value_type() const { return value(); }
+    /// Reads an element that has members. The reference lasts as long as this, and until the next `*`.
+    template <class T = value_type, std::enable_if_t<std::is_class_v<T>, int> = 0> const T &operator*() const {
+        return this->keep(value());
+    }
     arrow<value_type> operator->() const { return arrow<value_type>(value()); }
 
     const element &operator=(typename Access::passed_type value) const {
@@ -983,11 +1046,12 @@ template <class Access> class element {
         return before;
     }
 
-    friend void swap(const element &a, const element &b) {
+    friend void swap_elements(const element &a, const element &b) {
         const value_type kept = a.value();
         a = b.value();
         b = kept;
     }
+    friend void swap(const element &a, const element &b) { swap_elements(a, b); }
 
   private:
     value_type begun() const { return Access::begun(of_, at_); }
@@ -1027,11 +1091,12 @@ template <> class element<lines> : public read_as_text {
     }
     const element &operator+=(std::string_view text) const { return *this = std::string_view(value().append(text)); }
 
-    friend void swap(const element &a, const element &b) {
+    friend void swap_elements(const element &a, const element &b) {
         const std::string kept = a.value();
         a = std::string_view(b.value());
         b = std::string_view(kept);
     }
+    friend void swap(const element &a, const element &b) { swap_elements(a, b); }
 
   private:
     spot of_;
@@ -1630,9 +1695,13 @@ class object {
 };
 
 /// Thrown when elements are asked of a `view` that is no longer current.
-class outdated : public std::logic_error {
+class outdated : public std::logic_error, public error {
   public:
-    outdated() : std::logic_error("the segment has changed since the view was made") {}
+    outdated() : std::logic_error("the segment has changed since the view was made"), error(ZX_DONE) {}
+    const char *what() const noexcept override { return std::logic_error::what(); }
+
+  private:
+    const std::exception &standard() const noexcept override { return *this; }
 };
 
 /// The values of an array, a vector or a string in place, without a copy. It is a pointer and a count until the next
@@ -1905,8 +1974,9 @@ template <class T> class vector : public detail::row<const_vector<T>, detail::va
     /// Sets the size: cuts values off, or appends copies of `value`.
     void resize(std::uint64_t size, value_of<T> value = T{}) const {
         const std::uint64_t now = this->size();
-        if (size < now) erase(size, now);
-        else append_range(std::vector<T>(size - now, value));
+        if (size < now) return erase(size, now);
+        this->spot().of->check_room(size, sizeof(T));
+        append_range(std::vector<T>(size - now, value));
     }
     void shrink_to_fit() const { this->spot().ask(zx_trim); }
     void clear() const { this->spot().ask(zx_clear); }
@@ -1968,6 +2038,7 @@ class strings : public detail::row<const_strings, detail::lines> {
     using row::row;
 
     void push_back(std::string_view text) const { spot().change(zx_push_text, bytes_of(text), text.size()); }
+    void push_back(const reference &element) const { push_back(std::string_view(element.value())); }
     /// Removes the last string, and returns it. Throws `out_of_range` for an empty vector.
     std::string pop_back() const {
         std::string last = get(size() - 1);
@@ -1977,6 +2048,9 @@ class strings : public detail::row<const_strings, detail::lines> {
     /// Inserts a string, or several, before `index`, which may be the size.
     void insert(std::uint64_t index, std::string_view text) const {
         spot().change(zx_insert_text, index, bytes_of(text), text.size());
+    }
+    void insert(std::uint64_t index, const reference &element) const {
+        insert(index, std::string_view(element.value()));
     }
     void insert_range(std::uint64_t index, const texts &list) const {
         std::vector<std::string> all = to_vector();
@@ -2211,6 +2285,18 @@ template <> struct std::hash<zaluxhoni::const_string> {
     std::size_t operator()(const zaluxhoni::const_string &of) const { return std::hash<std::string>()(of.str()); }
 };
 template <> struct std::hash<zaluxhoni::string> : std::hash<zaluxhoni::const_string> {};
+
+// `std::swap` of two elements swaps what they lead to. Without these it would not take what [] gives, and of two named
+// elements it would copy one and lose the value
+namespace std {
+template <class Access>
+void swap(const zaluxhoni::detail::element<Access> &a, const zaluxhoni::detail::element<Access> &b) {
+    swap_elements(a, b);
+}
+template <class Access> void swap(zaluxhoni::detail::element<Access> &a, zaluxhoni::detail::element<Access> &b) {
+    swap_elements(a, b);
+}
+} // namespace std
 
 #ifdef __cpp_lib_format
 /// Formats a text as a text, and an element as its value.

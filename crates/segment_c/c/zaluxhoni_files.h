@@ -33,7 +33,7 @@ enum {
     ZX_FILE_PIPE = 48,      /* the path leads to a pipe or a socket */
     ZX_FILE_TOO_LARGE = 49, /* the file has more than 1073741824 bytes */
     ZX_FILE_FAULT = 50,     /* the system refused, for the reason in `error` */
-    ZX_FILE_REPLACED = 51,  /* the name leads to another file now, which is left alone */
+    ZX_FILE_REPLACED = 51,  /* the name leads to another file now, which is left alone, or to none */
     ZX_FILE_UNSYNCED = 52,  /* saved, but the folder is not synced: a power failure may restore the old file */
     ZX_FILE_FORKED = 53     /* the file belongs to the parent of this forked process */
 };
@@ -77,21 +77,22 @@ typedef struct {
 zx_code zx_file_open(zx_file *file, const char *path, uint32_t mode, uint64_t size);
 
 /* Saves the segment in its file, unless the file has these bytes already. If no call and no view can have changed a
-   byte, it compares none. For a mapped file it is zx_file_flush. The new file gets the rights of the old one, and its
-   owner and group if the process may set them. Other names of the old file (hard links) keep the old image. Errors:
-   ZX_CLOSED, ZX_READ_ONLY (opened read-only or copy-on-write), ZX_FILE_NONE, ZX_NO_MEMORY, ZX_FILE_FORKED,
-   ZX_FILE_REPLACED, ZX_FILE_FAULT; after ZX_FILE_UNSYNCED it is saved. */
+   byte, it compares none. For a mapped file it is zx_file_flush. The new file gets the rights, the access
+   control list and the user attributes of the old one, and its owner and group if the process may set them. Other names
+   of the old file (hard links) keep the old image. Errors: ZX_CLOSED, ZX_READ_ONLY (opened read-only or copy-on-write),
+   ZX_FILE_NONE, ZX_NO_MEMORY, ZX_FILE_FORKED, ZX_FILE_REPLACED, ZX_FILE_FAULT; after ZX_FILE_UNSYNCED it is saved. */
 zx_code zx_file_save(zx_file *file);
 
 /* Saves the image to the file at another path, and closes that file. ZX_CREATE_ONLY creates it, ZX_OPEN_ONLY replaces
-   an existing file, whatever its bytes, and ZX_OPEN_OR_CREATE does either. With the last two, a path to the segment's
-   own file is a zx_file_save. The segment needs no file, and may be open in any mode. Errors: ZX_NULL_SLICE,
-   ZX_BAD_MODE, ZX_CLOSED, ZX_NO_MEMORY; ZX_FILE_IN_USE to ZX_FILE_REPLACED, ZX_FILE_FORKED; after ZX_FILE_UNSYNCED it
-   is saved. */
+   an existing file, whatever its bytes, and ZX_OPEN_OR_CREATE does either. With the last two, a path to the name of
+   the segment's own file is a zx_file_save; another name of that file (a hard link) gets a new file, and the own name
+   keeps the old one. The segment needs no file, and may be open in any mode. Errors: ZX_NULL_SLICE, ZX_BAD_MODE,
+   ZX_CLOSED, ZX_NO_MEMORY; ZX_FILE_IN_USE to ZX_FILE_REPLACED, ZX_FILE_FORKED; after ZX_FILE_UNSYNCED it is saved. */
 zx_code zx_file_save_as(zx_file *file, const char *path, uint32_t mode);
 
-/* Saves as zx_file_save does, if the file is open for writing, and closes it. Returns the code of the save. After
-   ZX_FILE_UNSYNCED the file is saved and closed; after any other error it is still open. */
+/* Saves as zx_file_save does, if the file is open for writing, and closes it. A mapped file is cut to its image in
+   place of that. Returns the code of the save. After ZX_FILE_UNSYNCED the file is saved and closed; after any other
+   error it is still open. */
 zx_code zx_file_close(zx_file *file);
 
 /* Closes without saving. Removes a file that zx_file_open created and nobody saved. A mapped file stays, with all

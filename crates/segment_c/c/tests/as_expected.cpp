@@ -4,6 +4,7 @@
 
 #include <algorithm>
 #include <atomic>
+#include <csignal>
 #include <cstdio>
 #include <deque>
 #include <iostream>
@@ -14,6 +15,8 @@
 #include <sstream>
 #include <thread>
 #include <unordered_set>
+
+#include <sys/resource.h>
 
 #if __cplusplus >= 202002L
 #include <ranges>
@@ -740,6 +743,140 @@ void segments_that_grow() {
     THROWS(no_space, v.reserve(u64{1} << 20));
 }
 
+/// One base catches all errors, and each is an exception of std as well.
+void errors() {
+    static_assert(std::is_base_of_v<std::runtime_error, zaluxhoni::no_space>);
+    static_assert(std::is_base_of_v<std::system_error, zaluxhoni::file_missing>);
+    static_assert(std::is_base_of_v<std::logic_error, zaluxhoni::outdated>);
+    static_assert(std::is_base_of_v<zaluxhoni::error, zaluxhoni::file_missing>);
+    static_assert(std::is_base_of_v<zaluxhoni::error, zaluxhoni::bad_image>);
+    static_assert(std::is_convertible_v<const zaluxhoni::error &, const std::exception &>);
+    segment s = segment::create(4096);
+    s.construct<i64>("a", 1);
+    const auto view = s.array<i64>("a").view();
+    s.construct<i64>("b", 1);
+    THROWS(error, view[0]);
+    THROWS(outdated, view[0]);
+    THROWS(error, segment::open_file("no/such/file.seg"));
+    THROWS(error, segment::open("no image"));
+    try {
+        static_cast<void>(segment::open_file("no/such/file.seg"));
+    } catch (const zaluxhoni::error &error) {
+        const std::exception &as_std = error;
+        IS(error.code() == ZX_FILE_MISSING && std::string(error.what()).find("no/such/file.seg") == 0);
+        IS(as_std.what() == std::string(error.what()));
+    }
+    try {
+        static_cast<void>(segment::open_file("no/such/file.seg"));
+    } catch (const std::system_error &error) {
+        IS(error.code().value() == ENOENT);
+    }
+    try {
+        static_cast<void>(view.data());
+    } catch (const zaluxhoni::error &error) {
+        IS(error.code() == ZX_DONE && *error.what() != 0);
+    }
+    try {
+        static_cast<void>(s.get<i64>("c"));
+    } catch (const std::runtime_error &error) {
+        IS(error.what() == zaluxhoni::words(ZX_NOT_FOUND));
+    }
+}
+
+/// A size that no segment has is refused as the library refuses one, and takes no memory.
+void sizes_that_do_not_fit() {
+    segment s = segment::create(4096);
+    const auto v = s.vector<i64>("v");
+    const auto items = s.vector<item>("items");
+    v.resize(10, 7);
+    for (const u64 size : {u64{513}, u64{200000000}, u64{1} << 40, std::numeric_limits<u64>::max()}) {
+        THROWS(no_space, v.resize(size));
+        THROWS(no_space, items.resize(size));
+    }
+    IS(v.size() == 10 && v[9] == 7 && items.empty());
+    segment kept = segment::open(s.save(), zaluxhoni::mode::read);
+    THROWS(read_only, kept.vector<i64>("v").resize(u64{1} << 40));
+    s.set_growing(true);
+    THROWS(too_large, v.resize(u64{1} << 40));
+    IS(s.size() == 4096);
+    v.resize(5000);
+    IS(v.size() == 5000 && v[9] == 7 && v[4999] == 0);
+}
+
+/// Elements are swapped, whether they have names or not.
+void swapped() {
+    segment s = segment::create(8192);
+    const auto v = s.vector<i64>("v");
+    const auto items = s.vector<item>("items");
+    const auto texts = s.strings("texts");
+    v.assign({1, 2});
+    items.assign({{0.5, 1, 0, 0}, {1.5, 2, 0, 0}});
+    texts.push_back("a");
+    texts.push_back(texts[0]);
+    texts.insert(0, texts[1]);
+    texts.push_back(texts.back());
+    IS(texts.size() == 4 && texts[0] == "a" && texts[3] == "a");
+    texts[1] = "b";
+    std::swap(v[0], v[1]);
+    IS(v[0] == 2 && v[1] == 1);
+    auto first = v[0], second = v[1];
+    std::swap(first, second);
+    IS(v[0] == 1 && v[1] == 2);
+    {
+        using std::swap;
+        swap(first, second);
+        IS(v[0] == 2 && v[1] == 1);
+        swap(v[0], v[1]);
+        IS(v[0] == 1 && v[1] == 2);
+    }
+    std::iter_swap(v.begin(), v.begin() + 1);
+    std::swap(items[0], items[1]);
+    std::swap(texts[0], texts[1]);
+    IS(v[0] == 2 && items[0]->article == 2 && (*items[1]).article == 1 && texts[0] == "b" && texts[1] == "a");
+}
+
+/// Algorithms take a member of a program's own type as a projection.
+void projected() {
+#if __cplusplus >= 202002L
+    segment s = segment::create(65536);
+    const auto items = s.vector<item>("items");
+    for (i64 n = 0; n < 100; n++) items.push_back({static_cast<double>(n * 37 % 100), n, 0, 0});
+    std::ranges::sort(items, {}, &item::price);
+    IS(std::ranges::is_sorted(items, {}, &item::price) && items[0]->price == 0 && items[99]->price == 99);
+    IS(items[37]->article == 1);
+    std::ranges::sort(items, std::greater<>(), &item::article);
+    IS(items[0]->article == 99 && items[99]->article == 0);
+    IS(std::ranges::find(items, 50, &item::article) - items.begin() == 49);
+    IS((*std::ranges::max_element(items, {}, &item::price))->price == 99);
+    std::ranges::stable_sort(items, {}, [](const item &each) { return each.article % 10; });
+    IS(items[0]->article == 90 && items[99]->article == 9);
+#endif
+}
+
+/// A mapped file that the system does not make longer: the error is the system's, and the file is as long as before.
+void a_file_that_cannot_grow() {
+    std::remove("expected.seg");
+    segment s = segment::create_mapped_file("expected.seg", 4096);
+    s.set_growing(true);
+    const auto v = s.vector<i64>("v");
+    rlimit before{};
+    getrlimit(RLIMIT_FSIZE, &before);
+    const rlimit low{65536, before.rlim_max};
+    const auto handler = std::signal(SIGXFSZ, SIG_IGN);
+    setrlimit(RLIMIT_FSIZE, &low);
+    try {
+        v.resize(100000);
+        IS(false);
+    } catch (const zaluxhoni::file_error &error) {
+        IS(error.file_code() == ZX_FILE_FAULT && error.code().value() == EFBIG);
+    }
+    setrlimit(RLIMIT_FSIZE, &before);
+    std::signal(SIGXFSZ, handler);
+    IS(s.size() == 4096 && v.empty());
+    s.close_file();
+    std::remove("expected.seg");
+}
+
 /// Where a segment cannot be long enough, it is as long as before. This takes 1 GiB of memory.
 void the_longest_segment() {
     segment s = segment::create(1024);
@@ -758,7 +895,7 @@ void every_case() {
     void (*const cases[])() = {an_array_that_is_made_anew, numbers_that_do_not_fit, truths, texts_that_are_stored,
                                elements, texts, FORMATS algorithms, bulk, own_types, views_without_a_copy,
                                iterators_in_place, iterators_and_modes, several_calls_as_one, const_segments, groups,
-                               segments_that_grow};
+                               segments_that_grow, errors, sizes_that_do_not_fit, swapped, projected};
     for (void (*each)() : cases) {
         try {
             each();
@@ -776,6 +913,7 @@ int main(int arguments, char **) {
     std::thread other(every_case);
     every_case();
     other.join();
+    a_file_that_cannot_grow();
     if (arguments > 1) the_longest_segment();
     std::cout << "as_expected.cpp: " << checks << " checks, " << wrong << " wrong\n";
     return wrong != 0;

@@ -39,12 +39,12 @@ static std::string word(zx_code code, int error) {
 template <class Call> static std::string word_of(Call call) {
     try {
         return call();
-    } catch (const zaluxhoni::error &error) {
-        return word(error.code(), 0);
 #ifdef ZALUXHONI_FILES_H
     } catch (const zaluxhoni::file_error &error) {
         return word(error.file_code(), error.code().value());
 #endif
+    } catch (const zaluxhoni::error &error) {
+        return word(error.code(), 0);
     } catch (const std::system_error &error) {
         const int number = error.code().value();
         return number == ENOENT   ? "missing"

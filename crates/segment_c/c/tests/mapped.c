@@ -1,5 +1,6 @@
-/* mapped FOLDER KILLS [SMALL]: files that are mapped, by zaluxhoni_files.h. So many processes are killed within a call.
-   SMALL is a folder on a disk of 1 MiB. */
+/* mapped FOLDER KILLS [SMALL [BLOCKS]]: files that are mapped, by zaluxhoni_files.h. So many processes are killed
+   within a call. SMALL is a folder on a disk of 1 MiB, and BLOCKS one on a small disk whose files have blocks of
+   attributes. */
 #define _GNU_SOURCE
 #include "zaluxhoni_files.h"
 
@@ -360,14 +361,20 @@ static void by_its_path(void) {
     IS(unlink(path), 0);
     for (uint32_t mode = READ; mode <= COPY; mode++) IS(zx_file_open(&file, link, mode, 0), ZX_FILE_DANGLES);
     IS(unlink(link), 0);
-    /* a file that has lost its name is changed, and no other is made */
-    seed(5);
-    DONE(zx_file_open(&file, path, WRITE, 0));
-    IS(unlink(path), 0);
-    DONE(set(&file, 6));
-    DONE(zx_file_flush(&file));
-    DONE(zx_file_close(&file));
-    IS(length(), -1);
+    /* a file that has lost its name is changed, and no other is made; under another name it is found again */
+    for (int is_moved = 0; is_moved < 2; is_moved++) {
+        const zx_code code = is_moved ? (zx_code)ZX_DONE : (zx_code)ZX_FILE_REPLACED;
+        seed(5);
+        DONE(zx_file_open(&file, path, WRITE, 0));
+        IS(is_moved ? rename(path, link) : unlink(path), 0);
+        DONE(set(&file, 6));
+        IS(zx_file_flush(&file), code);
+        IS(zx_file_close(&file), code);
+        zx_file_discard(&file);
+        IS(length(), -1);
+    }
+    IS(rename(link, path), 0);
+    IS(stands(), 6);
 }
 
 /* What a saver that was killed left beside a file is removed by who opens that for writing. */
@@ -592,6 +599,44 @@ static void full_disk(const char *small) {
     IS(unlink(there), 0);
 }
 
+/* A file with a hole on a disk that is full. The system counts the block of its attributes as one of the
+   file's, so that the number of blocks says nothing of holes. */
+static void hole_on_a_full_disk(const char *small) {
+    char there[430], filling[430], value[400];
+    zx_file file = ZX_CLOSED_FILE;
+    struct stat found;
+    snprintf(there, sizeof there, "%s/hole.seg", small);
+    snprintf(filling, sizeof filling, "%s/filling", small);
+    DONE(zx_file_open(&file, there, ZX_CREATE_ONLY, 16384));
+    DONE(set(&file, 7));
+    DONE(zx_file_close(&file));
+    memset(value, 'v', sizeof value);
+    IS(setxattr(there, "user.long", value, sizeof value, 0), 0);
+    IS(setxattr(there, "user.longer", value, sizeof value, 0), 0);
+    int out = open(there, O_RDWR), full = open(filling, O_CREAT | O_RDWR, 0600);
+    IS(out >= 0 && full >= 0, true);
+    static uint8_t block[4096];
+    for (off_t at = 4096; at < 16384; at += 8192) {
+        IS(pread(out, block, sizeof block, at), sizeof block);
+        IS(pwrite(out, block, sizeof block, at), sizeof block);
+    }
+    IS(fsync(out), 0);
+    IS(fstat(out, &found), 0);
+    IS(close(out), 0);
+    while (write(full, block, sizeof block) > 0) continue;
+    IS(fsync(full) == 0 || errno == ENOSPC, true);
+    IS(zx_file_open(&file, there, WRITE, 0), ZX_FILE_FAULT);
+    IS(file.error, ENOSPC);
+    const long long blocks = 512 * (long long)found.st_blocks;
+    printf("a hole on a full disk: %lld bytes, %lld in blocks\n", (long long)found.st_size, blocks);
+    IS(close(full), 0);
+    IS(unlink(filling), 0);
+    DONE(zx_file_open(&file, there, WRITE, 0));
+    IS(get(&file), 7);
+    DONE(zx_file_close(&file));
+    IS(unlink(there), 0);
+}
+
 int main(int count, char **words) {
     if (count < 3) return 2;
     snprintf(path, sizeof path, "%s/mapped.seg", words[1]);
@@ -611,6 +656,7 @@ int main(int count, char **words) {
     two_processes();
     unlink(path);
     if (count > 3) full_disk(words[3]);
+    if (count > 4) hole_on_a_full_disk(words[4]);
     printf("mapped: %d cases, %d wrong\n", cases, wrong);
     return wrong != 0;
 }

@@ -221,6 +221,25 @@ B get: 5
 B discard: ok
 left file other
 
+= another name gets the image where that is asked for
+do seed 5
+do other_name file other
+A open open_only 0: ok
+A set 6: ok
+A saveas open_only other: ok
+B open open_read_only 0 other: ok
+B get: 6
+B discard: ok
+B open open_only 0: in_use
+B open open_read_only 0: ok
+B get: 5
+B discard: ok
+A close: ok
+B open open_only 0: ok
+B get: 6
+B discard: ok
+left file other
+
 = a file that was put in the place of the one that was opened is left alone
 do seed 5
 do seed 50 other

@@ -1,0 +1,188 @@
+/* A part of files.c: what exists at a path, and the right to write it. */
+
+/* ---- what exists at a path */
+
+/* Whether it can be a segment's file. */
+static zx_code judge(zx_file *file, const struct stat *found) {
+    if (S_ISDIR(found->st_mode)) return faulty(file, ZX_FILE_FOLDER, EISDIR);
+    if (S_ISCHR(found->st_mode) || S_ISBLK(found->st_mode)) return faulty(file, ZX_FILE_DEVICE, EINVAL);
+    if (!S_ISREG(found->st_mode)) return faulty(file, ZX_FILE_PIPE, ESPIPE);
+    if (found->st_size > LARGEST) return faulty(file, ZX_FILE_TOO_LARGE, EFBIG);
+    return ZX_DONE;
+}
+
+/* What a path led to, and when that was asked, by the clock by which the system dates changes of files. */
+struct sight {
+    struct timespec at;
+    struct stat found;
+    bool is_link;
+};
+
+/* What exists at the path, for a call that opens. ZX_FILE_MISSING only if nothing does. */
+static zx_code look(zx_file *file, const char *path, struct sight *sight) {
+    clock_gettime(CLOCK_REALTIME_COARSE, &sight->at);
+    if (lstat(path, &sight->found) != 0) return errno == ENOENT ? faulty(file, ZX_FILE_MISSING, ENOENT) : fault(file);
+    sight->is_link = S_ISLNK(sight->found.st_mode);
+    if (sight->is_link && stat(path, &sight->found) != 0)
+        return errno == ENOENT ? faulty(file, ZX_FILE_DANGLES, ENOENT) : fault(file);
+    return judge(file, &sight->found);
+}
+
+static int compared(const struct timespec *one, const struct timespec *other) {
+    if (one->tv_sec != other->tv_sec) return one->tv_sec < other->tv_sec ? -1 : 1;
+    return one->tv_nsec < other->tv_nsec ? -1 : one->tv_nsec > other->tv_nsec;
+}
+
+/* Whether a file surely has the names that it had when it was seen. To give or to take one dates the file anew. The
+   clock of dates stands still for some milliseconds, so a file that was dated just before it was seen does not tell. Nor
+   does a date in whole hundredths of a second: there are file systems that have no others, or only whole seconds. */
+static bool has_its_names(const struct sight *sight, const struct stat *file) {
+    return is_same(&sight->found, file) && sight->found.st_nlink == file->st_nlink &&
+           compared(&sight->found.st_ctim, &file->st_ctim) == 0 && compared(&file->st_ctim, &sight->at) < 0 &&
+           file->st_ctim.tv_nsec % 10000000 != 0;
+}
+
+/* Keeps the path, which nobody asks for once the file is open. */
+static zx_code keep(const char *path, struct zx_held_file **found) {
+    size_t room = strlen(path) + 1;
+    struct zx_held_file *held = calloc(1, sizeof *held + room);
+    if (!held) return ZX_NO_MEMORY;
+    memcpy(held->name, path, room);
+    held->folder = AT_FDCWD;
+    *found = enlist(held);
+    return *found ? ZX_DONE : ZX_NO_MEMORY;
+}
+
+static const char *last_name(const char *path) {
+    const char *slash = strrchr(path, '/');
+    return slash ? slash + 1 : path;
+}
+
+/* Opens the folder of a path, and keeps its last name. */
+static zx_code find(zx_file *file, const char *path, struct zx_held_file **found) {
+    const char *name = last_name(path);
+    size_t len = strlen(name), before = (size_t)(name - path);
+    if (len == 0) return faulty(file, before ? ZX_FILE_FOLDER : ZX_FILE_MISSING, before ? EISDIR : ENOENT);
+    struct zx_held_file *held = calloc(1, sizeof *held + len + 1);
+    char *folder = malloc(before + 2);
+    if (!held || !folder) {
+        free(held);
+        free(folder);
+        return ZX_NO_MEMORY;
+    }
+    memcpy(held->name, name, len + 1);
+    memcpy(folder, path, before);
+    memcpy(folder + before, ".", 2);
+    held->folder = -1;
+    held = enlist(held);
+    bool is_open = held && open_listed(&held->folder, AT_FDCWD, folder, O_PATH | O_DIRECTORY, 0);
+    int error = errno;
+    free(folder);
+    if (!held) return ZX_NO_MEMORY;
+    if (!is_open) {
+        release(held);
+        return faulty(file, error == ENOENT ? ZX_FILE_MISSING : ZX_FILE_FAULT, error);
+    }
+    *found = held;
+    return ZX_DONE;
+}
+
+/* ---- the mark of a file that is to be replaced: beside it a new one may stand, if whoever saved was killed. To ask
+   for it takes a quarter of what it takes to look there */
+
+/* The mark, and the names of the files beside. */
+static const char MARK[] = "user.zaluxhoni";
+
+enum marked { NO, YES, UNKNOWN };
+
+static enum marked is_marked(int file) {
+    return fgetxattr(file, MARK, NULL, 0) >= 0 ? YES : errno == ENODATA ? NO : UNKNOWN;
+}
+
+/* A name for the file that will replace the one of a name, made of that name (FNV-1a): only who holds the file that the
+   name leads to uses it. Something that cannot be removed may have it, and so there are a few. */
+static void spare_name(char spare[40], const char *name, int turn) {
+    uint64_t hash = 0xcbf29ce484222325;
+    for (; *name; name++) hash = (hash ^ (unsigned char)*name) * 0x100000001b3;
+    hash += (uint64_t)turn;
+    memcpy(spare, ".zaluxhoni-", 11);
+    for (int i = 0; i < 16; i++) spare[11 + i] = "0123456789abcdef"[hash >> (60 - 4 * i) & 15];
+    spare[27] = 0;
+}
+
+/* ---- the right to write */
+
+/* Removes what one that was killed left beside the file, and the mark: not of a file with several names, since it does
+   not say beside which of them. */
+static void remove_spare(const struct zx_held_file *held, bool has_one_name, enum marked marked) {
+    const char *name = last_name(held->name);
+    size_t before = (size_t)(name - held->name);
+    char spare[PATH_MAX + 40];
+    if (before >= PATH_MAX) return;
+    memcpy(spare, held->name, before);
+    bool was_there = false, is_gone = false;
+    for (int turn = 0; turn < SPARES && !is_gone; turn++) {
+        spare_name(spare + before, name, turn);
+        was_there = unlinkat(held->folder, spare, 0) == 0;
+        is_gone = was_there || errno == ENOENT;
+    }
+    bool may_unmark = was_there || (is_gone && marked == YES);
+    if (may_unmark && has_one_name) fremovexattr(held->file, MARK);
+}
+
+/* Whether the lock of a file is the one that the zx_file holds, by another name of its file. */
+static bool is_own_lock(const zx_file *file, const struct stat *locked) {
+    struct stat own;
+    return file->held && is_own(file->held) && file->held->state != READ && fstat(file->held->file, &own) == 0 &&
+           is_same(&own, locked);
+}
+
+/* Opens and locks the file of a name that was seen. AGAIN if the name meanwhile leads to another one. */
+static zx_code lock(zx_file *file, struct zx_held_file *held, const struct sight *sight, struct stat *opened) {
+    int how = held->state == READ ? O_RDONLY : O_RDWR;
+    if (!open_listed(&held->file, held->folder, held->name, how | O_NOFOLLOW | O_NONBLOCK | O_NOCTTY, 0))
+        return errno == ENOENT || errno == ELOOP ? (zx_code)AGAIN : fault(file);
+    int refused = take_lock(held->file, held->state == READ ? LOCK_SH : LOCK_EX);
+    if (fstat(held->file, opened) != 0) return fault(file);
+    zx_code code = judge(file, opened);
+    if (code != ZX_DONE) return code;
+    if (refused && (refused != EWOULDBLOCK || !is_own_lock(file, opened)))
+        return faulty(file, refused == EWOULDBLOCK ? ZX_FILE_IN_USE : ZX_FILE_FAULT, refused);
+    if (!has_its_names(sight, opened) && !leads_to(held->folder, held->name, opened)) return AGAIN;
+    if (held->state == READ) return ZX_DONE;
+    // a file that is opened by its path is mapped
+    enum marked marked = held->folder == AT_FDCWD ? is_marked(held->file) : UNKNOWN;
+    if (marked != NO) remove_spare(held, opened->st_nlink == 1, marked);
+    return ZX_DONE;
+}
+
+/* Finds what the mode wants: the file, locked, and what it is; or, if it is to be created, its folder and name. */
+static zx_code hold_once(zx_file *file, const char *path, uint32_t mode, bool is_mapped, struct zx_held_file **held,
+                         struct stat *found) {
+    struct sight sight;
+    if (mode == ZX_CREATE_ONLY && lstat(path, found) == 0) return faulty(file, ZX_FILE_EXISTS, EEXIST);
+    zx_code code = look(file, path, &sight);
+    if (code == ZX_FILE_MISSING && mode != ZX_OPEN_ONLY && mode < ZX_OPEN_READ_ONLY) return find(file, path, held);
+    if (code != ZX_DONE) return code;
+    if (mode == ZX_CREATE_ONLY) return AGAIN;
+    char *real = sight.is_link ? realpath(path, NULL) : NULL;
+    if (sight.is_link && !real)
+        return errno == ENOENT ? (zx_code)AGAIN : errno == ENOMEM ? (zx_code)ZX_NO_MEMORY : fault(file);
+    code = is_mapped ? keep(real ? real : path, held) : find(file, real ? real : path, held);
+    free(real);
+    if (code == ZX_FILE_MISSING) return AGAIN;
+    if (code != ZX_DONE) return code;
+    if (mode >= ZX_OPEN_READ_ONLY) (*held)->state = READ;
+    code = lock(file, *held, &sight, found);
+    if (code != ZX_DONE) release(*held);
+    return code;
+}
+
+static zx_code hold(zx_file *file, const char *path, uint32_t mode, bool is_mapped, struct zx_held_file **held,
+                    struct stat *found) {
+    for (int tries = 0; tries < TRIES; tries++) {
+        zx_code code = hold_once(file, path, mode, is_mapped, held, found);
+        if (code != AGAIN) return code;
+    }
+    return faulty(file, ZX_FILE_IN_USE, EWOULDBLOCK);
+}

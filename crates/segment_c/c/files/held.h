@@ -1,0 +1,301 @@
+/* A part of files.c: the files that this process holds, their descriptors, locks and bytes. */
+#include <errno.h>
+#include <fcntl.h>
+#include <limits.h>
+#include <linux/magic.h>
+#include <pthread.h>
+#include <stdio.h>
+#include <stdlib.h>
+#include <sys/file.h>
+#include <sys/mman.h>
+#include <sys/stat.h>
+#include <sys/statfs.h>
+#include <sys/sysmacros.h>
+#include <sys/xattr.h>
+#include <time.h>
+#include <unistd.h>
+
+#include "system.h"
+
+enum { LARGEST = 1 << 30, TRIES = 64, SPARES = 8, PAGE = 4096, PIECE = 8 * PAGE };
+
+/* The name meanwhile leads elsewhere: a code that no caller sees. */
+enum { AGAIN = 1 };
+
+/* What a file is that is held. */
+enum state {
+    SAVED,    /* under its name since it was opened, or since it was saved */
+    NEW,      /* created and never saved: who discards it removes it */
+    UNSYNCED, /* saved, but the folder was not synced */
+    READ      /* mapped and never changed: others may map it too */
+};
+
+/* A file that is open for writing, or mapped. */
+struct zx_held_file {
+    struct zx_held_file *next; /* in the list of all of this process */
+    zx_segment *mapped;        /* the segment that lies in its mapping, or null */
+    uint8_t *at;               /* the mapping, of `len` bytes, or null: it keeps the lock as a descriptor does */
+    uint64_t len;
+    unsigned forks;            /* of the process that opened it */
+    int folder;                /* of the name; AT_FDCWD for a mapped file that existed, whose name is a path */
+    int file;                  /* with its lock; -1 if none exists under the name */
+    int made;                  /* the new file that gets the name, with its lock; -1 if there is none */
+    enum state state;
+    uint64_t saved;            /* the changes of the segment when the file had its image */
+    char name[];               /* leads through no link */
+};
+
+struct image {
+    uint8_t *bytes;
+    uint64_t len;
+};
+
+/* ---- codes, with the errno that goes with them */
+
+static zx_code faulty(zx_file *file, zx_code code, int error) {
+    file->error = error;
+    return code;
+}
+
+static zx_code fault(zx_file *file) { return faulty(file, ZX_FILE_FAULT, errno); }
+
+/* What a call returns: an errno comes with the codes of files alone. */
+static zx_code answered(zx_file *file, zx_code code) {
+    if (code < ZX_FILE_IN_USE || code > ZX_FILE_FORKED) file->error = 0;
+    return code;
+}
+
+void zx_file_words(zx_code code, zx_text *words) {
+    static const char *const all[] = {
+        "no file", "file is open", "file in use", "file exists", "no such file", "link leads to nothing", "is a folder",
+        "is a device", "is a pipe", "file too large", "file fault", "file was replaced", "saved, but folder not synced",
+        "file of another process",
+    };
+    if (ZX_FILE_NONE <= code && code <= ZX_FILE_FORKED) {
+        words->at = (const uint8_t *)all[code - ZX_FILE_NONE];
+        words->len = strlen(all[code - ZX_FILE_NONE]);
+    } else {
+        zx_words(code, words);
+    }
+}
+
+const char *zx_message(zx_code code) {
+    static _Thread_local char message[64];
+    zx_text words;
+    zx_file_words(code, &words);
+    (void)snprintf(message, sizeof message, "%.*s", (int)words.len, (const char *)words.at);
+    return message;
+}
+
+/* Whether a signal interrupted a call, which is to be made once more, as long as that does not go on for ever. */
+static bool is_interrupted(int *tries) { return errno == EINTR && ++*tries < TRIES; }
+
+/* ---- all files that are held: a forked process closes its copies, or it would keep its parent's locks */
+
+static pthread_mutex_t guard = PTHREAD_MUTEX_INITIALIZER;
+static bool is_watching; /* whether a fork takes the list apart in the child */
+static struct zx_held_file *all_held;
+static unsigned forks; /* how often this process was forked off, with its parents: in a child it is another number */
+
+static bool is_own(const struct zx_held_file *held) { return held->forks == forks; }
+
+static void before_fork(void) { pthread_mutex_lock(&guard); }
+static void after_fork(void) { pthread_mutex_unlock(&guard); }
+
+static void close_all(struct zx_held_file *held) {
+    if (held->file >= 0) close(held->file);
+    if (held->made >= 0) close(held->made);
+    if (held->folder >= 0) close(held->folder);
+    held->file = held->made = held->folder = -1;
+}
+
+/* A child has no mapping either, so its segment is closed, and no view is current. The box of its handle stays
+   behind. */
+static void in_child(void) {
+    forks++;
+    for (struct zx_held_file *each = all_held; each; each = each->next) {
+        close_all(each);
+        if (each->at) munmap(each->at, each->len);
+        if (!each->mapped) continue;
+        each->mapped->at = NULL;
+        each->mapped->changes++;
+    }
+    all_held = NULL;
+    pthread_mutex_unlock(&guard);
+}
+
+/* Puts a file into the list, before it is opened. Frees it, and returns null, if there is no memory to watch forks. */
+static struct zx_held_file *enlist(struct zx_held_file *held) {
+    held->forks = forks;
+    held->file = held->made = -1;
+    pthread_mutex_lock(&guard);
+    if (!is_watching) is_watching = pthread_atfork(before_fork, after_fork, in_child) == 0;
+    bool is_watched = is_watching;
+    if (is_watched) {
+        held->next = all_held;
+        all_held = held;
+    }
+    pthread_mutex_unlock(&guard);
+    if (is_watched) return held;
+    free(held);
+    return NULL;
+}
+
+/* Opens a descriptor of a file in the list. A process that forks at any time has it in its list, and the child closes
+   its copy: a lock lasts as long as a copy does. So the list is held while the file is opened. */
+static bool open_listed(int *descriptor, int folder, const char *name, int how, mode_t mode) {
+    int tries = 0;
+    pthread_mutex_lock(&guard);
+    do {
+        *descriptor = openat(folder, name, how | O_CLOEXEC, mode);
+    } while (*descriptor < 0 && is_interrupted(&tries));
+    pthread_mutex_unlock(&guard);
+    return *descriptor >= 0;
+}
+
+/* Closes a descriptor of a file in the list. errno stays. */
+static void close_listed(int *descriptor) {
+    int error = errno;
+    pthread_mutex_lock(&guard);
+    if (*descriptor >= 0) close(*descriptor);
+    *descriptor = -1;
+    pthread_mutex_unlock(&guard);
+    errno = error;
+}
+
+/* Takes the new file for the old one, whose lock it gives back. */
+static void take_made(struct zx_held_file *held) {
+    pthread_mutex_lock(&guard);
+    int before = held->file;
+    held->file = held->made;
+    held->made = before;
+    pthread_mutex_unlock(&guard);
+    if (before >= 0) flock(before, LOCK_UN);
+    close_listed(&held->made);
+}
+
+/* Gives the right to write back, even if a child that fork knows nothing of has a copy of the descriptor. */
+static void release(struct zx_held_file *held) {
+    if (held->file >= 0 && is_own(held)) flock(held->file, LOCK_UN);
+    pthread_mutex_lock(&guard);
+    struct zx_held_file **at = &all_held;
+    while (*at && *at != held) at = &(*at)->next;
+    if (*at) *at = held->next;
+    close_all(held);
+    pthread_mutex_unlock(&guard);
+    free(held);
+}
+
+static bool is_same(const struct stat *one, const struct stat *other) {
+    return one->st_dev == other->st_dev && one->st_ino == other->st_ino;
+}
+
+/* Whether a name leads to a file. */
+static bool leads_to(int folder, const char *name, const struct stat *file) {
+    struct stat named;
+    return fstatat(folder, name, &named, AT_SYMLINK_NOFOLLOW) == 0 && is_same(&named, file);
+}
+
+/* Returns ZX_FILE_REPLACED if the name of a file that is held leads elsewhere by now, or nowhere. A mapped file, which
+   keeps its bytes under any name, has lost the last one. */
+static zx_code still_named(zx_file *file, const struct zx_held_file *held) {
+    struct stat own, named;
+    if (fstat(held->file, &own) != 0) return fault(file);
+    bool is_named = held->mapped ? own.st_nlink > 0
+                                 : fstatat(held->folder, held->name, &named, AT_SYMLINK_NOFOLLOW) == 0;
+    if (!is_named && !held->mapped && errno != ENOENT) return fault(file);
+    if (is_named && !held->mapped) is_named = is_same(&own, &named);
+    return is_named ? (zx_code)ZX_DONE : faulty(file, ZX_FILE_REPLACED, ESTALE);
+}
+
+/* Removes the file if it was created and never saved, and releases it. */
+static void abandon(struct zx_held_file *held) {
+    struct stat own;
+    bool is_new = held->state == NEW && is_own(held) && fstat(held->file, &own) == 0;
+    if (is_new && leads_to(held->folder, held->name, &own)) unlinkat(held->folder, held->name, 0);
+    release(held);
+}
+
+/* Locks a file, without waiting. Returns 0, also on a file system without locks, which refuses nobody; otherwise an
+   errno: EWOULDBLOCK if another has the lock. */
+static int take_lock(int file, int how) {
+    int tries = 0;
+    while (flock(file, how | LOCK_NB) != 0) {
+        if (errno == EOPNOTSUPP || errno == ENOSYS || errno == EINVAL) return 0;
+        if (!is_interrupted(&tries)) return errno;
+    }
+    return 0;
+}
+
+/* ---- bytes */
+
+static struct image room_for(uint64_t len) {
+    struct image image = { malloc(len ? len : 1), len };
+    return image;
+}
+
+/* Copies the image of the segment into memory of its own. */
+static zx_code image_of(zx_segment *segment, struct image *image) {
+    uint64_t size;
+    zx_code code = zx_size(segment, &size);
+    if (code != ZX_DONE) return code;
+    *image = room_for(size);
+    if (!image->bytes) return ZX_NO_MEMORY;
+    code = zx_save(segment, image->bytes, image->len);
+    if (code != ZX_DONE) free(image->bytes);
+    return code;
+}
+
+/* Reads `len` bytes from an offset on, or fewer at the end of the file. -1 if it fails. */
+static ssize_t read_at(int file, uint8_t *bytes, size_t len, off_t from) {
+    size_t count = 0;
+    while (count < len) {
+        ssize_t more = pread(file, bytes + count, len - count, from + (off_t)count);
+        if (more < 0 && errno == EINTR) continue;
+        if (more < 0) return -1;
+        if (more == 0) break;
+        count += (size_t)more;
+    }
+    return (ssize_t)count;
+}
+
+static bool write_at(int file, const uint8_t *bytes, size_t len, off_t from) {
+    while (len > 0) {
+        ssize_t more = pwrite(file, bytes, len, from);
+        if (more < 0 && errno == EINTR) continue;
+        if (more < 0) return false;
+        bytes += more, len -= (size_t)more, from += more;
+    }
+    return true;
+}
+
+static bool set_length(int file, uint64_t len) {
+    int tries = 0;
+    while (ftruncate(file, (off_t)len) != 0)
+        if (!is_interrupted(&tries)) return false;
+    return true;
+}
+
+static size_t at_most(size_t len, size_t most) { return len < most ? len : most; }
+
+static bool is_zero(const uint8_t *bytes, size_t len) {
+    return bytes[0] == 0 && memcmp(bytes, bytes + 1, len - 1) == 0;
+}
+
+/* Syncs a file or a folder. What does not support that is on no disk. */
+static bool sync_one(int file) {
+    int tries = 0;
+    while (fsync(file) != 0)
+        if (!is_interrupted(&tries)) return errno == EINVAL;
+    return true;
+}
+
+/* Syncs the folder, or all of its disk if the folder may not be read. */
+static zx_code sync_name(zx_file *file, struct zx_held_file *held) {
+    int folder = openat(held->folder, ".", O_RDONLY | O_DIRECTORY | O_CLOEXEC, 0);
+    bool is_synced = folder >= 0 ? sync_one(folder) : syncfs(held->file) == 0;
+    int error = errno;
+    if (folder >= 0) close(folder);
+    held->state = is_synced ? SAVED : UNSYNCED;
+    return is_synced ? (zx_code)ZX_DONE : faulty(file, ZX_FILE_UNSYNCED, error);
+}

@@ -1,0 +1,282 @@
+/* A part of files.c: files that are mapped, and their lengths. */
+
+/* Returns the class of bytes that an opening refused, and notes the offset that shows it. An image that states more
+   bytes than there are is refused by its class. */
+static zx_code explained(zx_file *file, zx_code code, const uint8_t *image, size_t len) {
+    if (code != ZX_SHORT_REGION && code < ZX_TRUNCATED) return code;
+    return zx_explain(image, len, &file->place);
+}
+
+/* Opens the segment of the file's bytes. */
+static zx_code read_segment(zx_file *file, int from, uint32_t how) {
+    struct stat found;
+    if (fstat(from, &found) != 0) return fault(file);
+    zx_code code = judge(file, &found);
+    if (code != ZX_DONE) return code;
+    struct image image = room_for((uint64_t)found.st_size);
+    if (!image.bytes) return ZX_NO_MEMORY;
+    ssize_t len = read_at(from, image.bytes, image.len, 0);
+    if (len < 0) {
+        code = fault(file);
+    } else {
+        uint64_t capacity = len < 16 ? 16 : ((uint64_t)len + 15) / 16 * 16;
+        code = zx_open(&file->segment, image.bytes, (size_t)len, capacity, how);
+        code = explained(file, code, image.bytes, (size_t)len);
+    }
+    free(image.bytes);
+    return code;
+}
+
+/* Attaches the mapping, whose image has `size` bytes. */
+static zx_code attach(zx_file *file, struct zx_held_file *held, uint64_t size, uint32_t how) {
+    zx_memory memory = { held->at, held->len };
+    zx_code code = zx_attach(&file->segment, &memory, size, how);
+    return explained(file, code, held->at, size);
+}
+
+static size_t page_size(void) { return (size_t)sysconf(_SC_PAGESIZE); }
+
+/* Whether the file lies in a tmpfs, which lends it pages one by one and counts these alone as its blocks. */
+static bool is_in_memory(int file, const struct stat *found) {
+    struct statfs disk;
+    return major(found->st_dev) == 0 && (size_t)found->st_blksize == page_size() && fstatfs(file, &disk) == 0 &&
+           disk.f_type == TMPFS_MAGIC;
+}
+
+/* Whether a page of the file may have no block. The number of its blocks does not tell, since it counts those of its
+   attributes too. The exception is tmpfs, where the search for a hole would ask for each page. */
+static bool has_hole(int file, const struct stat *found) {
+    uint64_t len = (uint64_t)found->st_size, page = page_size(), blocks = (uint64_t)found->st_blocks * 512;
+    if (blocks < len) return true;
+    if (blocks == (len + page - 1) / page * page && is_in_memory(file, found)) return false;
+    return lseek(file, 0, SEEK_HOLE) < (off_t)len;
+}
+
+/* Gives the file blocks up to a length, so that no page that is written finds the disk full. */
+static bool allot(int file, const struct stat *found, uint64_t len) {
+    if ((uint64_t)found->st_size >= len && !has_hole(file, found)) return true;
+    int tries = 0;
+    while (fallocate(file, 0, 0, (off_t)len) != 0)
+        if (!is_interrupted(&tries)) return errno == EOPNOTSUPP && set_length(file, len);
+    return true;
+}
+
+/* Makes the file just as long as its image. */
+static bool cut(int file, uint64_t size) {
+    struct stat found;
+    return fstat(file, &found) == 0 && ((uint64_t)found.st_size == size || set_length(file, size));
+}
+
+/* The size that an image says (docs/FORMAT.md). */
+static uint64_t size_said(const uint8_t *image) {
+    uint64_t size = 0;
+    for (int i = 7; i >= 0; i--) size = size << 8 | image[16 + i];
+    return size;
+}
+
+/* Addresses for a process that maps files of one length again and again: between two pages that stay; a short file lies
+   at the start of what one page table of the system covers. The pages beside a mapping keep the tables of its ends.
+   Without them the system makes and frees tables each time, which costs as much as all else in an opening. */
+static struct {
+    uint8_t *at;  /* null if there are no such pages */
+    uint64_t len; /* of the file that was mapped last, in whole pages */
+} place;
+
+/* How far from an end of a mapping another page lies that is read with it. When a mapping ends, the system takes the
+   pages of each of its tables out of the processor one by one, up to 33 of a table, and under a hypervisor each of them
+   with all that the processor knows of the system itself; of more pages than that it takes out all of this process, and
+   only these. */
+enum { APART = 34 };
+
+/* On which page of a table a file begins of which each end has a table of its own: so that the pages that are read
+   with its ends lie in these, and the pages beside it too. */
+static size_t first_page(size_t entries, size_t pages) {
+    return pages % entries >= APART && pages % entries < entries - 1 ? 1 : APART + 15;
+}
+
+/* Reads what the opening reads first of a file that is mapped in its place, and a page apart from each end. They have
+   blocks in the file, as all have that is mapped for writing. */
+static void read_apart(const uint8_t *at, uint64_t len) {
+    size_t page = page_size();
+    const volatile uint8_t *first = at, *last = at + (len - 1) / page * page;
+    if ((uintptr_t)first / (page / 8 * page) == (uintptr_t)last / (page / 8 * page)) return;
+    (void)(first[0] + first[APART * page] + last[0] + (last - APART * page)[0]);
+}
+
+/* Takes the two pages away, and puts them where a second file of one length is mapped. */
+static void move_place(size_t page, uint64_t len) {
+    if (place.at) {
+        munmap(place.at - page, page);
+        munmap(place.at + place.len, page);
+        place.at = NULL;
+    }
+    bool is_second = place.len == len;
+    place.len = len;
+    if (!is_second) return;
+    size_t table = page / 8 * page, first = first_page(page / 8, len / page) * page, room = len + table + first + page;
+    uint8_t *from = mmap(NULL, room, PROT_NONE, MAP_PRIVATE | MAP_ANONYMOUS | MAP_NORESERVE, -1, 0);
+    if (from == MAP_FAILED) return;
+    place.at = from + (table - (uintptr_t)from % table) + first;
+    uint8_t *behind = place.at + len + page;
+    munmap(from, (size_t)(place.at - page - from));
+    munmap(place.at, len);
+    if (behind < from + room) munmap(behind, (size_t)(from + room - behind));
+}
+
+/* Where a file of a length may be mapped, if nothing else is there by then; null if that does not matter. */
+static void *place_for(uint64_t len) {
+    size_t page = page_size();
+    len = (len + page - 1) / page * page;
+    if (!place.at || place.len != len) move_place(page, len);
+    return place.at;
+}
+
+/* Maps a file in the list. A child that is forked at any time ends its copy of the mapping. */
+static bool map_listed(struct zx_held_file *held, uint64_t len, int protection, int flags) {
+    pthread_mutex_lock(&guard);
+    void *wanted = place_for(len), *at = mmap(wanted, len, protection, flags, held->file, 0);
+    bool is_mapped = at != MAP_FAILED, is_in_place = is_mapped && at == wanted;
+    if (is_mapped) {
+        held->at = at;
+        held->len = len;
+    }
+    pthread_mutex_unlock(&guard);
+    if (is_in_place && flags == MAP_SHARED) read_apart(at, len);
+    return is_mapped;
+}
+
+static void unmap_listed(struct zx_held_file *held) {
+    pthread_mutex_lock(&guard);
+    munmap(held->at, held->len);
+    held->at = NULL;
+    held->mapped = NULL;
+    pthread_mutex_unlock(&guard);
+}
+
+static zx_code map_anew(zx_file *file, struct zx_held_file *held, uint32_t how);
+
+/* Maps the file, and opens its segment where it stands. */
+static zx_code map(zx_file *file, struct zx_held_file *held, const struct stat *found, uint32_t how) {
+    uint64_t len = (uint64_t)found->st_size;
+    // no segment has such a size, so the bytes are refused
+    if (len == 0 || len % 16 != 0) return read_segment(file, held->file, how);
+    if (how == ZX_WRITE && !allot(held->file, found, len)) return fault(file);
+    int protection = how == ZX_READ ? PROT_READ : PROT_READ | PROT_WRITE;
+    if (!map_listed(held, len, protection, how == ZX_WRITE ? MAP_SHARED : MAP_PRIVATE)) return fault(file);
+    zx_code code = attach(file, held, len, how);
+    // a process that was killed while it changed the length leaves an image with more behind it
+    uint64_t said = code == ZX_BAD_IMAGE_SIZE ? size_said(held->at) : len;
+    bool is_longer = said < len && attach(file, held, said, how) == ZX_DONE;
+    if (is_longer) code = ZX_DONE;
+    bool is_cut = is_longer && how == ZX_WRITE;
+    if (is_cut) zx_close(&file->segment);
+    if (code != ZX_DONE || is_cut) unmap_listed(held);
+    if (is_cut) return cut(held->file, said) ? map_anew(file, held, how) : fault(file);
+    if (code != ZX_DONE) return code;
+    held->mapped = &file->segment;
+    // it stands under its name with all changes, also where it is never flushed
+    if (held->state == NEW) held->state = UNSYNCED;
+    return ZX_DONE;
+}
+
+/* Maps a file that is new, or was cut. */
+static zx_code map_anew(zx_file *file, struct zx_held_file *held, uint32_t how) {
+    struct stat found;
+    return fstat(held->file, &found) == 0 ? map(file, held, &found, how) : fault(file);
+}
+
+/* Cuts a mapped file that this process writes to its image. */
+static bool cut_mapped(zx_file *file, const struct zx_held_file *held) {
+    uint64_t size;
+    bool is_written = held->state != READ && is_own(held) && file->segment.lent;
+    return !is_written || zx_size(&file->segment, &size) != ZX_DONE || cut(held->file, size);
+}
+
+/* Ends the mapping. */
+static void unmap(zx_file *file, struct zx_held_file *held) {
+    zx_close(&file->segment);
+    if (is_own(held)) unmap_listed(held);
+}
+
+/* Makes the mapping as long as is wanted, around an image that fits into it, and the file too. The segment stays
+   open, unless memory ends. */
+static zx_code remap(zx_file *file, struct zx_held_file *held, uint64_t size, uint64_t wanted) {
+    zx_memory memory;
+    struct stat found;
+    if (wanted > held->len && (fstat(held->file, &found) != 0 || !allot(held->file, &found, wanted))) {
+        zx_code code = fault(file);
+        cut(held->file, size);
+        return code;
+    }
+    zx_detach(&file->segment, &memory);
+    pthread_mutex_lock(&guard);
+    void *at = mremap(held->at, held->len, wanted, MREMAP_MAYMOVE);
+    bool is_done = at != MAP_FAILED;
+    int error = errno;
+    if (is_done) {
+        held->at = at;
+        held->len = wanted;
+    }
+    pthread_mutex_unlock(&guard);
+    zx_code code = attach(file, held, size, ZX_WRITE);
+    if (code == ZX_DONE && !is_done) code = faulty(file, ZX_FILE_FAULT, error);
+    if ((code != ZX_DONE || wanted == size) && !cut(held->file, size) && code == ZX_DONE) code = fault(file);
+    return code;
+}
+
+/* Makes room for an image of so many bytes. */
+static zx_code make_room(zx_file *file, uint64_t wanted) {
+    struct zx_held_file *held = file->held;
+    uint64_t size;
+    if (!held || !held->mapped) return zx_relocate(&file->segment, (wanted + 15) / 16 * 16);
+    zx_code code = held->state == READ ? (zx_code)ZX_SHORT_REGION : zx_size(&file->segment, &size);
+    return code == ZX_DONE ? remap(file, held, size, wanted) : code;
+}
+
+zx_code zx_file_grow(zx_file *file, uint64_t extra) {
+    uint64_t size;
+    file->error = 0;
+    zx_code code = zx_grow(&file->segment, extra);
+    if (code != ZX_SHORT_REGION) return code;
+    code = zx_size(&file->segment, &size);
+    if (code == ZX_DONE) code = make_room(file, size + extra);
+    return code == ZX_DONE ? zx_grow(&file->segment, extra) : code;
+}
+
+/* Makes a mapped file as short as its segment became by a call, which returned the code. */
+static zx_code fit(zx_file *file, zx_code code) {
+    struct zx_held_file *held = file->held;
+    uint64_t size = 0;
+    if (code == ZX_DONE) code = zx_size(&file->segment, &size);
+    if (code != ZX_DONE || !held || !held->mapped || held->state == READ || size == held->len) return code;
+    return remap(file, held, size, size);
+}
+
+zx_code zx_file_shrink(zx_file *file) {
+    file->error = 0;
+    return fit(file, zx_shrink(&file->segment));
+}
+
+zx_code zx_file_rollback(zx_file *file, zx_segment *before) {
+    uint64_t size;
+    file->error = 0;
+    zx_code code = zx_rollback(&file->segment, before);
+    if (code == ZX_SHORT_REGION) {
+        code = zx_size(before, &size);
+        if (code == ZX_DONE) code = make_room(file, size);
+        if (code == ZX_DONE) code = zx_rollback(&file->segment, before);
+    }
+    return fit(file, code);
+}
+
+zx_code zx_file_flush(zx_file *file) {
+    struct zx_held_file *held = file->held;
+    if (!held || !held->mapped) return zx_file_save(file);
+    file->error = 0;
+    if (held->state == READ) return ZX_READ_ONLY;
+    if (!is_own(held)) return faulty(file, ZX_FILE_FORKED, EPERM);
+    if (msync(held->at, held->len, MS_SYNC) != 0) return fault(file);
+    zx_code code = still_named(file, held);
+    if (code != ZX_DONE) return code;
+    return held->state == UNSYNCED ? sync_name(file, held) : (zx_code)ZX_DONE;
+}

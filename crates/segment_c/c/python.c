@@ -189,8 +189,8 @@ static void *item(void *self, void *key) {
     return PyObject_CallMethod(self, "_item", "(O)", key);
 }
 
-enum { FASTCALL = 0x80, MP_SUBSCRIPT = 5, TP_DEALLOC = 52, TP_METHODS = 64, TP_FREE = 74, BASETYPE = 1 << 10,
-       HAVE_VERSION_TAG = 1 << 18 };
+enum { FASTCALL = 0x80, MP_SUBSCRIPT = 5, TP_DEALLOC = 52, TP_METHODS = 64, TP_FREE = 74, TP_FINALIZE = 80,
+       HAVE_FINALIZE = 1, BASETYPE = 1 << 10, HAVE_VERSION_TAG = 1 << 18 };
 
 static void end(void *self) {
     const struct place *place = self;
@@ -259,7 +259,7 @@ static bool ask_lock(void *self, const char *method) {
 }
 
 /* How often the end of a block is tried, if handlers of signals interrupt it. */
-enum { TRIES = 1000 };
+enum { TRIES = 100000 };
 
 /* Ends a block and releases its lock. A handler of a signal runs where Python code begins, and may raise: then the same
    call of _end continues. The first error stays set. */
@@ -294,12 +294,25 @@ static void *leave(void *self, void *const *passed, intptr_t count) {
     return PyErr_Occurred() ? NULL : shared(_Py_NoneStruct);
 }
 
+/* Before 3.11 Python runs handlers of signals between a `with` and its block, too, so that __exit__ may never be called.
+   Then the object ends here, at once: nothing else refers to it. */
+static void finalize(void *self) {
+    struct block *block = self;
+    struct raised before;
+    PyErr_Fetch(&before.type, &before.value, &before.trace);
+    while (block->depth) {
+        end_block(block, true);
+        PyErr_Clear();
+    }
+    PyErr_Restore(before.type, before.value, before.trace);
+}
+
 void *zx_python_block(void) {
     static struct method methods[] = { { "__enter__", enter, FASTCALL, "Begins a block." },
                                        { "__exit__", leave, FASTCALL, "Ends a block." },
                                        { NULL, NULL, 0, NULL } };
-    static struct slot slots[] = { { TP_METHODS, methods }, { 0, NULL } };
-    static struct class class = { "zaluxhoni._library.Block", sizeof(struct block), 0, BASETYPE | HAVE_VERSION_TAG,
-                                  slots };
+    static struct slot slots[] = { { TP_METHODS, methods }, { TP_FINALIZE, (void *)finalize }, { 0, NULL } };
+    static struct class class = { "zaluxhoni._library.Block", sizeof(struct block), 0,
+                                  BASETYPE | HAVE_VERSION_TAG | HAVE_FINALIZE, slots };
     return is_there() ? PyType_FromSpec(&class) : NULL;
 }

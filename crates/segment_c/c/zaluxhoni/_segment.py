@@ -466,6 +466,8 @@ def _scalar_for(values: Any, key: Any) -> str:
 class _Left:
     """Holds memory for views after their segment is closed."""
 
+    memory = _library.Memory()
+
     def __init__(self) -> None:
         self.memory = _library.Memory()
 

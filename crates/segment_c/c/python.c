@@ -251,7 +251,7 @@ static void keep_first(struct raised *first) {
 
 /* Calls a method of the lock of a block. */
 static bool ask_lock(void *self, const char *method) {
-    void *lock = PyObject_GetAttrString(self, "_lock");
+    void *lock = PyObject_GetAttrString(self, "_held");
     void *answer = lock ? PyObject_CallMethod(lock, method, NULL) : NULL;
     if (lock) Py_DecRef(lock);
     if (answer) Py_DecRef(answer);
@@ -263,12 +263,12 @@ enum { TRIES = 100000 };
 
 /* Ends a block and releases its lock. A handler of a signal runs where Python code begins, and may raise: then the same
    call of _end continues. The first error stays set. */
-static void end_block(struct block *block, bool is_failed) {
+static void end_block(struct block *block, void *raised) {
     struct raised first = { NULL, NULL, NULL };
     void *ended = NULL;
     keep_first(&first);
     for (int tries = 0; !ended && tries < TRIES; tries++) {
-        ended = PyObject_CallMethod(block, "_end", "(Ki)", (unsigned long long)block->depth, (int)is_failed);
+        ended = PyObject_CallMethod(block, "_end", "(KO)", (unsigned long long)block->depth, raised);
         if (!ended) keep_first(&first);
     }
     if (ended) Py_DecRef(ended);
@@ -284,13 +284,13 @@ static void *enter(void *self, void *const *passed, intptr_t count) {
     if (!ask_lock(self, "acquire")) return NULL;
     block->depth++;
     void *within = PyObject_CallMethod(self, "_begin", NULL);
-    if (!within) end_block(block, true);
+    if (!within) end_block(block, _Py_TrueStruct);
     return within;
 }
 
 static void *leave(void *self, void *const *passed, intptr_t count) {
     struct block *block = self;
-    if (block->depth) end_block(block, count > 0 && passed[0] != _Py_NoneStruct);
+    if (block->depth) end_block(block, count > 1 && passed[0] != _Py_NoneStruct ? passed[1] : _Py_NoneStruct);
     return PyErr_Occurred() ? NULL : shared(_Py_NoneStruct);
 }
 
@@ -301,7 +301,7 @@ static void finalize(void *self) {
     struct raised before;
     PyErr_Fetch(&before.type, &before.value, &before.trace);
     while (block->depth) {
-        end_block(block, true);
+        end_block(block, _Py_TrueStruct);
         PyErr_Clear();
     }
     PyErr_Restore(before.type, before.value, before.trace);

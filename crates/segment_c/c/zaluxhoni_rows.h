@@ -58,10 +58,11 @@ bool zx_python_place(void *object, zx_segment *segment, const zx_key *key, uint3
                      void *owner);
 
 /* Returns a Python class for others to derive from, whose instances are blocks of `with`; null without CPython. To
-   enter one calls object._lock.acquire(), then object._begin(), whose answer is that of the block. To leave one calls
-   object._end(depth, is_failed), then object._lock.release(); `depth` is how often the object is entered. If the
-   handler of a signal raises in _begin or _end, _end is called until it returns, so that no lock and no half of a block
-   stays behind; then that error is raised. An object that ends while it is entered is left as by an error. */
+   enter one calls object._held.acquire(), then object._begin(), whose answer is that of the block. To leave one calls
+   object._end(depth, raised), then object._held.release(); `depth` is how often the object is entered, and `raised` the
+   exception that leaves the block, None, or True if _begin raised. If the handler of a signal raises in _begin or _end,
+   _end is called until it returns, so that no lock and no half of a block stays behind; then that error is raised. An
+   object that ends while it is entered is left as if _begin had raised. */
 void *zx_python_block(void);
 
 /* Copies the first `count` values of a Python list into a row of a scalar kind, and tells whether each was of the kind:

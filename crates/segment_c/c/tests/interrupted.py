@@ -1,9 +1,12 @@
 """interrupted.py [SECONDS [SEED]]: a timer interrupts a program at any instruction, and its handler raises. However
 often that happens, a transaction is whole, no lock is held, and no view is lent that is gone."""
 import gc
+import io
+import os
 import random
 import signal
 import sys
+import tempfile
 import threading
 import time
 
@@ -69,6 +72,37 @@ def look(s):
 def grow(s):
     s["free"].append(1)
     s["map"][len(s["free"])] = 1
+
+
+def discard(path):
+    with zaluxhoni.open(path, "w") as s:
+        s["a"] += 1
+        raise KeyError
+
+
+def close(path):
+    with zaluxhoni.open(path, "w") as s:
+        s["a"] += 1
+        s["b"] += 1
+
+
+def run_files():
+    """A block that failed saves nothing, and one that ended all, also where it is interrupted again at its end."""
+    path = os.path.join(tempfile.mkdtemp(), "interrupted.seg")
+    with zaluxhoni.open(path, "x", size=1024) as s:
+        s["a"] = s["b"] = 0
+    until = time.monotonic() + seconds / 4
+    while time.monotonic() < until:
+        before = sys.stderr
+        sys.stderr = io.StringIO()
+        call = chance.choice((discard, close))
+        interrupted(call, path)
+        gc.collect()
+        sys.stderr = before
+        with zaluxhoni.open(path, "r") as s:
+            same(s["a"], s["b"], f"what {call.__name__} left of a file")
+        with zaluxhoni.open(path, "w") as s:
+            s["n"] = 1
 
 
 def is_free(lock):
@@ -139,6 +173,7 @@ signal.signal(signal.SIGALRM, interrupt)
 run(False)
 # before 3.11 handlers run between a lock that `with` took and its block, too
 run(sys.version_info >= (3, 11))
+run_files()
 if raised < 20:
     wrong += 1
     print(f"interrupted.py: WRONG, it was interrupted {raised} times")

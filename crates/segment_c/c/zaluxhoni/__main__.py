@@ -3,7 +3,7 @@ value. Objects without a name have the key that finds them."""
 from __future__ import annotations
 
 import sys
-from typing import Iterator, List
+from typing import Iterator, List, Union
 
 import zaluxhoni
 from zaluxhoni._errors import shown
@@ -11,8 +11,9 @@ from zaluxhoni._errors import shown
 
 def lines_of(segment: zaluxhoni.Segment) -> Iterator[str]:
     """Goes over the objects with names, then over those that are the only ones of their kind."""
-    keys: List[zaluxhoni.ObjectKey] = [zaluxhoni.unique(info.kind) for info in segment.unique()]
-    for key in [*segment, *keys]:
+    keys: List[Union[str, zaluxhoni.ObjectKey]] = [*segment]
+    keys += [zaluxhoni.unique(info.kind) for info in segment.unique()]
+    for key in keys:
         info, value = segment.info(key), segment[key]
         kind = info.kind if info.count == 1 else f"{info.kind}[{info.count}]"
         front = value._front() if isinstance(value, zaluxhoni.Object) else shown(value)

@@ -376,7 +376,8 @@ def file_error_of(code: int, file: _library.File, path: Any) -> Error:
 
 def _file_error(kind: Type[FileError], number: Optional[int], path: Any) -> FileError:
     """Returns the error of a file; a FileFault is also of Python's class for its errno."""
-    known: Any = type(OSError(number, ""))
+    known, made = type(OSError(number, "")), kind  # type: Any, Any
     if kind is FileFault and known is not OSError:
-        kind = type("FileFault", (FileFault, known), {"__module__": FileFault.__module__})
-    return kind(number, path)
+        made = type("FileFault", (FileFault, known), {"__module__": FileFault.__module__})
+    error: FileError = made(number, path)
+    return error

@@ -165,29 +165,29 @@ if TYPE_CHECKING or not HAS_PYTHON:
         """Replaces the class of zx_python_block if the library makes none. A signal handler that raises at the start
         of `__exit__` leaves the block open."""
         __slots__ = ("_depth",)
-        _lock: Any
+        _held: Any
         _depth: int
 
         def __enter__(self) -> Any:
-            self._lock.acquire()
+            self._held.acquire()
             self._depth = getattr(self, "_depth", 0) + 1
             try:
                 return self._begin()
             except BaseException:
-                self.__exit__(BaseException)
+                self.__exit__(BaseException, True)
                 raise
 
-        def __exit__(self, kind: Any, *_: Any) -> None:
+        def __exit__(self, kind: Any, raised: Any = None, *_: Any) -> None:
             try:
-                self._end(self._depth, kind is not None)
+                self._end(self._depth, None if kind is None else raised)
             finally:
                 self._depth -= 1
-                self._lock.release()
+                self._held.release()
 
         def _begin(self) -> Any:
             raise NotImplementedError
 
-        def _end(self, depth: int, is_failed: bool) -> None:
+        def _end(self, depth: int, raised: Any) -> None:
             raise NotImplementedError
 
     class Place:

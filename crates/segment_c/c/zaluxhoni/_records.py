@@ -287,8 +287,10 @@ class Records(MutableSequence[Any]):
         """Applies an operator to two lists."""
         if not isinstance(other, (list, Records)):
             return NotImplemented
-        lists = [list(each) for each in (self, other)]
-        return operation(*([list(map(self._plain, each)) for each in lists] if plain else lists))
+        own, others = self._all(), list(other)
+        if plain:
+            own, others = list(map(self._plain, own)), list(map(self._plain, others))
+        return operation(own, others)
 
     def __eq__(self, other: object) -> Any:
         return self._with(operator.eq, other)

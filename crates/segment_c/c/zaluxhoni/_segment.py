@@ -475,13 +475,16 @@ class _Left:
         _library.free(self.memory.at)
 
 
-class Segment(_Named):
+class Segment(_Named, _library.Block):
     """A segment, used as a mapping from names to objects, in the order of the names' bytes. `open`, `create` and `load`
     make one."""
     __slots__ = ("_file", "_handle", "_prefix", "_thread_number", "_may_ask", "_opener", "_thread", "_process",
                  "_changes_at_fork", "_is_told", "_lock", "_changes", "_lent", "_any_name", "_was_lent", "_left",
-                 "_path", "_is_mapped", "_classes", "_steps", "_task", "_restored", "growing", "encoding",
-                 "__weakref__")
+                 "_path", "_is_mapped", "_classes", "_steps", "_task", "_restored", "_held", "_was_refused", "growing",
+                 "encoding", "__weakref__")
+    if TYPE_CHECKING:
+        def __enter__(self) -> Segment:
+            raise NotImplementedError
 
     def __init__(self, *, grow: bool = False, encoding: Optional[str] = "utf-8",
                  check_same_thread: bool = True) -> None:
@@ -500,6 +503,8 @@ class Segment(_Named):
         self._steps: List[_library.Handle] = []
         self._task: Any = None
         self._restored: Optional[Tuple[bytes, int, int]] = None
+        # its `with` block holds nothing that others wait for
+        self._held, self._was_refused = threading.RLock(), False
         self._any_name = ctypes.create_string_buffer(_LONGEST_NAME)
         self._was_lent, self._left = False, []  # type: Tuple[bool, List[_Left]]
         self._path: Any = None
@@ -805,16 +810,25 @@ class Segment(_Named):
         """Whether the segment is open."""
         return bool(self._handle.at)
 
-    def __enter__(self) -> Segment:
+    def _begin(self) -> Segment:
         if not self.is_open:
             raise self._error(_CLOSED)
+        self._was_refused = False
         return self
 
-    def __exit__(self, kind: Any, raised: Any = None, *_: Any) -> None:
-        if kind is None or isinstance(raised, SystemExit) and (raised.code is None or raised.code == 0):
-            self.close()
-        else:
-            self.discard()
+    def _end(self, depth: int, raised: Any) -> None:
+        """Closes or discards it behind its `with` block. If the handler of a signal interrupts it, the same call
+        continues; what the library refused is not tried again."""
+        if raised is True or self._was_refused:
+            return
+        try:
+            if raised is None or isinstance(raised, SystemExit) and (raised.code is None or raised.code == 0):
+                self.close()
+            else:
+                self.discard()
+        except Error:
+            self._was_refused = True
+            raise
 
     def __del__(self) -> None:
         # nobody else uses it any more, whatever thread this is
@@ -998,13 +1012,13 @@ class _NoName:
 
 class Transaction(_library.Block):
     """Several calls as one step. `Segment.transaction` makes one."""
-    __slots__ = ("_segment", "_lock", "_copies", "_was_refused")
+    __slots__ = ("_segment", "_held", "_copies", "_was_refused")
     if TYPE_CHECKING:
         def __enter__(self) -> Segment:
             raise NotImplementedError
 
     def __init__(self, segment: Segment) -> None:
-        self._segment, self._lock = segment, segment._lock
+        self._segment, self._held = segment, segment._lock
         self._copies: List[_library.Handle] = []
         self._was_refused = False
 
@@ -1017,13 +1031,13 @@ class Transaction(_library.Block):
             segment._call(zx.zx_begin, before)
         return segment
 
-    def _end(self, depth: int, is_failed: bool) -> None:
+    def _end(self, depth: int, raised: Any) -> None:
         """Ends the block that is so deep. If the handler of a signal interrupts it, the same call continues."""
         if len(self._copies) < depth:
             return
         segment, before = self._segment, self._copies[depth - 1]
         is_open = segment.is_open or segment._restored is not None
-        if is_failed and before.at and is_open and not self._was_refused:
+        if raised is not None and before.at and is_open and not self._was_refused:
             try:
                 segment._roll_back(before)
             except Error:

@@ -1636,6 +1636,12 @@ def records_of_other_packages():
     v.extend(Series([1, 2], Dtype(8, [])))
     v.assign(Series([3, 4], Dtype(8, [])))
     same(list(v), [3, 4])
+    s["new"], s["texts"], s["none"] = Series([1, 2], "int32"), Series(["a", "b"], "object"), Series([], "u8")
+    same([(s.info(name).kind, list(s[name])) for name in ("new", "texts", "none")],
+         [("vec<i32>", [1, 2]), ("vec<string>", ["a", "b"]), ("vec<i64>", [])])
+    s["new"], s["texts"] = Series([3], "int64"), Series(["c"], "object")
+    same((list(s["new"]), list(s["texts"])), ([3], ["c"]))
+    raises(zaluxhoni.WrongKind, set_item, s, "floats", Series([1.5], "float64"))
 
 
 def records_as_list_are_one():

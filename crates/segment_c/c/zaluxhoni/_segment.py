@@ -439,7 +439,7 @@ def _kind_for(value: Any, key: Any) -> str:
     if isinstance(value, collections.abc.Mapping):
         return f"map<{_scalar_for(value.keys(), key)},{_scalar_for(value.values(), key)}>"
     if isinstance(value, collections.abc.Sequence) or hasattr(value, "tolist") and getattr(value, "ndim", True):
-        if len(value) and isinstance(value[0], TEXTS):
+        if isinstance(next(iter(value), None), TEXTS):
             return "vec<string>"
         return f"vec<{_scalar_for(value, key)}>"
     if isinstance(value, collections.abc.Iterable):

@@ -1490,6 +1490,14 @@ def the_end_of_the_process():
     # what its program has saved or discarded is not touched
     same(kept_by("s['a'] = 2; s.discard()"), (0, {"a": 1}))
     same(kept_by("s['a'] = 2; s.close()"), (0, {"a": 2}))
+    # what saves nothing has nothing to say
+    for mode in "rp":
+        for mapped in (False, True):
+            opens = f"s = zaluxhoni.open(sys.argv[1], '{mode}', mapped={mapped})"
+            same(kept_by(f"s.close(); {opens}"), (0, {"a": 1}))
+            same(kept_by(f"s.close(); {opens}; del s"), (0, {"a": 1}))
+    same(kept_by("s.close(); s = zaluxhoni.open(sys.argv[1], 'w', mapped=True); s['a'] = 2"), (0, {"a": 2}))
+    same(kept_by("s.close(); s = zaluxhoni.create(1024); s['a'] = 2"), (0, {"a": 1}))
     # what is no whole step is not saved
     same(kept_by("t = s.transaction(); t.__enter__(); s['a'] = 2", "not saved", "transaction"), (0, {"a": 1}))
     same(kept_by("def go():\n with s.transaction():\n  s['a'] = 2; yield\ng = go(); next(g); s = None; del g"),

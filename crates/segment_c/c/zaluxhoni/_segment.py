@@ -734,6 +734,7 @@ class Segment(_Named, _library.Block):
         image_before, capacity, mode = self._restored
         if self.is_open:
             self._leave_memory()
+        self._lent.clear()
         self._call(zx.zx_open, image_before, len(image_before), capacity, mode)
         self._restored = None
 
@@ -802,8 +803,8 @@ class Segment(_Named, _library.Block):
         """Closes the segment, and leaves its memory to the views that exist."""
         left = _Left()
         self._left.append(left)
-        self._lent.clear()
         self._call(zx.zx_detach, left.memory)
+        self._lent.clear()
 
     @property
     def is_open(self) -> bool:
@@ -833,7 +834,7 @@ class Segment(_Named, _library.Block):
     def __del__(self) -> None:
         # nobody else uses it any more, whatever thread this is
         file = getattr(self, "_file", None)
-        if file is None or not (self._handle.at or file.held):
+        if file is None or not (file.segment.at or file.held):
             return
         try:
             if self._end_unclosed(True):
@@ -845,7 +846,9 @@ class Segment(_Named, _library.Block):
     def _end_unclosed(self, is_alone: bool) -> bool:
         """Saves and closes a segment that nobody closed, if it is whole, and tells whether it did. Otherwise it says on
         standard error that it is not saved. `is_alone`: no other thread can use it."""
-        if not self._file.held or self._is_told:
+        mode = ctypes.c_uint32()
+        zx.zx_mode(self._handle, mode)
+        if not self._file.held or mode.value != MODES["w"] or self._is_told:
             return False
         if self._process != os.getpid():
             is_changed = self._changes != self._changes_at_fork
@@ -1053,7 +1056,7 @@ def _task_here() -> Any:
     asyncio = sys.modules.get("asyncio")
     try:
         return None if asyncio is None else asyncio.current_task()
-    except RuntimeError:
+    except (AttributeError, RuntimeError):
         return None
 
 

@@ -76,6 +76,8 @@ def arrays_as_elements():
     m[numpy.int64(5)] = numpy.uint8(6)
     m.update(zip(numpy.arange(3), numpy.arange(3)))
     same((m[5], m[numpy.int16(5)], m.copy()), (6, 6, {0: 0, 1: 1, 2: 2, 5: 6}))
+    pairs = numpy.fromiter(m.items(), "i8,i8")
+    same((pairs["f0"].tolist(), pairs["f1"].tolist()), ([0, 1, 2, 5], [0, 1, 2, 6]))
 
 
 def elements_as_arrays():

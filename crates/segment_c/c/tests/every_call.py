@@ -1573,6 +1573,11 @@ def errors_are_copied():
                  (error.__class__.__mro__[1:], str(error), error.args))
             for name in ("errno", "filename", "place", "code", "wanted", "free"):
                 same(getattr(made, name, None), getattr(error, name, None))
+    # a pool does not wait for ever for an error that it cannot read
+    said = program("import multiprocessing\ndef go(path): zaluxhoni.open(path, 'r')\nwith multiprocessing.get_context("
+                   "'fork').Pool(1) as pool:\n try: pool.apply_async(go, [sys.argv[1]]).get(20)\n except "
+                   "zaluxhoni.FileMissing as error: print(error.filename)", "/nowhere/at all")
+    same(said, (0, "/nowhere/at all\n", ""))
     for key in (unique("map<i32,bool>"), handle(144)):
         for made in (pickle.loads(pickle.dumps(key)), copy.copy(key), copy.deepcopy(key)):
             same((made == key, repr(made), made._key.kind, made._key.handle),

@@ -2,6 +2,7 @@
 value. Objects without a name have the key that finds them."""
 from __future__ import annotations
 
+import io
 import sys
 from typing import Iterator, List, Union
 
@@ -25,6 +26,8 @@ def main(paths: List[str]) -> int:
         print("usage: python -m zaluxhoni FILE..", file=sys.stderr)
         return 2
     status = 0
+    if isinstance(sys.stdout, io.TextIOWrapper):
+        sys.stdout.reconfigure(errors="backslashreplace")
     for path in paths:
         try:
             with zaluxhoni.open(path, "r") as segment:

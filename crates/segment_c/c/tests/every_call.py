@@ -1575,7 +1575,7 @@ def errors_are_copied():
                 same(getattr(made, name, None), getattr(error, name, None))
     # a pool does not wait for ever for an error that it cannot read
     said = program("import multiprocessing\ndef go(path): zaluxhoni.open(path, 'r')\nwith multiprocessing.get_context("
-                   "'fork').Pool(1) as pool:\n try: pool.apply_async(go, [sys.argv[1]]).get(20)\n except "
+                   "'fork').Pool(1) as pool:\n try: pool.apply_async(go, [sys.argv[1]]).get(60)\n except "
                    "zaluxhoni.FileMissing as error: print(error.filename)", "/nowhere/at all")
     same(said, (0, "/nowhere/at all\n", ""))
     for key in (unique("map<i32,bool>"), handle(144)):
@@ -1901,12 +1901,11 @@ def no_space_says_more():
 def a_wait_for_the_writer():
     path = new("waited")
     s = zaluxhoni.open(path, "x", size=1024)
-    start = time.monotonic()
     for timeout in (None, 0, 0.0):
         raises(zaluxhoni.FileInUse, zaluxhoni.open, path, "w", timeout=timeout)
-    same(time.monotonic() - start < 0.3, True)
+    start = time.monotonic()
     raises(zaluxhoni.FileInUse, zaluxhoni.open, path, "w", timeout=0.4)
-    same(0.4 <= time.monotonic() - start < 5, True)
+    same(0.4 <= time.monotonic() - start < 30, True)
     s["a"] = 5
     waits = "with zaluxhoni.open(sys.argv[1], 'w', timeout=60) as s: s['a'] += 1"
     other = subprocess.Popen([sys.executable, "-c", f"import sys, zaluxhoni\nprint('here', flush=True)\n{waits}", path],

@@ -294,8 +294,8 @@ static void *leave(void *self, void *const *passed, intptr_t count) {
     return PyErr_Occurred() ? NULL : shared(_Py_NoneStruct);
 }
 
-/* Before 3.11 Python runs handlers of signals between a `with` and its block, too, so that __exit__ may never be called.
-   Then the object ends here, at once: nothing else refers to it. */
+/* Before 3.11 Python also runs handlers of signals between a `with` and its block, so that nobody calls __exit__. Then
+   the object ends at once, since nothing else refers to it. */
 static void finalize(void *self) {
     struct block *block = self;
     struct raised before;

@@ -152,7 +152,8 @@ def records():
     raises(zaluxhoni.WrongKind, s.records, "objects", numpy.dtype("O"))
     # they are compared as tuples
     del a
-    same((points == [(0.5, 1), (2.5, 3), (3.5, 4)], points == [(0.5, 1)], points != points.copy()), (True, False, False))
+    same((points == [(0.5, 1), (2.5, 3), (3.5, 4)], points == [(0.5, 1)], points != points.copy()),
+         (True, False, False))
     same(((2.5, 3) in points, (2.5, 4) in points, points.index((3.5, 4)), points.count((9.0, 9))), (True, False, 2, 0))
     same((points < [(1.0, 0)], points.copy() == points), (True, True))
     raises(zaluxhoni.NoElement, points.remove, (9.0, 9))

@@ -37,6 +37,9 @@ PYTHON unsigned long long PyLong_AsUnsignedLongLong(void *object);
 PYTHON void *PyList_GetItem(void *list, intptr_t index);
 PYTHON void *PyErr_Occurred(void);
 PYTHON void PyErr_Clear(void);
+PYTHON void PyErr_Fetch(void **type, void **value, void **trace);
+PYTHON void PyErr_Restore(void *type, void *value, void *trace);
+PYTHON void *PyObject_GetAttrString(void *object, const char *name);
 PYTHON void *PyObject_CallMethod(void *object, const char *name, const char *form, ...);
 PYTHON void *PyType_FromSpec(struct class *class);
 PYTHON void *PyType_GetSlot(void *type, int number);
@@ -129,7 +132,7 @@ bool zx_python_row(void *list, uint32_t kind, void *row, size_t count) {
 struct place {
     void *count, *type; /* as each object begins */
     zx_segment *segment; /* null before zx_python_place */
-    uint64_t thread;
+    const uint64_t *thread;
     zx_key key;
     uint32_t kind;
     void *owner;
@@ -173,7 +176,7 @@ static void *at(void *self, void *const *passed, intptr_t count) {
         if (!none) return NULL;
         Py_DecRef(none);
     }
-    bool is_here = place->segment && (!place->thread || place->thread == zx_thread());
+    bool is_here = place->segment && (!*place->thread || *place->thread == zx_thread());
     if (!is_here || place->kind >= ZX_STRINGS || count < 1 || count > 2) return shared(_Py_NoneStruct);
     bool is_map = place->kind >= ZX_MAP(0, 0);
     return (is_map ? at_key : at_index)(place, passed, count == 2);
@@ -186,8 +189,8 @@ static void *item(void *self, void *key) {
     return PyObject_CallMethod(self, "_item", "(O)", key);
 }
 
-enum { FASTCALL = 0x80, MP_SUBSCRIPT = 5, TP_DEALLOC = 52, TP_METHODS = 64, TP_FREE = 74, BASETYPE = 1 << 10,
-       HAVE_VERSION_TAG = 1 << 18 };
+enum { FASTCALL = 0x80, MP_SUBSCRIPT = 5, TP_DEALLOC = 52, TP_METHODS = 64, TP_FREE = 74, TP_FINALIZE = 80,
+       HAVE_FINALIZE = 1, BASETYPE = 1 << 10, HAVE_VERSION_TAG = 1 << 18 };
 
 static void end(void *self) {
     const struct place *place = self;
@@ -208,7 +211,7 @@ void *zx_python_class(void) {
     return is_there() ? PyType_FromSpec(&class) : NULL;
 }
 
-bool zx_python_place(void *object, zx_segment *segment, const zx_key *key, uint32_t kind, uint64_t thread,
+bool zx_python_place(void *object, zx_segment *segment, const zx_key *key, uint32_t kind, const uint64_t *thread,
                      void *owner) {
     struct place *place = object;
     if (!is_there() || place->segment) return false;
@@ -218,4 +221,98 @@ bool zx_python_place(void *object, zx_segment *segment, const zx_key *key, uint3
     place->owner = shared(owner);
     place->segment = segment;
     return true;
+}
+
+/* ---- blocks */
+
+/* An object of the class of blocks. */
+struct block {
+    void *count, *type;
+    uint64_t depth; /* how often it is entered */
+};
+
+/* What is raised and not caught yet, or three nulls. */
+struct raised {
+    void *type, *value, *trace;
+};
+
+/* Takes the error that is set, unless there is an earlier one. */
+static void keep_first(struct raised *first) {
+    struct raised now;
+    PyErr_Fetch(&now.type, &now.value, &now.trace);
+    if (!first->type) {
+        *first = now;
+        return;
+    }
+    if (now.type) Py_DecRef(now.type);
+    if (now.value) Py_DecRef(now.value);
+    if (now.trace) Py_DecRef(now.trace);
+}
+
+/* Calls a method of the lock of a block. */
+static bool ask_lock(void *self, const char *method) {
+    void *lock = PyObject_GetAttrString(self, "_held");
+    void *answer = lock ? PyObject_CallMethod(lock, method, NULL) : NULL;
+    if (lock) Py_DecRef(lock);
+    if (answer) Py_DecRef(answer);
+    return answer != NULL;
+}
+
+/* How often the end of a block is tried, if handlers of signals interrupt it. */
+enum { TRIES = 100000 };
+
+/* Ends a block and releases its lock. A handler of a signal runs where Python code begins, and may raise: then the same
+   call of _end continues. The first error stays set. */
+static void end_block(struct block *block, void *raised) {
+    struct raised first = { NULL, NULL, NULL };
+    void *ended = NULL;
+    keep_first(&first);
+    for (int tries = 0; !ended && tries < TRIES; tries++) {
+        ended = PyObject_CallMethod(block, "_end", "(KO)", (unsigned long long)block->depth, raised);
+        if (!ended) keep_first(&first);
+    }
+    if (ended) Py_DecRef(ended);
+    block->depth--;
+    if (!ask_lock(block, "release")) keep_first(&first);
+    if (first.type) PyErr_Restore(first.type, first.value, first.trace);
+}
+
+static void *enter(void *self, void *const *passed, intptr_t count) {
+    (void)passed;
+    (void)count;
+    struct block *block = self;
+    if (!ask_lock(self, "acquire")) return NULL;
+    block->depth++;
+    void *within = PyObject_CallMethod(self, "_begin", NULL);
+    if (!within) end_block(block, _Py_TrueStruct);
+    return within;
+}
+
+static void *leave(void *self, void *const *passed, intptr_t count) {
+    struct block *block = self;
+    if (block->depth) end_block(block, count > 1 && passed[0] != _Py_NoneStruct ? passed[1] : _Py_NoneStruct);
+    return PyErr_Occurred() ? NULL : shared(_Py_NoneStruct);
+}
+
+/* Before 3.11 Python also runs handlers of signals between a `with` and its block, so that nobody calls __exit__. Then
+   the object ends at once, since nothing else refers to it. */
+static void finalize(void *self) {
+    struct block *block = self;
+    struct raised before;
+    PyErr_Fetch(&before.type, &before.value, &before.trace);
+    while (block->depth) {
+        end_block(block, _Py_TrueStruct);
+        PyErr_Clear();
+    }
+    PyErr_Restore(before.type, before.value, before.trace);
+}
+
+void *zx_python_block(void) {
+    static struct method methods[] = { { "__enter__", enter, FASTCALL, "Begins a block." },
+                                       { "__exit__", leave, FASTCALL, "Ends a block." },
+                                       { NULL, NULL, 0, NULL } };
+    static struct slot slots[] = { { TP_METHODS, methods }, { TP_FINALIZE, (void *)finalize }, { 0, NULL } };
+    static struct class class = { "zaluxhoni._library.Block", sizeof(struct block), 0,
+                                  BASETYPE | HAVE_VERSION_TAG | HAVE_FINALIZE, slots };
+    return is_there() ? PyType_FromSpec(&class) : NULL;
 }

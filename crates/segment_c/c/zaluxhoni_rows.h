@@ -50,10 +50,20 @@ uint64_t zx_thread(void);
    object._at(place), or object._item(place) if that is None. The first of them calls object._start(), which calls
    zx_python_place. */
 void *zx_python_class(void);
-/* Says, once, which object of which segment such an instance stands for. The instance keeps `owner`, so segment and
-   name must live as long as `owner`. `kind` is the kind of the object, and `thread` the zx_thread of the thread that
-   may ask, or 0 for any. False if it was said before, and without CPython. */
-bool zx_python_place(void *object, zx_segment *segment, const zx_key *key, uint32_t kind, uint64_t thread, void *owner);
+/* Says, once, which object of which segment such an instance stands for. The instance keeps `owner`, so segment, name
+   and `thread` must live as long as `owner`. `kind` is the kind of the object. `thread` is the zx_thread of the thread
+   that may ask, 0 for any, or UINT64_MAX for none; it is read again in each call. False if it was said before, and
+   without CPython. */
+bool zx_python_place(void *object, zx_segment *segment, const zx_key *key, uint32_t kind, const uint64_t *thread,
+                     void *owner);
+
+/* Returns a Python class for others to derive from, whose instances are blocks of `with`; null without CPython. To
+   enter one calls object._held.acquire(), then object._begin(), whose answer is that of the block. To leave one calls
+   object._end(depth, raised), then object._held.release(); `depth` is how often the object is entered, and `raised` the
+   exception that leaves the block, None, or True if _begin raised. If the handler of a signal raises in _begin or _end,
+   _end is called until it returns, so that no lock and no half of a block stays behind; then that error is raised. An
+   object that ends while it is entered is left as if _begin had raised. */
+void *zx_python_block(void);
 
 /* Copies the first `count` values of a Python list into a row of a scalar kind, and tells whether each was of the kind:
    an int, or a bool for a bool. False without CPython. */

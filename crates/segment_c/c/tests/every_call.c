@@ -1305,7 +1305,8 @@ static void without_python(void) {
     uint64_t here = zx_thread();
     IS(here > 0 && here == zx_thread(), true);
     IS(zx_python_class() == NULL, true);
-    IS(zx_python_place(&s, &s, &v, ZX_VECTOR(ZX_I64), here, &s), false);
+    IS(zx_python_place(&s, &s, &v, ZX_VECTOR(ZX_I64), &here, &s), false);
+    IS(zx_python_block() == NULL, true);
     IS(zx_python_row(&s, ZX_U8, row, 1), false);
     IS(row[0], 7);
 }

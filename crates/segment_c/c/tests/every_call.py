@@ -1,5 +1,6 @@
 """Every call of the package zaluxhoni, and by it each of zaluxhoni.h, on the worked examples of docs/LANGUAGE.md,
 section 11, and on what is raised. The files that it makes are in the folder that is its one argument."""
+import asyncio
 import copy
 import ctypes
 import gc
@@ -8,8 +9,11 @@ import os
 import pickle
 import resource
 import signal
+import struct
+import subprocess
 import sys
 import threading
+import time
 import warnings
 
 import zaluxhoni
@@ -685,7 +689,8 @@ def values_of_one_kind_alone():
     s = zaluxhoni.create(4096)
     s["n"], s["v"], s["t"], s["m"], s["text"] = 5, [1, 2], ["a"], {1: 2}, "x"
     s.construct("vec<u8>", "bytes", [1])
-    for name, refused in (("n", b"A"), ("n", "A"), ("n", {5: 6}), ("n", {5}), ("n", 5.0), ("n", None), ("v", {7: 8}),
+    for name, refused in (("n", b"A"), ("n", "A"), ("n", {5: 6}), ("n", {5}), ("n", 5.0), ("n", None), ("n", [6]),
+                          ("v", {7: 8}),
                           ("v", {1, 2}),
                           ("v", b"ab"), ("v", "ab"), ("v", 5), ("v", ["a"]), ("t", {"a": 1}), ("t", {"a"}),
                           ("t", "ab"), ("t", 5),
@@ -696,7 +701,7 @@ def values_of_one_kind_alone():
         raises(zaluxhoni.WrongKind, set_item, s, name, refused)
     same(all_of(s), {"bytes": [1], "m": {1: 2}, "n": 5, "t": ["a"], "text": "x", "v": [1, 2]})
     s["bytes"] = b"ab"
-    s["n"] = [6]
+    s["n"] = 6
     s["v"] = (3, 4)
     s["text"] = bytearray(b"y")
     same(all_of(s), {"bytes": [97, 98], "m": {1: 2}, "n": 6, "t": ["a"], "text": "y", "v": [3, 4]})
@@ -1309,6 +1314,13 @@ def a_process_that_forks():
 
     same(forked(add), "6")
     same(add(), 7)
+    # of a mapped file a child has nothing
+    s = zaluxhoni.open(path, "w", mapped=True)
+    v = s.vector("v")
+    for call in (lambda: s["a"], lambda: set_item(s, "a", 8), lambda: v.append(1), lambda: v[0], lambda: len(v), s.save,
+                 s.flush, lambda: s.grow(64)):
+        same(forked(lambda: name_of_error(call)), "FileForked")
+    s.close()
 
 
 def a_relative_path():
@@ -1434,6 +1446,7 @@ def what_is_read_again():
 
 
 def what_is_not_closed():
+    """A segment that is collected while it is open is saved, and a warning says so."""
     path = new("dropped")
     with warnings.catch_warnings(record=True) as caught:
         warnings.simplefilter("always")
@@ -1442,7 +1455,536 @@ def what_is_not_closed():
         del s
         gc.collect()
     same([warning.category for warning in caught], [ResourceWarning])
-    same(os.path.exists(path), False)
+    with zaluxhoni.open(path, "r") as s:
+        same(s["a"], 5)
+
+
+def program(text, *arguments):
+    """The status, the output and the errors of a program of Python, after it has imported this package."""
+    ran = subprocess.run([sys.executable, "-c", f"import os, sys, threading, time, zaluxhoni\n{text}", *arguments],
+                         capture_output=True, text=True)
+    return ran.returncode, ran.stdout, ran.stderr
+
+
+def kept_by(text, *words):
+    """What is in the file behind a program that opened it as `s`, and the words that its errors have."""
+    path = new("ended")
+    with zaluxhoni.open(path, "x", size=4096) as s:
+        s["a"] = 1
+    status, _, errors = program(f"s = zaluxhoni.open(sys.argv[1], 'w')\n{text}", path)
+    for word in words:
+        same((word, word in errors, errors), (word, True, errors))
+    if not words:
+        same(errors, "")
+    with zaluxhoni.open(path, "r") as s:
+        return status, all_of(s)
+
+
+def the_end_of_the_process():
+    same(kept_by("s['a'] = 2"), (0, {"a": 2}))
+    same(kept_by("s['a'] = 2; sys.exit(0)"), (0, {"a": 2}))
+    same(kept_by("s['a'] = 2; sys.exit(3)"), (3, {"a": 2}))
+    same(kept_by("s['a'] = 2; raise KeyError", "KeyError"), (1, {"a": 2}))
+    same(kept_by("view = s.vector('v').view(); s['a'] = 2"), (0, {"a": 2, "v": []}))
+    same(kept_by("s['v'] = [1]; view = s['v'].view(); view[0] = 7"), (0, {"a": 1, "v": [7]}))
+    # what its program has saved or discarded is not touched
+    same(kept_by("s['a'] = 2; s.discard()"), (0, {"a": 1}))
+    same(kept_by("s['a'] = 2; s.close()"), (0, {"a": 2}))
+    # what saves nothing has nothing to say
+    for mode in "rp":
+        for mapped in (False, True):
+            opens = f"s = zaluxhoni.open(sys.argv[1], '{mode}', mapped={mapped})"
+            same(kept_by(f"s.close(); {opens}"), (0, {"a": 1}))
+            same(kept_by(f"s.close(); {opens}; del s"), (0, {"a": 1}))
+    same(kept_by("s.close(); s = zaluxhoni.open(sys.argv[1], 'w', mapped=True); s['a'] = 2"), (0, {"a": 2}))
+    same(kept_by("s.close(); s = zaluxhoni.create(1024); s['a'] = 2"), (0, {"a": 1}))
+    # what is no whole step is not saved
+    same(kept_by("t = s.transaction(); t.__enter__(); s['a'] = 2", "not saved", "transaction"), (0, {"a": 1}))
+    same(kept_by("def go():\n with s.transaction():\n  s['a'] = 2; yield\ng = go(); next(g); s = None; del g"),
+         (0, {"a": 1}))
+    # a thread that still runs may be within a call
+    same(kept_by("s.close()\ndef go():\n global s\n s = zaluxhoni.open(sys.argv[1], 'w'); s['a'] = 2; ready.set()\n"
+                 " time.sleep(60)\nready = threading.Event()\nthreading.Thread(target=go, daemon=True).start()\n"
+                 "ready.wait()", "not saved", "thread"), (0, {"a": 1}))
+    same(kept_by("s.close()\ndef go():\n global s\n s = zaluxhoni.open(sys.argv[1], 'w'); s['a'] = 2\n"
+                 "t = threading.Thread(target=go); t.start(); t.join()"), (0, {"a": 2}))
+    shared = ("s.close(); s = zaluxhoni.open(sys.argv[1], 'w', check_same_thread=False)\ndef go():\n {}\n"
+              "ready = threading.Event()\nthreading.Thread(target=go, daemon=True).start(); ready.wait()")
+    same(kept_by(shared.format("s['a'] = 2; ready.set(); time.sleep(60)")), (0, {"a": 2}))
+    same(kept_by(shared.format("s._lock.acquire(); s['a'] = 2; ready.set(); time.sleep(60)"), "not saved", "thread"),
+         (0, {"a": 1}))
+    # a forked child saves nothing, and says so if it changed something
+    same(kept_by("s['a'] = 2\nif os.fork() == 0: sys.exit(0)\nos.wait()"), (0, {"a": 2}))
+    same(kept_by("s['a'] = 2\nif os.fork() == 0: s['a'] = 3; sys.exit(0)\nos.wait()", "not saved", "parent"),
+         (0, {"a": 2}))
+    # a file that cannot be saved
+    same(kept_by("s['a'] = 2; os.rename(sys.argv[1], sys.argv[1] + '.old'); open(sys.argv[1], 'wb').write("
+                 "open(sys.argv[1] + '.old', 'rb').read()); os.unlink(sys.argv[1] + '.old')", "not saved", "replaced"),
+         (0, {"a": 1}))
+
+
+def the_end_of_a_block():
+    def ends(raised):
+        path = new("block")
+        with zaluxhoni.open(path, "x", size=1024) as s:
+            s["a"] = 1
+        try:
+            with zaluxhoni.open(path, "w") as s:
+                s["a"] = 2
+                raise raised
+        except BaseException as error:
+            same(error is raised, True)
+        with zaluxhoni.open(path, "r") as s:
+            return s["a"]
+
+    same([ends(raised) for raised in (SystemExit(0), SystemExit(), SystemExit(None), SystemExit(False))], [2] * 4)
+    same([ends(raised) for raised in (SystemExit(1), SystemExit(""), SystemExit("no"), KeyboardInterrupt(),
+                                      GeneratorExit(), asyncio.CancelledError(), ValueError())], [1] * 7)
+    s = zaluxhoni.create(1024)
+    s["a"] = 1
+    try:
+        with s.transaction():
+            s["a"] = 2
+            sys.exit(0)
+    except SystemExit:
+        same(s["a"], 1)
+    s.close()
+    raises(zaluxhoni.Closed, s.__enter__)
+
+
+def errors_are_copied():
+    """Errors go through pickle and copy, as from a process of a pool."""
+    names = [getattr(zaluxhoni, name) for name in zaluxhoni.__all__]
+    kinds = [kind for kind in names if isinstance(kind, type) and issubclass(kind, zaluxhoni.Error)]
+    same(len(kinds) > 40, True)
+    errors = [kind() for kind in kinds]
+    for call in (lambda: zaluxhoni.open("/nowhere/at all", "r"), lambda: zaluxhoni.open("/proc/none", "x"),
+                 lambda: zaluxhoni.load(b"x" * 200), lambda: zaluxhoni.create(1024)["a"],
+                 lambda: zaluxhoni.create(1024).construct("i64[1000]", "a"), lambda: zaluxhoni.open(folder, "r"),
+                 lambda: zaluxhoni.open("a/" * 3000, "r")):
+        try:
+            call()
+        except zaluxhoni.Error as error:
+            errors.append(error)
+    same(len(errors), len(kinds) + 7)
+    for error in errors:
+        for made in (pickle.loads(pickle.dumps(error)), copy.copy(error), copy.deepcopy(error)):
+            same((made.__class__.__mro__[1:], str(made), made.args),
+                 (error.__class__.__mro__[1:], str(error), error.args))
+            for name in ("errno", "filename", "place", "code", "wanted", "free"):
+                same(getattr(made, name, None), getattr(error, name, None))
+    # a pool does not wait for ever for an error that it cannot read
+    said = program("import multiprocessing\ndef go(path): zaluxhoni.open(path, 'r')\nwith multiprocessing.get_context("
+                   "'fork').Pool(1) as pool:\n try: pool.apply_async(go, [sys.argv[1]]).get(60)\n except "
+                   "zaluxhoni.FileMissing as error: print(error.filename)", "/nowhere/at all")
+    same(said, (0, "/nowhere/at all\n", ""))
+    for key in (unique("map<i32,bool>"), handle(144)):
+        for made in (pickle.loads(pickle.dumps(key)), copy.copy(key), copy.deepcopy(key)):
+            same((made == key, repr(made), made._key.kind, made._key.handle),
+                 (True, repr(key), key._key.kind, key._key.handle))
+
+
+def none_is_no_name():
+    s = zaluxhoni.create(1024)
+    for mapping in (s, s.group("g/")):
+        for call in (lambda: set_item(mapping, None, 5), lambda: mapping.update({None: 1}),
+                     lambda: mapping.setdefault(None, 3), lambda: mapping.update([(None, [1])])):
+            raises(zaluxhoni.WrongKind, call)
+    same((len(s), [tile for tile in s.tiles() if tile.use == "object"]), (0, []))
+
+
+class Series:
+    """What pandas has: a dtype, elements one after another, and no tobytes."""
+
+    def __init__(self, values, dtype):
+        self.values, self.dtype = values, dtype
+
+    def __iter__(self):
+        return iter(self.values)
+
+    def __len__(self):
+        return len(self.values)
+
+    def tolist(self):
+        return list(self.values)
+
+
+class Dtype:
+    """What numpy has: it is equal to a format of struct, or knows nothing of it."""
+
+    def __init__(self, itemsize, formats):
+        self.itemsize, self.formats = itemsize, formats
+
+    def __eq__(self, other):
+        if other not in self.formats:
+            raise TypeError(f"data type {other!r} not understood")
+        return True
+
+    __hash__ = None
+
+
+class Ndarray(Series):
+    def tobytes(self):
+        return struct.pack(f"{len(self.values)}q", *self.values)
+
+
+def records_of_other_packages():
+    s = zaluxhoni.create(8192)
+    doubles = s.records("doubles", "d")
+    doubles.extend(Series([1.5, 2.5], Dtype(8, "d")))
+    doubles.assign(Series([1.5, 3.5], Dtype(8, "d")))
+    doubles[1:] = Series([4.5], Dtype(8, "d"))
+    same(list(doubles), [1.5, 4.5])
+    raises(zaluxhoni.WrongKind, doubles.extend, 5)
+    raises(zaluxhoni.WrongKind, doubles.extend, Series(["a"], Dtype(8, "O")))
+    s.records("pairs", "<hI").extend(Series([(1, 2)], Dtype(16, "none")))
+    # "<l" has 4 bytes for struct and 8 for numpy
+    halves = s.records("halves", "<l")
+    halves.extend(Ndarray([1, 2], Dtype(8, ["<l"])))
+    same(list(halves), [1, 2])
+    longs = s.records("longs", "q")
+    longs.extend(Ndarray([1, 2], Dtype(8, ["q"])))
+    same(list(longs), [1, 2])
+    v = s.vector("v", "i32")
+    v.extend(Series([1, 2], Dtype(8, [])))
+    v.assign(Series([3, 4], Dtype(8, [])))
+    same(list(v), [3, 4])
+    s["new"], s["texts"], s["none"] = Series([1, 2], "int32"), Series(["a", "b"], "object"), Series([], "u8")
+    same([(s.info(name).kind, list(s[name])) for name in ("new", "texts", "none")],
+         [("vec<i32>", [1, 2]), ("vec<string>", ["a", "b"]), ("vec<i64>", [])])
+    s["new"], s["texts"] = Series([3], "int64"), Series(["c"], "object")
+    same((list(s["new"]), list(s["texts"])), ([3], ["c"]))
+    raises(zaluxhoni.WrongKind, set_item, s, "floats", Series([1.5], "float64"))
+
+
+def records_as_list_are_one():
+    s = zaluxhoni.create(65536, grow=True)
+    ours, model = s.records("r", "<hd"), []
+
+    def both(call):
+        same(call(ours), call(model))
+        same(list(ours), model)
+
+    some = [(number % 7, number / 2) for number in range(20)]
+    both(lambda of: of.extend(some))
+    both(lambda of: of.insert(3, (1, 0.5)))
+    both(lambda of: of.insert(-100, (2, 0.5)))
+    both(lambda of: of.pop())
+    both(lambda of: of.pop(4))
+    both(lambda of: of.index((3, 5.0)))
+    both(lambda of: of.index((3, 5.0), 4, 15))
+    both(lambda of: of.count((1, 0.5)))
+    both(lambda of: of.remove((1, 0.5)))
+    both(lambda of: (3, 5.0) in of)
+    both(lambda of: (9, 9.0) in of)
+    both(lambda of: of[::-2])
+    both(lambda of: set_item(of, slice(2, 9, 3), [(5, 5.0)] * 3))
+    both(lambda of: set_item(of, slice(9, 2, -3), [(number, 0.0) for number in range(3)]))
+    both(lambda of: set_item(of, slice(2, 4), [(5, 5.0)] * 5))
+    both(lambda of: set_item(of, slice(4, 2), [(6, 5.0)]))
+    both(lambda of: set_item(of, slice(0, 2), []))
+    both(lambda of: delete_item(of, slice(1, 12, 4)))
+    both(lambda of: delete_item(of, -1))
+    both(lambda of: of.reverse())
+    both(lambda of: of.sort())
+    both(lambda of: of.sort(key=lambda record: -record[1], reverse=True))
+    both(lambda of: of.copy())
+    both(lambda of: of + [(1, 1.0)])
+    both(lambda of: [(1, 1.0)] + of)
+    both(lambda of: of * 2)
+    both(lambda of: of.__iadd__(some[:2]) is of)
+    both(lambda of: of.__imul__(2) is of)
+    both(lambda of: (of == of.copy(), of < [(100, 0.0)], of >= [], of != []))
+    both(lambda of: of.extend(of))
+    both(lambda of: of.clear())
+    raises(zaluxhoni.NoElement, ours.remove, (1, 1.0))
+    raises(zaluxhoni.NoElement, ours.index, (1, 1.0))
+    raises(zaluxhoni.OutOfRange, ours.pop)
+    raises(zaluxhoni.WrongKind, ours.index, (1, 1.0), "a")
+    points = s.records("points", Point)
+    points.assign([Point(1.5, 2.5, 3), (4.5, 5.5, 6)])
+    same((Point(4.5, 5.5, 6) in points, points.index(Point(4.5, 5.5, 6)),
+          points == [Point(1.5, 2.5, 3), Point(4.5, 5.5, 6)]), (True, 1, True))
+    points.remove(Point(1.5, 2.5, 3))
+    same((len(points), points.count(Point(0, 0, 0))), (1, 0))
+
+
+def tasks_with_transactions():
+    """A transaction belongs to its task: what another one does is refused, and not undone with it."""
+    def name_in(call):
+        try:
+            call()
+        except zaluxhoni.Error as error:
+            return type(error).__name__
+        return "done"
+
+    async def both(s):
+        began, tried, said = asyncio.Event(), asyncio.Event(), []
+        v, m = s["v"], s["m"]
+        list(v), m[1], v.append(2), v[0]
+
+        async def first():
+            try:
+                with s.transaction():
+                    s["a"] = 2
+                    m[1] = 11
+                    began.set()
+                    await tried.wait()
+                    same((s["a"], m[1], v[0]), (2, 11, 1))
+                    with s.transaction():
+                        s["a"] = 3
+                    raise KeyError
+            except KeyError:
+                pass
+            same((s["a"], m[1]), (1, 10))
+
+        async def second():
+            await began.wait()
+            for call in (lambda: s["a"], lambda: set_item(s, "b", 1), lambda: v[0], lambda: v.append(3), lambda: m[1],
+                         lambda: set_item(m, 1, 12), lambda: set_item(v, 0, 9), lambda: m.get(1), lambda: len(v),
+                         s.save, s.close, s.discard, s.shrink, lambda: s.grow(64), lambda: s.transaction().__enter__(),
+                         lambda: list(v), lambda: v.view(), lambda: s.size, lambda: list(s),
+                         lambda: s.records("r", "d")):
+                said.append(name_in(call))
+            asyncio.get_running_loop().call_soon(lambda: said.append(name_in(lambda: s["a"])))
+            await asyncio.sleep(0.01)
+            tried.set()
+
+        await asyncio.gather(first(), second())
+        same(said, ["WrongTask"] * len(said))
+        same(len(said), 21)
+        # behind it each may call again
+        s["b"] = 7
+        v.append(4)
+        same((all_of(s), v[1]), ({"a": 1, "b": 7, "m": {1: 10}, "v": [1, 2, 4]}, 2))
+
+    async def cancelled(s):
+        async def waits():
+            with s.transaction():
+                s["a"] = 5
+                await asyncio.sleep(60)
+
+        task = asyncio.ensure_future(waits())
+        await asyncio.sleep(0.01)
+        task.cancel()
+        await asyncio.gather(task, return_exceptions=True)
+        same(s["a"], 1)
+
+    async def inside(s):
+        same(s["a"], 8)
+
+    for shared in (False, True):
+        s = zaluxhoni.create(4096, check_same_thread=not shared)
+        s["a"], s["v"], s["m"] = 1, [1], {1: 10}
+        asyncio.run(both(s))
+        asyncio.run(cancelled(s))
+        # one that a thread began before its loop belongs to the thread
+        with s.transaction():
+            s["a"] = 8
+            asyncio.run(inside(s))
+        same(s["a"], 8)
+        if not shared:
+            same(on_a_thread(lambda: s.transaction().__enter__()), "WrongThread")
+
+
+def numbers_beyond_all():
+    """Numbers of thousands of digits, and other long values, have messages and a repr of bounded length."""
+    s = zaluxhoni.create(65536, grow=True)
+    s["v"], s["n"], s["m"], s["t"], s["text"] = [1, 2, 3], 5, {1: 2}, ["a"], "text"
+    v, m, t, text = s["v"], s["m"], s["t"], s.string("text")
+    huge = 10**5000
+    for error, call in (
+            (zaluxhoni.OutOfRange, lambda: v.append(huge)), (zaluxhoni.OutOfRange, lambda: set_item(v, 0, huge)),
+            (zaluxhoni.OutOfRange, lambda: v.extend([1, huge])), (zaluxhoni.OutOfRange, lambda: set_item(s, "n", huge)),
+            (zaluxhoni.OutOfRange, lambda: set_item(s, "v", [huge])), (zaluxhoni.OutOfRange, lambda: v[huge]),
+            (zaluxhoni.OutOfRange, lambda: v[-huge]), (zaluxhoni.OutOfRange, lambda: t[huge]),
+            (zaluxhoni.OutOfRange, lambda: text[huge]), (zaluxhoni.OutOfRange, lambda: set_item(m, huge, 1)),
+            (zaluxhoni.OutOfRange, lambda: set_item(m, 1, huge)), (zaluxhoni.OutOfRange, lambda: m.update({1: huge})),
+            (zaluxhoni.Absent, lambda: m[huge]), (zaluxhoni.OutOfRange, lambda: v.reserve(huge)),
+            (zaluxhoni.BadValue, lambda: set_item(s, "new", huge)), (zaluxhoni.NoElement, lambda: v.index(huge)),
+            (zaluxhoni.BadValue, lambda: s.construct("i64", "new", huge)), (zaluxhoni.OutOfRange, lambda: s.grow(huge)),
+            (zaluxhoni.WrongKind, lambda: v.append("x" * 10**6)),
+            (zaluxhoni.WrongKind, lambda: set_item(m, "x" * 10**6, 1)),
+            (zaluxhoni.WrongKind, lambda: set_item(s, "v", "x" * 10**6)), (zaluxhoni.NotFound, lambda: s["x" * 10**6]),
+            (zaluxhoni.WrongKind, lambda: v.assign({"x" * 10**6: 1})), (zaluxhoni.OutOfRange, lambda: handle(huge)),
+            (zaluxhoni.OutOfRange, lambda: s.records("r", "d")[huge]),
+            (zaluxhoni.WrongKind, lambda: s.records("r", "b").append(huge))):
+        try:
+            call()
+        except zaluxhoni.Error as raised:
+            same((type(raised), len(str(raised)) < 500), (error, True))
+        else:
+            fails("no error")
+    s["v"], s["t"], s["text"], s["m"] = range(10**5), ["x" * 10**4] * 100, "x" * 10**5, {key: 1 for key in range(1000)}
+    for each in (v, t, text, m, s.records("r", "d"), m.keys(), m.items(), s.items()):
+        same((len(repr(each)) < 500, len(repr(each)) > 10), (True, True))
+    same(repr(s["v"]), f"<vec<i64> 'v' [{', '.join(map(str, range(20)))}, ... 100000 in all]>")
+    same(repr(m).endswith("... 1000 in all}>"), True)
+
+
+def small_rules():
+    s = zaluxhoni.create(4096)
+    s["n"], s["v"], s["m"] = 5, [1, 2, 3], {1: 2, 3: 4, 5: 6, 7: 8}
+    # one number is no list
+    raises(zaluxhoni.WrongKind, set_item, s, "n", [7])
+    raises(zaluxhoni.WrongKind, set_item, s, "n", (7,))
+    same(s["n"], 5)
+    s.construct("i64[1]", "other", 9)
+    s["n"] = s.object("other")
+    same(s["n"], 9)
+    for made in (s, s["v"], s["m"], s.group("g"), s.records("r", "d"), s.transaction(), zaluxhoni.create(
+            1024, check_same_thread=False)):
+        try:
+            made.foo = 1
+        except AttributeError:
+            same(True, True)
+        else:
+            fails(f"{made!r} takes an attribute")
+    s.growing, s.encoding = True, None
+    s.growing, s.encoding = False, "utf-8"
+    names = [name for name in dir(zaluxhoni) if not name.startswith("__")]
+    same(sorted(names), sorted(zaluxhoni.__all__))
+    # ranges of a map
+    m = s["m"]
+    model = dict(m)
+    for low in (None, -2**70, 0, 1, 2, 7, 8, 2**70):
+        for high in (None, -2**70, 0, 1, 2, 7, 8, 2**70):
+            same(list(m.range(low, high)), [pair for pair in model.items() if (low is None or low <= pair[0]) and
+                                            (high is None or pair[0] < high)])
+    truths = s.construct("map<bool,u8>", "truths", {False: 1, True: 2})
+    same((list(truths.range(True)), list(truths.range(None, True))), ([(True, 2)], [(False, 1)]))
+    for kind, most in (("u8", 255), ("i32", 2**31 - 1), ("i64", 2**63 - 1), ("u64", 2**64 - 1)):
+        ends = s.construct(f"map<{kind},u8>", kind, {most: 1, most - 1: 2})
+        same((list(ends.range(most)), list(ends.range(most - 1, most)), list(ends.range(0))),
+             ([(most, 1)], [(most - 1, 2)], [(most - 1, 2), (most, 1)]))
+    raises(zaluxhoni.WrongKind, m.range, "a")
+    seen = []
+    for key, _ in m.range(1, 7):
+        seen.append(key)
+        if key == 3:
+            del m[5]
+            m[6] = 1
+    same(seen, [1, 3, 6])
+    same((m._ipython_key_completions_(), s.group("tr")._ipython_key_completions_()), ([1, 3, 6, 7], ["uths"]))
+    # what a map or a vector cannot keep: the error says what does
+    for call, word in ((lambda: set_item(m, "a", 1), "group"), (lambda: set_item(m, 1, 1.5), "records"),
+                       (lambda: set_item(s, "new", {"a": 1}), "group"), (lambda: set_item(s, "new", 1.5), "records"),
+                       (lambda: set_item(s, "new", [1.5]), "records"), (lambda: s["v"].append(1.5), "records")):
+        try:
+            call()
+        except zaluxhoni.WrongKind as error:
+            same((word in str(error), str(error)), (True, str(error)))
+        else:
+            fails("no error")
+
+
+def no_space_says_more():
+    s = zaluxhoni.create(1024)
+    s["v"], s["t"] = [1], ["a"]
+    v, t, m, text = s["v"], s["t"], s.map("m"), s.string("text")
+    for wanted, call in ((80000, lambda: v.extend(range(10000))), (80000, lambda: s.construct("i64[10000]", "a", 0)),
+                         (40000, lambda: s.construct("i32[10000]", "a", [0] * 10000)),
+                         (5000, lambda: t.append("x" * 5000)), (6000, lambda: t.extend(["x" * 3000] * 2)),
+                         (None, lambda: v.reserve(10000)), (5000, lambda: text.append("x" * 5000)),
+                         (5000, lambda: s.construct("string", "b", "x" * 5000)),
+                         (None, lambda: m.update({key: 0 for key in range(1000)}))):
+        try:
+            call()
+        except zaluxhoni.NoSpace as error:
+            same((error.wanted, error.free, str(error.free) in str(error), "grow" in str(error)),
+                 (wanted, s.free, True, True))
+            same(wanted is None or str(wanted) in str(error), True)
+        else:
+            fails("no NoSpace")
+
+
+def a_wait_for_the_writer():
+    path = new("waited")
+    s = zaluxhoni.open(path, "x", size=1024)
+    for timeout in (None, 0, 0.0):
+        raises(zaluxhoni.FileInUse, zaluxhoni.open, path, "w", timeout=timeout)
+    start = time.monotonic()
+    raises(zaluxhoni.FileInUse, zaluxhoni.open, path, "w", timeout=0.4)
+    same(0.4 <= time.monotonic() - start < 30, True)
+    s["a"] = 5
+    waits = "with zaluxhoni.open(sys.argv[1], 'w', timeout=60) as s: s['a'] += 1"
+    other = subprocess.Popen([sys.executable, "-c", f"import sys, zaluxhoni\nprint('here', flush=True)\n{waits}", path],
+                             stdout=subprocess.PIPE)
+    other.stdout.readline()
+    time.sleep(0.1)
+    s.close()
+    same((other.wait(), other.stdout.close()), (0, None))
+    with zaluxhoni.open(path, "w", timeout=5) as s:
+        same(s["a"], 6)
+    raises(zaluxhoni.FileMissing, zaluxhoni.open, path + "none", "w", timeout=5)
+    for timeout in (-1, float("nan")):
+        raises(zaluxhoni.BadValue, zaluxhoni.open, path, "w", timeout=timeout)
+    raises(zaluxhoni.WrongKind, zaluxhoni.open, path, "w", timeout="soon")
+
+
+def the_module_as_program():
+    def run(*arguments):
+        words = [sys.executable, "-W", "error", "-m", "zaluxhoni", *arguments]
+        ran = subprocess.run(words, capture_output=True, text=True)
+        return ran.returncode, ran.stdout, ran.stderr
+
+    path = new("listed")
+    with zaluxhoni.open(path, "x", size=8192) as s:
+        s["n"], s["v"], s["text"], s["m"] = 5, list(range(100)), "two words", {1: 2}
+        s.construct("i32[2]", "array", [3, 4])
+        s.construct("u64", unique("u64"), 9)
+    front = ", ".join(map(str, range(20)))
+    same(run(path), (0, f"array\ti32[2]\t[3, 4]\nm\tmap<i64,i64>\t{{1: 2}}\nn\ti64\t5\ntext\tstring\t'two words'\n"
+                     f"v\tvec<i64>\t[{front}, ... 100 in all]\nunique('u64')\tu64\t9\n", ""))
+    status, said, errors = run(path + "none")
+    same((status, said, "zaluxhoni: " in errors, errors.count("\n")), (1, "", True, 1))
+    same(run()[:2], (2, ""))
+
+
+def threads_that_shorten():
+    """One thread goes over what another one makes shorter, and reads no element while a transaction is open."""
+    s = zaluxhoni.create(1 << 20, check_same_thread=False)
+    s["v"], s["t"], s["r"] = list(range(2000)), ["a"] * 500, [1]
+    v, t, r = s["v"], s["t"], s.records("records", "d")
+    r.extend([1.0] * 500)
+    ends = threading.Event()
+
+    def shortens():
+        while not ends.is_set():
+            for each, filled in ((v, list(range(2000))), (t, ["a"] * 500), (r, [1.0] * 500)):
+                each.assign(filled[:3])
+                each.clear()
+                each.assign(filled)
+
+    thread = threading.Thread(target=shortens)
+    thread.start()
+    errors = set()
+    until = time.monotonic() + 1.5
+    while time.monotonic() < until:
+        for call in (lambda: list(v), lambda: list(reversed(v)), lambda: list(t), lambda: list(r), lambda: sum(v),
+                     lambda: list(reversed(t))):
+            errors.add(name_of_error(lambda: (call(), None)[1]))
+    ends.set()
+    thread.join()
+    same(errors, {None})
+    # an element is read within no transaction of another thread
+    inside, seen = threading.Event(), []
+
+    def reads():
+        inside.wait()
+        seen.append(v[0])
+
+    s["v"] = [1]
+    v[0]
+    thread = threading.Thread(target=reads)
+    thread.start()
+    with s.transaction():
+        v[0] = 2
+        inside.set()
+        time.sleep(0.2)
+        v[0] = 3
+    thread.join()
+    same(seen, [3])
 
 
 for case in (an_anonymous_object, names, index_and_object_do_not_both_fit, arrays, the_only_object_of_its_kind,
@@ -1456,7 +1998,10 @@ for case in (an_anonymous_object, names, index_and_object_do_not_both_fit, array
              transactions,
              records, views, size_and_region, calls_of_c, what_is_refused, what_shows_a_class, one_thread, files,
              files_that_are_mapped, what_is_refused_by_name, a_process_that_forks, a_relative_path, files_that_fail,
-             what_is_read_again, what_is_not_closed):
+             what_is_read_again, what_is_not_closed, the_end_of_the_process, the_end_of_a_block, errors_are_copied,
+             none_is_no_name, records_of_other_packages, records_as_list_are_one, tasks_with_transactions,
+             numbers_beyond_all, small_rules, no_space_says_more, a_wait_for_the_writer, the_module_as_program,
+             threads_that_shorten):
     try:
         case()
     except Exception as error:

@@ -1,5 +1,6 @@
-"""random_calls.py FOLDER [SEED [STEPS [plain]]]: the same random calls to objects of a segment and to Python's own list, dict
-and bytearray, STEPS of them for lists, as many for maps, and as many for names in a segment and in a group of it;
+"""random_calls.py FOLDER [SEED [STEPS [plain]]]: the same random calls to objects of a segment and to Python's own list,
+dict and bytearray, STEPS of them for lists and records, as many for maps, and as many for names in a segment and in a
+group of it;
 answers are compared, and classes of errors; the segment is saved and opened again on the way. `plain` has the package
 do without what the library knows of CPython."""
 import collections.abc
@@ -47,7 +48,7 @@ def outcome(call, of):
 
 
 def plain(answer):
-    if isinstance(answer, zaluxhoni.Object):
+    if isinstance(answer, (zaluxhoni.Object, zaluxhoni.Records)):
         return answer.copy() if hasattr(answer, "copy") else answer
     return answer
 
@@ -150,7 +151,7 @@ def one_of_list(theirs, new):
 
 def change_list(name, ours, theirs, new):
     compare(name, one_of_list(theirs, new), ours, theirs)
-    if chance.random() < 0.05:
+    if chance.random() < 0.05 and name != "records":
         chance.choice((ours.trim, lambda: ours.reserve(len(ours) + 7)))()
     if chance.random() < 0.1:
         compare(name, list, ours, theirs)
@@ -285,7 +286,7 @@ own = {"string": bytearray, "vec": list, "map": dict}
 list_kinds = ["vec<string>", *(f"vec<{kind}>" for kind in ranges)]
 map_kinds = ["map<u8,i64>", "map<i32,bool>", "map<bool,u64>", "map<u64,u8>", "map<i64,i32>", "map<u8,u8>"]
 models = {kind: own[kind.split("<")[0]]() for kind in ["string", *list_kinds, *map_kinds]}
-names, group = {}, {}
+names, group, records = {}, {}, []
 passes = 5
 
 
@@ -297,6 +298,8 @@ def contents(of):
 
 def run(segment):
     """A part of the calls to each object."""
+    for _ in range(steps // passes // len(list_kinds)):
+        change_list("records", segment.records("records", "<q"), records, lambda: scalar("i64"))
     for name, model in models.items():
         ours = segment.object(name)
         for _ in range(steps // passes // (len(list_kinds) if name.startswith("vec") else len(map_kinds))):
@@ -325,6 +328,7 @@ for _ in range(passes):
             wrong += 1
     with zaluxhoni.open(path, "r") as segment:
         compare("all of it", contents, segment, models)
+        compare("records", list, segment.records("records", "<q"), records)
     with zaluxhoni.open(path + ".names", "w", grow=True, check_same_thread=shared) as segment:
         segment.clear()
         names.clear()

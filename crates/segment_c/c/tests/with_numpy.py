@@ -76,6 +76,8 @@ def arrays_as_elements():
     m[numpy.int64(5)] = numpy.uint8(6)
     m.update(zip(numpy.arange(3), numpy.arange(3)))
     same((m[5], m[numpy.int16(5)], m.copy()), (6, 6, {0: 0, 1: 1, 2: 2, 5: 6}))
+    pairs = numpy.fromiter(m.items(), "i8,i8")
+    same((pairs["f0"].tolist(), pairs["f1"].tolist()), ([0, 1, 2, 5], [0, 1, 2, 6]))
 
 
 def elements_as_arrays():
@@ -148,6 +150,29 @@ def records():
     same(list(s.records("doubles", "d")), [0, 0.25, 0.5, 0.75, 1])
     same(numpy.asarray(s.records("doubles", "d")).tolist(), [0, 0.25, 0.5, 0.75, 1])
     raises(zaluxhoni.WrongKind, s.records, "objects", numpy.dtype("O"))
+    # they are compared as tuples
+    del a
+    same((points == [(0.5, 1), (2.5, 3), (3.5, 4)], points == [(0.5, 1)], points != points.copy()),
+         (True, False, False))
+    same(((2.5, 3) in points, (2.5, 4) in points, points.index((3.5, 4)), points.count((9.0, 9))), (True, False, 2, 0))
+    same((points < [(1.0, 0)], points.copy() == points), (True, True))
+    raises(zaluxhoni.NoElement, points.remove, (9.0, 9))
+    raises(zaluxhoni.WrongKind, points.extend, [(1.0, 2, 3)])
+    raises(zaluxhoni.WrongKind, points.append, ("a", "b"))
+    points.sort(key=lambda record: -float(record["x"]))
+    points.reverse()
+    points.remove((2.5, 3))
+    same([record.item() for record in points], [(0.5, 1), (3.5, 4)])
+    points[::-1] = numpy.array([(7.5, 7), (8.5, 8)], form)
+    same([record.item() for record in points], [(8.5, 8), (7.5, 7)])
+    # a format that numpy knows nothing of, and one that has other bytes there
+    tuples = s.records("tuples", "<ihx")
+    tuples.extend(numpy.array([(1, 2), (3, 4)], "i4,i2"))
+    same(list(tuples), [(1, 2), (3, 4)])
+    same(tuples == numpy.array([(1, 2)], "i4,i2").tolist(), False)
+    longs = s.records("longs", "<l")
+    longs.extend(numpy.array([1, -2], "<i8"))
+    same(list(longs), [1, -2])
     raises(zaluxhoni.WrongKind, points.append, "x")
 
 

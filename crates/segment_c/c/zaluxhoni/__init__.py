@@ -18,7 +18,8 @@ docs/PYTHON.md."""
 from __future__ import annotations
 
 import ctypes
-from typing import Any, Optional
+import time
+from typing import Any, List, Optional
 
 from . import _library
 from ._errors import (Absent, BadContainer, BadCount, BadFreeTree, BadGrowth, BadImage, BadImageSize, BadIndex, BadKey,
@@ -26,12 +27,13 @@ from ._errors import (Absent, BadContainer, BadCount, BadFreeTree, BadGrowth, Ba
                       DanglingLink, Error, Exists, FileError, FileExists, FileFault, FileForked, FileInUse, FileMissing,
                       FileReplaced, FileTooLarge, FileUnsynced, IsDevice, IsFolder, IsPipe, Lent, NoElement, NoFile,
                       NoMemory, NoSpace, NotFound, NullSlice, OrphanBlock, OutOfRange, ReadOnly, SharedBlock,
-                      ShortBuffer, ShortRegion, TooLarge, Truncated, UnsupportedVersion, WrongKind, WrongThread,
-                      image_error_of)
+                      ShortBuffer, ShortRegion, TooLarge, Truncated, UnsupportedVersion, WrongKind, WrongTask,
+                      WrongThread, image_error_of, shown)
 from ._library import zx
 from ._objects import Array, Map, Object, String, Strings, Vector
 from ._records import Records
-from ._segment import FILE_MODES, MODES, Group, Info, Segment, Tile, Transaction, new_segment, path_bytes
+from ._segment import (FILE_MODES, MODES, Group, Info, Segment, Tile, Transaction, new_segment, note_opened,
+                       path_bytes)
 from ._values import Key, ObjectKey, handle, natural, unique
 
 __all__ = [
@@ -39,10 +41,10 @@ __all__ = [
     "Object", "Array", "Vector", "Strings", "String", "Map", "Records", "Info", "Tile", "Error", "ReadOnly", "Exists",
     "NotFound", "WrongKind", "OutOfRange", "NoSpace", "Absent", "NoElement", "Closed", "BadKey", "BadName", "BadKind",
     "BadValue", "BadCount", "BadSize", "BadMode", "ShortBuffer", "NullSlice", "NoMemory", "ShortRegion", "BadGrowth",
-    "TooLarge", "Lent", "WrongThread", "BadImage", "Truncated", "BadMagic", "UnsupportedVersion", "BadImageSize",
-    "BadReserved", "BadTag", "BadFreeTree", "BadIndex", "BadObject", "SharedBlock", "BadContainer", "OrphanBlock",
-    "NoFile", "FileError", "FileInUse", "FileExists", "FileMissing", "DanglingLink", "IsFolder", "IsDevice", "IsPipe",
-    "FileTooLarge", "FileFault", "FileReplaced", "FileUnsynced", "FileForked",
+    "TooLarge", "Lent", "WrongThread", "WrongTask", "BadImage", "Truncated", "BadMagic", "UnsupportedVersion",
+    "BadImageSize", "BadReserved", "BadTag", "BadFreeTree", "BadIndex", "BadObject", "SharedBlock", "BadContainer",
+    "OrphanBlock", "NoFile", "FileError", "FileInUse", "FileExists", "FileMissing", "DanglingLink", "IsFolder",
+    "IsDevice", "IsPipe", "FileTooLarge", "FileFault", "FileReplaced", "FileUnsynced", "FileForked",
 ]
 
 
@@ -50,6 +52,10 @@ _MAPPED = 256
 
 _number = zx.zx_version()
 __version__ = f"{_number // 10000}.{_number // 100 % 100}.{_number % 100}"
+
+
+def __dir__() -> List[str]:
+    return [*__all__, "__all__", "__doc__", "__name__", "__version__"]
 
 
 def _image_bytes(image: Any) -> bytes:
@@ -75,7 +81,7 @@ def load(image: Any, mode: str = "w", *, capacity: Optional[int] = None, grow: b
     BadSize."""
     image = _image_bytes(image)
     if not isinstance(mode, str) or mode not in MODES:
-        raise BadMode(f"no mode is {mode!r}")
+        raise BadMode(f"no mode is {shown(mode)}")
     made = new_segment(grow, encoding, check_same_thread)
     wanted = max(16, (len(image) + 15) // 16 * 16) if capacity is None else natural(capacity)
     try:
@@ -89,7 +95,7 @@ def load(image: Any, mode: str = "w", *, capacity: Optional[int] = None, grow: b
 
 
 def open(path: Any, mode: str = "c", *, size: int = 65536, grow: bool = False, encoding: Optional[str] = "utf-8",
-         check_same_thread: bool = True, mapped: bool = False) -> Segment:
+         check_same_thread: bool = True, mapped: bool = False, timeout: Optional[float] = None) -> Segment:
     """Opens the segment of a file. `mode` is one of
 
         "r"  opens a file that exists, and only reads it          (open_read_only)
@@ -100,17 +106,40 @@ def open(path: Any, mode: str = "c", *, size: int = 65536, grow: bool = False, e
 
     A new segment has `size` bytes, and its file exists at once, with an empty segment. With `grow` a segment becomes
     longer if there is no space. In the modes that save, the file belongs to this segment until it is closed: anyone
-    else gets FileInUse. With check_same_thread=False each thread may use the segment, and each call is alone on it.
-    With `mapped` the segment lies in the file: opening copies nothing, each change is in the file at once, and
-    `discard` reverts none; docs/C.md says what that costs. FileError, if the file is refused; BadImage, BadMode,
-    BadSize."""
+    else gets FileInUse, at once or after `timeout` seconds of waiting. With check_same_thread=False each thread may use
+    the segment, and each call is alone on it. With `mapped` the segment lies in the file: opening copies nothing, each
+    change is in the file at once, and `discard` reverts none; docs/C.md says what that costs. FileError, if the file is
+    refused; BadImage, BadMode, BadSize."""
     if not isinstance(mode, str) or mode not in FILE_MODES:
-        raise BadMode(f"no mode is {mode!r}")
+        raise BadMode(f"no mode is {shown(mode)}")
     opened = new_segment(grow, encoding, check_same_thread)
     how = FILE_MODES[mode] + (_MAPPED if mapped else 0)
-    opened._file_call(zx.zx_file_open, path, path_bytes(path), how, natural(size))
     opened._path, opened._is_mapped = path, mapped
+    passed, bytes_wanted, ends = path_bytes(path), natural(size), _ends(timeout)
+    pause = 0.001
+    while True:
+        try:
+            opened._file_call(zx.zx_file_open, path, passed, how, bytes_wanted)
+            break
+        except FileInUse:
+            left = ends - time.monotonic()
+            if left <= 0:
+                raise
+        time.sleep(min(pause, left))
+        pause = min(2 * pause, 0.05)
+    note_opened(opened)
     return opened
+
+
+def _ends(timeout: Optional[float]) -> float:
+    """Returns the moment when a wait of so many seconds ends."""
+    try:
+        seconds = 0.0 if timeout is None else float(timeout)
+    except (TypeError, ValueError, OverflowError):
+        raise WrongKind(f"{shown(timeout)} is no number of seconds") from None
+    if not seconds >= 0:
+        raise BadValue(f"{shown(timeout)} is no number of seconds")
+    return time.monotonic() + seconds
 
 
 def state() -> str:

@@ -3,9 +3,21 @@ from __future__ import annotations
 
 import errno
 import os
-from typing import Any, Dict, Optional, Type
+from typing import Any, Dict, Optional, Tuple, Type
 
 from . import _library
+
+_LONGEST_SHOWN = 120
+
+
+def shown(value: object) -> str:
+    """Returns the repr of a value, or the front of a long one."""
+    try:
+        text = repr(value)
+    except Exception:
+        # a number of thousands of digits has no repr
+        text = f"a number of {value.bit_length()} bits" if isinstance(value, int) else f"a {type(value).__name__}"
+    return text if len(text) <= _LONGEST_SHOWN else f"{text[:_LONGEST_SHOWN]}..."
 
 
 class Error(Exception):
@@ -45,8 +57,11 @@ class OutOfRange(Error, IndexError, OverflowError):
 
 
 class NoSpace(Error, MemoryError):
-    """No gap of the segment is long enough; `grow` makes it longer."""
+    """No gap of the segment is long enough; `grow` makes it longer. `wanted` is how many bytes the values of the call
+    have, if it has some, and `free` how many all gaps have."""
     code = 9
+    wanted: Optional[int] = None
+    free: Optional[int] = None
 
 
 class Absent(Error, KeyError):
@@ -207,6 +222,11 @@ class FileError(Error, OSError):
     def __str__(self) -> str:
         return OSError.__str__(self)
 
+    def __reduce__(self) -> Tuple[Any, ...]:
+        # FileFault has a class for each errno, which no module names
+        kind = FileFault if isinstance(self, FileFault) else type(self)
+        return _file_error, (kind, self.errno, self.filename), self.__dict__ or None
+
 
 class FileInUse(FileError, BlockingIOError):
     """Another program, or another segment of this one, may write the file."""
@@ -276,6 +296,13 @@ class WrongThread(Error, RuntimeError):
         Exception.__init__(self, *(arguments or ("the segment belongs to another thread",)))
 
 
+class WrongTask(Error, RuntimeError):
+    """A transaction of another asyncio task is open; meanwhile only that task uses the segment."""
+
+    def __init__(self, *arguments: object) -> None:
+        Exception.__init__(self, *(arguments or ("another task has a transaction open",)))
+
+
 class NoElement(Error, ValueError):
     """A list has no such element."""
 
@@ -309,7 +336,26 @@ def error_of(code: int, about: object = None) -> Error:
     """Returns the error of a code, with the name that the call was about."""
     kind = _classes.get(code, Error)
     said = _words(code)
-    return kind(said if about is None else f"{said}: {about!r}")
+    return kind(said if about is None else f"{said}: {shown(about)}")
+
+
+def named(error: Error, key: object) -> Error:
+    """Returns the error, with the key of the object that it is about."""
+    if shown(key) in str(error):
+        return error
+    made = type(error)(f"{shown(key)}: {error}")
+    made.__dict__.update(error.__dict__)
+    return made
+
+
+def no_space(about: object, wanted: Optional[int], free: int) -> NoSpace:
+    """Returns the NoSpace of a call whose values have `wanted` bytes, if it has some."""
+    name = "" if about is None else f": {shown(about)}"
+    need = "" if wanted is None else f"{wanted} bytes wanted, "
+    error = NoSpace(f"{_words(NoSpace.code)}{name}: {need}{free} free in all gaps; grow() makes the segment longer, or "
+                    "open it with grow=True")
+    error.wanted, error.free = wanted, free
+    return error
 
 
 def image_error_of(code: int, place: int, about: object = None) -> Error:
@@ -322,10 +368,16 @@ def image_error_of(code: int, place: int, about: object = None) -> Error:
 
 def file_error_of(code: int, file: _library.File, path: Any) -> Error:
     """Returns the error of a code that a file call returned."""
-    kind, number = _classes.get(code, Error), file.error
+    kind = _classes.get(code, Error)
     if not issubclass(kind, FileError):
         return image_error_of(code, file.place, path)
-    if kind is FileFault:
-        known = type(OSError(number, ""))
-        kind = kind if known is OSError else type("FileFault", (FileFault, known), {})
-    return kind(number, path)
+    return _file_error(kind, file.error, path)
+
+
+def _file_error(kind: Type[FileError], number: Optional[int], path: Any) -> FileError:
+    """Returns the error of a file; a FileFault is also of Python's class for its errno."""
+    known, made = type(OSError(number, "")), kind  # type: Any, Any
+    if kind is FileFault and known is not OSError:
+        made = type("FileFault", (FileFault, known), {"__module__": FileFault.__module__})
+    error: FileError = made(number, path)
+    return error

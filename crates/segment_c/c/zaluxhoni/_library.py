@@ -143,9 +143,11 @@ def _load_quick() -> Any:
     """Loads the calls of zaluxhoni_rows.h for objects of CPython, which keep the interpreter's lock."""
     library, pointer = ctypes.PyDLL(_path()), ctypes.POINTER
     library.zx_thread.argtypes, library.zx_thread.restype = [], ctypes.c_uint64
-    library.zx_python_class.argtypes, library.zx_python_class.restype = [], ctypes.py_object
+    for name in ("zx_python_class", "zx_python_block"):
+        call = getattr(library, name)
+        call.argtypes, call.restype = [], ctypes.py_object
     library.zx_python_place.argtypes = [ctypes.py_object, pointer(Handle), pointer(Key), ctypes.c_uint32,
-                                        ctypes.c_uint64, ctypes.py_object]
+                                        pointer(ctypes.c_uint64), ctypes.py_object]
     library.zx_python_place.restype = ctypes.c_bool
     library.zx_python_row.argtypes = [ctypes.py_object, ctypes.c_uint32, ctypes.c_void_p, ctypes.c_size_t]
     library.zx_python_row.restype = ctypes.c_bool
@@ -159,8 +161,38 @@ quick = _load_quick()
 HAS_PYTHON: bool = quick.zx_python_row([], U8, None, 0)
 """Whether the library takes this interpreter's own lists and numbers."""
 if TYPE_CHECKING or not HAS_PYTHON:
+    class Block:
+        """Replaces the class of zx_python_block if the library makes none. A signal handler that raises at the start
+        of `__exit__` leaves the block open."""
+        __slots__ = ("_depth",)
+        _held: Any
+        _depth: int
+
+        def __enter__(self) -> Any:
+            self._held.acquire()
+            self._depth = getattr(self, "_depth", 0) + 1
+            try:
+                return self._begin()
+            except BaseException:
+                self.__exit__(BaseException, True)
+                raise
+
+        def __exit__(self, kind: Any, raised: Any = None, *_: Any) -> None:
+            try:
+                self._end(self._depth, None if kind is None else raised)
+            finally:
+                self._depth -= 1
+                self._held.release()
+
+        def _begin(self) -> Any:
+            raise NotImplementedError
+
+        def _end(self, depth: int, raised: Any) -> None:
+            raise NotImplementedError
+
     class Place:
         """Replaces the class of zx_python_class if the library makes none."""
+        __slots__ = ()
 
         def _item(self, index: Any) -> Any:
             raise NotImplementedError
@@ -172,7 +204,7 @@ if TYPE_CHECKING or not HAS_PYTHON:
         def __getitem__(self, index: Any) -> Any:
             return self._item(index)
 else:
-    Place = quick.zx_python_class()
+    Place, Block = quick.zx_python_class(), quick.zx_python_block()
 NO_SPACE = 9
 
 

@@ -5,11 +5,11 @@ import collections.abc
 import ctypes
 import importlib
 import operator
-from typing import (TYPE_CHECKING, Any, Dict, Iterable, Iterator, List, MutableMapping, MutableSequence, Optional,
-                    Sequence, Tuple, Union)
+from typing import (TYPE_CHECKING, Any, Dict, ItemsView, Iterable, Iterator, KeysView, List, MutableMapping,
+                    MutableSequence, Optional, Sequence, SupportsIndex, Tuple, TypeVar, Union, ValuesView, overload)
 
 from . import _library
-from ._errors import Absent, BadCount, BadValue, Error, NoElement, OutOfRange, WrongKind, error_of
+from ._errors import Absent, BadCount, BadValue, Error, NoElement, OutOfRange, WrongKind, named, shown
 from ._library import BOOL, I32, I64, STRING, STRINGS, U8, U64, VECTOR, MAP, quick, zx
 from ._values import (KINDS, SCALARS, Key, Row, Texts, decoded, encoded, from_words, is_scalar, listed,
                       natural, number_in, pairs_of, raw_key, row, scalar, unpacked, value_of, whole)
@@ -19,10 +19,13 @@ if TYPE_CHECKING:
 
 _reads = {BOOL: zx.zx_read_bools, U8: zx.zx_read_u8s, I32: zx.zx_read_i32s, I64: zx.zx_read_i64s, U64: zx.zx_read_u64s}
 _AHEAD = 4096
+_SHOWN = 20
+_Default = TypeVar("_Default")
 
 
 class Lease:
     """Lends the elements of an object in place, as long as this instance exists."""
+    # the segment has weak references to its leases: nothing is to be done at their end
 
     def __init__(self, owner: Any, code: int) -> None:
         segment = self._segment = owner._segment
@@ -35,9 +38,6 @@ class Lease:
         form = f"{'|' if self._scalar.size == 1 else '<'}{_FORMS[self._scalar.letter]}{self._scalar.size}"
         self.__array_interface__ = {"version": 3, "data": (self._at, self._readonly), "shape": (self._count,),
                                     "typestr": form}
-
-    def __del__(self) -> None:
-        self._segment._give_back(self)
 
     def view(self) -> memoryview:
         """Returns a view that holds the lease."""
@@ -65,13 +65,15 @@ def places_of(index: slice, length: int) -> range:
     try:
         return range(*index.indices(length))
     except TypeError:
-        raise WrongKind(f"{index!r} is no slice of places") from None
+        raise WrongKind(f"{shown(index)} is no slice of places") from None
     except ValueError:
-        raise BadValue(f"{index!r} has no step") from None
+        raise BadValue(f"{shown(index)} has no step") from None
 
 
 class Object(_library.Place):
     """An object of a segment. It looks its key up in each call, so it stays valid as long as the segment is open."""
+    __slots__ = ("_segment", "_key", "_code", "_raw", "_lock", "_scalar_code", "_key_code", "_value_code",
+                 "__weakref__")
 
     def __init__(self, segment: Segment, key: Key, code: int) -> None:
         self._segment, self._key, self._code, self._raw = segment, key, code, raw_key(key)
@@ -85,13 +87,16 @@ class Object(_library.Place):
     def _start(self) -> None:
         """Tells the library's class which object this is."""
         segment = self._segment
-        quick.zx_python_place(self, segment._handle, self._raw, self._code, segment._thread_number,
-                              (segment, self._raw))
+        quick.zx_python_place(self, segment._handle, self._raw, self._code, segment._may_ask, (segment, self._raw))
 
     def _call(self, call: Any, *arguments: Any) -> None:
         code = self._segment._code(call, self._raw, *arguments)
         if code:
-            raise error_of(code, self._key)
+            raise self._error(code, arguments)
+
+    def _error(self, code: int, arguments: Tuple[Any, ...] = ()) -> Error:
+        """Returns the error of a call that failed."""
+        return self._segment._error(code, self._key, arguments)
 
     def _change(self, call: Any, *arguments: Any) -> None:
         """Makes a call that may move or change the elements."""
@@ -133,7 +138,7 @@ class Object(_library.Place):
         if number < 0:
             number += len(self)
         if not 0 <= number < 2**64:
-            raise OutOfRange(f"{self._key!r} has no element {index}")
+            raise OutOfRange(f"{self._key!r} has no element {shown(index)}")
         return number
 
     def _scalar(self, index: int) -> int:
@@ -156,19 +161,24 @@ class Object(_library.Place):
         value = self._value()
         return type(value), (value,)
 
+    def _front(self) -> str:
+        """Returns the repr of its value, or the front of a long one."""
+        return shown(self._value())
+
     def __repr__(self) -> str:
         try:
-            return f"<{self.kind} {self._key!r} {self._value()!r}>"
+            return f"<{self.kind} {self._key!r} {self._front()}>"
         except Error as error:
             return f"<{self.kind} {self._key!r}: {error}>"
 
     def _named(self, error: Error) -> Error:
         """Returns the error, with the object's key."""
-        return type(error)(f"{self._key!r}: {error}")
+        return named(error, self._key)
 
 
 class _Places(Object):
     """What vectors, strings and vectors of strings share: a capacity."""
+    __slots__ = ()
 
     @property
     def capacity(self) -> int:
@@ -190,6 +200,7 @@ class _Places(Object):
 
 class _Elements(Object):
     """What objects of several elements share with a list."""
+    __slots__ = ()
 
     def _get(self, place: int) -> Any:
         raise NotImplementedError
@@ -207,6 +218,12 @@ class _Elements(Object):
     def _value(self) -> Any:
         return self._all()
 
+    def _front(self) -> str:
+        count = len(self)
+        if count <= _SHOWN:
+            return shown(self._read(0, count))
+        return f"{shown(self._read(0, _SHOWN))[:-1]}, ... {count} in all]"
+
     def _item(self, index: Any) -> Any:
         if not isinstance(index, slice):
             return self._get(self._place(index))
@@ -221,11 +238,16 @@ class _Elements(Object):
         # reads elements ahead, twice as many each time; after a change of the segment it reads again, a few
         segment, place, many = self._segment, 0, 1
         while True:
-            left = len(self) - place
+            changes, left = segment._changes, len(self) - place
             if left <= 0:
                 return
-            elements = self._read(place, min(many, left))
-            changes, many = segment._changes, min(2 * many, _AHEAD)
+            try:
+                elements = self._read(place, min(many, left))
+            except OutOfRange:
+                # another thread made it shorter
+                many = 1
+                continue
+            many = min(2 * many, _AHEAD)
             for value in elements:
                 yield value
                 place += 1
@@ -235,9 +257,11 @@ class _Elements(Object):
 
     def __reversed__(self) -> Iterator[Any]:
         for place in range(len(self) - 1, -1, -1):
-            if place >= len(self):
+            try:
+                value = self._get(place)
+            except OutOfRange:
                 return
-            yield self._get(place)
+            yield value
 
     def __contains__(self, value: object) -> bool:
         return value in self._all()
@@ -253,7 +277,7 @@ class _Elements(Object):
         except TypeError as error:
             raise WrongKind(f"{self._key!r}: {error}") from None
         except ValueError:
-            raise NoElement(f"{self._key!r} has no element {value!r}") from None
+            raise NoElement(f"{self._key!r} has no element {shown(value)}") from None
 
     def _other(self, other: object) -> Optional[List[Any]]:
         """Returns the elements that are compared as a list."""
@@ -295,6 +319,25 @@ class _Elements(Object):
 
 class _Scalars(_Elements):
     """What arrays and vectors of scalars share: one call reads or writes many elements."""
+    __slots__ = ()
+    if TYPE_CHECKING:
+        @overload
+        def __getitem__(self, index: SupportsIndex) -> int: ...
+
+        @overload
+        def __getitem__(self, index: slice) -> List[int]: ...
+
+        def __getitem__(self, index: Any) -> Any:
+            raise NotImplementedError
+
+        def __iter__(self) -> Iterator[int]:
+            raise NotImplementedError
+
+        def __reversed__(self) -> Iterator[int]:
+            raise NotImplementedError
+
+        def copy(self) -> List[int]:
+            raise NotImplementedError
 
     def __init__(self, segment: Segment, key: Key, code: int) -> None:
         super().__init__(segment, key, code)
@@ -366,6 +409,7 @@ class _Scalars(_Elements):
 
 class Array(_Scalars, Sequence[int]):
     """One or more scalars that were made together, used as a list of fixed length."""
+    __slots__ = ()
 
     def __len__(self) -> int:
         return self.info().count
@@ -377,16 +421,18 @@ class Array(_Scalars, Sequence[int]):
         self._write_to(places, values)
 
     def _become(self, value: Any) -> None:
-        if is_list_for(self._code, value):
-            self[:] = value
-        elif len(self) == 1:
+        # one number is used as a number, and another object is copied
+        if len(self) == 1 and not isinstance(value, Array):
             self[0] = value
+        elif is_list_for(self._code, value):
+            self[:] = value
         else:
-            raise WrongKind(f"{self._key!r}: {value!r} is no list")
+            raise WrongKind(f"{self._key!r}: {shown(value)} is no list")
 
 
 class _List(_Places, _Elements):
     """What vectors of scalars and of strings share."""
+    __slots__ = ()
 
     def _insert(self, place: int, value: Any) -> None:
         raise NotImplementedError
@@ -467,12 +513,16 @@ class _List(_Places, _Elements):
 
     def _become(self, value: Any) -> None:
         if not is_list_for(self._code, value):
-            raise WrongKind(f"{self._key!r}: {value!r} is no list")
+            raise WrongKind(f"{self._key!r}: {shown(value)} is no list")
         self.assign(value)
 
 
 class Vector(_Scalars, _List, MutableSequence[int]):
     """A vector of scalars, used as a list."""
+    __slots__ = ()
+    if TYPE_CHECKING:
+        def pop(self, index: int = -1) -> int:
+            raise NotImplementedError
 
     def _insert(self, place: int, value: Any) -> None:
         self._change(zx.zx_insert, place, self._number(value))
@@ -500,6 +550,28 @@ class Vector(_Scalars, _List, MutableSequence[int]):
 
 class Strings(_List, MutableSequence[str]):
     """A vector of strings, used as a list of str; of bytes, if the segment's encoding is None."""
+    __slots__ = ()
+    if TYPE_CHECKING:
+        @overload
+        def __getitem__(self, index: SupportsIndex) -> str: ...
+
+        @overload
+        def __getitem__(self, index: slice) -> List[str]: ...
+
+        def __getitem__(self, index: Any) -> Any:
+            raise NotImplementedError
+
+        def __iter__(self) -> Iterator[str]:
+            raise NotImplementedError
+
+        def __reversed__(self) -> Iterator[str]:
+            raise NotImplementedError
+
+        def copy(self) -> List[str]:
+            raise NotImplementedError
+
+        def pop(self, index: int = -1) -> str:
+            raise NotImplementedError
 
     def _bytes(self, text: Any) -> bytes:
         try:
@@ -532,7 +604,7 @@ class Strings(_List, MutableSequence[str]):
                 room = max(length.value, room)
                 memory = ctypes.create_string_buffer(room)
             elif code:
-                raise error_of(code, self._key)
+                raise self._error(code)
             else:
                 read += _cut(memory, ends[:got.value], encoding)
         return read
@@ -586,7 +658,17 @@ def _cut(memory: Any, ends: List[int], encoding: Optional[str]) -> List[Any]:
 
 
 class String(_Places):
-    """A string: bytes, used as a bytearray; str(s) decodes them."""
+    """A string: bytes that can be changed; bytes(s) copies them, and str(s) decodes them."""
+    __slots__ = ()
+    if TYPE_CHECKING:
+        @overload
+        def __getitem__(self, index: SupportsIndex) -> int: ...
+
+        @overload
+        def __getitem__(self, index: slice) -> bytes: ...
+
+        def __getitem__(self, index: Any) -> Any:
+            raise NotImplementedError
 
     def view(self) -> memoryview:
         """Returns a memoryview of the bytes in place, as Vector.view does of elements."""
@@ -600,7 +682,7 @@ class String(_Places):
             if not code:
                 return memory.raw[:length.value]
             if code != _SHORT_BUFFER:
-                raise error_of(code, self._key)
+                raise self._error(code)
             room = length.value
 
     def _bytes(self, text: Any) -> bytes:
@@ -680,7 +762,7 @@ class _Keys(collections.abc.KeysView):  # type: ignore[type-arg]
         return reversed(list(self))
 
     def __repr__(self) -> str:
-        return f"dict_keys({list(self)!r})"
+        return f"dict_keys({shown(list(self))})"
 
 
 class _Items(collections.abc.ItemsView):  # type: ignore[type-arg]
@@ -698,7 +780,7 @@ class _Items(collections.abc.ItemsView):  # type: ignore[type-arg]
         return reversed(list(self))
 
     def __repr__(self) -> str:
-        return f"dict_items({list(self)!r})"
+        return f"dict_items({shown(list(self))})"
 
 
 class _ValuesView(collections.abc.ValuesView):  # type: ignore[type-arg]
@@ -709,11 +791,12 @@ class _ValuesView(collections.abc.ValuesView):  # type: ignore[type-arg]
         return reversed(list(self))
 
     def __repr__(self) -> str:
-        return f"dict_values({list(self)!r})"
+        return f"dict_values({shown(list(self))})"
 
 
 class _Pairs:
     """What maps and mappings of names share with dict, beside the methods of MutableMapping."""
+    __slots__ = ()
 
     def _pairs(self) -> Iterator[Tuple[Any, Any]]:
         raise NotImplementedError
@@ -749,6 +832,22 @@ _missing = object()
 
 class Map(_Pairs, Object, MutableMapping[int, int]):
     """A map from scalars to scalars, used as a dict, in the order of its keys."""
+    __slots__ = ()
+    if TYPE_CHECKING:
+        def __getitem__(self, key: int) -> int:
+            raise NotImplementedError
+
+        def keys(self) -> KeysView[int]:
+            raise NotImplementedError
+
+        def items(self) -> ItemsView[int, int]:
+            raise NotImplementedError
+
+        def values(self) -> ValuesView[int]:
+            raise NotImplementedError
+
+        def copy(self) -> Dict[int, int]:
+            raise NotImplementedError
 
     def __init__(self, segment: Segment, key: Key, code: int) -> None:
         super().__init__(segment, key, code)
@@ -757,7 +856,7 @@ class Map(_Pairs, Object, MutableMapping[int, int]):
     def _item(self, key: Any) -> int:
         value = self._get(key)
         if value is None:
-            raise Absent(f"the map {self._key!r} has no key {key!r}")
+            raise Absent(f"the map {self._key!r} has no key {shown(key)}")
         return value
 
     def _get(self, key: Any) -> Optional[int]:
@@ -771,8 +870,14 @@ class Map(_Pairs, Object, MutableMapping[int, int]):
         if code == _ABSENT:
             return None
         if code:
-            raise error_of(code, self._key)
+            raise self._error(code)
         return number_in(value)
+
+    @overload
+    def get(self, key: object) -> Optional[int]: ...
+
+    @overload
+    def get(self, key: object, default: Union[int, _Default]) -> Union[int, _Default]: ...
 
     def get(self, key: Any, default: Any = None) -> Any:
         """Returns the value of a key, or `default`."""
@@ -787,7 +892,7 @@ class Map(_Pairs, Object, MutableMapping[int, int]):
 
     def __delitem__(self, key: int) -> None:
         if self._get(key) is None:
-            raise Absent(f"the map {self._key!r} has no key {key!r}")
+            raise Absent(f"the map {self._key!r} has no key {shown(key)}")
         self.erase(key)
 
     def _number(self, code: int, value: Any) -> _library.Value:
@@ -826,7 +931,7 @@ class Map(_Pairs, Object, MutableMapping[int, int]):
         if code == _ABSENT:
             return None
         if code:
-            raise error_of(code, self._key)
+            raise self._error(code)
         return number_in(key), number_in(value)
 
     def _rows(self, after: Optional[int], count: int) -> Tuple[List[int], List[int]]:
@@ -837,15 +942,34 @@ class Map(_Pairs, Object, MutableMapping[int, int]):
         self._call(zx.zx_read_pairs, above, keys, values, count, read)
         return from_words(self._key_code, keys, read.value), from_words(self._value_code, values, read.value)
 
-    def _pairs(self) -> Iterator[Tuple[int, int]]:
+    def range(self, low: Optional[int] = None, high: Optional[int] = None) -> Iterator[Tuple[int, int]]:
+        """Goes over the pairs whose keys are at least `low` and below `high`, in the order of the keys; None is no
+        bound. It reads no other pairs.
+
+        >>> import zaluxhoni
+        >>> prices = zaluxhoni.create(4096).construct("map<i32,i64>", "prices", {1: 250, 2: 1999, 7: 75})
+        >>> list(prices.range(2, 7)), list(prices.range(2))
+        ([(2, 1999)], [(2, 1999), (7, 75)])
+        """
+        own = SCALARS[self._key_code]
+        first = own.least if low is None else max(whole(low), own.least)
+        stop = own.most + 1 if high is None else whole(high)
+        if first > own.most:
+            return iter(())
+        return self._pairs(first - 1 if first > own.least else None, stop)
+
+    def _pairs(self, last: Optional[int] = None, stop: Optional[int] = None) -> Iterator[Tuple[int, int]]:
         # reads pairs ahead, twice as many each time; after a change of the segment it reads again, a few
-        segment, last, many = self._segment, None, 4
+        segment, many = self._segment, 4
         while True:
+            changes = segment._changes
             keys, values = self._rows(last, many)
             if not keys:
                 return
-            changes, many = segment._changes, min(2 * many, _AHEAD)
+            many = min(2 * many, _AHEAD)
             for pair in zip(keys, values):
+                if stop is not None and pair[0] >= stop:
+                    return
                 yield pair
                 if segment._changes != changes:
                     last, many = pair[0], 4
@@ -855,6 +979,14 @@ class Map(_Pairs, Object, MutableMapping[int, int]):
 
     def _value(self) -> Dict[int, int]:
         return dict(self._pairs())
+
+    def _front(self) -> str:
+        keys, values = self._rows(None, _SHOWN + 1)
+        front = shown(dict(zip(keys[:_SHOWN], values)))
+        return front if len(keys) <= _SHOWN else f"{front[:-1]}, ... {len(self)} in all}}"
+
+    def _ipython_key_completions_(self) -> List[int]:
+        return self._rows(None, _AHEAD)[0]
 
     def __contains__(self, key: Any) -> bool:
         return self.get(key) is not None
@@ -884,7 +1016,7 @@ class Map(_Pairs, Object, MutableMapping[int, int]):
             self.erase(key)
             return value
         if default is _missing:
-            raise Absent(f"the map {self._key!r} has no key {key!r}")
+            raise Absent(f"the map {self._key!r} has no key {shown(key)}")
         return default
 
     def clear(self) -> None:
@@ -910,7 +1042,7 @@ class Map(_Pairs, Object, MutableMapping[int, int]):
     def _become(self, value: Any) -> None:
         """Replaces all pairs; a pair that stays keeps its block."""
         if not isinstance(value, collections.abc.Mapping):
-            raise WrongKind(f"{self._key!r}: {value!r} is no mapping")
+            raise WrongKind(f"{self._key!r}: {shown(value)} is no mapping")
         pairs = dict(value)
         try:
             pairs_of(self._code, pairs)
@@ -934,6 +1066,21 @@ def dict_of(about: Any, *others: Any, **named: Any) -> Dict[Any, Any]:
         raise WrongKind(f"{about._key!r}: {error}") from None
     except ValueError as error:
         raise BadValue(f"{about._key!r}: {error}") from None
+
+
+def bytes_in(arguments: Tuple[Any, ...], count: int) -> Optional[int]:
+    """Returns how many bytes the values of a call have, or None if it gets none; a single one counts `count` times."""
+    for each in arguments:
+        if isinstance(each, _library.Values):
+            own = SCALARS[each.kind]
+            return int(getattr(each, own.counts)) * own.size
+        if isinstance(each, _library.Value):
+            return count * SCALARS[each.kind].size
+        if isinstance(each, bytes):
+            return len(each)
+        if isinstance(each, ctypes.Array) and each._type_ is _library.Text:
+            return sum(int(text.len) for text in each)
+    return None
 
 
 def is_list_for(code: int, value: Any) -> bool:

@@ -3,10 +3,11 @@ from __future__ import annotations
 
 import ctypes
 import importlib
+import operator
 import struct
 from typing import TYPE_CHECKING, Any, Callable, Iterable, Iterator, List, MutableSequence
 
-from ._errors import BadCount, BadValue, Error, OutOfRange, WrongKind
+from ._errors import BadCount, BadValue, Error, NoElement, OutOfRange, WrongKind, shown
 from ._objects import Array, Vector, places_of
 from ._values import listed, whole
 
@@ -15,10 +16,12 @@ if TYPE_CHECKING:
 
 
 class _Form:
-    """How many bytes a record has, and how it converts to a value of Python."""
+    """How many bytes a record has, and how it converts to a value of Python. `plain` converts a record to what is
+    compared: numbers and tuples."""
 
-    def __init__(self, size: int, to_bytes: Callable[[Any], bytes], from_bytes: Callable[[bytes], Any]) -> None:
-        self.size, self.to_bytes, self.from_bytes = size, to_bytes, from_bytes
+    def __init__(self, size: int, to_bytes: Callable[[Any], bytes], from_bytes: Callable[[bytes], Any],
+                 plain: Callable[[Any], Any] = lambda value: value) -> None:
+        self.size, self.to_bytes, self.from_bytes, self.plain = size, to_bytes, from_bytes, plain
 
 
 def _form_of_struct(form: struct.Struct) -> _Form:
@@ -31,7 +34,17 @@ def _form_of_struct(form: struct.Struct) -> _Form:
 def _form_of_ctypes(form: Any) -> _Form:
     def to_bytes(value: Any) -> bytes:
         return bytes(value if isinstance(value, form) else form(*value))
-    return _Form(ctypes.sizeof(form), to_bytes, form.from_buffer_copy)
+    return _Form(ctypes.sizeof(form), to_bytes, form.from_buffer_copy, _fields_of)
+
+
+def _fields_of(value: Any) -> Any:
+    """Returns a structure of ctypes as a tuple of its fields, and any other value as it is."""
+    if isinstance(value, ctypes.Structure):
+        own = [field for kind in reversed(type(value).__mro__) for field in vars(kind).get("_fields_", ())]
+        return tuple(_fields_of(getattr(value, field[0])) for field in own)
+    if isinstance(value, ctypes.Array):
+        return tuple(map(_fields_of, value))
+    return bytes(value) if isinstance(value, ctypes.Union) else value
 
 
 def _form_of_dtype(form: Any) -> _Form:
@@ -39,7 +52,22 @@ def _form_of_dtype(form: Any) -> _Form:
 
     def to_bytes(value: Any) -> bytes:
         return bytes(numpy.array(value, form).tobytes())
-    return _Form(form.itemsize, to_bytes, lambda record: numpy.frombuffer(record, form)[0])
+    return _Form(form.itemsize, to_bytes, lambda record: numpy.frombuffer(record, form)[0], _item_of)
+
+
+def _item_of(value: Any) -> Any:
+    """Returns a scalar or a record of numpy as a number or a tuple of Python, and any other value as it is."""
+    return value.item() if hasattr(value, "dtype") and not getattr(value, "ndim", 0) else value
+
+
+def _is_form(values: Any, form: Any, size: int) -> bool:
+    """Tells whether an array has just the form. A form that numpy knows nothing of raises a TypeError there, and one
+    that both know may have other bytes, such as "<l"."""
+    dtype = getattr(values, "dtype", None)
+    try:
+        return dtype is not None and hasattr(values, "tobytes") and dtype.itemsize == size and bool(dtype == form)
+    except (AttributeError, TypeError):
+        return False
 
 
 def _form_of(form: Any) -> _Form:
@@ -52,11 +80,11 @@ def _form_of(form: Any) -> _Form:
         elif hasattr(form, "itemsize") and not getattr(form, "hasobject", True):
             made = _form_of_dtype(form)
         else:
-            raise WrongKind(f"{form!r} is no form of records")
+            raise WrongKind(f"{shown(form)} is no form of records")
     except struct.error as error:
-        raise BadValue(f"{form!r}: {error}") from None
+        raise BadValue(f"{shown(form)}: {error}") from None
     if made.size == 0:
-        raise BadValue(f"{form!r} has no bytes")
+        raise BadValue(f"{shown(form)} has no bytes")
     return made
 
 
@@ -64,6 +92,7 @@ class Records(MutableSequence[Any]):
     """Records of one form, used as a list: those of a vector of u8, or of an array of u8, whose length is fixed. A form
     is a struct format ("d" for doubles, whose records are numbers; "<ihx" for tuples), a ctypes.Structure, or a numpy
     dtype. The bytes are those of the form, as C and C++ lay it out. `Segment.records` makes one."""
+    __slots__ = ("_elements", "_form", "_given", "_lock")
 
     def __init__(self, elements: Any, form: Any) -> None:
         self._elements, self._form, self._given, self._lock = elements, _form_of(form), form, elements._lock
@@ -90,15 +119,23 @@ class Records(MutableSequence[Any]):
         except Error:
             raise
         except (struct.error, TypeError, ValueError, OverflowError) as error:
-            raise WrongKind(f"{self._elements.key!r}: {value!r} is no {self._given!r}: {error}") from None
+            raise WrongKind(f"{self._elements.key!r}: {shown(value)} is no {self._given!r}: {error}") from None
         if len(record) != self._form.size:
-            raise WrongKind(f"{self._elements.key!r}: {value!r} is no {self._given!r}")
+            raise WrongKind(f"{self._elements.key!r}: {shown(value)} is no {self._given!r}")
         return record
 
     def _joined(self, values: Any) -> bytes:
-        if getattr(values, "dtype", None) is not None and values.dtype == self._given:
+        if isinstance(values, Records):
+            values = list(values)
+        if _is_form(values, self._given, self._form.size):
             return bytes(values.tobytes())
         return b"".join([self._bytes(value) for value in listed(values)])
+
+    def _all(self) -> List[Any]:
+        return self._read(0, len(self))
+
+    def _plain(self, value: Any) -> Any:
+        return self._form.plain(value)
 
     def _read(self, first: int, count: int) -> List[Any]:
         size, from_bytes = self._form.size, self._form.from_bytes
@@ -109,7 +146,7 @@ class Records(MutableSequence[Any]):
         place = whole(index)
         place += length if place < 0 else 0
         if not 0 <= place < length:
-            raise OutOfRange(f"{self._elements.key!r} has no record {index}")
+            raise OutOfRange(f"{self._elements.key!r} has no record {shown(index)}")
         return place
 
     def __getitem__(self, index: Any) -> Any:
@@ -125,14 +162,25 @@ class Records(MutableSequence[Any]):
         if not isinstance(index, slice):
             self._elements._write(self._place(index, length) * size, self._bytes(value))
             return
-        places, records = places_of(index, length), [self._bytes(each) for each in listed(value)]
-        if len(places) != len(records) and (places.step != 1 or isinstance(self._elements, Array)):
-            raise BadCount(f"{self._elements.key!r}: {len(records)} values for {len(places)}")
-        if len(places) == len(records):
-            for place, record in zip(places, records):
-                self._elements._write(place * size, record)
-        else:
-            self._splice(places.start, places.stop if places else places.start, b"".join(records))
+        places, joined = places_of(index, length), self._joined(value)
+        count = len(joined) // size
+        if len(places) != count and (places.step != 1 or isinstance(self._elements, Array)):
+            raise BadCount(f"{self._elements.key!r}: {count} values for {len(places)}")
+        if len(places) != count:
+            self._splice(places.start, places.stop if places else places.start, joined)
+        elif places:
+            self._write_to(places, joined)
+
+    def _write_to(self, places: range, joined: bytes) -> None:
+        """Overwrites the records at some indexes, all by one call."""
+        size, first = self._form.size, min(places[0], places[-1])
+        records = bytearray(joined)
+        if places.step != 1:
+            count = abs(places[-1] - places[0]) + 1
+            records = bytearray(self._elements._memory(first * size, count * size).raw[:count * size])
+            for number, place in enumerate(places):
+                records[(place - first) * size:(place - first + 1) * size] = joined[number * size:(number + 1) * size]
+        self._elements._write(first * size, bytes(records))
 
     def _splice(self, start: int, stop: int, joined: bytes) -> None:
         """Replaces the records there by other bytes."""
@@ -182,11 +230,52 @@ class Records(MutableSequence[Any]):
         """Removes all records."""
         self._vector().clear()
 
+    def index(self, value: Any, start: Any = 0, stop: Any = None) -> int:
+        """Returns the first index of a record, from `start` on and before `stop`. NoElement."""
+        records = list(map(self._plain, self._all()))
+        try:
+            return records.index(self._plain(value), start, *(() if stop is None else (stop,)))
+        except TypeError as error:
+            raise WrongKind(f"{self._elements.key!r}: {error}") from None
+        except ValueError:
+            raise NoElement(f"{self._elements.key!r} has no record {shown(value)}") from None
+
+    def count(self, value: Any) -> int:
+        """Returns how often it has the record."""
+        return list(map(self._plain, self._all())).count(self._plain(value))
+
+    def remove(self, value: Any) -> None:
+        """Removes the first record that is equal. NoElement."""
+        del self[self.index(value)]
+
+    def reverse(self) -> None:
+        """Reverses the records."""
+        self.assign(self._all()[::-1])
+
+    def sort(self, *, key: Any = None, reverse: bool = False) -> None:
+        """Sorts the records, as list.sort does."""
+        self.assign(sorted(self._all(), key=self._plain if key is None else key, reverse=reverse))
+
+    def copy(self) -> List[Any]:
+        """Returns its records as a list."""
+        return self._all()
+
+    def __contains__(self, value: object) -> bool:
+        return self._plain(value) in list(map(self._plain, self._all()))
+
     def __iter__(self) -> Iterator[Any]:
         segment, place, many = self._elements._segment, 0, 1
-        while place < len(self):
-            records = self._read(place, min(many, len(self) - place))
-            changes, many = segment._changes, min(2 * many, 256)
+        while True:
+            changes, left = segment._changes, len(self) - place
+            if left <= 0:
+                return
+            try:
+                records = self._read(place, min(many, left))
+            except OutOfRange:
+                # another thread made it shorter
+                many = 1
+                continue
+            many = min(2 * many, 256)
             for record in records:
                 yield record
                 place += 1
@@ -194,10 +283,44 @@ class Records(MutableSequence[Any]):
                     many = 1
                     break
 
-    def __eq__(self, other: object) -> bool:
-        if isinstance(other, (list, Records)):
-            return list(self) == list(other)
-        return NotImplemented
+    def _with(self, operation: Any, other: object, plain: bool = True) -> Any:
+        """Applies an operator to two lists."""
+        if not isinstance(other, (list, Records)):
+            return NotImplemented
+        own, others = self._all(), list(other)
+        if plain:
+            own, others = list(map(self._plain, own)), list(map(self._plain, others))
+        return operation(own, others)
+
+    def __eq__(self, other: object) -> Any:
+        return self._with(operator.eq, other)
+
+    def __lt__(self, other: object) -> Any:
+        return self._with(operator.lt, other)
+
+    def __le__(self, other: object) -> Any:
+        return self._with(operator.le, other)
+
+    def __gt__(self, other: object) -> Any:
+        return self._with(operator.gt, other)
+
+    def __ge__(self, other: object) -> Any:
+        return self._with(operator.ge, other)
+
+    def __add__(self, other: Any) -> Any:
+        return self._with(operator.add, other, False)
+
+    def __radd__(self, other: Any) -> Any:
+        return self._with(lambda own, others: others + own, other, False)
+
+    def __mul__(self, times: Any) -> Any:
+        return self._all() * whole(times)
+
+    __rmul__ = __mul__
+
+    def __imul__(self, times: Any) -> Any:
+        self.assign(self._all() * whole(times))
+        return self
 
     __hash__ = None  # type: ignore[assignment]
 

@@ -1,29 +1,35 @@
 """Segments, groups of their names, and transactions."""
 from __future__ import annotations
 
+import atexit
 import codecs
 import collections.abc
 import ctypes
 import inspect
 import os
 import struct
+import sys
 import threading
 import warnings
-from typing import Any, Callable, Dict, Iterator, List, MutableMapping, NamedTuple, Optional, Tuple
+import weakref
+from typing import (TYPE_CHECKING, Any, Callable, Dict, ItemsView, Iterator, KeysView, List, Literal, MutableMapping,
+                    NamedTuple, Optional, Tuple, ValuesView, overload)
 
 from . import _library
-from ._errors import (BadCount, BadKey, BadName, BadValue, Error, FileUnsynced, Lent, NotFound, WrongKind,
-                      WrongThread, error_of, file_error_of)
+from ._errors import (BadCount, BadKey, BadName, BadValue, Error, FileForked, FileUnsynced, Lent, NotFound,
+                      WrongKind, WrongTask, WrongThread, error_of, file_error_of, named, no_space, shown)
 from ._library import BOOL, I32, I64, MAP, NO_SPACE, STRING, STRINGS, U8, VECTOR, quick, zx
-from ._objects import Array, Map, Object, _Pairs, String, Strings, Vector, object_of
+from ._objects import Array, Map, Object, _Pairs, String, Strings, Vector, bytes_in, object_of
 from ._records import Records
-from ._values import (KINDS, MOST, TEXTS, Key, Texts, code_of, counted, encoded, handle, is_scalar,
-                      is_truth, listed, natural, number_in, pairs_of, raw_key, row, scalar, value_of, whole)
+from ._values import (KINDS, MOST, TEXTS, Key, MapKind, ScalarKind, Texts, VectorKind, code_of, counted, encoded,
+                      handle, is_scalar, is_truth, listed, natural, pairs_of, raw_key, row, scalar, value_of, whole)
 
-_ABSENT, _OUT_OF_RANGE = 10, 8
+_ABSENT, _OUT_OF_RANGE, _CLOSED = 10, 8, 16
 _NO_OBJECT = (6, 17, 18)
 _AHEAD = 1024
 _LONGEST_NAME = 255
+_NOBODY = 2**64 - 1
+"""The number of no thread."""
 MODES = {"w": 0, "r": 1, "p": 2}
 FILE_MODES = {"x": 16, "w": 17, "c": 18, "r": 19, "p": 20}
 _missing = object()
@@ -68,14 +74,42 @@ _here = _Here()
 
 class _Named(_Pairs, MutableMapping[str, Any]):
     """What segments and groups share: a mapping from names to objects, in the order of the names' bytes."""
+    __slots__ = ()
     _segment: Segment
     _prefix: str
+    if TYPE_CHECKING:
+        def keys(self) -> KeysView[str]:
+            raise NotImplementedError
+
+        def items(self) -> ItemsView[str, Any]:
+            raise NotImplementedError
+
+        def values(self) -> ValuesView[Any]:
+            raise NotImplementedError
 
     def _full(self, key: Any) -> Any:
         """Returns the key in the segment."""
         raise NotImplementedError
 
     # -- objects
+
+    @overload
+    def construct(self, kind: ScalarKind, key: Optional[Key] = None, value: Any = None) -> Array: ...
+
+    @overload
+    def construct(self, kind: VectorKind, key: Optional[Key] = None, value: Any = None) -> Vector: ...
+
+    @overload
+    def construct(self, kind: Literal["string"], key: Optional[Key] = None, value: Any = None) -> String: ...
+
+    @overload
+    def construct(self, kind: Literal["vec<string>"], key: Optional[Key] = None, value: Any = None) -> Strings: ...
+
+    @overload
+    def construct(self, kind: MapKind, key: Optional[Key] = None, value: Any = None) -> Map: ...
+
+    @overload
+    def construct(self, kind: str, key: Optional[Key] = None, value: Any = None) -> Any: ...
 
     def construct(self, kind: str, key: Optional[Key] = None, value: Any = None) -> Any:
         """Makes an object and returns it: construct("i64", "a", 5), construct("i64[3]", "b", 7), construct("i64[3]",
@@ -86,6 +120,24 @@ class _Named(_Pairs, MutableMapping[str, Any]):
         full, made = self._full(key), ctypes.c_uint64()
         code = self._make("construct", kind, full, value, made)
         return object_of(self._segment, full if full is not None else handle(made.value), code)
+
+    @overload
+    def find_or_construct(self, kind: ScalarKind, key: Key, value: Any = None) -> Array: ...
+
+    @overload
+    def find_or_construct(self, kind: VectorKind, key: Key, value: Any = None) -> Vector: ...
+
+    @overload
+    def find_or_construct(self, kind: Literal["string"], key: Key, value: Any = None) -> String: ...
+
+    @overload
+    def find_or_construct(self, kind: Literal["vec<string>"], key: Key, value: Any = None) -> Strings: ...
+
+    @overload
+    def find_or_construct(self, kind: MapKind, key: Key, value: Any = None) -> Map: ...
+
+    @overload
+    def find_or_construct(self, kind: str, key: Key, value: Any = None) -> Any: ...
 
     def find_or_construct(self, kind: str, key: Key, value: Any = None) -> Any:
         """Returns the object of the key, unchanged, or makes it as `construct` does. WrongKind, if an object of another
@@ -112,7 +164,7 @@ class _Named(_Pairs, MutableMapping[str, Any]):
             else:
                 self._make_map(call, code, key, value, told)
         except Error as error:
-            raise self._segment._named(error, key) from None
+            raise (error if key is None else named(error, key)) from None
         return code
 
     def _make_map(self, call: str, code: int, key: Any, value: Any, told: Tuple[Any, ...]) -> None:
@@ -174,6 +226,24 @@ class _Named(_Pairs, MutableMapping[str, Any]):
         found = self.find(kind, key)
         return self.find_or_construct(kind, key) if found is None else found
 
+    @overload
+    def find(self, kind: ScalarKind, key: Key) -> Optional[Array]: ...
+
+    @overload
+    def find(self, kind: VectorKind, key: Key) -> Optional[Vector]: ...
+
+    @overload
+    def find(self, kind: Literal["string"], key: Key) -> Optional[String]: ...
+
+    @overload
+    def find(self, kind: Literal["vec<string>"], key: Key) -> Optional[Strings]: ...
+
+    @overload
+    def find(self, kind: MapKind, key: Key) -> Optional[Map]: ...
+
+    @overload
+    def find(self, kind: str, key: Key) -> Any: ...
+
     def find(self, kind: str, key: Key) -> Any:
         """Returns the object of a kind under a name or unique(kind), or None. WrongKind, if an object of another kind
         has the key."""
@@ -209,7 +279,7 @@ class _Named(_Pairs, MutableMapping[str, Any]):
     def group(self, prefix: str) -> Group:
         """Returns the names that begin with a text, as a mapping from the rest of each name: group("prices/")."""
         if not isinstance(prefix, str):
-            raise BadName(f"{prefix!r} is no front of names")
+            raise BadName(f"{shown(prefix)} is no front of names")
         return self._segment._classes[Group](self._segment, self._prefix + prefix)  # type: ignore[no-any-return]
 
     # -- as a mapping
@@ -218,7 +288,7 @@ class _Named(_Pairs, MutableMapping[str, Any]):
         full = self._full(key)
         told = self._segment._told(full)
         if told is None:
-            raise NotFound(f"no object is {full!r}")
+            raise NotFound(f"no object is {shown(full)}")
         found = object_of(self._segment, full, told.kind)
         if told.kind == STRING:
             return found._value()
@@ -230,6 +300,8 @@ class _Named(_Pairs, MutableMapping[str, Any]):
         full = self._full(key)
         told = self._segment._told(full)
         if told is None:
+            if key is None:
+                raise WrongKind("None is no name")
             raw_key(full)
             self.construct(_kind_for(value, full), key, value._value() if isinstance(value, Object) else value)
         else:
@@ -238,7 +310,7 @@ class _Named(_Pairs, MutableMapping[str, Any]):
     def __delitem__(self, key: Any) -> None:
         full = self._full(key)
         if self._segment._told(full) is None:
-            raise NotFound(f"no object is {full!r}")
+            raise NotFound(f"no object is {shown(full)}")
         self.destroy(key)
 
     def __contains__(self, key: Any) -> bool:
@@ -265,7 +337,7 @@ class _Named(_Pairs, MutableMapping[str, Any]):
         returns `default`, or raises NotFound."""
         if key not in self:
             if default is _missing:
-                raise NotFound(f"no object is {self._full(key)!r}")
+                raise NotFound(f"no object is {shown(self._full(key))}")
             return default
         value = self[key]
         value = value._value() if isinstance(value, Object) else value
@@ -307,6 +379,9 @@ class _Named(_Pairs, MutableMapping[str, Any]):
                 found = found._value() if kind == STRING else found
             yield name[begin:], found
 
+    def _ipython_key_completions_(self) -> List[str]:
+        return list(self)
+
     # -- lists
 
     def named(self) -> List[Info]:
@@ -318,10 +393,10 @@ class _Named(_Pairs, MutableMapping[str, Any]):
         segment, prefix = self._segment, self._prefix
         index, many = segment._first_from(prefix.encode()), 8
         while True:
-            rows = segment._names(index, many)
+            changes, rows = segment._changes, segment._names(index, many)
             if not rows:
                 return
-            changes, many = segment._changes, min(2 * many, _AHEAD)
+            many = min(2 * many, _AHEAD)
             for row_of_name in rows:
                 if prefix and not row_of_name[0].startswith(prefix):
                     return
@@ -364,11 +439,11 @@ def _kind_for(value: Any, key: Any) -> str:
     if isinstance(value, collections.abc.Mapping):
         return f"map<{_scalar_for(value.keys(), key)},{_scalar_for(value.values(), key)}>"
     if isinstance(value, collections.abc.Sequence) or hasattr(value, "tolist") and getattr(value, "ndim", True):
-        if len(value) and isinstance(value[0], TEXTS):
+        if isinstance(next(iter(value), None), TEXTS):
             return "vec<string>"
         return f"vec<{_scalar_for(value, key)}>"
     if isinstance(value, collections.abc.Iterable):
-        raise WrongKind(f"{key!r}: {value!r} is no list")
+        raise WrongKind(f"{shown(key)}: {shown(value)} is no list")
     return _scalar_for([value], key)
 
 
@@ -385,33 +460,51 @@ def _scalar_for(values: Any, key: Any) -> str:
     try:
         return "u64" if any(MOST <= whole(value) < 2**64 for value in values) else "i64"
     except WrongKind as error:
-        raise WrongKind(f"{key!r}: {error}") from None
+        raise WrongKind(f"{shown(key)}: {error}") from None
 
 
 class _Left:
     """Holds memory for views after their segment is closed."""
 
-    def __init__(self, at: int) -> None:
-        self._at = at
+    memory = _library.Memory()
+
+    def __init__(self) -> None:
+        self.memory = _library.Memory()
 
     def __del__(self) -> None:
-        _library.free(self._at)
+        _library.free(self.memory.at)
 
 
-class Segment(_Named):
+class Segment(_Named, _library.Block):
     """A segment, used as a mapping from names to objects, in the order of the names' bytes. `open`, `create` and `load`
     make one."""
+    __slots__ = ("_file", "_handle", "_prefix", "_thread_number", "_may_ask", "_opener", "_thread", "_process",
+                 "_changes_at_fork", "_is_told", "_lock", "_changes", "_lent", "_any_name", "_was_lent", "_left",
+                 "_path", "_is_mapped", "_classes", "_steps", "_task", "_restored", "_held", "_was_refused", "growing",
+                 "encoding", "__weakref__")
+    if TYPE_CHECKING:
+        def __enter__(self) -> Segment:
+            raise NotImplementedError
 
     def __init__(self, *, grow: bool = False, encoding: Optional[str] = "utf-8",
                  check_same_thread: bool = True) -> None:
         self._file = _library.File()
         self._handle = self._file.segment
         self._prefix = ""
-        self._thread_number = _here.number if check_same_thread else 0
-        self._process = os.getpid()
+        # who may make a call at once: a thread, any (0), or none, so that each call looks who makes it
+        self._thread_number: int = _here.number if check_same_thread else 0
+        self._may_ask = ctypes.c_uint64(self._thread_number)
+        self._opener = self._thread_number
+        self._thread = threading.current_thread()
+        self._process, self._changes_at_fork, self._is_told = os.getpid(), 0, False
         self._lock = threading.RLock()
         self._changes = 0
-        self._lent: Dict[int, int] = {}
+        self._lent: List[Tuple[Any, int]] = []
+        self._steps: List[_library.Handle] = []
+        self._task: Any = None
+        self._restored: Optional[Tuple[bytes, int, int]] = None
+        # its `with` block holds nothing that others wait for
+        self._held, self._was_refused = threading.RLock(), False
         self._any_name = ctypes.create_string_buffer(_LONGEST_NAME)
         self._was_lent, self._left = False, []  # type: Tuple[bool, List[_Left]]
         self._path: Any = None
@@ -425,7 +518,7 @@ class Segment(_Named):
         try:
             codecs.lookup(encoding or "utf-8")
         except (LookupError, TypeError):
-            raise BadValue(f"no encoding is {encoding!r}") from None
+            raise BadValue(f"no encoding is {shown(encoding)}") from None
 
     @property
     def _segment(self) -> Segment:  # type: ignore[override]
@@ -439,7 +532,7 @@ class Segment(_Named):
     def _code(self, call: Any, *arguments: Any) -> int:
         """Returns the code of a library call."""
         if self._thread_number and _here.number != self._thread_number:
-            raise WrongThread()
+            self._refuse_stranger()
         code: int = call(self._handle, *arguments)
         if code == NO_SPACE and self.growing:
             return self._code_in_more_space(call, arguments)
@@ -449,24 +542,38 @@ class Segment(_Named):
         """Makes a library call, and raises its error."""
         code = self._code(call, *arguments)
         if code:
-            raise error_of(code)
+            raise self._error(code)
+
+    def _refuse_stranger(self) -> None:
+        """Raises WrongThread or WrongTask, unless the thread and the task may make calls."""
+        if self._opener and _here.number != self._opener:
+            raise WrongThread()
+        if self._task is not None and self._task is not _task_here():
+            raise WrongTask()
+
+    def _error(self, code: int, about: object = None, arguments: Tuple[Any, ...] = (), count: int = 1) -> Error:
+        """Returns the error of a call that failed."""
+        if code == NO_SPACE:
+            return no_space(about, bytes_in(arguments, count), self.free)
+        if code == _CLOSED and self._file.held and self._process != os.getpid():
+            return FileForked(None, self._path)
+        return error_of(code, about)
 
     def _change(self, call: str, key: Any, *arguments: Any) -> None:
         """Makes a call with a key, which may change which objects exist."""
         self._changes += 1
         code = self._code(getattr(zx, f"zx_{call}"), raw_key(key), *arguments)
         if code:
-            raise error_of(code, key)
-
-    def _named(self, error: Error, key: Any) -> Error:
-        """Returns the error, with the key."""
-        return error if key is None or repr(key) in str(error) else type(error)(f"{key!r}: {error}")
+            count = arguments[0] if call in ("construct", "find_or_construct") else 1
+            raise self._error(code, key, arguments, count)
 
     def _file_call(self, call: Any, path: Any, *arguments: Any) -> None:
         """Makes a file call, and raises its error with the path."""
         if self._thread_number and _here.number != self._thread_number:
-            raise WrongThread()
+            self._refuse_stranger()
         code = call(self._file, *arguments)
+        if code == _CLOSED:
+            raise self._error(code)
         if code:
             raise file_error_of(code, self._file, path)
 
@@ -502,14 +609,14 @@ class Segment(_Named):
     def _find(self, code: int, key: Any) -> Any:
         found = self._code(zx.zx_find, raw_key(key), code, ctypes.c_uint64(), ctypes.c_uint32())
         if found and found != _ABSENT:
-            raise error_of(found, key)
+            raise self._error(found, key)
         return None if found else object_of(self, key, code)
 
     def _info(self, key: Any) -> Info:
         told, name = _library.Info(), ctypes.create_string_buffer(_LONGEST_NAME)
         code = self._code(zx.zx_tell, raw_key(key), told, name, _LONGEST_NAME)
         if code:
-            raise error_of(code, key)
+            raise self._error(code, key)
         return _info(told, name.raw)
 
     def _told(self, key: Any) -> Optional[_library.Info]:
@@ -520,17 +627,24 @@ class Segment(_Named):
         except (BadKey, BadName):
             return None
         if code and code not in _NO_OBJECT:
-            raise error_of(code, key)
+            raise self._error(code, key)
         return None if code else told
+
+    def _is_lent(self) -> bool:
+        """Tells whether a view exists. It forgets those that are gone here, and not as they go: a signal would prevent
+        that."""
+        if self._lent:
+            self._lent = [lent for lent in self._lent if lent[0]() is not None]
+        return bool(self._lent)
 
     def _refuse_lent(self, key: Any) -> None:
         """Raises Lent if a view holds the object's memory."""
-        told = self._told(key)
-        if told is not None and told.handle in self._lent.values():
-            raise Lent(f"{key!r} is lent to a view that is still there")
+        told = self._told(key) if self._is_lent() else None
+        if told is not None and any(told.handle == number for _, number in self._lent):
+            raise Lent(f"{shown(key)} is lent to a view that is still there")
 
     def _refuse_any_lent(self) -> None:
-        if self._lent:
+        if self._is_lent():
             raise Lent("an object of the segment is lent to a view that is still there")
 
     # -- the bytes
@@ -584,22 +698,45 @@ class Segment(_Named):
 
     def transaction(self) -> Transaction:
         """Makes a block one step. `with segment.transaction():` keeps all that the block did; if an exception leaves
-        the block, the segment is as before it. It copies the segment. NoMemory, Closed."""
+        the block, the segment is as before it. It copies the segment. In a task of asyncio it belongs to the task:
+        until it ends, the calls of other tasks raise WrongTask. NoMemory, Closed."""
+        if self._thread_number and _here.number != self._thread_number:
+            self._refuse_stranger()
         return Transaction(self)
 
+    def _begin_step(self, before: _library.Handle) -> None:
+        """Notes that a transaction begins. The first one in a task makes each call look at its task."""
+        if not self._steps:
+            self._task = _task_here()
+        self._steps.append(before)
+        if self._task is not None:
+            self._thread_number = self._may_ask.value = _NOBODY
+
+    def _end_step(self, before: _library.Handle) -> None:
+        self._steps = [step for step in self._steps if step is not before]
+        if not self._steps:
+            self._thread_number = self._may_ask.value = self._opener
+            self._task = None
+
     def _roll_back(self, before: _library.Handle) -> None:
-        """Restores the segment from its copy. Views keep what they show, in memory of their own."""
+        """Restores the segment from its copy. Views keep what they show, in memory of their own. If the handler of a
+        signal interrupts it, the same call continues."""
         self._changes += 1
-        if not self._lent:
-            return self._file_call(zx.zx_file_rollback, self._path, before)
-        self._refuse_lent_file()
-        length = ctypes.c_uint64()
-        zx.zx_size(before, length)
-        image, mode = ctypes.create_string_buffer(length.value), MODES_OF[self.mode]
-        capacity = self.size + self.region_left
-        zx.zx_save(before, image, len(image))
-        self._leave_memory()
-        self._call(zx.zx_open, image.raw, len(image), max(capacity, len(image)), mode)
+        if self._restored is None:
+            if not self._is_lent():
+                return self._file_call(zx.zx_file_rollback, self._path, before)
+            self._refuse_lent_file()
+            length = ctypes.c_uint64()
+            zx.zx_size(before, length)
+            image = ctypes.create_string_buffer(length.value)
+            zx.zx_save(before, image, len(image))
+            self._restored = image.raw, max(self.size + self.region_left, len(image)), MODES_OF[self.mode]
+        image_before, capacity, mode = self._restored
+        if self.is_open:
+            self._leave_memory()
+        self._lent.clear()
+        self._call(zx.zx_open, image_before, len(image_before), capacity, mode)
+        self._restored = None
 
     # -- its file
 
@@ -622,7 +759,7 @@ class Segment(_Named):
     def close(self) -> None:
         """Saves the file, if it is open for writing, and closes the segment. After an error other than FileUnsynced it
         is still open. A view keeps the memory that it shows; a view of a mapped file raises Lent."""
-        if self._lent:
+        if self._is_lent():
             self._refuse_lent_file()
             try:
                 if self._file.held:
@@ -639,8 +776,8 @@ class Segment(_Named):
         """Closes the segment without saving. Removes a file that it created and never saved. A mapped file stays, with
         all changes. Lent, as for `close`."""
         if self._thread_number and _here.number != self._thread_number:
-            raise WrongThread()
-        if self._lent:
+            self._refuse_stranger()
+        if self._is_lent():
             self._refuse_lent_file()
             self._leave_memory()
         self._changes += 1
@@ -650,11 +787,8 @@ class Segment(_Named):
 
     def _lend(self, lease: Any, number: int) -> None:
         """Notes that a view holds the elements of an object."""
-        self._lent[id(lease)] = number
         self._was_lent = True
-
-    def _give_back(self, lease: Any) -> None:
-        self._lent.pop(id(lease), None)
+        self._lent.append((weakref.ref(lease), number))
 
     def _note_views(self) -> None:
         """Lets a save check whether views changed bytes."""
@@ -667,9 +801,9 @@ class Segment(_Named):
 
     def _leave_memory(self) -> None:
         """Closes the segment, and leaves its memory to the views that exist."""
-        memory = _library.Memory()
-        self._call(zx.zx_detach, memory)
-        self._left.append(_Left(memory.at))
+        left = _Left()
+        self._left.append(left)
+        self._call(zx.zx_detach, left.memory)
         self._lent.clear()
 
     @property
@@ -677,26 +811,76 @@ class Segment(_Named):
         """Whether the segment is open."""
         return bool(self._handle.at)
 
-    def __enter__(self) -> Segment:
+    def _begin(self) -> Segment:
+        if not self.is_open:
+            raise self._error(_CLOSED)
+        self._was_refused = False
         return self
 
-    def __exit__(self, kind: Any, *_: Any) -> None:
-        if kind is None:
-            self.close()
-        else:
-            self.discard()
+    def _end(self, depth: int, raised: Any) -> None:
+        """Closes or discards it behind its `with` block. If the handler of a signal interrupts it, the same call
+        continues; what the library refused is not tried again."""
+        if raised is True or self._was_refused:
+            return
+        try:
+            if raised is None or isinstance(raised, SystemExit) and (raised.code is None or raised.code == 0):
+                self.close()
+            else:
+                self.discard()
+        except Error:
+            self._was_refused = True
+            raise
 
     def __del__(self) -> None:
         # nobody else uses it any more, whatever thread this is
         file = getattr(self, "_file", None)
-        if file is None or not (self._handle.at or file.held):
+        if file is None or not (file.segment.at or file.held):
             return
         try:
-            if file.held and not self._is_mapped and self._process == os.getpid():
-                said = f"a segment of {self._path!r} was not closed, and is not saved"
+            if self._end_unclosed(True):
+                said = f"a segment of {self._path!r} was not closed; it was saved when it was collected"
                 warnings.warn(said, ResourceWarning, source=self)
         finally:
             zx.zx_file_discard(file)
+
+    def _end_unclosed(self, is_alone: bool) -> bool:
+        """Saves and closes a segment that nobody closed, if it is whole, and tells whether it did. Otherwise it says on
+        standard error that it is not saved. `is_alone`: no other thread can use it."""
+        mode = ctypes.c_uint32()
+        zx.zx_mode(self._handle, mode)
+        if not self._file.held or mode.value != MODES["w"] or self._is_told:
+            return False
+        if self._process != os.getpid():
+            is_changed = self._changes != self._changes_at_fork
+            return is_changed and self._say_unsaved("it belongs to the parent of this process")
+        is_here = not self._opener or self._thread is threading.current_thread()
+        if not (is_alone or is_here) and self._thread.is_alive():
+            return self._say_unsaved("its thread still runs")
+        if not self._lock.acquire(blocking=False):
+            return self._say_unsaved("another thread uses it")
+        try:
+            if self._steps:
+                return self._say_unsaved("a transaction is open")
+            self._note_views()
+            code = zx.zx_file_save(self._file)
+            if code and code != FileUnsynced.code:
+                return self._say_unsaved(str(file_error_of(code, self._file, self._path)))
+            if is_alone or not self._is_lent():
+                zx.zx_file_discard(self._file)
+            return True
+        finally:
+            self._lock.release()
+
+    def _say_unsaved(self, reason: str) -> bool:
+        """Says on standard error, once, that the segment is not saved; false."""
+        left = "its file has the changes so far" if self._is_mapped else "its file stays as it was saved last"
+        self._is_told = True
+        try:
+            print(f"zaluxhoni: the segment of {self._path!r} was not closed, and is not saved, since {reason}; {left}",
+                  file=sys.stderr)
+        except Exception:
+            pass
+        return False
 
     def __reduce_ex__(self, _: Any) -> Any:
         raise WrongKind("a segment is not copied: load(segment.image()) makes another one")
@@ -734,7 +918,7 @@ class Segment(_Named):
             if code == _OUT_OF_RANGE:
                 return
             if code:
-                raise error_of(code)
+                raise self._error(code)
             yield index
             index += 1
 
@@ -791,6 +975,7 @@ class Segment(_Named):
 class Group(_Named):
     """The names of a segment that begin with a text: a mapping from the rest of each name to its object.
     `Segment.group` makes one; it stays valid as long as the segment is open."""
+    __slots__ = ("_segment", "_prefix", "_lock")
 
     def __init__(self, segment: Segment, prefix: str) -> None:
         self._segment, self._prefix, self._lock = segment, prefix, segment._lock
@@ -828,33 +1013,77 @@ class _NoName:
         return f"{self._key!r}, which is no name of a group"
 
 
-class Transaction:
+class Transaction(_library.Block):
     """Several calls as one step. `Segment.transaction` makes one."""
+    __slots__ = ("_segment", "_held", "_copies", "_was_refused")
+    if TYPE_CHECKING:
+        def __enter__(self) -> Segment:
+            raise NotImplementedError
 
     def __init__(self, segment: Segment) -> None:
-        self._segment = segment
+        self._segment, self._held = segment, segment._lock
         self._copies: List[_library.Handle] = []
+        self._was_refused = False
 
-    def __enter__(self) -> Segment:
+    def _begin(self) -> Segment:
         segment, before = self._segment, _library.Handle()
-        segment._lock.acquire()
-        try:
-            if segment.mode != "read":
-                segment._call(zx.zx_begin, before)
-        except BaseException:
-            segment._lock.release()
-            raise
+        segment._refuse_stranger()
         self._copies.append(before)
+        segment._begin_step(before)
+        if segment.mode != "read":
+            segment._call(zx.zx_begin, before)
         return segment
 
-    def __exit__(self, kind: Any, *_: Any) -> None:
-        segment, before = self._segment, self._copies.pop()
-        try:
-            if kind is not None and before.at and segment.is_open:
+    def _end(self, depth: int, raised: Any) -> None:
+        """Ends the block that is so deep. If the handler of a signal interrupts it, the same call continues."""
+        if len(self._copies) < depth:
+            return
+        segment, before = self._segment, self._copies[depth - 1]
+        is_open = segment.is_open or segment._restored is not None
+        if raised is not None and before.at and is_open and not self._was_refused:
+            try:
                 segment._roll_back(before)
-        finally:
-            zx.zx_close(before)
-            segment._lock.release()
+            except Error:
+                self._was_refused = True
+                raise
+        zx.zx_close(before)
+        segment._end_step(before)
+        del self._copies[depth - 1:]
+
+
+def _task_here() -> Any:
+    """Returns the task of asyncio that makes the call, or None."""
+    asyncio = sys.modules.get("asyncio")
+    try:
+        return None if asyncio is None else asyncio.current_task()
+    except (AttributeError, RuntimeError):
+        return None
+
+
+# ---- segments that nobody closed
+
+_opened: Any = weakref.WeakValueDictionary()
+"""The segments that were opened with the right to save their file, by their ids."""
+
+
+def note_opened(segment: Segment) -> None:
+    """Notes a segment that has a file to save, so that this is done at the end of the process if nobody closes it."""
+    if segment._file.held:
+        _opened[id(segment)] = segment
+
+
+def _note_fork() -> None:
+    for segment in list(_opened.values()):
+        segment._changes_at_fork = segment._changes
+
+
+def _end_all() -> None:
+    for segment in list(_opened.values()):
+        segment._end_unclosed(False)
+
+
+os.register_at_fork(after_in_child=_note_fork)
+atexit.register(_end_all)
 
 
 MODES_OF = {"write": 0, "read": 1, "copy on write": 2}
@@ -876,16 +1105,20 @@ def _locked(kind: Any) -> Any:
     members: Dict[str, Any] = {}
     for base in reversed(kind.__mro__[:-1]):
         for name, member in vars(base).items():
-            if name in ("__init__", "__new__", "__del__", "__exit__", "_give_back", "__init_subclass__",
-                        "__class_getitem__", "__subclasshook__"):
+            if name in ("__init__", "__new__", "__del__", "__exit__", "__init_subclass__", "__class_getitem__",
+                        "__subclasshook__", "_end_unclosed", "_say_unsaved"):
                 continue
             if inspect.isfunction(member) and not inspect.isgeneratorfunction(member):
                 members[name] = _locks(member)
             elif isinstance(member, property) and member.fget is not None and name != "_segment":
                 members[name] = property(_locks(member.fget), doc=member.__doc__)
+            elif name in ("_at", "__getitem__"):
+                # those of the library's class, which are no functions of Python
+                members[name] = _locks(member)
             elif name in members:
                 del members[name]
-    return type(kind.__name__, (kind,), {**members, "__doc__": kind.__doc__, "__module__": kind.__module__})
+    return type(kind.__name__, (kind,), {**members, "__slots__": (), "__doc__": kind.__doc__,
+                                         "__module__": kind.__module__})
 
 
 _kinds_of_objects = (Array, Vector, String, Strings, Map, Records, Group)
@@ -905,9 +1138,9 @@ def path_bytes(path: Any) -> bytes:
     try:
         path = os.fsencode(path)
     except TypeError:
-        raise WrongKind(f"{path!r} is no path") from None
+        raise WrongKind(f"{shown(path)} is no path") from None
     if 0 in path:
-        raise BadName(f"the path {path!r} has a byte 0")
+        raise BadName(f"the path {shown(path)} has a byte 0")
     return bytes(path)
 
 

@@ -5,10 +5,10 @@ import ctypes
 import operator
 import re
 import struct
-from typing import Any, Dict, Iterable, List, NamedTuple, Optional, Tuple, Type, Union
+from typing import Any, Dict, Iterable, List, Literal, NamedTuple, Optional, Tuple, Type, Union
 
 from . import _library
-from ._errors import BadKey, BadKind, BadName, BadValue, Error, OutOfRange, WrongKind
+from ._errors import BadKey, BadKind, BadName, BadValue, Error, OutOfRange, WrongKind, shown
 from ._library import BOOL, I32, I64, MAP, STRING, STRINGS, U8, U64, VECTOR
 
 MOST = 2**63
@@ -51,7 +51,7 @@ def code_of(kind: str) -> int:
     """Returns the code of a kind as docs/LANGUAGE.md spells it, such as "map<i32,i64>"."""
     code = _codes.get(kind.replace(" ", "")) if isinstance(kind, str) else None
     if code is None:
-        raise BadKind(f"no kind is {kind!r}")
+        raise BadKind(f"no kind is {shown(kind)}")
     return code
 
 
@@ -66,6 +66,16 @@ def counted(kind: str) -> Tuple[int, Optional[int]]:
     return code, int(array[2])
 
 
+ScalarKind = Literal["bool", "u8", "i32", "i64", "u64"]
+VectorKind = Literal["vec<bool>", "vec<u8>", "vec<i32>", "vec<i64>", "vec<u64>"]
+MapKind = Literal[
+    "map<bool,bool>", "map<bool,u8>", "map<bool,i32>", "map<bool,i64>", "map<bool,u64>",
+    "map<u8,bool>", "map<u8,u8>", "map<u8,i32>", "map<u8,i64>", "map<u8,u64>",
+    "map<i32,bool>", "map<i32,u8>", "map<i32,i32>", "map<i32,i64>", "map<i32,u64>",
+    "map<i64,bool>", "map<i64,u8>", "map<i64,i32>", "map<i64,i64>", "map<i64,u64>",
+    "map<u64,bool>", "map<u64,u8>", "map<u64,i32>", "map<u64,i64>", "map<u64,u64>"]
+
+
 # ---- one value
 
 def whole(number: Any) -> int:
@@ -73,14 +83,23 @@ def whole(number: Any) -> int:
     try:
         return operator.index(number)
     except TypeError:
-        raise WrongKind(f"{number!r} is no whole number") from None
+        raise WrongKind(f"{shown(number)} is no whole number{_way_for(number)}") from None
+
+
+def _way_for(value: Any) -> str:
+    """Says how a segment keeps what is no scalar."""
+    if isinstance(value, float):
+        return '; records keep floats: segment.records(name, "d")'
+    if isinstance(value, (str, bytes)):
+        return "; a group keeps a value under each text: segment.group(prefix)[text] = value"
+    return ""
 
 
 def natural(number: Any) -> int:
     """Returns a number that fits 64 bits."""
     number = whole(number)
     if not 0 <= number < 2**64:
-        raise OutOfRange(f"{number} is outside 0 to 2**64 - 1")
+        raise OutOfRange(f"{shown(number)} is outside 0 to 2**64 - 1")
     return int(number)
 
 
@@ -91,10 +110,10 @@ def is_truth(value: Any) -> bool:
 def scalar(code: int, value: Any, refused: Type[Error] = OutOfRange) -> int:
     """Returns the number for a value of a kind; raises `refused`, or WrongKind, for a value outside it."""
     if (code == BOOL) != is_truth(value):
-        raise WrongKind(f"{value!r} is no {KINDS[code]}")
+        raise WrongKind(f"{shown(value)} is no {KINDS[code]}{_way_for(value)}")
     number = int(value) if code == BOOL else whole(value)
     if not SCALARS[code].least <= number <= SCALARS[code].most:
-        raise refused(f"{value!r} is no {KINDS[code]}")
+        raise refused(f"{shown(value)} is no {KINDS[code]}")
     return number
 
 
@@ -138,7 +157,7 @@ def listed(values: Any) -> List[Any]:
     try:
         return list(values)
     except TypeError:
-        raise WrongKind(f"{values!r} is no list") from None
+        raise WrongKind(f"{shown(values)} is no list") from None
 
 
 def _buffer_of(code: int, values: Any) -> Optional[memoryview]:
@@ -224,7 +243,7 @@ def pairs_of(code: int, value: Any) -> Tuple[Any, Any, int]:
     try:
         pairs = dict(value)
     except (TypeError, ValueError):
-        raise WrongKind(f"{value!r} has no pairs") from None
+        raise WrongKind(f"{shown(value)} has no pairs") from None
     return words(code >> 8 & 255, pairs.keys()), words(code & 255, pairs.values()), len(pairs)
 
 
@@ -236,10 +255,10 @@ def encoded(text: Any, encoding: Optional[str]) -> bytes:
         try:
             return text.encode(encoding or "utf-8", "surrogateescape")
         except UnicodeEncodeError:
-            raise BadValue(f"{text!r} cannot be encoded") from None
+            raise BadValue(f"{shown(text)} cannot be encoded") from None
     if isinstance(text, (bytes, bytearray, memoryview)) or hasattr(text, "_text"):
         return bytes(text)
-    raise WrongKind(f"{text!r} is no text")
+    raise WrongKind(f"{shown(text)} is no text")
 
 
 def decoded(text: bytes, encoding: Optional[str]) -> Any:
@@ -249,7 +268,7 @@ def decoded(text: bytes, encoding: Optional[str]) -> Any:
     try:
         return text.decode(encoding, "surrogateescape")
     except UnicodeDecodeError:
-        raise BadValue(f"{text!r} is no {encoding}") from None
+        raise BadValue(f"{shown(text)} is no {encoding}") from None
 
 
 class Texts:
@@ -257,7 +276,7 @@ class Texts:
 
     def __init__(self, texts: Any, encoding: Optional[str]) -> None:
         if isinstance(texts, TEXTS):
-            raise WrongKind(f"{texts!r} is one text, and no list of them")
+            raise WrongKind(f"{shown(texts)} is one text, and no list of them")
         kept = [encoded(text, encoding) for text in listed(texts)]
         joined, at = b"".join(kept), 0
         self._memory = ctypes.create_string_buffer(joined, max(1, len(joined)))
@@ -278,6 +297,9 @@ class Texts:
 
 # ---- keys
 
+_BY_KIND, _BY_HANDLE = 1, 2
+
+
 class ObjectKey:
     """A key that is no name: what unique() and handle() return."""
 
@@ -293,18 +315,21 @@ class ObjectKey:
     def __hash__(self) -> int:
         return hash(self._words)
 
+    def __reduce__(self) -> Tuple[Any, ...]:
+        return (handle, (self._key.handle,)) if self._key.how == _BY_HANDLE else (unique, (KINDS[self._key.kind],))
+
 
 Key = Union[str, bytes, ObjectKey]
 
 
 def unique(kind: str) -> ObjectKey:
     """Returns the key of the unique object of a kind: unique("u64"). BadKind."""
-    return ObjectKey(_library.Key(1, code_of(kind), 0, b"", 0), f"unique({kind!r})")
+    return ObjectKey(_library.Key(_BY_KIND, code_of(kind), 0, b"", 0), f"unique({kind!r})")
 
 
 def handle(number: int) -> ObjectKey:
     """Returns the key of the object with a handle."""
-    return ObjectKey(_library.Key(2, 0, natural(number), b"", 0), f"handle({number})")
+    return ObjectKey(_library.Key(_BY_HANDLE, 0, natural(number), b"", 0), f"handle({number})")
 
 
 def raw_key(key: Any) -> _library.Key:
@@ -313,7 +338,7 @@ def raw_key(key: Any) -> _library.Key:
         try:
             name = key.encode()
         except UnicodeEncodeError:
-            raise BadName(f"{key!r} has no UTF-8") from None
+            raise BadName(f"{shown(key)} has no UTF-8") from None
         return _library.Key(0, 0, 0, name, len(name))
     if isinstance(key, bytes):
         return _library.Key(0, 0, 0, key, len(key))
@@ -321,4 +346,4 @@ def raw_key(key: Any) -> _library.Key:
         return key._key
     if key is None:
         return _library.Key(3, 0, 0, b"", 0)
-    raise BadKey(f"{key!r} is no name, and no key of unique() or handle()")
+    raise BadKey(f"{shown(key)} is no name, and no key of unique() or handle()")

@@ -1,7 +1,10 @@
-//! Words, and what they spell. Whole lines are read, and returns printed, by the rows of `crates/rows/data`.
+//! Words, what they spell, and whole lines. Scripts are run by the rows of `crates/rows/data`.
 use crate::checks::{holds, same};
 use seg_types::Key;
-use segment_lang::{Deed, LineBuffer, Literal, Word, next_word, number_of, only_word, whole_of};
+use segment_lang::{
+    CommandForm, Deed, DeedForm, LineBuffer, LineError, Literal, Reading, Word, next_word,
+    number_of, only_word, parse_line, whole_of,
+};
 use std::mem::size_of;
 use std::process::Abort;
 
@@ -75,4 +78,39 @@ fn a_text_grows(rt: HostRuntime) {
     same(&rt, text.len(), 3);
     text.clear();
     holds(&rt, text.as_slice().is_empty());
+}
+
+#[test]
+fn a_line_has_one_reading(rt: HostRuntime) {
+    holds(&rt, matches!(parse_line(b"# note"), Reading::Nothing));
+    holds(&rt, matches!(parse_line(b" \t\r"), Reading::Nothing));
+    holds(
+        &rt,
+        matches!(
+            parse_line(b"show \"\\x61\"\r"),
+            Reading::Command(CommandForm::Deed(DeedForm::Show), _)
+        ),
+    );
+    holds(
+        &rt,
+        matches!(parse_line(b"size"), Reading::Command(CommandForm::Size, _)),
+    );
+    holds(
+        &rt,
+        matches!(
+            parse_line(b"frobnicate"),
+            Reading::Wrong(LineError::UnknownCommand)
+        ),
+    );
+    holds(
+        &rt,
+        matches!(parse_line(b"size 1"), Reading::Wrong(LineError::BadSyntax)),
+    );
+    holds(
+        &rt,
+        matches!(
+            parse_line(&[b'a'; 4097]),
+            Reading::Wrong(LineError::LineTooLong)
+        ),
+    );
 }

@@ -127,7 +127,7 @@ impl<'a> Host<'a> {
         let answer = match asked {
             Invocation::Create(file, size) => create(alloc, disk, file, *size),
             Invocation::Run(file, mode, size) => {
-                return self.answer((file, *mode, *size), &RunOptions::PLAIN, out);
+                return self.answer((file, *mode, *size), &RunOptions::plain(), out);
             }
             Invocation::RunWith(file, mode, size, how) => {
                 return self.answer((file, *mode, *size), how, out);
@@ -262,7 +262,7 @@ fn keeping_of(asked: &Invocation<'_>) -> FileOptions {
     match asked {
         Invocation::ChangeWith(_, _, keeping) | Invocation::Load(_, _, keeping) => *keeping,
         Invocation::RunWith(_, _, _, how) => how.keeping,
-        _ => FileOptions::PLAIN,
+        _ => FileOptions::plain(),
     }
 }
 

@@ -1,5 +1,6 @@
 -- Lines after their numbers: what stands in front of each line, up to a blank, is its number.
-use Rattle.std.specs.Prelude.{◌≡◌, ◌==◌, ℕ, Bool, true, false, not, List, [], ◌∷◌, fold, if◌then◌else◌}
+use Rattle.std.specs.Prelude.{◌≡◌, ◌==◌, ◌++◌, ℕ, Bool, true, false, not, List, [], ◌∷◌, codes, decimal, fold}
+use Rattle.std.specs.Prelude.{if◌then◌else◌}
 use Rattle.segment_answers.specs.declared.numbered_output.LineSpot.{LineSpot}
 use Rattle.segment_answers.specs.declared.numbered_output.LineSpot.TheVariants.{Front, Ahead, Inside, Broken}
 
@@ -24,3 +25,10 @@ has_number Front = false
 has_number Ahead = true
 has_number Inside = true
 has_number Broken = false
+
+-- what goes out before a byte that stands there: the number of the line that it begins
+abbrev pub number_at : LineSpot → ℕ → List ℕ
+number_at Front n = decimal n ++ codes ": "
+number_at Ahead n = []
+number_at Inside n = []
+number_at Broken n = []

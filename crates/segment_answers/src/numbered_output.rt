@@ -3,7 +3,7 @@ ghost use Rattle.std.specs.Prelude.{◌≡◌, ◌≢◌, ◌≤◌, ◌<◌, �
 ghost use Rattle.std.specs.Prelude.{min, take, IfOk, OnOk, OnErr};
 ghost use Rattle.raw_region.specs.Answers.{failures_in, write_failures_in};
 ghost use Rattle.segment_disk.specs.Events.{nothing_taken};
-ghost use Rattle.segment_answers.specs.Numbers.{has_number, next_in_text, is_in_text, text_part};
+ghost use Rattle.segment_answers.specs.Numbers.{has_number, next_in_text, is_in_text, number_at, text_part};
 ghost use Rattle.segment_answers.specs.declared.numbered_output.LineSpot.TheVariants.{Front, Broken as IsBroken};
 
 use crate::line_output::LineOutput;
@@ -75,6 +75,7 @@ impl<O: Output> NumberedOutput<O> {
         requires { O.history inner ≡ nothing_taken }
         ensures transfer { result.plain.history ≡ nothing_taken }
         ensures failures { result.failures ≡ 0 }
+        ensures number { result.number ≡ 0 }
     {
         NumberedOutput {
             inner,
@@ -89,6 +90,10 @@ impl<O: Output> NumberedOutput<O> {
     fn begin(&mut self) -> Result<(), DeviceFault>
         requires { self.old.failures < 2 ^ 64 - 1 }
         ensures on_ok { OnOk result (has_number self.new.spot ≡ true) }
+        ensures on_error { OnErr result (self.new.spot ≡ IsBroken) }
+        ensures output { OnOk result ((O.history self.new.inner).bytes
+            ≡ (O.history self.old.inner).bytes ++ number_at self.old.spot self.old.number) }
+        ensures number { self.new.number ≡ self.old.number }
         ensures plain { self.new.plain ≡ self.old.plain }
         ensures failures { self.new.failures ≡ self.old.failures + failures_in result }
     {
@@ -107,8 +112,10 @@ impl<O: Output> NumberedOutput<O> {
         requires front { self.old.spot ≡ Front }
         requires room { self.old.failures < 2 ^ 64 - 1 }
         ensures on_ok { OnOk result (has_number self.new.spot ≡ true) }
-        ensures number { OnOk result ((O.history self.new.inner).bytes
+        ensures on_error { OnErr result (self.new.spot ≡ IsBroken) }
+        ensures output { OnOk result ((O.history self.new.inner).bytes
             ≡ (O.history self.old.inner).bytes ++ (decimal self.old.number ++ codes ": ")) }
+        ensures number { self.new.number ≡ self.old.number }
         ensures plain { self.new.plain ≡ self.old.plain }
         ensures failures { self.new.failures ≡ self.old.failures + failures_in result }
     {
@@ -136,6 +143,9 @@ impl<O: Output> NumberedOutput<O> {
         ensures bytes { IfOk result (λ n. self.new.plain.history.bytes ≡ self.old.plain.history.bytes
             ++ take n line.now) }
         ensures no_bytes { OnErr result (self.new.plain.history.bytes ≡ self.old.plain.history.bytes) }
+        ensures output { IfOk result (λ n. (O.history self.new.inner).bytes
+            ≡ (O.history self.old.inner).bytes ++ take n line.now) }
+        ensures number { self.new.number ≡ self.old.number }
         ensures failures { self.new.failures ≡ self.old.failures + write_failures_in result (length line.now) }
     {
         let Ok(taken) = self.inner.write(line) else {
@@ -154,7 +164,19 @@ impl<O: Output> NumberedOutput<O> {
 impl<O: Output> Sink for NumberedOutput<O> {
     ghost history = { λ s. record { bytes = s.plain.history.bytes; failures = s.failures } };
 
-    fn write(&mut self, bytes: &[u8]) -> Result<usize, DeviceFault> {
+    /// Writes the front of the bytes, up to the end of their first line, and before it the number of the line if one
+    /// begins there.
+    fn write(&mut self, bytes: &[u8]) -> Result<usize, DeviceFault>
+        requires { self.old.failures < 2 ^ 64 - 1 }
+        ensures count { IfOk result (λ n. n ≤ length bytes.now) }
+        ensures bytes { IfOk result (λ n. self.new.plain.history.bytes ≡ self.old.plain.history.bytes
+            ++ take n bytes.now) }
+        ensures no_bytes { OnErr result (self.new.plain.history.bytes ≡ self.old.plain.history.bytes) }
+        ensures failures { self.new.failures ≡ self.old.failures + write_failures_in result (length bytes.now) }
+        ensures output { 0 < length bytes.now → IfOk result (λ n. (O.history self.new.inner).bytes
+            ≡ ((O.history self.old.inner).bytes ++ number_at self.old.spot self.old.number) ++ take n bytes.now) }
+        ensures number { self.new.number ≡ self.old.number }
+    {
         if bytes.is_empty() {
             return Ok(0);
         }

@@ -1,5 +1,5 @@
 //! What the program may be asked for.
-ghost use Rattle.std.specs.Prelude.{◌≡◌, IfOk};
+ghost use Rattle.std.specs.Prelude.{◌≡◌, true, IfOk};
 ghost use Rattle.segment_invocation.specs.Invocations.{command_called, is_plain, is_plain_run, mode_called, origin_by};
 ghost use Rattle.segment_invocation.specs.Invocations.{script_text};
 ghost use Rattle.segment_invocation.specs.Invocations.{wants_size};
@@ -136,11 +136,15 @@ pub struct FileOptions {
 }
 
 impl FileOptions {
-    /// The options that hold if the command line gives none.
-    pub const PLAIN: FileOptions = FileOptions {
-        saving: SaveMode::InPlace,
-        wait: 0,
-    };
+    /// Returns the options that hold if the command line gives none.
+    pub fn plain() -> FileOptions
+        ensures { is_plain result.saving result.wait ≡ true }
+    {
+        FileOptions {
+            saving: SaveMode::InPlace,
+            wait: 0,
+        }
+    }
 
     /// Tells whether no option says otherwise.
     pub(crate) fn is_plain(self) -> bool
@@ -189,15 +193,20 @@ pub struct RunOptions<'a> {
 }
 
 impl<'a> RunOptions<'a> {
-    /// The options that hold if the command line gives none.
-    pub const PLAIN: RunOptions<'static> = RunOptions {
-        script: Script::Input,
-        keeping: FileOptions::PLAIN,
-        answering: AnswerOptions {
-            strict: false,
-            numbered: false,
-        },
-    };
+    /// Returns the options that hold if the command line gives none.
+    pub fn plain() -> RunOptions<'a>
+        ensures { is_plain_run (origin_by result.script) result.keeping.saving result.keeping.wait
+            result.answering.strict result.answering.numbered ≡ true }
+    {
+        RunOptions {
+            script: Script::Input,
+            keeping: FileOptions::plain(),
+            answering: AnswerOptions {
+                strict: false,
+                numbered: false,
+            },
+        }
+    }
 
     /// Tells whether no option says otherwise.
     pub(crate) fn is_plain(&self) -> bool

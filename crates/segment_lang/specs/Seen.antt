@@ -1,5 +1,5 @@
 -- What the types of the code stand for.
-use Rattle.std.specs.Prelude.{ℕ, ◌+◌, ◌*◌, ◌%◌, List, [], ◌∷◌, Option, option_and_then, option_map, map, find}
+use Rattle.std.specs.Prelude.{ℕ, ◌+◌, ◌*◌, ◌%◌, List, [], ◌∷◌, Option, Some, option_and_then, option_map, map, find}
 use Rattle.std.specs.Prelude.{◌≤◌, Bool, true, false, length, replicate, ⊤}
 use Rattle.raw_region.specs.Format.{current}
 use Rattle.seg_types.specs.Commands as asked
@@ -30,6 +30,8 @@ use Rattle.segment_lang.specs.declared.commands.Deed.TheVariants.{ReserveNamed, 
 use Rattle.segment_lang.specs.declared.commands.Deed.TheVariants.{Sanity, AllDeallocated}
 use Rattle.segment_lang.specs.declared.commands.LineStart.{LineStart}
 use Rattle.segment_lang.specs.declared.commands.LineStart.TheVariants as lead
+use Rattle.segment_lang.specs.declared.commands.Reading.{Reading}
+use Rattle.segment_lang.specs.declared.commands.Reading.TheVariants as read
 use Rattle.seg_types.specs.declared.refusals.LineError.{LineError}
 use Rattle.seg_types.specs.declared.refusals.LineError.TheVariants.{UnknownCommand, LineTooLong, BadSyntax}
 use Rattle.segment_lang.specs.declared.forms.CommandForm.{CommandForm}
@@ -171,6 +173,13 @@ abbrev pub reading_led : LineStart → asked.Reading
 reading_led lead.Nothing = asked.Nothing
 reading_led (lead.Form form rest) = reading_by form rest.now
 reading_led (lead.Wrong e) = wrong_reading e
+
+-- what a line means, if what stands after its command word has the word's form
+abbrev pub reading_of : Reading → Option asked.Reading
+reading_of read.Nothing = Some asked.Nothing
+reading_of (read.Command form rest) =
+    option_map asked.Asked (option_and_then (reader_of form (whole_language current)) (words rest.now))
+reading_of (read.Wrong e) = Some (wrong_reading e)
 
 -- what a line's first word is the word of, with what is after it
 abbrev pub with_rest : {A : Type 0} → List ℕ → Option A → Option (A × List ℕ)

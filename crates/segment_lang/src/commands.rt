@@ -139,3 +139,14 @@ pub enum LineStart<'a> {
     /// With no command word, or it is too long.
     Wrong(LineError),
 }
+
+/// What a line means.
+#[derive(Drop)]
+pub enum Reading<'a> {
+    /// Nothing: it is a comment or has blanks only, and has no answer.
+    Nothing,
+    /// A command: the form of its word, and what stands after the word, which has the form.
+    Command(CommandForm, &'a [u8]),
+    /// No command.
+    Wrong(LineError),
+}

@@ -31,11 +31,11 @@ mod theorems;
 
 pub use blanks::at_end;
 pub use buffer::{Buffer, LineBuffer};
-pub use commands::{Content, Deed, LineStart};
+pub use commands::{Content, Deed, LineStart, Reading};
 pub use errors::{put_line_error, put_refusal};
 pub use forms::{CommandForm, DeedForm, read_deed};
 pub use kinds::kind_of_word;
-pub use line::{MAX_LINE_LEN, line_error, line_start, without_return};
+pub use line::{MAX_LINE_LEN, line_error, line_start, parse_line, without_return};
 pub use lists::{Literals, TextLiterals};
 pub use literals::{Literal, literal_of, scalar_of};
 pub use numbers::{WholeNumber, number_of, whole_of};

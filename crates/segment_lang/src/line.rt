@@ -1,15 +1,15 @@
 //! Lines.
 
-ghost use Rattle.std.specs.Prelude.{◌≡◌, ◌==◌, MatchOption, false, slice_index, if◌then◌else◌};
+ghost use Rattle.std.specs.Prelude.{◌≡◌, ◌==◌, MatchOption, Some, false, slice_index, if◌then◌else◌};
 ghost use Rattle.raw_region.specs.Format.{current};
 ghost use Rattle.segment_lang.specs.Language.{whole_language};
 ghost use Rattle.seg_types.specs.Commands.{Nothing};
 ghost use Rattle.segment_lang.specs.Reading.{command_line, reading, skip_blanks, without_return};
-ghost use Rattle.segment_lang.specs.Seen.{is_wrong, reading_led, wrong_reading};
+ghost use Rattle.segment_lang.specs.Seen.{is_wrong, reading_led, reading_of, wrong_reading};
 
 use crate::blanks::skip_blanks;
 use crate::buffer::LineBuffer;
-use crate::commands::LineStart;
+use crate::commands::{LineStart, Reading};
 use crate::forms::{is_command, split_form};
 use seg_types::LineError;
 
@@ -72,21 +72,40 @@ pub fn line_start(line: &[u8]) -> LineStart<'_>
     }
 }
 
+/// Returns what a line means. A name that is spelled with escapes is decoded into `scratch`, whatever it held.
+fn read_line<'a>(line: &'a [u8], scratch: &mut LineBuffer) -> Reading<'a>
+    ensures { reading_of result ≡ Some (reading (whole_language current) line.now) }
+{
+    match line_start(line) {
+        LineStart::Nothing => Reading::Nothing,
+        LineStart::Form(form, rest) => {
+            if is_command(form, rest, scratch) {
+                Reading::Command(form, rest)
+            } else {
+                Reading::Wrong(LineError::BadSyntax)
+            }
+        }
+        LineStart::Wrong(error) => Reading::Wrong(error),
+    }
+}
+
+/// Returns what a line means: nothing, a command, or why it is none. It comes without its end, a line feed; one
+/// carriage return at its end is dropped.
+pub fn parse_line(line: &[u8]) -> Reading<'_>
+    ensures reading { reading_of result ≡ Some (reading (whole_language current) line.now) }
+{
+    read_line(line, &mut LineBuffer::new())
+}
+
 /// Returns why a line is no command, if it has one and it is none. A name that is spelled with escapes is decoded into
 /// `scratch`, whatever it held.
 pub fn line_error(line: &[u8], scratch: &mut LineBuffer) -> Option<LineError>
     ensures { MatchOption result (is_wrong (reading (whole_language current) line.now) ≡ false)
         (λ error. wrong_reading error ≡ reading (whole_language current) line.now) }
 {
-    match line_start(line) {
-        LineStart::Nothing => None,
-        LineStart::Form(form, rest) => {
-            if is_command(form, rest, scratch) {
-                None
-            } else {
-                Some(LineError::BadSyntax)
-            }
-        }
-        LineStart::Wrong(error) => Some(error),
+    match read_line(line, scratch) {
+        Reading::Nothing => None,
+        Reading::Command(_, _) => None,
+        Reading::Wrong(error) => Some(error),
     }
 }

@@ -4,8 +4,8 @@ ghost use Rattle.segment_disk.specs.Events.{nothing_taken};
 
 use crate::disk::{Disk, OpenedFile};
 use crate::file_problems::{creation_problem, problem_of};
-use crate::locks::{FileLock, Identity, PAUSE, lock, lock_made, open_to_write, sync_file};
-use crate::presence::{AlreadyLocked, FileProblem, Presence, SaveMode};
+use crate::locks::{FileLock, Identity, PAUSE, has_bytes, lock, lock_made, open_to_write, sync_file};
+use crate::presence::{AlreadyLocked, Comparison, FileProblem, Presence, SaveMode};
 use crate::replacement_file::ReplacementFile;
 use crate::sparse::{SparseFile, longest_file};
 use crate::std_output::StdOutput;
@@ -192,12 +192,15 @@ impl<'a, R: Files<File = File> + AllocGlobal + Clock> Disk for HostDisk<'a, R> {
 
     fn close(&mut self, _reader: StdSource<File>) {}
 
-    fn compare(&mut self, path: &str, hold: &HostLock) -> Result<(), DeviceFault> {
+    fn compare(&mut self, path: &str, hold: &HostLock, image: &[u8]) -> Comparison {
         if self.is_taken(path, hold) {
             self.trouble = Some(FileProblem::Exists);
-            return Err(DeviceFault);
+            return Comparison::Other;
         }
-        Ok(())
+        match has_bytes(self.files, path, hold.lock.identity(), image) {
+            Ok(true) => Comparison::Equal,
+            _ => Comparison::Different,
+        }
     }
 
     fn create_new(&mut self, path: &str) -> Result<(StdOutput<SparseFile>, HostLock), DeviceFault> {

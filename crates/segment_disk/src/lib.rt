@@ -13,5 +13,5 @@ mod std_output;
 
 pub use disk::{Disk, OpenedFile, Output};
 pub use host::{HostDisk, HostLock};
-pub use presence::{AlreadyLocked, FileProblem, Presence, SaveMode};
+pub use presence::{AlreadyLocked, Comparison, FileProblem, Presence, SaveMode};
 pub use std_output::{PassThrough, StdOutput};

@@ -2,7 +2,7 @@
 
 use crate::presence::AlreadyLocked;
 use std::fs::{self, File, Metadata, OpenOptions, TryLockError};
-use std::io::{self, ErrorKind};
+use std::io::{self, ErrorKind, Read};
 use std::os::unix::fs::MetadataExt;
 use std::rt::Files;
 use std::thread::sleep;
@@ -10,6 +10,9 @@ use std::time::{Clock, Duration};
 
 /// How often a file is opened anew that was replaced before it was locked, and one is locked that was just made.
 const TRIES: u32 = 8;
+
+/// How many bytes of a file are compared at once, at most.
+const PIECE: usize = 65_536;
 
 /// After how many milliseconds a lock is asked for again that another has.
 pub(crate) const PAUSE: u64 = 50;
@@ -78,6 +81,35 @@ pub(crate) fn open_to_write<R: Files<File = File>>(files: &R, path: &str) -> io:
     let mut options = OpenOptions::new();
     options.write(true);
     options.open(files, path)
+}
+
+/// Tells whether a path leads to a file on a disk that can be written and has these bytes, and no more: to the one
+/// that is held, if one is. The file stays as it is.
+pub(crate) fn has_bytes<R: Files<File = File>>(
+    files: &R,
+    path: &str,
+    held: Option<Identity>,
+    bytes: &[u8],
+) -> io::Result<bool> {
+    let found = fs::metadata(files, path)?;
+    if !found.is_file() || found.len() != bytes.len() as u64 {
+        return Ok(false);
+    }
+    let mut options = OpenOptions::new();
+    options.read(true).write(true);
+    let mut file = options.open(files, path)?;
+    if held.is_some() && Identity::of(&file) != held {
+        return Ok(false);
+    }
+    let mut room = [0; PIECE];
+    'pieces: for piece in bytes.chunks(PIECE) {
+        let read = &mut room[..piece.len()];
+        file.read_exact(read)?;
+        if &*read != piece {
+            return Ok(false);
+        }
+    }
+    Ok(true)
 }
 
 /// Asks the system to write a file through. What is no file on a disk, as a pipe, can't be asked that.

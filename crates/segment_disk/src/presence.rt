@@ -22,6 +22,17 @@ pub enum SaveMode {
     Replacing,
 }
 
+/// What the file of a path is that is to take an image.
+#[derive(Clone, Copy, Debug, PartialEq, Eq)]
+pub enum Comparison {
+    /// Another than the one that is held.
+    Other,
+    /// The one that is held, and its bytes are others than those of the image, or can't be known.
+    Different,
+    /// The one that is held. It can be opened for writing, and its bytes are those of the image.
+    Equal,
+}
+
 /// Another has the right to write a file.
 #[derive(Clone, Copy, Debug, Drop, PartialEq, Eq, Error)]
 #[error("file in use")]

@@ -6,9 +6,8 @@ use Rattle.segment_disk.specs.declared.presence.Presence.{Presence}
 use Rattle.segment_disk.specs.declared.presence.SaveMode.{SaveMode}
 use Rattle.segment_disk.specs.declared.presence.SaveMode.TheVariants.{InPlace, Replacing}
 
--- How a file comes to be open for writing with no byte in it: it is made, and must not be there; it is emptied, or made
--- if nothing is there; or it is made beside the file of this path, which stays as it is until the new one is put in its
--- place.
+-- How a file comes to be open for writing with no byte in it: it is made, and must not be there; it is emptied; or it
+-- is made beside the file of this path, which stays as it is until the new one is put in its place.
 pub data CreateMode : Type 0 where
   New : CreateMode
   Truncate : CreateMode

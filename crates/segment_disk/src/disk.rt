@@ -70,7 +70,7 @@ pub trait Disk {
     /// Empties a file, or makes one beside it, and opens it for writing. One that is made beside another is put in its
     /// place or discarded when it is closed. If another file has taken the name of the one that is held, or has come
     /// since the right was given and nothing was there, it is neither emptied nor replaced, and the answer is an error.
-    /// If nothing is there, a file is made that is held from then on.
+    /// It is an error too if nothing is there any more.
     fn create(
         &mut self,
         path: &str,

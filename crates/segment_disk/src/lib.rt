@@ -8,6 +8,7 @@ mod host;
 mod locks;
 mod presence;
 mod replacement_file;
+mod spare_file;
 mod sparse;
 mod std_output;
 

@@ -11,6 +11,9 @@ use std::time::{Clock, Duration};
 /// How often a file is opened anew that was replaced before it was locked, and one is locked that was just made.
 const TRIES: u32 = 8;
 
+/// How often a lock is asked for again that readers alone have: each has it until it has read the file.
+const READERS: u32 = 100;
+
 /// How many bytes of a file are compared at once, at most.
 const PIECE: usize = 65_536;
 
@@ -72,7 +75,7 @@ impl FileLock {
 }
 
 /// Tells whether a path still leads to a file that was opened by it.
-fn leads_to<R: Files<File = File>>(files: &R, path: &str, file: &File) -> bool {
+pub(crate) fn leads_to<R: Files<File = File>>(files: &R, path: &str, file: &File) -> bool {
     Identity::at(files, path).is_ok_and(|named| Identity::of(file) == Some(named))
 }
 
@@ -128,12 +131,18 @@ fn open_to_lock<R: Files<File = File>>(files: &R, path: &str) -> io::Result<Opti
     Ok(Some(fs::open(files, path)?))
 }
 
-/// Locks the file that a path leads to, if one is there that can be locked.
-pub(crate) fn lock<R: Files<File = File>>(
+/// Tells whether another has the right to write a file that is open. If none has, the file is locked for reading from
+/// then on, so that none gets it.
+pub(crate) fn is_written(file: &File) -> bool {
+    matches!(file.try_lock_shared(), Err(TryLockError::WouldBlock))
+}
+
+/// Locks the file that a path leads to, if one is there that can be locked. Who reads it is waited for.
+pub(crate) fn lock<R: Files<File = File> + Clock>(
     files: &R,
     path: &str,
 ) -> Result<FileLock, AlreadyLocked> {
-    for _ in 0..TRIES {
+    for _ in 0..READERS {
         let file = match open_to_lock(files, path) {
             Ok(Some(file)) => file,
             Err(error) if error.kind() == ErrorKind::NotFound => return Ok(FileLock::Absent),
@@ -143,7 +152,8 @@ pub(crate) fn lock<R: Files<File = File>>(
             Ok(()) if leads_to(files, path, &file) => return Ok(FileLock::Held(file)),
             // it was replaced in between, and the lock is that of the file that was there before
             Ok(()) => {}
-            Err(TryLockError::WouldBlock) => return Err(AlreadyLocked),
+            Err(TryLockError::WouldBlock) if is_written(&file) => return Err(AlreadyLocked),
+            Err(TryLockError::WouldBlock) => sleep(files, Duration::from_millis(PAUSE)),
             Err(TryLockError::Error(_)) => return Ok(FileLock::Unlocked),
         }
     }

@@ -16,7 +16,7 @@ pub enum Presence {
 /// How a file that is held comes to be open for writing with no byte in it, to take another image.
 #[derive(Clone, Copy, Debug, PartialEq, Eq)]
 pub enum SaveMode {
-    /// The file is emptied, or made if nothing is there.
+    /// The file is emptied.
     InPlace,
     /// A file is made beside it, which stays as it is until the new one is put in its place.
     Replacing,
@@ -38,7 +38,7 @@ pub enum Comparison {
 #[error("file in use")]
 pub struct AlreadyLocked;
 
-/// Why a file can't be opened, read or made, as far as the system tells.
+/// Why a file can't be opened, read, made or written, as far as the system tells, or what became of it.
 #[derive(Clone, Copy, Debug, PartialEq, Eq)]
 pub enum FileProblem {
     /// No file is there.
@@ -53,4 +53,10 @@ pub enum FileProblem {
     Denied,
     /// Another file has taken the name meanwhile.
     Exists,
+    /// It had another owner before it was replaced.
+    Owner,
+    /// Another has the right to write it.
+    Writer,
+    /// It took not all, or need not last.
+    Unwritten,
 }

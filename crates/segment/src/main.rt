@@ -17,15 +17,19 @@ use segment_commands::{
 };
 use segment_disk::{Disk, FileProblem, HostDisk, OpenedFile, StdOutput};
 use segment_invocation::{
-    FileChange, FileOptions, Invocation, ModeName, RunOptions, SaveMode, Script, VERSION,
+    FileChange, FileOptions, Invocation, ModeName, Report, RunOptions, SaveMode, Script, VERSION,
     is_verbose, script_text,
 };
 use segment_scripts::{Until, command_rows};
+use std::env::var;
 use std::io::{self, IsTerminal, Read, Write};
 use std::process::ExitCode;
 
 /// The command line is wrong.
 const USAGE: CommandFault = CommandFault::Program(ProgramFault::Usage);
+
+/// If a second line says why a command failed, whatever standard error is.
+const VERBOSE: &str = "SEGMENT_VERBOSE";
 
 /// The status if the reader of standard output ended first, as of a program that SIGPIPE ends.
 const CLOSED_PIPE: u8 = 141;
@@ -53,6 +57,10 @@ fn obey(rt: &HostRuntime) -> Result<u8, NoAnswerMemory> {
     };
     let words = as_strs(rt.alloc(), owned.as_slice())?;
     match read_invocation(rt.alloc(), words.as_slice())? {
+        Ok(asked) if has_both(&asked, words.as_slice()) => {
+            let _ = eprintln!(rt; "error: --json tells no capacities; leave --capacities out");
+            Ok(tell(rt, USAGE))
+        }
         Ok(asked) => perform(rt, &asked, is_verbose(words.as_slice())),
         Err(wrong) => {
             let _ = eprint!(rt; "{wrong}");
@@ -61,30 +69,39 @@ fn obey(rt: &HostRuntime) -> Result<u8, NoAnswerMemory> {
     }
 }
 
+/// Tells whether a dump as JSON is asked for, and its capacities, which JSON has no place for.
+fn has_both(asked: &Invocation<'_>, words: &[&str]) -> bool {
+    match asked {
+        Invocation::Tell(file, Report::Json) => {
+            *file != "--capacities" && words.iter().any(|word| *word == "--capacities")
+        }
+        _ => false,
+    }
+}
+
 /// Does what the command line asks for, with the files of the system, standard input and standard output, and returns
-/// the status. If a person reads standard error or `--verbose` is given, a second line says why the system did not open
-/// or make the file.
+/// the status. If a person reads standard error, `--verbose` is given or `SEGMENT_VERBOSE` is set, a second line says
+/// why the command failed, as far as that is known.
 fn perform(
     rt: &HostRuntime,
     asked: &Invocation<'_>,
     is_verbose: bool,
 ) -> Result<u8, NoAnswerMemory> {
     let out = StdOutput::new(buffered_writer(rt.alloc(), io::writer(rt))?);
+    let keeping = keeping_of(asked);
     let mut host = Host {
         rt,
-        disk: HostDisk::with_wait(rt, keeping_of(asked).wait),
+        disk: HostDisk::with_options(rt, keeping.wait, keeping.saving),
         scripts: HostDisk::new(rt),
-        is_verbose: is_verbose || rt.stderr().is_terminal(),
+        is_verbose: is_verbose || rt.stderr().is_terminal() || var(rt, VERBOSE).is_ok(),
     };
-    let fault = match host.command(asked, out) {
-        Ok(status) => return Ok(status),
-        Err(fault) => fault,
+    let answer = host.command(asked, out);
+    let status = match answer {
+        Ok(status) => status,
+        Err(fault) => tell(rt, host.told_as(fault)),
     };
-    let status = tell(rt, fault);
-    if is_of_file(fault) && host.is_verbose {
-        if let Some((path, trouble)) = host.trouble_of(asked) {
-            let _ = put_trouble(path, Some(trouble), &mut StdSink::new(rt.stderr()));
-        }
+    if host.is_verbose {
+        host.explain(asked, answer);
     }
     Ok(status)
 }
@@ -111,6 +128,61 @@ impl<'a> Host<'a> {
             (Some(path), Some(trouble)) => Some((path, trouble)),
             _ => Some((file_of(asked)?, self.disk.trouble()?)),
         }
+    }
+
+    /// Returns a fault as it is told: an image that another may have written while it was read is in use, whatever it
+    /// was found to be.
+    fn told_as(&self, fault: CommandFault) -> CommandFault {
+        match fault {
+            CommandFault::Program(ProgramFault::Session(SessionFault::Image(_)))
+                if self.disk.trouble() == Some(FileProblem::Writer) => { CommandFault::InUse }
+            _ => fault,
+        }
+    }
+
+    /// Says in a second line why a command failed, as far as that is known, and of one that is done if the file has
+    /// another owner since.
+    fn explain(&self, asked: &Invocation<'_>, answer: Result<u8, CommandFault>) {
+        let known = self.trouble_of(asked);
+        let is_told = match (answer, known) {
+            (Ok(_), Some((_, FileProblem::Owner))) => true,
+            (Ok(_), _) => false,
+            (Err(CommandFault::Program(ProgramFault::Session(fault))), Some((_, trouble))) =>
+                match fault {
+                    SessionFault::ReadFault => true,
+                    SessionFault::WriteFault => {
+                        !matches!(trouble, FileProblem::Writer | FileProblem::Owner)
+                    }
+                    SessionFault::Image(_) => trouble == FileProblem::Writer,
+                    _ => false,
+                },
+            (Err(fault), Some(_)) => matches!(fault, CommandFault::InUse),
+            (Err(_), None) => false,
+        };
+        match (is_told, known, answer) {
+            (true, Some((path, trouble)), _) => {
+                let _ = put_trouble(path, Some(trouble), &mut StdSink::new(self.rt.stderr()));
+            }
+            (_, _, Err(fault)) => self.say_limits(fault),
+            _ => {}
+        }
+    }
+
+    /// Says of a fault that comes of no file what could not be written, or which numbers are good.
+    fn say_limits(&self, fault: CommandFault) {
+        let text = match fault {
+            CommandFault::Program(ProgramFault::Session(SessionFault::WriteFault)) => {
+                "standard output: could not be written whole"
+            }
+            CommandFault::Program(ProgramFault::Session(SessionFault::BadSize)) => {
+                "a segment has 144 bytes, or a multiple of 16 from 176 to 1073741824"
+            }
+            CommandFault::Program(ProgramFault::Growth(_)) => {
+                "a segment grows by a multiple of 16 from 32 on, and has at most 1073741824 bytes"
+            }
+            _ => return,
+        };
+        let _ = eprintln!(self.rt; "segment: {text}");
     }
 
     /// Does what the command line asks for, and returns the status.
@@ -278,6 +350,16 @@ fn ends_quietly(asked: &Invocation<'_>) -> bool {
     )
 }
 
+/// Tells whether a line is a word by which a person asks a program for help, or to end.
+fn is_plea(line: &[u8]) -> bool {
+    let words = [
+        b"help\n".as_slice(),
+        b"quit\n".as_slice(),
+        b"exit\n".as_slice(),
+    ];
+    words.iter().any(|word| *word == line)
+}
+
 /// The script of standard input. If a person types it, and reads standard error, they are prompted for each line.
 #[derive(Drop)]
 struct Prompted<'a, R> {
@@ -303,7 +385,13 @@ impl<'a, R: Read> ReadOnce for Prompted<'a, R> {
         if self.is_prompting && !into.is_empty() {
             let _ = eprint!(self.rt; "> ");
         }
-        self.inner.read_once(into)
+        let count = self.inner.read_once(into)?;
+        if self.is_prompting && is_plea(into.get(..count).unwrap_or(&[])) {
+            let _ = eprintln!(self.rt;
+                "segment: Ctrl-D saves and ends, Ctrl-C ends; `segment language` lists the commands"
+            );
+        }
+        Ok(count)
     }
 }
 
@@ -335,14 +423,4 @@ fn file_of<'a>(asked: &Invocation<'a>) -> Option<&'a str> {
         | Invocation::Load(file, _, _) => Some(*file),
         _ => None,
     }
-}
-
-/// Tells whether a fault can be one of the file.
-fn is_of_file(fault: CommandFault) -> bool {
-    matches!(
-        fault,
-        CommandFault::Program(ProgramFault::Session(
-            SessionFault::ReadFault | SessionFault::WriteFault
-        ))
-    )
 }

@@ -28,8 +28,8 @@ use Rattle.segment_disk.specs.Events.{CreateMode, New, Replacement}
 use Rattle.segment_disk.specs.declared.presence.Presence.{Presence}
 use Rattle.segment_disk.specs.declared.presence.Presence.TheVariants.{Absent, There}
 use Rattle.segment_disk.specs.Events.{Event, Looked, After}
-use Rattle.segment_file.specs.Files.{WriteOutcome, Overtaken, NotMade, Closed, Offered, write_events, whole_outcome}
-use Rattle.segment_file.specs.Files.{all_of, open_events}
+use Rattle.segment_file.specs.Files.{WriteOutcome, Overtaken, Unchanged, NotMade, Closed, Offered, HasImage}
+use Rattle.segment_file.specs.Files.{write_events, all_of, open_events}
 use Rattle.segment_commands.specs.Holding.{HoldsLock}
 use Rattle.segment_file.specs.Opening.{file_region}
 use Rattle.segment_commands.specs.Opening.{OpensFile}
@@ -116,19 +116,21 @@ abbrev pub IsAnsweredTo : Act → End → Type 0
 IsAnsweredTo act Whole = IsAnsweredAct act
 IsAnsweredTo act Refused = IsRefusedAct act
 
--- what a run asks of the disk that saved this: in mode Write its file is made, emptied or replaced and takes it, and
--- else nothing
-abbrev pub saving : Mode → CreateMode → List ℕ → List ℕ → List Event
-saving Write how path image = write_events how path (whole_outcome how image)
-saving ReadOnly how path image = []
-saving CopyOnWrite how path image = []
+-- what a run asks of the disk that saved this: in mode Write its file is made, emptied or replaced and takes it, or has
+-- it already, and else nothing
+abbrev pub saving : Mode → CreateMode → List ℕ → List ℕ → WriteOutcome → List Event
+saving Write how path image written = write_events how path image written
+saving ReadOnly how path image written = []
+saving CopyOnWrite how path image written = []
 
 module _ {D : Type 0} (step : D → Event → D
     → Type 0) (old new : D) (how : CreateMode) (path : List ℕ) (act : Act) (Flushed : Bool → Type 0) where
-  -- all answers went out, and then, in mode Write, the image of the last directory was written
+  -- all answers went out, and then, in mode Write, the image of the last directory was written, or is there already
   pub record EndsRunSaved : Type 0 where
     pub image : List ℕ
-    pub asked : After step old (saving act.mode how path image) new
+    pub written : WriteOutcome
+    pub whole : HasImage how image written
+    pub asked : After step old (saving act.mode how path image written) new
     pub ran : Ran act (all_of image) (Ok tt)
     pub unrefused : IsUnrefusedAct act
     pub flushed : Flushed true
@@ -163,6 +165,7 @@ module _ {D : Type 0} (step : D → Event → D
   -- it failed, or all of it was written and need not last, or did not take the place of the old one
   abbrev pub LeavesUnsaved : WriteOutcome → Type 0
   LeavesUnsaved Overtaken = IsAnsweredAct act
+  LeavesUnsaved Unchanged = ⊥
   LeavesUnsaved NotMade = IsAnsweredAct act
   LeavesUnsaved (Closed taken lasts) = Ran act taken (Err WriteFault) ⊎ ((lasts ≡ false) × Ran act taken (Ok tt))
   LeavesUnsaved (Offered image placed) = (how ≡ Replacement) × (placed ≡ false) × Ran act (all_of image) (Ok tt)
@@ -172,8 +175,9 @@ module _ {D : Type 0} (step : D → Event → D
     pub why : fault ≡ WriteFault
     pub mode : act.mode ≡ Write
     pub flushed : Flushed true
+    pub image : List ℕ
     pub written : WriteOutcome
-    pub asked : After step old (write_events how path written) new
+    pub asked : After step old (write_events how path image written) new
     pub unsaved : LeavesUnsaved written
 
   -- how a run ends

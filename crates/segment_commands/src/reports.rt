@@ -124,6 +124,9 @@ fn trouble_words(trouble: FileProblem) -> &'static [u8]
         FileProblem::Folder => b": is a folder\n",
         FileProblem::Denied => b": permission denied\n",
         FileProblem::Exists => b": another file is there\n",
+        FileProblem::Owner => b": had another owner, who could not be kept\n",
+        FileProblem::Writer => b": a writer holds it\n",
+        FileProblem::Unwritten => b": could not be written whole\n",
     }
 }
 

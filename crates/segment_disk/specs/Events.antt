@@ -1,13 +1,13 @@
 -- What a disk was asked, and what it answered.
 use Rattle.std.specs.Prelude.{◌≡◌, ℕ, Bool, false, List, [], ◌∷◌, Option}
 use Rattle.raw_region.specs.Device.{ReaderHistory, ReadDelta, WriterHistory, WriteDelta}
+use Rattle.segment_disk.specs.declared.presence.Comparison.{Comparison}
 use Rattle.segment_disk.specs.declared.presence.Presence.{Presence}
 use Rattle.segment_disk.specs.declared.presence.SaveMode.{SaveMode}
 use Rattle.segment_disk.specs.declared.presence.SaveMode.TheVariants.{InPlace, Replacing}
 
--- How a file comes to be open for writing with no byte in it: it is made, and must not be there; it is emptied, or made
--- if nothing is there; or it is made beside the file of this path, which stays as it is until the new one is put in its
--- place.
+-- How a file comes to be open for writing with no byte in it: it is made, and must not be there; it is emptied; or it
+-- is made beside the file of this path, which stays as it is until the new one is put in its place.
 pub data CreateMode : Type 0 where
   New : CreateMode
   Truncate : CreateMode
@@ -30,9 +30,9 @@ pub data Event : Type 0 where
   Opened : List ℕ → Option ℕ → Event
   -- the file that was opened last was closed, which had given this
   Read : ReadDelta → Event
-  -- the file of this path was compared with the one that the right to write was given for last; it is that one, as far
-  -- as that is known, or another has taken its name
-  Compared : List ℕ → Bool → Event
+  -- the file of this path was compared with the one that the right to write was given for last, and its bytes with an
+  -- image; another has taken its name, or it is that one, as far as that is known, and has the image or has it not
+  Compared : List ℕ → List ℕ → Comparison → Event
   -- a file was to be made or emptied for writing, or made beside the one of this path, and was or was not
   Made : CreateMode → List ℕ → Bool → Event
   -- the file that was made or emptied last was closed, which had taken this, and all that it took lasts, or need not

@@ -5,8 +5,6 @@ use Rattle.std_io.specs.declared.io.kind.ErrorKind.TheVariants.{AlreadyExists, N
 use Rattle.segment_disk.specs.declared.presence.FileProblem.{FileProblem}
 use Rattle.segment_disk.specs.declared.presence.FileProblem.TheVariants.{Missing, NoParentFolder, Unnamed, Folder}
 use Rattle.segment_disk.specs.declared.presence.FileProblem.TheVariants.{Denied, Exists}
-use Rattle.segment_disk.specs.declared.presence.SaveMode.{SaveMode}
-use Rattle.segment_disk.specs.declared.presence.SaveMode.TheVariants.{InPlace, Replacing}
 
 -- of a file that was to be opened
 abbrev pub problem_of : ErrorKind → Option FileProblem
@@ -25,13 +23,12 @@ ends_none (Some last) = last == 0x2F
 abbrev pub names_none : List ℕ → Bool
 names_none path = ends_none (slice_get path (length path - 1))
 
--- of a file that was to be made by a path, or beside the file of one
+-- of a file that was to be made by a path
 abbrev pub problem_where : Bool → Option FileProblem → Option FileProblem
 problem_where unnamed (Some Missing) = if unnamed then Some Unnamed else Some NoParentFolder
 problem_where unnamed (Some Folder) = if unnamed then Some Unnamed else Some Folder
 problem_where unnamed trouble = trouble
 
 -- what an error's kind says of a file to be made
-abbrev pub creation_problem : ErrorKind → List ℕ → SaveMode → Option FileProblem
-creation_problem kind path Replacing = problem_of kind
-creation_problem kind path InPlace = problem_where (names_none path) (problem_of kind)
+abbrev pub creation_problem : ErrorKind → List ℕ → Option FileProblem
+creation_problem kind path = problem_where (names_none path) (problem_of kind)

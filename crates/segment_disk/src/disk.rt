@@ -6,7 +6,7 @@ ghost use Rattle.segment_disk.specs.Events.{Event, Looked, Held, Released, Opene
 ghost use Rattle.segment_disk.specs.Events.{New, Wrote, Placed, Discarded, create_mode_of, nothing_given};
 ghost use Rattle.segment_disk.specs.Events.{nothing_taken};
 
-use crate::presence::{AlreadyLocked, Presence, SaveMode};
+use crate::presence::{AlreadyLocked, Comparison, Presence, SaveMode};
 use raw_region::{DeviceFault, Sink, Source};
 
 /// A file that was opened for reading.
@@ -55,11 +55,12 @@ pub trait Disk {
     fn close(&mut self, reader: Self::Reader)
         ensures { step self.old (Read (read_delta nothing_given (Self.Reader.history reader))) self.new };
 
-    /// Compares the file of a path with the one that the right to write was given for. An error if another file has
-    /// taken its name, and if one has come since the right was given and nothing was there; Ok also if that one
-    /// can't be held, and if nothing is there.
-    fn compare(&mut self, path: &str, hold: &Self::Hold) -> Result<(), DeviceFault>
-        ensures { step self.old (Compared path.now (is_ok result)) self.new };
+    /// Compares the file of a path with the one that the right to write was given for, and its bytes with an image.
+    /// The answer is `Other` if another file has taken its name, and if one has come since the right was given and
+    /// nothing was there. A file that can't be held is no other, nor is one that is not there. `Equal` says that the
+    /// file can be opened for writing and has the image, and nothing else. The file stays as it is.
+    fn compare(&mut self, path: &str, hold: &Self::Hold, image: &[u8]) -> Comparison
+        ensures { step self.old (Compared path.now image.now result) self.new };
 
     /// Makes a file that is not there, opens it for writing, and takes the right to write it.
     fn create_new(&mut self, path: &str) -> Result<(Self::Writer, Self::Hold), DeviceFault>
@@ -69,7 +70,7 @@ pub trait Disk {
     /// Empties a file, or makes one beside it, and opens it for writing. One that is made beside another is put in its
     /// place or discarded when it is closed. If another file has taken the name of the one that is held, or has come
     /// since the right was given and nothing was there, it is neither emptied nor replaced, and the answer is an error.
-    /// If nothing is there, a file is made that is held from then on.
+    /// It is an error too if nothing is there any more.
     fn create(
         &mut self,
         path: &str,

@@ -2,7 +2,7 @@
 ghost use Rattle.std.specs.Prelude.{◌≡◌};
 ghost use Rattle.segment_disk.specs.FileProblems.{creation_problem, names_none, problem_of};
 
-use crate::presence::{FileProblem, SaveMode};
+use crate::presence::FileProblem;
 use std::io::ErrorKind;
 
 /// Returns what an error says of a file that was to be opened.
@@ -19,7 +19,7 @@ pub(crate) fn problem_of(kind: ErrorKind) -> Option<FileProblem>
 }
 
 /// Tells whether no file can be made by a path, whatever there is: it is empty, or ends as that of a folder does.
-fn names_none(path: &str) -> bool
+pub(crate) fn names_none(path: &str) -> bool
     ensures { result ≡ names_none path.now }
 {
     match path.as_bytes().last() {
@@ -29,13 +29,10 @@ fn names_none(path: &str) -> bool
 }
 
 /// Returns what an error says of a file that was to be made.
-pub(crate) fn creation_problem(kind: ErrorKind, path: &str, how: SaveMode) -> Option<FileProblem>
-    ensures { result ≡ creation_problem kind path.now how }
+pub(crate) fn creation_problem(kind: ErrorKind, path: &str) -> Option<FileProblem>
+    ensures { result ≡ creation_problem kind path.now }
 {
     let trouble = problem_of(kind);
-    if how == SaveMode::Replacing {
-        return trouble;
-    }
     match trouble {
         Some(FileProblem::Missing | FileProblem::Folder) if names_none(path) => Some(
             FileProblem::Unnamed,

@@ -1,17 +1,21 @@
 //! The files of the system as a `Disk`.
-ghost use Rattle.std.specs.Prelude.{◌≡◌, ⊤, IfOk};
+ghost use Rattle.std.specs.Prelude.{◌≡◌, ⊤};
 ghost use Rattle.segment_disk.specs.Events.{nothing_taken};
 
 use crate::disk::{Disk, OpenedFile};
-use crate::file_problems::{creation_problem, problem_of};
-use crate::locks::{FileLock, Identity, PAUSE, lock, lock_made, open_to_write, sync_file};
-use crate::presence::{AlreadyLocked, FileProblem, Presence, SaveMode};
+use crate::file_problems::{creation_problem, names_none, problem_of};
+use crate::locks::{
+    FileLock, Identity, PAUSE, has_bytes, is_written, leads_to, lock, lock_made, open_to_write,
+    sync_file,
+};
+use crate::presence::{AlreadyLocked, Comparison, FileProblem, Presence, SaveMode};
 use crate::replacement_file::ReplacementFile;
+use crate::spare_file::{SpareFile, sync_folder};
 use crate::sparse::{SparseFile, longest_file};
 use crate::std_output::StdOutput;
 use raw_region::DeviceFault;
 use raw_region::std_io::StdSource;
-use std::fs::{self, File, Metadata};
+use std::fs::{self, File, Metadata, OpenFile, OpenOptions};
 use std::io::{self, ErrorKind};
 use std::rt::Files;
 use std::thread::sleep;
@@ -24,10 +28,23 @@ const TRIES: u64 = 1000 / PAUSE;
 #[derive(Drop)]
 pub struct HostDisk<'a, R: Files> {
     files: &'a R,
-    /// For how many seconds it waits for the right to write a file.
+    /// For how many seconds it waits for the right to write a file, and until nobody writes one that is read.
     wait: u64,
-    /// What the system said last of a file that was to be opened or made.
+    /// How a file that is made gets its name: at once, or when it is whole.
+    naming: SaveMode,
+    /// What the system said last of a file that was to be opened or made, or what became of it.
     trouble: Option<FileProblem>,
+    /// The file that the right to write was given for last.
+    held: Option<Identity>,
+    /// The file that was made last, and has no name yet.
+    unnamed: Option<UnnamedFile>,
+}
+
+/// A file that gets its name when it is whole.
+#[derive(Drop)]
+struct UnnamedFile {
+    path: String,
+    spare: SpareFile,
 }
 
 /// The right to write a file, which the system takes back if this is dropped.
@@ -48,20 +65,26 @@ impl HostLock {
 impl<'a, R: Files> HostDisk<'a, R> {
     /// Makes the files, none of which was asked for yet.
     pub fn new(files: &'a R) -> HostDisk<'a, R> {
-        HostDisk::with_wait(files, 0)
+        HostDisk::with_options(files, 0, SaveMode::InPlace)
     }
 
-    /// Makes files that wait up to `wait` seconds for the right to write a file that another has.
-    pub fn with_wait(files: &'a R, wait: u64) -> HostDisk<'a, R> {
+    /// Makes files that wait up to `wait` seconds for the right to write a file that another has, and until nobody
+    /// writes a file that is to be read. With `Replacing`, a file that is made gets its name when it is whole, and none
+    /// is left behind otherwise.
+    pub fn with_options(files: &'a R, wait: u64, naming: SaveMode) -> HostDisk<'a, R> {
         HostDisk {
             files,
             wait,
+            naming,
             trouble: None,
+            held: None,
+            unnamed: None,
         }
     }
 
     /// Returns what the system said last of a file that was to be opened or made, if that says why it can't be read
-    /// or written.
+    /// or written. `Writer` if another wrote the file that was opened last, and `Owner` if a file was replaced whose
+    /// owner the new one has not.
     pub fn trouble(&self) -> Option<FileProblem> {
         self.trouble
     }
@@ -81,50 +104,110 @@ impl<'a, R: Files<File = File> + AllocGlobal + Clock> HostDisk<'a, R> {
     }
 
     /// Makes a file that is not there, and locks it.
-    fn made(&self, path: &str, hold: &mut HostLock) -> io::Result<File> {
+    fn made(&mut self, path: &str, hold: &mut HostLock) -> io::Result<File> {
+        if self.naming == SaveMode::Replacing {
+            return self.made_unnamed(path, hold);
+        }
         let file = File::create_new(self.files, path)?;
         hold.lock = lock_made(self.files, &file)?;
         Ok(file)
     }
 
-    /// Opens a file for writing, and empties it, or makes it if it is not there. If a file is locked, no other is
-    /// emptied that has taken its name, and none if nothing was there: they are compared when the file is open.
-    fn emptied(&self, path: &str, hold: &mut HostLock) -> io::Result<File> {
-        let held = hold.lock.identity();
-        if held.is_none() {
-            return fs::create(self.files, path);
+    /// Makes a file that has a hidden name, and locks it. It gets the name of a path later, where nothing is now.
+    fn made_unnamed(&mut self, path: &str, hold: &mut HostLock) -> io::Result<File> {
+        if names_none(path) {
+            return Err(io::Error::from(ErrorKind::NotFound));
         }
-        match open_to_write(self.files, path) {
-            Ok(file) if Identity::of(&file) == held => {
-                file.set_len(0)?;
-                Ok(file)
-            }
-            Ok(_) => Err(io::Error::from(ErrorKind::AlreadyExists)),
-            Err(error) if error.kind() == ErrorKind::NotFound => self.made(path, hold),
-            Err(error) => Err(error),
+        if fs::symlink_metadata(self.files, path).is_ok() {
+            return Err(io::Error::from(ErrorKind::AlreadyExists));
         }
+        let kept = format!(in self.files.alloc(); "{path}")?;
+        let (file, spare, lock) = SpareFile::make(self.files, path, 0o666)?;
+        hold.lock = lock;
+        self.unnamed = Some(UnnamedFile { path: kept, spare });
+        Ok(file)
     }
 
-    /// Returns a writer of a file that was made or emptied, or keeps why it was not.
-    fn writer_of(
-        &mut self,
-        made: io::Result<File>,
-        path: &str,
-        how: SaveMode,
-    ) -> Result<StdOutput<SparseFile>, DeviceFault>
-        ensures { IfOk result (λ writer. writer.history ≡ nothing_taken) }
-    {
-        match made {
-            Ok(file) => {
-                self.trouble = None;
-                let longest = longest_file(self.files);
-                Ok(StdOutput::new(SparseFile::new(file, longest)))
-            }
-            Err(error) => {
-                self.trouble = creation_problem(error.kind(), path, how);
-                Err(DeviceFault)
+    /// Gives a file its name that is whole and has none, and removes it otherwise.
+    fn name(&mut self, unnamed: UnnamedFile, is_whole: bool) -> Result<(), DeviceFault> {
+        let UnnamedFile { path, spare } = unnamed;
+        if is_whole {
+            match spare.give_name(self.files, path.as_str()) {
+                Ok(()) if sync_folder(self.files, path.as_str()) => return Ok(()),
+                Ok(()) => return Err(self.not_written(None)),
+                Err(error) => {
+                    spare.discard(self.files);
+                    return Err(self.not_written(creation_problem(error.kind(), path.as_str())));
+                }
             }
         }
+        spare.discard(self.files);
+        Err(self.not_written(None))
+    }
+
+    /// Opens a file for writing, and empties it. If a file is locked, no other is emptied that has taken its name, and
+    /// none if nothing was there: they are compared when the file is open.
+    fn emptied(&self, path: &str, hold: &HostLock) -> io::Result<File> {
+        let Some(held) = hold.lock.identity() else {
+            let mut options = OpenOptions::new();
+            options.write(true).truncate(true);
+            return options.open(self.files, path);
+        };
+        let file = open_to_write(self.files, path)?;
+        if Identity::of(&file) != Some(held) {
+            return Err(io::Error::from(ErrorKind::AlreadyExists));
+        }
+        file.set_len(0)?;
+        Ok(file)
+    }
+
+    /// Notes why a file was not written, as far as the system told.
+    fn not_written(&mut self, trouble: Option<FileProblem>) -> DeviceFault {
+        self.trouble = Some(trouble.unwrap_or(FileProblem::Unwritten));
+        DeviceFault
+    }
+
+    /// Returns a writer of a file that was made or emptied.
+    fn writer_of(&mut self, file: File) -> StdOutput<SparseFile>
+        ensures { result.history ≡ nothing_taken }
+    {
+        self.trouble = None;
+        let longest = longest_file(self.files);
+        StdOutput::new(SparseFile::new(file, longest))
+    }
+
+    /// Opens a file for reading, and locks it for that if it is on a disk and no other writes it. Nothing is read yet,
+    /// and what cannot seek can be opened too, as a pipe. A folder can be opened and not read.
+    fn opened(&self, path: &str) -> io::Result<(File, Metadata, Option<FileProblem>)> {
+        let mut file = fs::open(self.files, path)?;
+        let mut found = file.metadata()?;
+        let mut trouble = found.is_dir().then_some(FileProblem::Folder);
+        if found.is_file() {
+            let mut is_written = self.is_written(&file);
+            // it may have been replaced while it was waited for
+            if self.wait > 0 && !leads_to(self.files, path, &file) {
+                file = fs::open(self.files, path)?;
+                is_written = self.is_written(&file);
+            }
+            trouble = is_written.then_some(FileProblem::Writer);
+            found = file.metadata()?;
+        }
+        Ok((file, found, trouble))
+    }
+
+    /// Waits until no other writes a file that was opened, and tells whether one still does. The file that is held is
+    /// nobody else's.
+    fn is_written(&self, file: &File) -> bool {
+        if self.held.is_some() && Identity::of(file) == self.held {
+            return false;
+        }
+        for _ in 0..self.wait.saturating_mul(TRIES) {
+            if !is_written(file) {
+                return false;
+            }
+            sleep(self.files, Duration::from_millis(PAUSE));
+        }
+        is_written(file)
     }
 
     /// Tells whether another file has taken the name of the one that is locked, or one has come where nothing was.
@@ -134,14 +217,6 @@ impl<'a, R: Files<File = File> + AllocGlobal + Clock> HostDisk<'a, R> {
             _ => false,
         }
     }
-}
-
-/// Opens a file for reading. Nothing is read of it, and what cannot seek can be opened too, as a pipe. A folder can be
-/// opened and not read.
-fn open_file<R: Files<File = File>>(files: &R, path: &str) -> io::Result<(File, Metadata)> {
-    let file = fs::open(files, path)?;
-    let found = file.metadata()?;
-    Ok((file, found))
 }
 
 impl<'a, R: Files<File = File> + AllocGlobal + Clock> Disk for HostDisk<'a, R> {
@@ -170,15 +245,20 @@ impl<'a, R: Files<File = File> + AllocGlobal + Clock> Disk for HostDisk<'a, R> {
             sleep(self.files, Duration::from_millis(PAUSE));
             found = lock(self.files, path);
         }
-        Ok(HostLock::new(found?))
+        self.trouble = found.is_err().then_some(FileProblem::Writer);
+        let lock = found?;
+        self.held = lock.identity();
+        Ok(HostLock::new(lock))
     }
 
-    fn unlock(&mut self, _hold: HostLock) {}
+    fn unlock(&mut self, _hold: HostLock) {
+        self.held = None;
+    }
 
     fn open(&mut self, path: &str) -> Result<OpenedFile<StdSource<File>>, DeviceFault> {
-        match open_file(self.files, path) {
-            Ok((file, found)) => {
-                self.trouble = found.is_dir().then_some(FileProblem::Folder);
+        match self.opened(path) {
+            Ok((file, found, trouble)) => {
+                self.trouble = trouble;
                 let reader = StdSource::new(file);
                 let len = found.len();
                 Ok(OpenedFile { reader, len })
@@ -192,19 +272,23 @@ impl<'a, R: Files<File = File> + AllocGlobal + Clock> Disk for HostDisk<'a, R> {
 
     fn close(&mut self, _reader: StdSource<File>) {}
 
-    fn compare(&mut self, path: &str, hold: &HostLock) -> Result<(), DeviceFault> {
+    fn compare(&mut self, path: &str, hold: &HostLock, image: &[u8]) -> Comparison {
         if self.is_taken(path, hold) {
             self.trouble = Some(FileProblem::Exists);
-            return Err(DeviceFault);
+            return Comparison::Other;
         }
-        Ok(())
+        match has_bytes(self.files, path, hold.lock.identity(), image) {
+            Ok(true) => Comparison::Equal,
+            _ => Comparison::Different,
+        }
     }
 
     fn create_new(&mut self, path: &str) -> Result<(StdOutput<SparseFile>, HostLock), DeviceFault> {
         let mut hold = HostLock::new(FileLock::Absent);
-        let made = self.made(path, &mut hold);
-        let writer = self.writer_of(made, path, SaveMode::InPlace)?;
-        Ok((writer, hold))
+        match self.made(path, &mut hold) {
+            Ok(file) => Ok((self.writer_of(file), hold)),
+            Err(error) => Err(self.not_written(creation_problem(error.kind(), path))),
+        }
     }
 
     fn create(
@@ -213,30 +297,42 @@ impl<'a, R: Files<File = File> + AllocGlobal + Clock> Disk for HostDisk<'a, R> {
         how: SaveMode,
         hold: &mut HostLock,
     ) -> Result<StdOutput<SparseFile>, DeviceFault> {
-        let made = self.file_for(path, how, hold);
-        self.writer_of(made, path, how)
+        match self.file_for(path, how, hold) {
+            Ok(file) => Ok(self.writer_of(file)),
+            Err(error) => Err(self.not_written(problem_of(error.kind()))),
+        }
     }
 
     fn sync_and_close(&mut self, writer: StdOutput<SparseFile>) -> Result<(), DeviceFault> {
         let written = writer.inner();
-        if written.end().is_ok() && sync_file(written.file()) {
-            Ok(())
-        } else {
-            Err(DeviceFault)
+        let lasts = written.end().is_ok() && sync_file(written.file());
+        match self.unnamed.take() {
+            Some(unnamed) => self.name(unnamed, lasts && writer.is_sound()),
+            None if lasts && writer.is_sound() => Ok(()),
+            None => Err(self.not_written(None)),
         }
     }
 
     fn commit_replacement(&mut self, path: &str, hold: &mut HostLock) -> Result<(), DeviceFault> {
         let Some(beside) = hold.beside.take() else {
-            return Err(DeviceFault);
+            return Err(self.not_written(None));
         };
-        if self.is_taken(path, hold) || beside.place(self.files).is_err() {
+        let is_taken = self.is_taken(path, hold);
+        if is_taken || beside.place(self.files).is_err() {
             hold.beside = Some(beside);
-            return Err(DeviceFault);
+            return Err(self.not_written(is_taken.then_some(FileProblem::Exists)));
         }
         let lasts = beside.sync_folder(self.files);
+        if !beside.has_owner() {
+            self.trouble = Some(FileProblem::Owner);
+        }
         hold.lock = beside.into_lock();
-        if lasts { Ok(()) } else { Err(DeviceFault) }
+        self.held = hold.lock.identity();
+        if lasts {
+            Ok(())
+        } else {
+            Err(self.not_written(None))
+        }
     }
 
     fn discard_replacement(&mut self, _path: &str, hold: &mut HostLock) {

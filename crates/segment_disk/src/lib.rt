@@ -8,10 +8,11 @@ mod host;
 mod locks;
 mod presence;
 mod replacement_file;
+mod spare_file;
 mod sparse;
 mod std_output;
 
 pub use disk::{Disk, OpenedFile, Output};
 pub use host::{HostDisk, HostLock};
-pub use presence::{AlreadyLocked, FileProblem, Presence, SaveMode};
+pub use presence::{AlreadyLocked, Comparison, FileProblem, Presence, SaveMode};
 pub use std_output::{PassThrough, StdOutput};

@@ -2,7 +2,7 @@
 
 use crate::presence::AlreadyLocked;
 use std::fs::{self, File, Metadata, OpenOptions, TryLockError};
-use std::io::{self, ErrorKind};
+use std::io::{self, ErrorKind, Read};
 use std::os::unix::fs::MetadataExt;
 use std::rt::Files;
 use std::thread::sleep;
@@ -10,6 +10,12 @@ use std::time::{Clock, Duration};
 
 /// How often a file is opened anew that was replaced before it was locked, and one is locked that was just made.
 const TRIES: u32 = 8;
+
+/// How often a lock is asked for again that readers alone have: each has it until it has read the file.
+const READERS: u32 = 100;
+
+/// How many bytes of a file are compared at once, at most.
+const PIECE: usize = 65_536;
 
 /// After how many milliseconds a lock is asked for again that another has.
 pub(crate) const PAUSE: u64 = 50;
@@ -69,7 +75,7 @@ impl FileLock {
 }
 
 /// Tells whether a path still leads to a file that was opened by it.
-fn leads_to<R: Files<File = File>>(files: &R, path: &str, file: &File) -> bool {
+pub(crate) fn leads_to<R: Files<File = File>>(files: &R, path: &str, file: &File) -> bool {
     Identity::at(files, path).is_ok_and(|named| Identity::of(file) == Some(named))
 }
 
@@ -78,6 +84,35 @@ pub(crate) fn open_to_write<R: Files<File = File>>(files: &R, path: &str) -> io:
     let mut options = OpenOptions::new();
     options.write(true);
     options.open(files, path)
+}
+
+/// Tells whether a path leads to a file on a disk that can be written and has these bytes, and no more: to the one
+/// that is held, if one is. The file stays as it is.
+pub(crate) fn has_bytes<R: Files<File = File>>(
+    files: &R,
+    path: &str,
+    held: Option<Identity>,
+    bytes: &[u8],
+) -> io::Result<bool> {
+    let found = fs::metadata(files, path)?;
+    if !found.is_file() || found.len() != bytes.len() as u64 {
+        return Ok(false);
+    }
+    let mut options = OpenOptions::new();
+    options.read(true).write(true);
+    let mut file = options.open(files, path)?;
+    if held.is_some() && Identity::of(&file) != held {
+        return Ok(false);
+    }
+    let mut room = [0; PIECE];
+    'pieces: for piece in bytes.chunks(PIECE) {
+        let read = &mut room[..piece.len()];
+        file.read_exact(read)?;
+        if &*read != piece {
+            return Ok(false);
+        }
+    }
+    Ok(true)
 }
 
 /// Asks the system to write a file through. What is no file on a disk, as a pipe, can't be asked that.
@@ -96,12 +131,18 @@ fn open_to_lock<R: Files<File = File>>(files: &R, path: &str) -> io::Result<Opti
     Ok(Some(fs::open(files, path)?))
 }
 
-/// Locks the file that a path leads to, if one is there that can be locked.
-pub(crate) fn lock<R: Files<File = File>>(
+/// Tells whether another has the right to write a file that is open. If none has, the file is locked for reading from
+/// then on, so that none gets it.
+pub(crate) fn is_written(file: &File) -> bool {
+    matches!(file.try_lock_shared(), Err(TryLockError::WouldBlock))
+}
+
+/// Locks the file that a path leads to, if one is there that can be locked. Who reads it is waited for.
+pub(crate) fn lock<R: Files<File = File> + Clock>(
     files: &R,
     path: &str,
 ) -> Result<FileLock, AlreadyLocked> {
-    for _ in 0..TRIES {
+    for _ in 0..READERS {
         let file = match open_to_lock(files, path) {
             Ok(Some(file)) => file,
             Err(error) if error.kind() == ErrorKind::NotFound => return Ok(FileLock::Absent),
@@ -111,7 +152,8 @@ pub(crate) fn lock<R: Files<File = File>>(
             Ok(()) if leads_to(files, path, &file) => return Ok(FileLock::Held(file)),
             // it was replaced in between, and the lock is that of the file that was there before
             Ok(()) => {}
-            Err(TryLockError::WouldBlock) => return Err(AlreadyLocked),
+            Err(TryLockError::WouldBlock) if is_written(&file) => return Err(AlreadyLocked),
+            Err(TryLockError::WouldBlock) => sleep(files, Duration::from_millis(PAUSE)),
             Err(TryLockError::Error(_)) => return Ok(FileLock::Unlocked),
         }
     }

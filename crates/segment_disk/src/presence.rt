@@ -16,10 +16,21 @@ pub enum Presence {
 /// How a file that is held comes to be open for writing with no byte in it, to take another image.
 #[derive(Clone, Copy, Debug, PartialEq, Eq)]
 pub enum SaveMode {
-    /// The file is emptied, or made if nothing is there.
+    /// The file is emptied.
     InPlace,
     /// A file is made beside it, which stays as it is until the new one is put in its place.
     Replacing,
+}
+
+/// What the file of a path is that is to take an image.
+#[derive(Clone, Copy, Debug, PartialEq, Eq)]
+pub enum Comparison {
+    /// Another than the one that is held.
+    Other,
+    /// The one that is held, and its bytes are others than those of the image, or can't be known.
+    Different,
+    /// The one that is held. It can be opened for writing, and its bytes are those of the image.
+    Equal,
 }
 
 /// Another has the right to write a file.
@@ -27,7 +38,7 @@ pub enum SaveMode {
 #[error("file in use")]
 pub struct AlreadyLocked;
 
-/// Why a file can't be opened, read or made, as far as the system tells.
+/// Why a file can't be opened, read, made or written, as far as the system tells, or what became of it.
 #[derive(Clone, Copy, Debug, PartialEq, Eq)]
 pub enum FileProblem {
     /// No file is there.
@@ -42,4 +53,10 @@ pub enum FileProblem {
     Denied,
     /// Another file has taken the name meanwhile.
     Exists,
+    /// It had another owner before it was replaced.
+    Owner,
+    /// Another has the right to write it.
+    Writer,
+    /// It took not all, or need not last.
+    Unwritten,
 }

@@ -1,9 +1,10 @@
 //! Files of the system that are made beside others, to take their place.
 
-use crate::locks::{FileLock, Identity, lock_made, open_to_write, sync_file};
-use std::fs::{self, File, OpenFile, OpenOptions, Permissions};
+use crate::locks::{FileLock, Identity, open_to_write};
+use crate::spare_file::{SpareFile, sync_folder};
+use std::fs::{self, File, Metadata, Permissions};
 use std::io::{self, ErrorKind};
-use std::os::unix::fs::OpenOptionsExt;
+use std::os::unix::fs::{MetadataExt, PermissionsExt, fchown};
 use std::path::PathBuf;
 use std::rt::Files;
 use std::time::Clock;
@@ -13,15 +14,38 @@ use std::time::Clock;
 pub(crate) struct ReplacementFile {
     /// The path of the other, which leads through no link.
     old: PathBuf,
-    /// Its own path: the other's, and `.new` after it.
-    new: String,
+    /// The file itself.
+    spare: SpareFile,
     /// What there is to hold of it: it is held before it has the other's name.
     lock: FileLock,
+    /// Whether it has the other's owner.
+    has_owner: bool,
+}
+
+/// Gives a file the owner, group and rights of another, as far as the process may, and tells whether the owner is the
+/// same. A file of another owner sets no user or group for programs. A group that it did not have gets what all others
+/// have.
+fn take_rights(file: &File, old: &Metadata) -> io::Result<bool> {
+    let own = file.metadata()?;
+    let mut mode = old.mode() & 0o7777;
+    let mut has_owner = own.uid() == old.uid();
+    if !has_owner || own.gid() != old.gid() {
+        if fchown(file, Some(old.uid()), Some(old.gid())).is_ok() {
+            has_owner = true;
+        } else {
+            mode &= 0o777;
+            if own.gid() != old.gid() && fchown(file, None, Some(old.gid())).is_err() {
+                mode &= 0o707 | (mode & 0o7) << 3;
+            }
+        }
+    }
+    file.set_permissions(Permissions::from_mode(mode))?;
+    Ok(has_owner)
 }
 
 impl ReplacementFile {
-    /// Makes an empty file beside the one of a path, with its rights. If one file may be written, the path leads to
-    /// it, and what an earlier run left there is removed before; otherwise nothing may be there.
+    /// Makes an empty file beside the one of a path, with its owner and rights as far as that can be. If one file may
+    /// be written, the path leads to it.
     pub(crate) fn make<R: Files<File = File> + AllocGlobal + Clock>(
         rt: &R,
         path: &str,
@@ -36,36 +60,27 @@ impl ReplacementFile {
         if held.is_some() && Identity::at(rt, old.as_str()).ok() != held {
             return Err(io::Error::from(ErrorKind::AlreadyExists));
         }
-        let new = format!(in rt.alloc(); "{}.new", old.as_str())?;
-        if held.is_some() {
-            let _ = fs::remove_file(rt, new.as_str());
-        }
-        let mut options = OpenOptions::new();
-        options.write(true).create_new(true).mode(0o600);
-        let file = options.open(rt, new.as_str())?;
-        let mut beside = ReplacementFile {
-            old,
-            new,
-            lock: FileLock::Absent,
-        };
-        match beside.take_over(rt, &file, described.permissions()) {
-            Ok(()) => Ok((file, beside)),
+        let (file, spare, lock) = SpareFile::make(rt, old.as_str(), 0o600)?;
+        match take_rights(&file, &described) {
+            Ok(has_owner) => Ok((
+                file,
+                ReplacementFile {
+                    old,
+                    spare,
+                    lock,
+                    has_owner,
+                },
+            )),
             Err(error) => {
-                beside.discard(rt);
+                spare.discard(rt);
                 Err(error)
             }
         }
     }
 
-    /// Locks the file, and gives it the rights of the other.
-    fn take_over<C: Clock>(
-        &mut self,
-        clock: &C,
-        file: &File,
-        rights: Permissions,
-    ) -> io::Result<()> {
-        self.lock = lock_made(clock, file)?;
-        file.set_permissions(rights)
+    /// Tells whether the file has the other's owner.
+    pub(crate) fn has_owner(&self) -> bool {
+        self.has_owner
     }
 
     /// Returns what there is to hold of the file.
@@ -75,22 +90,16 @@ impl ReplacementFile {
 
     /// Puts the file in the place of the other.
     pub(crate) fn place<R: Files<File = File>>(&self, files: &R) -> io::Result<()> {
-        fs::rename(files, self.new.as_str(), self.old.as_path())
+        self.spare.replace(files, self.old.as_str())
     }
 
     /// Writes the folder through, which has the name, if it can be opened.
     pub(crate) fn sync_folder<R: Files<File = File>>(&self, files: &R) -> bool {
-        match self.old.parent() {
-            Some(folder) => match fs::open(files, folder) {
-                Ok(folder) => sync_file(&folder),
-                Err(_) => true,
-            },
-            None => true,
-        }
+        sync_folder(files, self.old.as_str())
     }
 
     /// Removes the file, if that can be done.
     pub(crate) fn discard<R: Files<File = File>>(&self, files: &R) {
-        let _ = fs::remove_file(files, self.new.as_str());
+        self.spare.discard(files);
     }
 }

@@ -61,6 +61,11 @@ impl<W> StdOutput<W> {
         self.is_closed_pipe
     }
 
+    /// Tells whether it took all that it was given.
+    pub(crate) fn is_sound(&self) -> bool {
+        self.failures == 0
+    }
+
     /// Returns the writer of std.
     pub(crate) fn inner(&self) -> &W {
         &self.inner

@@ -5,6 +5,8 @@ use Rattle.raw_region.specs.Device.{ReadDelta, WriteDelta, IsProperPrefix}
 use Rattle.segment_manager.specs.Directory.{Directory}
 use Rattle.segment_manager.specs.State.{DenotesCurrent}
 use Rattle.image_check.specs.Saving.{IsSaved}
+use Rattle.segment_disk.specs.declared.presence.Comparison.{Comparison}
+use Rattle.segment_disk.specs.declared.presence.Comparison.TheVariants.{Other, Different, Equal}
 use Rattle.segment_disk.specs.Events.{CreateMode, New, Truncate, Replacement}
 use Rattle.segment_disk.specs.Events.{Event, Opened, Read, Compared, Made, Wrote, Placed, Discarded, After}
 
@@ -24,11 +26,13 @@ failed_open_events path = Opened path None ∷ []
 abbrev pub all_of : List ℕ → WriteDelta
 all_of image = record { bytes = image; failed = false }
 
--- What became of it: another file had taken its name, and it was left alone; it could not be made or emptied; it took
--- something and was closed, and all that it took lasts or need not; or, made beside the old one, it took all of an
--- image, which lasts, and was put in the place of the old one, or need not have been.
+-- What became of it: another file had taken its name, and it was left alone; it had the image, and was left as it is;
+-- it could not be made or emptied; it took something and was closed, and all that it took lasts or need not; or, made
+-- beside the old one, it took all of an image, which lasts, and was put in the place of the old one, or need not have
+-- been.
 pub data WriteOutcome : Type 0 where
   Overtaken : WriteOutcome
+  Unchanged : WriteOutcome
   NotMade : WriteOutcome
   Closed : WriteDelta → Bool → WriteOutcome
   Offered : List ℕ → Bool → WriteOutcome
@@ -47,38 +51,53 @@ place_events path false = Placed path false ∷ Discarded path ∷ []
 -- the questions for a file that is made
 abbrev pub make_events : CreateMode → List ℕ → WriteOutcome → List Event
 make_events how path Overtaken = []
+make_events how path Unchanged = []
 make_events how path NotMade = Made how path false ∷ []
 make_events how path (Closed taken lasts) = Made how path true ∷ Wrote taken lasts ∷ leave_events how path
 make_events how path (Offered image placed) = Made how path true ∷ Wrote (all_of image) true ∷ place_events path placed
 
--- before a file is emptied or replaced it is compared with the one that the right to write was given for
-abbrev pub compare_events : CreateMode → List ℕ → Bool → List Event → List Event
-compare_events New path same then = then
-compare_events Truncate path same then = Compared path same ∷ then
-compare_events Replacement path same then = Compared path same ∷ then
+-- before a file is emptied or replaced it is compared with the one that the right to write was given for, and with the
+-- image
+abbrev pub compare_events : CreateMode → List ℕ → List ℕ → Comparison → List Event → List Event
+compare_events New path image found then = then
+compare_events Truncate path image found then = Compared path image found ∷ then
+compare_events Replacement path image found then = Compared path image found ∷ then
 
-abbrev pub is_same : WriteOutcome → Bool
-is_same Overtaken = false
-is_same NotMade = true
-is_same (Closed taken lasts) = true
-is_same (Offered image placed) = true
+-- what that comparison found
+abbrev pub comparison : WriteOutcome → Comparison
+comparison Overtaken = Other
+comparison Unchanged = Equal
+comparison NotMade = Different
+comparison (Closed taken lasts) = Different
+comparison (Offered image placed) = Different
 
 -- the questions for a file that is made, after the comparison
-abbrev pub write_events : CreateMode → List ℕ → WriteOutcome → List Event
-write_events how path written = compare_events how path (is_same written) (make_events how path written)
+abbrev pub write_events : CreateMode → List ℕ → List ℕ → WriteOutcome → List Event
+write_events how path image written =
+    compare_events how path image (comparison written) (make_events how path written)
 
--- the file was made or emptied
+-- the file was made or emptied for the image, or has it
 abbrev pub IsMade : WriteOutcome → Type 0
 IsMade Overtaken = ⊥
+IsMade Unchanged = ⊤
 IsMade NotMade = ⊥
 IsMade (Closed taken lasts) = ⊤
 IsMade (Offered image placed) = ⊤
 
--- the whole image is in the file, and lasts
+-- the whole image was written to the file, and lasts
 abbrev pub whole_outcome : CreateMode → List ℕ → WriteOutcome
 whole_outcome New image = Closed (all_of image) true
 whole_outcome Truncate image = Closed (all_of image) true
 whole_outcome Replacement image = Offered image true
+
+-- the file that was to be emptied or replaced had the image, and was left as it is
+pub record IsUnchanged (how : CreateMode) (written : WriteOutcome) : Type 0 where
+  pub old : how ≢ New
+  pub left : written ≡ Unchanged
+
+-- the whole image is in the file: it was written and lasts, or stood there before
+abbrev pub HasImage : CreateMode → List ℕ → WriteOutcome → Type 0
+HasImage how image written = (written ≡ whole_outcome how image) ⊎ IsUnchanged how written
 
 -- writing failed, and not all of the image was taken
 pub record IsPartialWrite (image : List ℕ) (taken : WriteDelta) : Type 0 where
@@ -128,16 +147,16 @@ pub record FillsFile {D E : Type 0} (step : D → Event → D
 pub record MakesImage {D E : Type 0} (step : D → Event → D
     → Type 0) (old new : D) (how : CreateMode) (path image : List ℕ) (result : Result (Unit {0}) E) : Type 0 where
   pub written : WriteOutcome
-  pub same : is_same written ≡ true
+  pub found : comparison written ≡ Different
   pub asked : After step old (make_events how path written) new
   pub fate : MatchResult result (λ u. written ≡ whole_outcome how image) (λ e. IsUnwritten how image written)
   pub accepted : IsMade written → (d : Directory) → DenotesCurrent image d → IsSaved image d
 
--- An image was written to a file, and nothing else was asked of the disk. It is whole there and lasts if the answer
--- is Ok. A file that was made or emptied was so for an image that a check accepts.
+-- An image was written to a file, and nothing else was asked of the disk. If the answer is Ok it is whole there, and
+-- lasts if it was written. A file that has the image is not written: it is only compared. A check accepts the image.
 pub record WritesImage {D E : Type 0} (step : D → Event → D
     → Type 0) (old new : D) (how : CreateMode) (path image : List ℕ) (result : Result (Unit {0}) E) : Type 0 where
   pub written : WriteOutcome
-  pub asked : After step old (write_events how path written) new
-  pub fate : MatchResult result (λ u. written ≡ whole_outcome how image) (λ e. IsUnwritten how image written)
+  pub asked : After step old (write_events how path image written) new
+  pub fate : MatchResult result (λ u. HasImage how image written) (λ e. IsUnwritten how image written)
   pub accepted : IsMade written → (d : Directory) → DenotesCurrent image d → IsSaved image d

@@ -6,8 +6,10 @@ use Rattle.raw_region.specs.Device.{WriteDelta}
 use Rattle.segment_disk.specs.Events.{CreateMode, New, Truncate, Replacement}
 use Rattle.segment_disk.specs.Events.{Event, Looked, Held, Released, Opened, Read, Compared, Made, Wrote, Placed}
 use Rattle.segment_disk.specs.Events.{Discarded}
-use Rattle.segment_file.specs.Files.{WriteOutcome, Overtaken, NotMade, Closed, Offered, IsUnwritten, whole_outcome}
-use Rattle.segment_file.specs.Files.{write_events}
+use Rattle.segment_file.specs.Files.{WriteOutcome, Overtaken, Unchanged, NotMade, Closed, Offered, IsUnwritten}
+use Rattle.segment_file.specs.Files.{HasImage, whole_outcome, write_events}
+use Rattle.segment_disk.specs.declared.presence.Comparison.{Comparison}
+use Rattle.segment_disk.specs.declared.presence.Comparison.TheVariants.{Other, Different, Equal}
 
 -- what a path holds: these bytes, whole; one of two, each whole; or a file that was made or emptied and need not be
 -- whole
@@ -61,13 +63,19 @@ in_place_of old bytes true = standing_as bytes
 in_place_of old (Some bytes) false = or_else bytes old
 in_place_of old None false = Torn
 
+-- a file that was compared with an image, and has it
+abbrev pub compared : List ℕ → Comparison → FileState → FileState
+compared image Other s = s
+compared image Different s = s
+compared image Equal s = record s { named = Whole image }
+
 abbrev pub after_event : List ℕ → FileState → Event → FileState
 after_event path s (Looked p found) = s
 after_event path s (Held p given) = s
 after_event path s Released = s
 after_event path s (Opened p is_open) = s
 after_event path s (Read image) = s
-after_event path s (Compared p same) = s
+after_event path s (Compared p image found) = if bytes_eq p path then compared image found s else s
 after_event path s (Made how p true) = if bytes_eq p path then made how s else record s { target = Neither }
 after_event path s (Made how p false) = s
 after_event path s (Wrote taken lasts) = closed (lasting taken lasts) s.target s
@@ -89,6 +97,7 @@ IsOneOf old new Torn = ⊥
 -- the new file was not made, or was closed and not to take the place of the old one
 abbrev pub IsNotOffered : WriteOutcome → Type 0
 IsNotOffered Overtaken = ⊤
+IsNotOffered Unchanged = ⊥
 IsNotOffered NotMade = ⊤
 IsNotOffered (Closed taken lasts) = ⊤
 IsNotOffered (Offered image placed) = ⊥
@@ -98,21 +107,20 @@ IsNotOffered (Offered image placed) = ⊥
 -- At each point of a save that replaces, however it ends, the old image or the new one stands whole under the path.
 abbrev pub ReplacingKeepsOneWhole : Type 0
 ReplacingKeepsOneWhole = (path old image : List ℕ) (written : WriteOutcome)
-    → (written ≡ whole_outcome Replacement image)
-    ⊎ IsUnwritten Replacement image written
-    → (k : ℕ) → IsOneOf old image (standing path old (take k (write_events Replacement path written)))
+    → HasImage Replacement image written ⊎ IsUnwritten Replacement image written
+    → (k : ℕ) → IsOneOf old image (standing path old (take k (write_events Replacement path image written)))
 
 -- the law: if writing failed before the new file was to take its place, the path holds the old image
 abbrev pub UnplacedLeavesTheOld : Type 0
-UnplacedLeavesTheOld = (path old : List ℕ) (written : WriteOutcome) → IsNotOffered written
-    → standing path old (write_events Replacement path written) ≡ Whole old
+UnplacedLeavesTheOld = (path old image : List ℕ) (written : WriteOutcome) → IsNotOffered written
+    → standing path old (write_events Replacement path image written) ≡ Whole old
 
 -- Any save that is done ends with the new image.
 abbrev pub SavingEndsWhole : Type 0
-SavingEndsWhole = (how : CreateMode) (path old image : List ℕ)
-    → standing path old (write_events how path (whole_outcome how image)) ≡ Whole image
+SavingEndsWhole = (how : CreateMode) (path old image : List ℕ) (written : WriteOutcome) → HasImage how image written
+    → standing path old (write_events how path image written) ≡ Whole image
 
 -- One that empties the file leaves neither whole in between.
 abbrev pub EmptyingTears : Type 0
 EmptyingTears = (path old image : List ℕ)
-    → standing path old (take 2 (write_events Truncate path (whole_outcome Truncate image))) ≡ Torn
+    → standing path old (take 2 (write_events Truncate path image (whole_outcome Truncate image))) ≡ Torn

@@ -159,15 +159,15 @@ impl<H: Drop> SegmentFile<H> {
         })
     }
 
-    /// Writes the image of the segment to its file, which is emptied for it, or made if it is gone. If that fails,
-    /// the old image is lost; see [`replace`](SegmentFile::replace).
+    /// Writes the image of the segment to its file, which is emptied for it, unless the file has that image. If that
+    /// fails, the old image is lost; see [`replace`](SegmentFile::replace).
     ///
     /// `crates/examples/src/shop.rt` has an example.
     ///
     /// # Errors
     ///
-    /// `WriteFault` if the file can't be emptied, takes not the whole image, or need not last, and if another file
-    /// has taken its name, which is left alone.
+    /// `WriteFault` if the file can't be emptied or is gone, takes not the whole image, or need not last, and if
+    /// another file has taken its name, which is left alone.
     pub fn save<D: Disk<Hold = H>>(&mut self, disk: &mut D) -> Result<(), FileError>
         ensures save { SavesFile D.step disk.old disk.new (string_bytes self.old.path) self.old.segment result
             Truncate }

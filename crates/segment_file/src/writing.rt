@@ -1,11 +1,14 @@
 //! The writing of an image to a file.
 ghost use Rattle.std.specs.Prelude.{◌≡◌, is_ok};
-ghost use Rattle.segment_disk.specs.Events.{After, New, Replacement, Truncate, create_mode_of, nothing_taken};
+ghost use Rattle.segment_manager.specs.{Directory.Directory, State.DenotesCurrent};
+ghost use Rattle.image_check.specs.Saving.{IsSaved};
+ghost use Rattle.segment_disk.specs.Events.{After, Compared, New, Replacement, Truncate, create_mode_of, nothing_taken};
 ghost use Rattle.segment_file.specs.Files.{FillsFile, MakesImage, WritesImage, place_events, without_hold};
 
+use image_check::laws::one_directory;
 use image_check::save;
 use raw_region::DeviceFault;
-use segment_disk::{Disk, SaveMode};
+use segment_disk::{Comparison, Disk, SaveMode};
 use segment_manager::Segment;
 
 /// Writes the image of a segment to a file that took nothing yet, and closes it.
@@ -65,8 +68,36 @@ fn replace_image<D: Disk>(
     }
 }
 
+/// Writes the image of a segment to the file that is held, which is emptied or replaced for it.
+fn write_over<D: Disk>(
+    disk: &mut D,
+    path: &str,
+    how: SaveMode,
+    hold: &mut D::Hold,
+    segment: &Segment,
+) -> Result<(), DeviceFault>
+    ensures { MakesImage D.step disk.old disk.new (create_mode_of how) path.now segment.now.cut.bytes result }
+{
+    match how {
+        SaveMode::InPlace => write_here(disk, path, hold, segment),
+        SaveMode::Replacing => replace_image(disk, path, hold, segment),
+    }
+}
+
+/// Compares the file of a path with the one that is held, and its bytes with the image of a segment. A check of the
+/// image accepts it.
+fn compare_image<D: Disk>(disk: &mut D, path: &str, hold: &D::Hold, segment: &Segment) -> Comparison
+    ensures step { D.step disk.old (Compared path.now segment.now.cut.bytes result) disk.new }
+    ensures acceptance { (d : Directory) → DenotesCurrent segment.now.cut.bytes d → IsSaved segment.now.cut.bytes d }
+{
+    let image = segment.as_bytes();
+    one_directory(image);
+    disk.compare(path, hold, image)
+}
+
 /// Writes the image of a segment to the file that is held, which is emptied or replaced for it. A check of the image
-/// accepts it. The file is left alone if another has taken its name.
+/// accepts it. A file that has the image, and can be opened for writing, stays as it is. So does one if another has
+/// taken its name.
 pub fn write_image<D: Disk>(
     disk: &mut D,
     path: &str,
@@ -76,10 +107,10 @@ pub fn write_image<D: Disk>(
 ) -> Result<(), DeviceFault>
     ensures { WritesImage D.step disk.old disk.new (create_mode_of how) path.now segment.now.cut.bytes result }
 {
-    disk.compare(path, hold)?;
-    match how {
-        SaveMode::InPlace => write_here(disk, path, hold, segment),
-        SaveMode::Replacing => replace_image(disk, path, hold, segment),
+    match compare_image(disk, path, hold, segment) {
+        Comparison::Other => Err(DeviceFault),
+        Comparison::Different => write_over(disk, path, how, hold, segment),
+        Comparison::Equal => Ok(()),
     }
 }
 

@@ -175,7 +175,7 @@ const RUN_SIZE: CommandWord = CommandWord::Option("size", "SIZE", SIZES);
 
 const REPLACE: CommandWord = CommandWord::Flag(
     "replace",
-    "The image goes to a new file, FILE.new, which then takes the place of FILE: one of the two is whole at each moment",
+    "The image goes to a new file beside FILE, which then takes its place: one of the two is whole at each moment",
 );
 
 const WAIT: CommandWord = CommandWord::Option(
@@ -211,7 +211,7 @@ const HTML: CommandWord = CommandWord::Flag(
 
 const JSON: CommandWord = CommandWord::Flag(
     "json",
-    "Writes each object as a line of JSON: class, name, kind and value; then --capacities tells nothing",
+    "Writes each object as a line of JSON: class, name, kind and value; not with --capacities",
 );
 
 const CAPACITIES: CommandWord = CommandWord::Flag(

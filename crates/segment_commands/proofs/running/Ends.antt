@@ -25,7 +25,7 @@ use Rattle.image_check.specs.Saving.{IsSaved}
 use Rattle.segment_cli.specs.Session.{StartsFrom, Failures, SavesImage}
 use Rattle.segment_cli.proofs.Laws.{stopped_session, done_session, unsaved_session}
 use Rattle.segment_disk.specs.Events.{CreateMode, New, Truncate, Replacement, Event, After}
-use Rattle.segment_file.specs.Files.{WriteOutcome, IsMade, IsUnwritten}
+use Rattle.segment_file.specs.Files.{WriteOutcome, IsMade, IsUnwritten, HasImage}
 use Rattle.segment_file.specs.Files.{WritesImage, write_events, whole_outcome, all_of}
 use Rattle.segment_commands.specs.Running.{Act, AnswersScript, IsAnsweredAct, IsAnsweredTo, IsRefusedAct}
 use Rattle.segment_commands.specs.Running.{IsUnrefusedAct, LeavesUnsaved, LosesAnswers, StopsWithFault, EndsRun, Ran}
@@ -42,22 +42,27 @@ saves_nothing ReadOnly d keeps = refl
 saves_nothing CopyOnWrite d keeps = refl
 
 asks_nothing : {D : Type 0} (step : D → Event → D → Type 0) (old : D) (m : Mode) (how : CreateMode) (path : List ℕ)
-    → (m ≡ Write → ⊥) → After step old (saving m how path []) old
-asks_nothing step old Write how path keeps = absurd (keeps refl)
-asks_nothing step old ReadOnly how path keeps = refl
-asks_nothing step old CopyOnWrite how path keeps = refl
+    (written : WriteOutcome) → (m ≡ Write → ⊥) → After step old (saving m how path [] written) old
+asks_nothing step old Write how path written keeps = absurd (keeps refl)
+asks_nothing step old ReadOnly how path written keeps = refl
+asks_nothing step old CopyOnWrite how path written keeps = refl
 
 asks_to_save : {D : Type 0} (step : D → Event → D
-    → Type 0) (old new : D) (m : Mode) (how : CreateMode) (path image : List ℕ) → m ≡ Write
-    → After step old (write_events how path (whole_outcome how image)) new
-    → After step old (saving m how path image) new
-asks_to_save step old new m how path image e h =
-    subst (λ (w : Mode). After step old (saving w how path image) new) (sym e) h
+    → Type 0) (old new : D) (m : Mode) (how : CreateMode) (path image : List ℕ) (written : WriteOutcome) → m ≡ Write
+    → After step old (write_events how path image written) new
+    → After step old (saving m how path image written) new
+asks_to_save step old new m how path image written e h =
+    subst (λ (w : Mode). After step old (saving w how path image written) new) (sym e) h
 
 whole_outcome-made : (how : CreateMode) (image : List ℕ) → IsMade (whole_outcome how image)
 whole_outcome-made New image = tt
 whole_outcome-made Truncate image = tt
 whole_outcome-made Replacement image = tt
+
+written-made : (how : CreateMode) (image : List ℕ) (written : WriteOutcome) → HasImage how image written
+    → IsMade written
+written-made how image written (inl e) = subst IsMade (sym e) (whole_outcome-made how image)
+written-made how image written (inr u) = subst IsMade (sym u.left) tt
 
 -- a segment has bytes: a word at their front
 no_word : word_at (bytes_of []) magic_at ≡ 0
@@ -211,7 +216,9 @@ module _ {D : Type 0} (step : D → Event → D
     unsaving : (mode ≡ Write → ⊥) → EndsRun step old old how path act Flushed (Ok Whole)
     unsaving keeps = let kept : s'.mode ≡ Write → ⊥ = λ e. keeps (sym (last_mode true answered) ∙ e) in record {
       image = [];
-      asked = asks_nothing step old mode how path keeps;
+      written = whole_outcome how [];
+      whole = inl refl;
+      asked = asks_nothing step old mode how path (whole_outcome how []) keeps;
       ran = done_session start mode 0 capacity (record {
         image = image;
         script = script;
@@ -242,9 +249,10 @@ module _ {D : Type 0} (step : D → Event → D
           → EndsRun step old new how path act Flushed (Ok Whole)
       saved w = record {
         image = s'.cut.bytes;
-        asked = asks_to_save step old new mode how path s'.cut.bytes writing (subst (λ (x : WriteOutcome).
-            After step old (write_events how path x) new) w.fate w.asked);
-        ran = done (w.accepted (subst IsMade (sym w.fate) (whole_outcome-made how s'.cut.bytes)));
+        written = w.written;
+        whole = w.fate;
+        asked = asks_to_save step old new mode how path s'.cut.bytes w.written writing w.asked;
+        ran = done (w.accepted (written-made how s'.cut.bytes w.written w.fate));
         unrefused = unrefused true answered;
         flushed = answered.flushed;
       }
@@ -283,6 +291,7 @@ module _ {D : Type 0} (step : D → Event → D
         why = refl;
         mode = writing;
         flushed = answered.flushed;
+        image = s'.cut.bytes;
         written = w.written;
         asked = w.asked;
         unsaved = unsaved_by w.written w.fate w.accepted;

@@ -10,12 +10,13 @@ use Rattle.segment_manager.specs.State.{DenotesCurrent}
 use Rattle.image_check.specs.Saving.{IsSaved}
 use Rattle.segment_disk.specs.declared.presence.SaveMode.{SaveMode}
 use Rattle.segment_disk.specs.declared.presence.SaveMode.TheVariants.{InPlace, Replacing}
+use Rattle.segment_disk.specs.declared.presence.Comparison.{Comparison}
+use Rattle.segment_disk.specs.declared.presence.Comparison.TheVariants.{Other, Different, Equal}
 use Rattle.segment_disk.specs.Events.{CreateMode, New, Truncate, Replacement, create_mode_of}
 use Rattle.segment_disk.specs.Events.{Event, Compared, Made, Wrote, Discarded, After, nothing_taken}
-use Rattle.segment_file.specs.Files.{WriteOutcome, Overtaken, NotMade, Closed, Offered, IsPartialWrite, IsUnwritten}
-use Rattle.segment_file.specs.Files.{FillsFile, MakesImage, WritesImage, all_of, compare_events, is_same, make_events}
-use Rattle.segment_file.specs.Files.{place_events}
-use Rattle.segment_file.specs.Files.{whole_outcome}
+use Rattle.segment_file.specs.Files.{WriteOutcome, Overtaken, Unchanged, NotMade, Closed, Offered, IsPartialWrite}
+use Rattle.segment_file.specs.Files.{IsUnwritten, HasImage, FillsFile, MakesImage, WritesImage, all_of}
+use Rattle.segment_file.specs.Files.{compare_events, make_events, place_events, whole_outcome}
 
 front_taken : (new image : List ℕ) → AppendsProperPrefix [] new image
     → IsProperPrefix (drop (length nothing_taken.bytes) new) image
@@ -49,6 +50,12 @@ abbrev Fate : {E : Type 0} → CreateMode → List ℕ → WriteOutcome → Resu
 Fate how image written result =
     MatchResult result (λ u. written ≡ whole_outcome how image) (λ e. IsUnwritten how image written)
 
+written-fate : {E : Type 0} (how : CreateMode) (image : List ℕ) (written : WriteOutcome) (result : Result (Unit {0}) E)
+    → Fate how image written result
+    → MatchResult result (λ u. HasImage how image written) (λ e. IsUnwritten how image written)
+written-fate how image written (Ok u) e = inl e
+written-fate how image written (Err e) h = h
+
 abbrev Filling : {E : Type 0} → List ℕ → WriteDelta → Bool → Result (Unit {0}) E → Type 0
 Filling image taken lasts result =
     MatchResult result (λ u. (taken ≡ all_of image) × (lasts ≡ true)) (λ e. IsPartialWrite image taken
@@ -77,7 +84,7 @@ module _ {D E : Type 0} (step : D → Event → D → Type 0) (old made new : D)
       → MakesImage {E = E} step old new how path image (Err e)
   not_made how e asked = record {
     written = NotMade;
-    same = refl;
+    found = refl;
     asked = (new, asked, refl);
     fate = inr (inl refl);
     accepted = λ n. absurd n;
@@ -88,7 +95,7 @@ module _ {D E : Type 0} (step : D → Event → D → Type 0) (old made new : D)
       → FillsFile step made new image result → MakesImage step old new Truncate path image result
   written_here asked result f = record {
     written = Closed f.taken f.lasts;
-    same = refl;
+    found = refl;
     asked = (made, asked, (new, f.asked, refl));
     fate = fate-emptied image f.taken f.lasts result f.fate;
     accepted = λ m. f.accepted;
@@ -100,7 +107,7 @@ module _ {D E : Type 0} (step : D → Event → D → Type 0) (old made new : D)
   written_new asked result f = record {
     written = Closed f.taken f.lasts;
     asked = (made, asked, (new, f.asked, refl));
-    fate = fate-new image f.taken f.lasts result f.fate;
+    fate = written-fate New image (Closed f.taken f.lasts) result (fate-new image f.taken f.lasts result f.fate);
     accepted = λ m. f.accepted;
   }
 
@@ -120,7 +127,7 @@ module _ {D E : Type 0} (step : D → Event → D → Type 0) (old made new : D)
         → MakesImage {E = E} step old new Replacement path image (Err e')
     dropped e e' f gone = record {
       written = Closed f.taken f.lasts;
-      same = refl;
+      found = refl;
       asked = (made, asked, (filled, f.asked, (new, gone, refl)));
       fate = unwritten Replacement image f.taken f.lasts f.fate;
       accepted = λ m. f.accepted;
@@ -136,7 +143,7 @@ module _ {D E : Type 0} (step : D → Event → D → Type 0) (old made new : D)
         → MakesImage {E = E} step old new Replacement path image result
     placed f result put = record {
       written = Offered image (is_ok result);
-      same = refl;
+      found = refl;
       asked = (
         made,
         asked,
@@ -158,36 +165,49 @@ pub is_over : (how : SaveMode) → create_mode_of how ≢ New
 is_over InPlace e = cc
 is_over Replacing e = cc
 
-with_comparison : {D : Type 0} (step : D → Event → D → Type 0) (old same new : D) (path : List ℕ) (how : CreateMode)
-    → how ≢ New → (b : Bool) (events : List Event)
-    → step old (Compared path b) same → After step same events new
-    → After step old (compare_events how path b events) new
-with_comparison step old same new path New n b events asked rest = absurd (n refl)
-with_comparison step old same new path Truncate n b events asked rest = (same, asked, rest)
-with_comparison step old same new path Replacement n b events asked rest = (same, asked, rest)
+with_comparison : {D : Type 0} (step : D → Event → D → Type 0) (old same new : D) (path image : List ℕ)
+    (how : CreateMode) → how ≢ New → (found : Comparison) (events : List Event)
+    → step old (Compared path image found) same → After step same events new
+    → After step old (compare_events how path image found events) new
+with_comparison step old same new path image New n found events asked rest = absurd (n refl)
+with_comparison step old same new path image Truncate n found events asked rest = (same, asked, rest)
+with_comparison step old same new path image Replacement n found events asked rest = (same, asked, rest)
 
 module _ {D E : Type 0} (step : D → Event → D → Type 0) (old same new : D) (path image : List ℕ) where
-  -- it is the same
+  -- it is the same, with other bytes
   pub made_over : (how : CreateMode) → how ≢ New → (result : Result (Unit {0}) E)
-      → step old (Compared path true) same → MakesImage {E = E} step same new how path image result
+      → step old (Compared path image Different) same → MakesImage {E = E} step same new how path image result
       → WritesImage {E = E} step old new how path image result
   made_over how n result asked m = record {
     written = m.written;
-    asked = subst (λ (b : Bool). After step old (compare_events how path b (make_events how path m.written)) new)
-        (sym m.same)
-        (with_comparison step old same new path how n true (make_events how path m.written) asked m.asked);
-    fate = m.fate;
+    asked = subst (λ (found : Comparison).
+        After step old (compare_events how path image found (make_events how path m.written)) new)
+        (sym m.found)
+        (with_comparison step old same new path image how n Different (make_events how path m.written) asked m.asked);
+    fate = written-fate how image m.written result m.fate;
     accepted = m.accepted;
   }
+
+-- it has the image
+pub left_over : {D E : Type 0} (step : D → Event → D
+    → Type 0) (old new : D) (path image : List ℕ) (how : CreateMode) → how ≢ New
+    → step old (Compared path image Equal) new → ((d : Directory) → DenotesCurrent image d → IsSaved image d)
+    → WritesImage {E = E} step old new how path image (Ok tt)
+left_over step old new path image how n asked good = record {
+  written = Unchanged;
+  asked = with_comparison step old new new path image how n Equal [] asked refl;
+  fate = inr (record { old = n; left = refl });
+  accepted = λ m. good;
+}
 
 -- another has its name
 pub overtaken : {D E : Type 0} (step : D → Event → D
     → Type 0) (old new : D) (path image : List ℕ) (how : CreateMode) → how ≢ New → (e : E)
-    → step old (Compared path false) new
+    → step old (Compared path image Other) new
     → WritesImage {E = E} step old new how path image (Err e)
 overtaken {E = E} step old new path image how n e asked = record {
   written = Overtaken;
-  asked = with_comparison step old new new path how n false [] asked refl;
+  asked = with_comparison step old new new path image how n Other [] asked refl;
   fate = inl (record { old = n; left = refl });
   accepted = λ m. absurd m;
 }

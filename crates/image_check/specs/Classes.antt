@@ -1,5 +1,5 @@
 -- Why bytes stand for no directory: twelve classes, each a test of the whole list, and the class of the bytes.
-use Rattle.std.specs.Prelude.{◌≡◌, ℕ, Bool, not, ◌&&◌, Option, Some, List, [], ◌∷◌, ◌++◌, find, IsTrue}
+use Rattle.std.specs.Prelude.{◌≡◌, ℕ, Bool, not, ◌&&◌, Option, Some, List, [], ◌∷◌, ◌++◌, codes, find, IsTrue}
 use Rattle.raw_region.specs.Memory.{Memory, are_bytes, bytes_of}
 use Rattle.block_tags.specs.Tiles.{tiles_of}
 use Rattle.block_tags.specs.declared.tile.Tile.{Tile}
@@ -57,6 +57,21 @@ number_of BadObject = 9
 number_of SharedBlock = 10
 number_of BadContainer = 11
 number_of OrphanBlock = 12
+
+-- the words of a class
+abbrev pub words_of : ImageClass → List ℕ
+words_of Truncated = codes "the image ends too early"
+words_of BadMagic = codes "the image does not begin with the magic"
+words_of UnsupportedVersion = codes "the version is not supported"
+words_of BadSize = codes "the size is wrong"
+words_of BadReserved = codes "a reserved byte is not zero"
+words_of BadTag = codes "the tags are wrong"
+words_of BadFreeTree = codes "the free tree is wrong"
+words_of BadIndex = codes "an index is wrong"
+words_of BadObject = codes "an object is wrong"
+words_of SharedBlock = codes "two links lead to one block"
+words_of BadContainer = codes "a container is wrong"
+words_of OrphanBlock = codes "a block belongs to nothing"
 
 -- the bytes read so far decide the class: all inputs that begin with them have it
 abbrev pub DecidesClass : ℕ → List ℕ → ImageClass → Type 0

@@ -37,7 +37,7 @@ pub(crate) fn collect_blocks(
     ensures visits { Spends gathering_rates 2 window.now.bytes visits.old visits.new }
     ensures tiles { OnOk result (CountsTiles window.now.bytes visits.old visits.new) }
 {
-    match room_for(alloc, counts.used, counts.end) {
+    match room_for(&alloc, counts.used) {
         Ok(mut blocks) => {
             add_all(window, &mut blocks, visits);
             Ok(Owners {

@@ -65,7 +65,7 @@ pub fn open_window(
     let mut visits = VisitCounter::new(mem::replace(steps, Steps::new()));
     match pass_all(format, alloc, &window, &mut visits) {
         Ok(owners) => {
-            let segment = window.into_segment(alloc, format, &owners.blocks, mode, &mut visits);
+            let segment = window.into_segment(format, &owners.blocks, mode, &mut visits);
             *steps = visits.into_steps();
             Ok(segment)
         }

@@ -1,6 +1,6 @@
 //! Why bytes are no image of a directory.
-ghost use Rattle.std.specs.Prelude.{◌≡◌};
-ghost use Rattle.image_check.specs.Classes.{number_of};
+ghost use Rattle.std.specs.Prelude.{◌≡◌, Some};
+ghost use Rattle.image_check.specs.Classes.{number_of, words_of};
 
 use std::fmt;
 use thiserror::Error;
@@ -55,8 +55,10 @@ impl ImageClass {
         }
     }
 
-    /// Returns the text of the class.
-    fn text(self) -> &'static str {
+    /// Returns the words of the class.
+    fn words(self) -> &'static str
+        ensures { result.now ≡ words_of self }
+    {
         match self {
             ImageClass::Truncated => "the image ends too early",
             ImageClass::BadMagic => "the image does not begin with the magic",
@@ -75,7 +77,11 @@ impl ImageClass {
 }
 
 impl fmt::Display for ImageClass {
+    ghost output = { λ class. Some (words_of class) };
+
+    ghost styled_output = { λ class spec. Some (words_of class) };
+
     fn fmt<W: fmt::Write>(&self, f: &mut fmt::Formatter<W>) -> fmt::Result {
-        f.write_str(self.text())
+        f.write_str(self.words())
     }
 }

@@ -12,8 +12,6 @@ pub(crate) struct Counts {
     pub(crate) free: u64,
     /// How many are in use.
     pub(crate) used: usize,
-    /// Where the last one in use stands, or 0.
-    pub(crate) end: u64,
 }
 
 impl Counts {
@@ -21,11 +19,7 @@ impl Counts {
     pub(crate) fn new() -> Counts
         ensures { AreCounted [] result }
     {
-        Counts {
-            free: 0,
-            used: 0,
-            end: 0,
-        }
+        Counts { free: 0, used: 0 }
     }
 
     /// Counts one tile more, after those that were counted.
@@ -36,10 +30,7 @@ impl Counts {
     {
         match tile.use_of {
             None => self.free += 1,
-            Some(_) => {
-                self.used += 1;
-                self.end = tile.offset;
-            }
+            Some(_) => self.used += 1,
         }
     }
 }

@@ -1,9 +1,11 @@
 //! Room for the blocks in use: the one place where the check of an image asks for memory.
-ghost use Rattle.std.specs.Prelude.{◌≡◌, ◌≤◌, IfErr, IfOk, IsOk, []};
+ghost use Rattle.std.specs.Prelude.{◌≡◌, ◌≤◌, IfErr, IfOk, IsOk, OnErr, [], ⊤, ℕ};
+ghost use Rattle.indexmap.specs.IndexMap.{IsEmpty, spare};
 
 use crate::image_window::BlockTable;
+use crate::rows::Row;
 use indexmap::IndexMap;
-use std::alloc::Global;
+use std::alloc::{AllocError, Global};
 
 /// The allocator refused memory for the blocks of an image. One field is private: only `room_for` makes one, where a
 /// request was refused.
@@ -14,38 +16,51 @@ pub struct NoBlockMemory {
     _made: (),
 }
 
-/// Makes a table of no blocks, with room for `count`, the last of which has its tile at `end`. Memory is asked for here
-/// alone: a row and four bytes for each block.
+/// An allocator that is asked for the map of the blocks of an image.
+pub(crate) trait MapAllocator {
+    // A request for a map of this many blocks was refused. Nothing else is known of it, so only a request shows it.
+    ghost refuses: { Self → ℕ → Type 0 };
+
+    /// Makes a map without blocks, with room for `count`.
+    ///
+    /// # Errors
+    ///
+    /// If the request is refused. For no blocks there is none.
+    fn block_map(&self, count: usize) -> Result<IndexMap<u32, Row>, AllocError>
+        ensures empty { IfOk result IsEmpty }
+        ensures room { IfOk result (λ map. count ≤ spare map) }
+        ensures memory { count ≡ 0 → IsOk result }
+        ensures refused { OnErr result (refuses self.now count) };
+}
+
+impl MapAllocator for Global {
+    ghost refuses = { λ alloc count. ⊤ };
+
+    fn block_map(&self, count: usize) -> Result<IndexMap<u32, Row>, AllocError> {
+        IndexMap::with_capacity(*self, count)
+    }
+}
+
+/// Makes a table of no blocks, with room for `count`. This is the one request of an opening.
 ///
 /// # Errors
 ///
 /// If the allocator refuses it.
-pub(crate) fn room_for(alloc: Global, count: usize, end: u64) -> Result<BlockTable, NoBlockMemory>
+pub(crate) fn room_for<A: MapAllocator>(
+    alloc: &A,
+    count: usize,
+) -> Result<BlockTable, NoBlockMemory>
     ensures empty { IfOk result (λ blocks. blocks.entries ≡ []) }
     ensures room { IfOk result (λ blocks. count ≤ blocks.room) }
     ensures memory { count ≡ 0 → IsOk result }
+    ensures request { OnErr result (A.refuses alloc.now count) }
     ensures refused { IfErr result (λ refusal. refusal.blocks ≡ count) }
 {
-    let refusal = NoBlockMemory {
-        blocks: count,
-        _made: (),
-    };
-    let mut lasts = match Vec::with_capacity(alloc, count) {
-        Ok(lasts) => lasts,
-        Err(_) => return Err(refusal),
-    };
-    // There is room, so that no memory is asked for.
-    let _ = lasts.resize(count, 0);
-    match IndexMap::with_capacity(alloc, count) {
-        Ok(map) => Ok(BlockTable::new(map, lasts, shift_for(count, end))),
-        Err(_) => Err(refusal),
+    match alloc.block_map(count) {
+        Ok(map) => Ok(BlockTable::new(map)),
+        Err(_) => Err(NoBlockMemory {
+            blocks: count,
+            _made: (),
+        }),
     }
-}
-
-/// Returns the least power of 2 of which `count` together reach beyond `end`, by its exponent.
-fn shift_for(count: usize, end: u64) -> u32 {
-    if count == 0 {
-        return 0;
-    }
-    64 - (end / count as u64).leading_zeros()
 }

@@ -1,5 +1,5 @@
-//! Rows of the map of blocks, and the search for a payload near a place.
-ghost use Rattle.std.specs.Prelude.{◌≡◌, IfSome, Some, slice_get};
+//! Rows of the map of blocks.
+ghost use Rattle.std.specs.Prelude.{◌≡◌};
 
 use crate::owners::{Block, Owner};
 use block_tags::Role;
@@ -76,30 +76,4 @@ impl Row {
             next: if self.has_next { Some(self.next) } else { None },
         }
     }
-}
-
-/// How many payloads are looked at one by one.
-const NEAR: usize = 8;
-
-/// Returns the number of `target` among payloads in order, if it is `last` or one of a few before it.
-pub(crate) fn near(payloads: &[u32], last: usize, target: u64) -> Option<usize>
-    ensures { IfSome result (λ number. slice_get payloads.now number ≡ Some target) }
-{
-    'payloads: for back in 0..NEAR {
-        if last < back {
-            return None;
-        }
-        let number = last - back;
-        if number >= payloads.len() {
-            return None;
-        }
-        let payload = payloads[number] as u64;
-        if payload == target {
-            return Some(number);
-        }
-        if payload < target {
-            return None;
-        }
-    }
-    None
 }

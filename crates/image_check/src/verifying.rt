@@ -2,8 +2,8 @@
 ghost use Rattle.std.specs.Prelude.{◌≡◌, ◌+◌, ◌-◌, ◌%◌, ◌^◌, ◌<◌, IfErr, OnOk, length, true};
 ghost use Rattle.raw_region.specs.Device.{ReadsSource, read_delta};
 ghost use Rattle.raw_region.specs.Format.{current};
-ghost use Rattle.image_check.specs.Opening.{AsksToTheEnd, IsRaisedFor, Verifies, cause_of, failed_reads};
-ghost use Rattle.image_check.specs.Opening.{is_late, size_or_least};
+ghost use Rattle.image_check.specs.Opening.{AsksToTheEnd, IsRaisedFor, ReadsFrontAlone, Verifies, cause_of};
+ghost use Rattle.image_check.specs.Opening.{failed_reads, is_late, size_or_least};
 ghost use Rattle.image_check.specs.Passes.{CountsTiles};
 
 use crate::errors::OpenRefused;
@@ -33,6 +33,7 @@ pub fn verify<S: Source>(
     ensures verdict { Verifies current (read_delta (S.history reader.old) (S.history reader.new)) region base result }
     ensures history { ReadsSource (S.history reader.old) (S.history reader.new) (failed_reads (cause_of result)) }
     ensures ends { AsksToTheEnd (S.history reader.old) (S.history reader.new) }
+    ensures exclusive { ReadsFrontAlone (S.history reader.old) (S.history reader.new) (cause_of result) }
     ensures steps { IsRaisedFor (size_or_least (read_delta (S.history reader.old) (S.history reader.new)).bytes)
         steps.old steps.new }
     ensures tiles { OnOk result

@@ -58,11 +58,6 @@ impl Notes {
         }
     }
 
-    /// Tells whether there is no room.
-    pub(crate) fn has_no_room(&self) -> bool {
-        self.numbers.is_none()
-    }
-
     /// Returns all numbers.
     pub fn as_slice(&self) -> &[u32]
         ensures { result.now ≡ self.now }

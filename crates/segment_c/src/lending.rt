@@ -49,7 +49,7 @@ pub extern "C" fn zx_attach(
     let Some(mode) = mode_for(mode) else {
         return BAD_MODE;
     };
-    match open_over(alloc, region_over(memory), len, mode) {
+    match open_over(alloc, region_over(alloc, memory), len, mode) {
         Ok(segment) => put_new(h, segment, true),
         Err((code, region)) => {
             *memory = region.leak();
@@ -68,12 +68,12 @@ fn holds(memory: &LentMemory, len: u64) -> bool
 }
 
 /// Returns the region that memory is, of which nothing is left.
-fn region_over(memory: &mut LentMemory) -> RawRegion
+fn region_over(alloc: Global, memory: &mut LentMemory) -> RawRegion
     requires { IsCapacity (length memory.old.bytes.items) }
     ensures region { result ≡ memory.old.bytes.items }
     ensures remainder { memory.new.bytes.items ≡ [] }
 {
-    RawRegion::over(std::mem::replace(memory, LentMemory::none()))
+    RawRegion::over(alloc, std::mem::replace(memory, LentMemory::none()))
 }
 
 /// Returns the segment whose image stands at the front of the region, in a box.

@@ -3,22 +3,16 @@ use Rattle.image_check.proofs.Common.{AreCounted, IsTrue, List, None, Option, Ro
 use Rattle.image_check.proofs.Common.{arith, false, is_legal_size, is_none, is_some, length, refl, small_size, sym, ℕ}
 use Rattle.image_check.proofs.Common.{◌++◌, ◌+◌, ◌<◌, ◌^◌, ◌∙◌, ◌∷◌, ◌≡◌}
 use Rattle.image_check.specs.declared.counting.Counts.{Counts}
-use Rattle.image_check.specs.Counting.{last_used}
 use Rattle.image_check.proofs.frame.Formats.{few-free}
 use Rattle.image_check.proofs.free_tree.Meaning.{free-more, none-free}
 use Rattle.image_check.proofs.block_collection.Lookup.{count-free, count-most, count-push, count-used}
 use Rattle.image_check.proofs.walks.Tiles.{WalksAt, walk-few}
 
-last-push : (at : ℕ) (ts : List Tile) (here : Tile)
-    → last_used at (ts ++ here ∷ []) ≡ elim here.use_of [ None ↦ last_used at ts | Some role ↦ here.offset ]
-last-push at [] here = refl
-last-push at (t ∷ ts) here = last-push (elim t.use_of [ None ↦ at | Some role ↦ t.offset ]) ts here
-
 module _ (ts : List Tile) (old new : Counts) (here : Tile) (k : AreCounted ts old) where
   -- a free one
-  pub counted-free : here.use_of ≡ None → new.free ≡ old.free + 1 → new.used ≡ old.used → new.end ≡ old.end
+  pub counted-free : here.use_of ≡ None → new.free ≡ old.free + 1 → new.used ≡ old.used
       → AreCounted (ts ++ here ∷ []) new
-  counted-free e f u l =
+  counted-free e f u =
       let more = free-more ts here (ap is_none e) in
       let push = count-push ts here in
       let one = count-free here (ap is_some e) in
@@ -27,14 +21,12 @@ module _ (ts : List Tile) (old new : Counts) (here : Tile) (k : AreCounted ts ol
       record {
         free = omega arith;
         used = omega arith;
-        end = l ∙ k.end ∙ sym (last-push 0 ts here
-            ∙ ap (λ (o : Option Role). elim o [ None ↦ last_used 0 ts | Some role ↦ here.offset ]) e);
       }
 
   -- one in use
   pub counted-used : (role : Role) → here.use_of ≡ Some role → new.free ≡ old.free → new.used ≡ old.used + 1
-      → new.end ≡ here.offset → AreCounted (ts ++ here ∷ []) new
-  counted-used role e f u l =
+      → AreCounted (ts ++ here ∷ []) new
+  counted-used role e f u =
       let same = none-free ts here (ap is_none e) in
       let push = count-push ts here in
       let one = count-used here (ap is_some e) in
@@ -43,8 +35,6 @@ module _ (ts : List Tile) (old new : Counts) (here : Tile) (k : AreCounted ts ol
       record {
         free = omega arith;
         used = omega arith;
-        end = l ∙ sym (last-push 0 ts here
-            ∙ ap (λ (o : Option Role). elim o [ None ↦ last_used 0 ts | Some role ↦ here.offset ]) e);
       }
 
 -- so the counts stay small

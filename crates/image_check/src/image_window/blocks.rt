@@ -1,14 +1,14 @@
 //! The map of the blocks in use, in which each look-up is counted.
 ghost use Rattle.std.specs.Prelude.{◌≡◌, ◌+◌, ◌^◌, ◌++◌, ◌∷◌, ◌<◌, ◌≤◌, [], nat_eq, length, IfSome, IfNone, None, Some};
 ghost use Rattle.std.specs.Prelude.{slice_get};
-ghost use Rattle.std.specs.Map.{keys_of, set_value};
+ghost use Rattle.std.specs.Map.{set_value};
 ghost use Rattle.indexmap.specs.IndexMap.{IsEmpty, spare};
 ghost use Rattle.image_check.specs.Owners.{block_at};
 ghost use Rattle.image_check.specs.Rows.{AreBelow, IsRow};
 
 use crate::checking::VisitCounter;
 use crate::owners::Block;
-use crate::rows::{Row, near};
+use crate::rows::Row;
 use indexmap::IndexMap;
 use std::marker::Model;
 
@@ -16,11 +16,6 @@ use std::marker::Model;
 #[derive(Drop)]
 pub(crate) struct BlockTable {
     map: IndexMap<u32, Row>,
-    /// For each stretch of the image the number of the last block whose payload begins in it: where a look-up begins.
-    /// It may be any number, since what is found there is compared.
-    lasts: Vec<u32>,
-    /// A stretch is `1 << (shift % 64)` bytes.
-    shift: u32,
 }
 
 impl Model for BlockTable {
@@ -36,26 +31,13 @@ impl Model for BlockTable {
 }
 
 impl BlockTable {
-    /// Makes a table of no blocks over a map with its room, and `lasts` for stretches of 2 to the power of `shift`
-    /// bytes.
-    pub(crate) fn new(map: IndexMap<u32, Row>, lasts: Vec<u32>, shift: u32) -> BlockTable
+    /// Makes a table of no blocks over a map with its room.
+    pub(crate) fn new(map: IndexMap<u32, Row>) -> BlockTable
         requires { IsEmpty map }
         ensures entries { result.entries ≡ [] }
         ensures room { result.room ≡ spare map }
     {
-        BlockTable { map, lasts, shift }
-    }
-
-    /// Returns the place among `lasts` of the stretch in which `target` lies.
-    fn stretch(&self, target: u64) -> usize {
-        (target >> (self.shift % 64)) as usize
-    }
-
-    /// Returns the payloads, in order.
-    fn payloads(&self) -> &[u32]
-        ensures { result.now ≡ keys_of self.now.entries }
-    {
-        self.map.keys().as_slice()
+        BlockTable { map }
     }
 
     /// Returns the number of the block whose payload begins at `target`.
@@ -63,13 +45,6 @@ impl BlockTable {
         ensures search { IfSome result (IsRow self.now.entries target) }
         ensures absent { IfNone result (block_at self.now.entries target ≡ None) }
     {
-        let stretch = self.stretch(target);
-        if stretch < self.lasts.len() {
-            let last = self.lasts[stretch] as usize;
-            if let Some(number) = near(self.payloads(), last, target) {
-                return Some(number);
-            }
-        }
         match u32::try_from(target) {
             Ok(payload) => self.map.get_index_of(&payload),
             Err(_) => None,
@@ -188,10 +163,6 @@ impl BlockTable {
         ensures visits { visits.new ≡ visits.old + 1 }
     {
         visits.visit();
-        let stretch = self.stretch(target);
-        if stretch < self.lasts.len() {
-            self.lasts[stretch] = u32::try_from(self.map.len()).unwrap_or(0);
-        }
         // There is room, so that no memory is asked for.
         let _ = self.map.insert(target as u32, Row::new(block));
     }

@@ -17,16 +17,14 @@ use raw_region::Window;
 use segment_manager::layout::{FORMAT, FORMAT_AT};
 use segment_manager::unchecked::segment_of;
 use segment_manager::{Mode, Segment};
-use std::alloc::Global;
 
 impl ImageWindow {
     /// Returns the segment of the image of a directory by a format from 0 to 2, whose blocks these are. The bytes are
     /// those of the same directory by the current format: with the current version and, from format 0, with a free
     /// tree. Those of an image of the current format stay. One visit for each block; no tile is read, but from format
-    /// 0. Memory is asked for if the window came without room for notes.
+    /// 0.
     pub fn into_segment(
         self,
-        alloc: Global,
         format: u64,
         blocks: &BlockTable,
         mode: Mode,
@@ -40,7 +38,7 @@ impl ImageWindow {
         ensures mode { result.mode ≡ mode }
         ensures visits { visits.new ≡ visits.old + length blocks.now.entries }
     {
-        let mut heap = as_heap(alloc, format, self.window);
+        let mut heap = as_heap(format, self.window);
         set_version(format, &mut heap);
         note_blocks(blocks, &mut heap, visits);
         segment_of(heap, mode)
@@ -58,15 +56,13 @@ fn set_version(format: u64, heap: &mut Heap)
     }
 }
 
-/// Returns the heap of a window that is one by a format, without block hints, and with room for them. From format 0 the
-/// gaps get a tree; otherwise no byte changes.
-fn as_heap(alloc: Global, format: u64, window: Window) -> Heap
+/// Returns the heap of a window that is one by a format, without block hints. From format 0 the gaps get a tree;
+/// otherwise no byte changes.
+fn as_heap(format: u64, window: Window) -> Heap
     requires { IsHeap format window.bytes }
     ensures changes { RebuildsFreeTree current window result }
     ensures unchanged { 0 < format → result ≡ window }
 {
-    let mut window = window;
-    window.reserve_notes(alloc);
     if format == 0 {
         Heap::rebuild(window)
     } else {

@@ -25,6 +25,8 @@ use Rattle.std.proofs.{lemmas.Bool.leb-false, lemmas.Bool.and_parts, lemmas.List
 use Rattle.segment_manager.specs.objects.Located.{container_in, located, value_offset}
 use Rattle.std.specs.Prelude.{IfOk, OnOk}
 use Rattle.raw_region.proofs.Bytes.{HasBytesAt-patched}
+use Rattle.best_fit.specs.Heap.{KeepsGaps}
+use Rattle.best_fit.proofs.Laws.{gaps-payload}
 use Rattle.seg_vector.proofs.storage.TypedVectors.{all-both, flat-replaced}
 use Rattle.segment_manager.specs.containers.Ranges.{ChangesRange, WritesRange, numbers_if, range_at, range_in, replaced}
 use Rattle.segment_manager.specs.containers.Ranges.{with_range, written, written_if}
@@ -462,6 +464,15 @@ module _ {T : Type 0} {k : ScalarKind} {w : T → ℤ} {size : ℕ} {test : T �
       (o.handle + (value_offset o + size_of k * first)) (size_of k * length values)) view
       (subst (λ n. SameBytesExcept (bytes_of s.cut.bytes) (bytes_of new.bytes)
       (o.handle + (value_offset o + size_of k * first)) (size_of k * n)) (length-map values w) change.rest))
+
+  -- no byte of a gap changes
+  pub array-gaps : KeepsGaps t.cut new
+  array-gaps =
+      let room = array-room s b o (subst (λ (u : SegmentState). IsLocated u (ByHandle o.handle) o) (sym view) l) k first
+      wholes is fits at_is (each_is ∙ law.long) long-is in
+      subst (λ (u : SegmentState). KeepsGaps u.cut new) view
+      (gaps-payload s.cut new o.handle (at + each * first + size * length values) (o.handle + (at + each * first))
+      (size * length values) c room (omega arith) (omega arith))
 
 -- a vector of another kind
 pub vector-other : (s : SegmentState) (o : Located) → IsLocated s (ByHandle o.handle) o → (k : ScalarKind) (first : ℕ)

@@ -117,6 +117,12 @@ module _ {T : Type 0} {k : ScalarKind} {w : T → ℤ} {size : ℕ} {test : T �
     set-gaps i x r a = kept-gaps view r (a some.items some.table (vector b.0 some)) (λ u m. m.1.gaps refl)
         (λ e m. m.same)
 
+    -- writing over elements leaves the gaps
+    pub overwrite-gaps : {new : WindowState} (i : ℕ) (ys : List T) (r : Result (Unit {0}) Refusal)
+        → SetsAll size test sp s.cut new p i ys r → KeepsGaps t.cut new
+    overwrite-gaps i ys r a = kept-gaps view r (a some.items some.table (vector b.0 some)) (λ u m. m.1.gaps refl)
+        (λ e m. m.same)
+
     -- erasing an element leaves the gaps
     pub erase-gaps : {new : WindowState} (i : ℕ) (r : Result (Unit {0}) Refusal)
         → ErasesFrom size test sp s.cut new p i r → KeepsGaps t.cut new
@@ -138,6 +144,12 @@ module _ {T : Type 0} {k : ScalarKind} {w : T → ℤ} {size : ℕ} {test : T �
         → InsertsInto size test sp s.cut new p i x r → live_of new.bytes ≡ live_of t.cut.bytes → KeepsGaps t.cut new
     insert-gaps {new} i x r a e = kept-gaps view r (a some.items some.table (vector b.0 some))
         (λ u g. grown-gaps g.1 (same-live view new e)) (λ e m. elim m [ inl o ↦ o.same | inr o ↦ o.1.same ])
+
+    -- putting elements after the last in place leaves the gaps
+    pub extend-gaps : {new : WindowState} (ys : List T) (r : Result (Unit {0}) Refusal)
+        → ExtendsBy size test sp s.cut new p ys r → live_of new.bytes ≡ live_of t.cut.bytes → KeepsGaps t.cut new
+    extend-gaps {new} ys r a e = kept-gaps view r (a some.items some.table (vector b.0 some))
+        (λ u g. grown-gaps g (same-live view new e)) (λ e m. m.same)
 
     -- assigning elements in place leaves the gaps
     pub assign-gaps : {new : WindowState} (ys : List T) (r : Result (Unit {0}) Refusal)

@@ -1,10 +1,11 @@
 //! The elements of objects whose kind is not known before: of scalars, of vectors of scalars, and of strings.
 ghost use Rattle.std.specs.Prelude.{◌≡◌, Ok, OnErr, OnOk};
+ghost use Rattle.best_fit.specs.Heap.{KeepsGaps};
 ghost use Rattle.seg_types.specs.declared.kinds.Kind.TheVariants.{Vector as VectorOf};
 ghost use Rattle.seg_types.specs.Commands.{Get, Push, Set, literal_of};
 ghost use Rattle.seg_types.specs.Values.{kind_of_scalar, value_of_scalar};
 ghost use Rattle.segment_manager.specs.Calls.{elements_at, scalar_reply};
-ghost use Rattle.segment_manager.specs.Keeping.{ChangesElement};
+ghost use Rattle.segment_manager.specs.Keeping.{ChangesElement, KeepsUnused};
 ghost use Rattle.segment_manager.specs.State.{AnswersWith, AnswersQueryOfKind, TakesStep, TakesStepOfKind, done_answer};
 ghost use Rattle.segment_manager.specs.State.{scalar_answer};
 
@@ -72,6 +73,7 @@ impl Segment {
             (Set (O.key key.now) index (literal_of (kind_of_scalar value) (value_of_scalar value)))
             (done_answer result) }
         ensures refused { OnErr result (self.new ≡ self.old) }
+        ensures gaps { KeepsGaps self.old.cut self.new.cut }
     {
         by_value!(value, number => self.vec_set(key, index, number))
     }
@@ -90,6 +92,7 @@ impl Segment {
             (Push (O.key key.now) (literal_of (kind_of_scalar value) (value_of_scalar value)))
             (done_answer result) }
         ensures refused { OnErr result (self.new ≡ self.old) }
+        ensures gaps { KeepsUnused self.old self.new }
     {
         by_value!(value, number => self.vec_push(key, number))
     }

@@ -1,9 +1,11 @@
 //! Elements of arrays and vectors of scalars, several written or put in by one call.
 ghost use Rattle.std.specs.Prelude.{◌≡◌, ◌+◌, OnErr, OnOk, false, length, map, nat_le};
+ghost use Rattle.best_fit.specs.Heap.{KeepsGaps};
 ghost use Rattle.seg_types.specs.declared.kinds.Kind.TheVariants.{Vector as VectorOf};
 ghost use Rattle.seg_types.specs.{declared.kinds.ScalarKind.ScalarKind as AnyScalarKind, Names.ByHandle};
 ghost use Rattle.segment_manager.specs.{Step.is_read_only, objects.Located.IsLocated, State.done_answer};
-ghost use Rattle.segment_manager.specs.containers.Ranges.{ChangesRange, ExtendsVector, WritesRange};
+ghost use Rattle.segment_manager.specs.{Keeping.KeepsUnused, containers.Ranges.ChangesRange};
+ghost use Rattle.segment_manager.specs.containers.Ranges.{ExtendsVector, WritesRange};
 
 use crate::objects::object_ref::{Object, ObjectRef, locate};
 use crate::segment::Segment;
@@ -33,6 +35,7 @@ impl Segment {
         ensures refused { OnErr result (self.new ≡ self.old) }
         ensures noop { length values.now ≡ 0 → self.new ≡ self.old }
         ensures frame { OnOk result (ChangesRange self.old self.new (O.key key.now) T.kind first (length values.now)) }
+        ensures gaps { KeepsGaps self.old.cut self.new.cut }
     {
         if self.is_read_only() {
             return Err(Refusal::ReadOnly);
@@ -58,6 +61,7 @@ impl Segment {
             (done_answer result) }
         ensures refused { OnErr result (self.new ≡ self.old) }
         ensures noop { length values.now ≡ 0 → self.new ≡ self.old }
+        ensures gaps { KeepsGaps self.old.cut self.new.cut }
     {
         let place = object.container(Kind::Vector(T::kind()))?;
         SegVec::<T>::at(place).overwrite(&mut self.heap, first, values)
@@ -79,6 +83,7 @@ impl Segment {
         ensures noop { length values.now ≡ 0 → self.new ≡ self.old }
         ensures frame { OnOk result (ChangesRange self.old self.new (ByHandle object.now.handle) T.kind first
             (length values.now)) }
+        ensures gaps { KeepsGaps self.old.cut self.new.cut }
     {
         let kind = Kind::Scalar(T::kind());
         if kind.code() != object.kind.code() {
@@ -113,6 +118,7 @@ impl Segment {
         ensures step { ExtendsVector self.old self.new (O.key key.now) T.kind (map T.whole values.now)
             (done_answer result) }
         ensures refused { OnErr result (self.new ≡ self.old) }
+        ensures gaps { KeepsUnused self.old self.new }
     {
         if self.is_read_only() {
             return Err(Refusal::ReadOnly);

@@ -2,7 +2,8 @@
 use Rattle.segment_manager.proofs.segment.Segment.vec_extend.Goals as goal
 use Rattle.segment_manager.proofs.Common.{exit-is, sym, ◌∙◌, subst, map, AnswersWith, Err, Vector, container_at}
 use Rattle.segment_manager.proofs.containers.ScalarTypes.{of-vector}
-use Rattle.segment_manager.proofs.containers.VectorAnswers.{some-vector, vector-extended}
+use Rattle.best_fit.proofs.Laws.{gaps-refl}
+use Rattle.segment_manager.proofs.containers.VectorAnswers.{extend-gaps, some-vector, vector-extended}
 use Rattle.segment_manager.proofs.containers.Extending.{extended-missing, extended-reading, extended-stays}
 
 pub returns-then-is_read_only-clause-step : goal.returns-then-is_read_only-clause-step
@@ -10,6 +11,12 @@ returns-then-is_read_only-clause-step g c = extended-stays c.args.self.now (g.O.
     g.T.Scalar.kind (map g.T.Scalar.whole c.args.values.now) _ (λ d st. extended-reading c.args.self.now.mode d
     (g.O.ObjectRef.key c.args.key.now) g.T.Scalar.kind (map g.T.Scalar.whole c.args.values.now)
     (sym c.is_read_only.ensures ∙ c.if-is_read_only.true))
+
+pub returns-then-is_read_only-clause-gaps : goal.returns-then-is_read_only-clause-gaps
+returns-then-is_read_only-clause-gaps g c = λ e. gaps-refl _
+
+pub returns-in_err-place-clause-gaps : goal.returns-in_err-place-clause-gaps
+returns-in_err-place-clause-gaps g c = λ e. gaps-refl _
 
 pub returns-in_err-place-clause-step : goal.returns-in_err-place-clause-step
 returns-in_err-place-clause-step g c = rw (exit-is c.from_residual.result _ c.from_residual.ensures.1)
@@ -34,4 +41,9 @@ pub returns : goal.returns
 returns g c =
     let d = vector-extended (of-vector g.met.T.Scalar) c.self.view_is _ c.kind.ensures c.at.ensures c.self.invariant
     c.in_ok-place.ensures _ (sym c.is_read_only.ensures ∙ c.if-is_read_only.false) _ _ c.extend.ensures in
-    record { step = d.step; refused = d.refused }
+    record {
+      step = d.step;
+      refused = d.refused;
+      gaps = extend-gaps (of-vector g.met.T.Scalar) c.self.view_is _ c.kind.ensures c.at.ensures c.self.invariant
+          c.in_ok-place.ensures _ _ c.extend.ensures;
+    }

@@ -3,7 +3,9 @@ use Rattle.segment_manager.proofs.segment.Segment.write_in_array.Goals as goal
 use Rattle.segment_manager.proofs.Common.{sym, ◌∙◌, ◌*◌, length, length-map, map, subst, ByHandle, IsLocated}
 use Rattle.segment_manager.proofs.Common.{SegmentState, current, eqb-true}
 use Rattle.segment_manager.proofs.{directory.HeapCalls.denotes-heap, containers.ScalarTypes.of-vector}
-use Rattle.segment_manager.proofs.containers.RangeCalls.{array-empty, array-framed, array-kind, array-other, array-room}
+use Rattle.segment_manager.proofs.containers.RangeCalls.{array-empty, array-framed, array-gaps, array-kind, array-other}
+use Rattle.segment_manager.proofs.containers.RangeCalls.{array-room}
+use Rattle.best_fit.proofs.Laws.{gaps-refl}
 use Rattle.segment_manager.proofs.containers.RangeCalls.{array-short, array-spelled, array-unlike, row-test}
 
 pub returns-then-code-clause-step : goal.returns-then-code-clause-step
@@ -58,6 +60,22 @@ returns-clause-step g c = (array-spelled (of-vector g.met.T.Scalar) _ _ c.self.v
 
 pub returns-clause-frame : goal.returns-clause-frame
 returns-clause-frame g c = array-framed (of-vector g.met.T.Scalar) _ _ c.self.view_is c.self.invariant
+    c.args.object.now c.requires.object c.args.first c.args.values.now
+    (array-kind c.args.object.now c.kind.ensures c.code.ensures c.code-2.ensures c.if-code.false) c.requires.writing
+    (row-test g.T.Scalar.whole c.args.values.now c.args.first c.from.ensures c.has_range.ensures
+    c.if-not-has_range.false) c.value_at.ensures c.SIZE.ensures c.spell.ensures.values _ c.spell.ensures.changes
+
+pub returns-then-code-clause-gaps : goal.returns-then-code-clause-gaps
+returns-then-code-clause-gaps g c = gaps-refl _
+
+pub returns-then-not-has_range-clause-gaps : goal.returns-then-not-has_range-clause-gaps
+returns-then-not-has_range-clause-gaps g c = gaps-refl _
+
+pub returns-then-is_empty-clause-gaps : goal.returns-then-is_empty-clause-gaps
+returns-then-is_empty-clause-gaps g c = gaps-refl _
+
+pub returns-clause-gaps : goal.returns-clause-gaps
+returns-clause-gaps g c = array-gaps (of-vector g.met.T.Scalar) _ _ c.self.view_is c.self.invariant
     c.args.object.now c.requires.object c.args.first c.args.values.now
     (array-kind c.args.object.now c.kind.ensures c.code.ensures c.code-2.ensures c.if-code.false) c.requires.writing
     (row-test g.T.Scalar.whole c.args.values.now c.args.first c.from.ensures c.has_range.ensures

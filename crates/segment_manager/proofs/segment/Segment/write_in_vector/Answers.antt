@@ -2,7 +2,8 @@
 use Rattle.segment_manager.proofs.segment.Segment.write_in_vector.Goals as goal
 use Rattle.segment_manager.proofs.Common.{exit-is, ◌∙◌, map, ByHandle, Vector}
 use Rattle.segment_manager.proofs.{containers.ScalarTypes.of-vector, containers.Safely.contains}
-use Rattle.segment_manager.proofs.containers.VectorAnswers.{some-vector, vector-overwritten}
+use Rattle.segment_manager.proofs.containers.VectorAnswers.{overwrite-gaps, some-vector, vector-overwritten}
+use Rattle.best_fit.proofs.Laws.{gaps-refl}
 use Rattle.segment_manager.proofs.containers.RangeCalls.{vector-other}
 
 pub returns-in_err-place-clause-step : goal.returns-in_err-place-clause-step
@@ -10,6 +11,9 @@ returns-in_err-place-clause-step g c = rw (exit-is c.from_residual.result _ c.fr
     (vector-other c.args.self.now c.args.object.now c.requires.object g.T.Scalar.kind c.args.first
     (map g.T.Scalar.whole c.args.values.now) c.kind.ensures _ c.requires.vector.1 c.requires.writing
     c.in_err-place.ensures)
+
+pub returns-in_err-place-clause-gaps : goal.returns-in_err-place-clause-gaps
+returns-in_err-place-clause-gaps g c = gaps-refl _
 
 pub overwrite-requires : goal.overwrite-requires
 overwrite-requires g c = some-vector (of-vector g.met.T.Scalar) c.self.view_is (ByHandle c.args.object.now.handle)
@@ -31,4 +35,7 @@ returns g c =
       step = d.step;
       refused = d.refused;
       noop = λ e. (λ i. record { cut = c.overwrite.ensures.noop e i; mode = c.self.inside.mode }) ∙ c.self.view_is;
+      gaps = overwrite-gaps (of-vector g.met.T.Scalar) c.self.view_is (ByHandle c.args.object.now.handle)
+          c.kind.ensures c.at.ensures c.self.invariant (contains (ByHandle c.args.object.now.handle)
+          (Vector c.kind.result) c.requires.object.at c.in_ok-place.ensures) _ _ _ c.overwrite.ensures.sets;
     }

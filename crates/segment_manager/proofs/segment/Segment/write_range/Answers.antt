@@ -1,6 +1,7 @@
 -- The kind of the object says which call it is, and what is written under its handle is written under the key.
 use Rattle.segment_manager.proofs.segment.Segment.write_range.Goals as goal
 use Rattle.segment_manager.proofs.Common.{exit-is, sym, ◌∙◌, length, map, done_answer}
+use Rattle.best_fit.proofs.Laws.{gaps-refl}
 use Rattle.segment_manager.proofs.objects.Locating.{located-here}
 use Rattle.segment_manager.proofs.containers.RangeCalls.{but-by_key, on_ok, on_ok-map, range-by_key, range-reading}
 use Rattle.segment_manager.proofs.containers.RangeCalls.{range-stays, vector-but, why-missing}
@@ -17,6 +18,12 @@ returns-in_err-object-clause-step g c = rw (exit-is c.from_residual.result _ c.f
     (why-missing c.args.self.now (g.O.ObjectRef.key c.args.key.now) g.T.Scalar.kind c.args.first
     (map g.T.Scalar.whole c.args.values.now) (sym c.is_read_only.ensures ∙ c.if-is_read_only.false)
     c.in_err-object.ensures)
+
+pub returns-then-is_read_only-clause-gaps : goal.returns-then-is_read_only-clause-gaps
+returns-then-is_read_only-clause-gaps g c = gaps-refl _
+
+pub returns-in_err-object-clause-gaps : goal.returns-in_err-object-clause-gaps
+returns-in_err-object-clause-gaps g c = gaps-refl _
 
 pub write_in_vector-requires : goal.write_in_vector-requires
 write_in_vector-requires g c = record {

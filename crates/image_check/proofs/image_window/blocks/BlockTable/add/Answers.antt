@@ -3,27 +3,18 @@ use Rattle.indexmap.specs.IndexMap.{spare}
 use Rattle.indexmap.proofs.CallerLemmas.{insert_entry-new}
 use Rattle.image_check.specs.Rows.{AreSortedBlocks}
 use Rattle.image_check.proofs.block_collection.ByNumber.{below-new, ok-then, order-push}
-use Rattle.image_check.proofs.image_window.blocks.BlockTable.add.Goals.{else-stretch-len, then-stretch-len}
 use Rattle.image_check.proofs.image_window.blocks.BlockTable.add.Goals as goal
 
 -- the entries with the block after them
 added : (c : goal.After-insert)
     → c.insert.new.self.entries ≡ c.self.inside.map.entries ++ (c.args.target, c.args.block) ∷ []
 added c =
-    let old = c.self.inside.map in
-    let map = c.if-stretch-len.self-inside.map in
-    let same : map ≡ old = elim c.if-stretch-len.branch [
-      | then-stretch-len w ↦ ap (λ b. b.map) w.self-inside-is
-      | else-stretch-len w ↦ ap (λ b. b.map) w.self-inside-is
-    ] in
-    let room : 0 < spare map = subst (λ m.
-    0 < spare m) (sym same) (subst (λ (v : BlockMap). 0 < v.room) (sym c.self.view_is) c.requires.room) in
+    let map = c.self.inside.map in
+    let room : 0 < spare map = subst (λ (v : BlockMap). 0 < v.room) (sym c.self.view_is) c.requires.room in
     let below = subst (λ (v : BlockMap). AreBelow v.entries c.args.target) (sym c.self.view_is) c.requires.order in
-    let new = subst (λ m. AreBelow m.entries c.args.target) (sym same) below in
     ok-then c.insert.result _ (c.insert.ensures.succeeds room) c.insert.ensures.entries
-    ∙ insert_entry-new nat_eq map c.args.target c.new.result (below-new map.entries c.args.target new)
+    ∙ insert_entry-new nat_eq map c.args.target c.new.result (below-new map.entries c.args.target below)
     ∙ ap (λ (b : Block). map.entries ++ (c.args.target, b) ∷ []) c.new.ensures
-    ∙ ap (λ m. m.entries ++ (c.args.target, c.args.block) ∷ []) same
 
 pub invariant_of-self : goal.invariant_of-self
 invariant_of-self c =

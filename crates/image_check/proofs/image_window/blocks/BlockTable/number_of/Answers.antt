@@ -1,13 +1,8 @@
-use Rattle.image_check.proofs.Common.{BlockMap, IsRow, ap, arith, block_at, nat_eq, slice_get, subst, sym, ◌^◌, ◌∙◌}
+use Rattle.image_check.proofs.Common.{BlockMap, IsRow, ap, arith, block_at, nat_eq, subst, sym, ◌^◌, ◌∙◌}
 use Rattle.std.specs.Prelude.{IfSome, position}
 use Rattle.std.specs.Map.{keys_of}
-use Rattle.image_check.proofs.block_collection.ByNumber.{bound-absent, key-row, position-row}
+use Rattle.image_check.proofs.block_collection.ByNumber.{bound-absent, position-row}
 use Rattle.image_check.proofs.image_window.blocks.BlockTable.number_of.Goals as goal
-
-pub returns-in-Some-clause-search : goal.returns-in-Some-clause-search
-returns-in-Some-clause-search c =
-    key-row c.args.self.now.entries c.args.target c.in-Some.number
-    (ap (λ ks. slice_get ks c.in-Some.number) (sym c.payloads.ensures) ∙ c.in-Some.ensures)
 
 pub returns-in-Ok-clause-search : goal.returns-in-Ok-clause-search
 returns-in-Ok-clause-search c =

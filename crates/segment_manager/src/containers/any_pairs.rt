@@ -2,7 +2,8 @@
 ghost use Rattle.std.specs.Prelude.{◌≡◌, OnErr, option_map};
 ghost use Rattle.seg_types.specs.{declared.kinds.Kind.TheVariants.Map as MapOf, Commands.Lookup, Commands.Put};
 ghost use Rattle.seg_types.specs.{Commands.Remove, Commands.literal_of, Values.kind_of_scalar, Values.value_of_scalar};
-ghost use Rattle.segment_manager.specs.{Keeping.UnchangedWhere, Keeping.LacksPair, containers.Maps.any_value_answer};
+ghost use Rattle.segment_manager.specs.Keeping.{ChangesValue, LacksPair, UnchangedWhere};
+ghost use Rattle.segment_manager.specs.containers.Maps.{any_value_answer};
 ghost use Rattle.segment_manager.specs.State.{AnswersQueryOfKind, TakesStepOfKind, truth_answer};
 
 use crate::objects::object_ref::ObjectRef;
@@ -73,6 +74,8 @@ impl Segment {
             (Put (O.key key.now) (literal_of (kind_of_scalar at) (value_of_scalar at))
             (literal_of (kind_of_scalar value) (value_of_scalar value))) (truth_answer result) }
         ensures refused { OnErr result (self.new ≡ self.old) }
+        ensures overwrite { ChangesValue self.old self.new (O.key key.now) (kind_of_scalar at) (value_of_scalar at)
+            (kind_of_scalar value) }
     {
         by_value!(at, at => self.put_by_key(key, at, value))
     }
@@ -90,6 +93,8 @@ impl Segment {
             (Put (O.key key.now) (literal_of K.kind (K.whole at))
             (literal_of (kind_of_scalar value) (value_of_scalar value))) (truth_answer result) }
         ensures refused { OnErr result (self.new ≡ self.old) }
+        ensures overwrite { ChangesValue self.old self.new (O.key key.now) K.kind (K.whole at)
+            (kind_of_scalar value) }
     {
         by_value!(value, value => self.map_put(key, at, value))
     }

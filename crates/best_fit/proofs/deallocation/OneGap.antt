@@ -290,7 +290,7 @@ module _ (old : WindowState) (says : SaysHeap old (tiles_in old)) (at : ℕ) (fr
       pub behind2 : (ts : List Tile) → EncodesTiles two ts → gap_offset (next_in ts at) ≡ gap_offset (first_in back0)
       behind2 ts said =
           ap (λ (us : List Tile). gap_offset (next_in us at))
-              (one_list two ts (front0 ++ (unused_tile ∷ back0)) said said2)
+          (one_list two ts (front0 ++ (unused_tile ∷ back0)) said said2)
           ∙ ap gap_offset (next_in-around at unused_tile back0 o front0 away0)
 
       module _ (three : WindowState) (join : (ts : List Tile) → EncodesTiles two ts

@@ -35,4 +35,4 @@ pub returns-in_default-clause-tags : goal.returns-in_default-clause-tags
 returns-in_default-clause-tags c ts said =
     let w = c.args.touches.now.gaps.now.window in
     subst (EncodesTiles w)
-        (sym (not_joined (previous_in ts c.args.at) ts (c.requires.gap ts said ∙ c.in_default.is))) said
+    (sym (not_joined (previous_in ts c.args.at) ts (c.requires.gap ts said ∙ c.in_default.is))) said

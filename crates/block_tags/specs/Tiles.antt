@@ -6,7 +6,7 @@ use Rattle.block_tags.specs.declared.tile.Role.{Role}
 use Rattle.block_tags.specs.declared.tile.Tile.{Tile}
 use Rattle.block_tags.specs.declared.tile.Role.TheVariants.{Object, Index, Storage, Node}
 
--- the lowest four bits of a tile's second word
+-- the role of a block in its tag: bits 2 and 3; bit 0 says that it is in use, bit 1 that it is red
 abbrev pub role_bits : Role → ℕ
 role_bits Object = 0
 role_bits Index = 4

@@ -30,7 +30,7 @@ has_early_class format b = list_any (λ c. nat_lt (number_of c) 8 && holds forma
 
 -- ---- of what the reader gave
 
--- the reader was not asked
+-- the reader gave nothing and did not fail
 pub record IsUntouched (image : ReadDelta) : Type 0 where
   pub bytes : image.bytes ≡ []
   pub failed : image.failed ≡ false

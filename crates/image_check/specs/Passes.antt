@@ -20,7 +20,7 @@ tiles_in b = tiles_of (bytes_of b) (length b)
 abbrev pub has_block : List ℕ → Bool
 has_block b = list_any (λ (t : Tile). is_some t.use_of) (tiles_in b)
 
--- how many are
+-- how many blocks in use an image has
 abbrev pub blocks_in : List ℕ → ℕ
 blocks_in b = length (filter_map (λ (t : Tile). t.use_of) (tiles_in b))
 
@@ -45,7 +45,7 @@ CountsTiles b old new = old + length (tiles_in b) ≤ new
 abbrev pub CountsBlocks : List ℕ → ℕ → ℕ → Type 0
 CountsBlocks b old new = old + length (tiles_in b) + blocks_in b ≤ new
 
--- memory was refused for the blocks of an image, and not for something else
+-- the refusal names as many blocks as the image has
 abbrev pub IsRefusalFor : List ℕ → NoBlockMemory → Type 0
 IsRefusalFor b refusal = refusal.blocks ≡ blocks_in b
 

@@ -6,7 +6,7 @@ use Rattle.raw_region.specs.Memory.{Memory, word_at, word_bytes}
 abbrev pub target_of : ℕ → ℕ → Option ℕ
 target_of at w = if w == 1 then None else Some ((at + w) % 2 ^ 64)
 
--- where the word at an offset leads: nowhere if it is 1, otherwise to offset + word mod 2^64
+-- where the word at an offset leads: nowhere if it is 1, otherwise to (offset + word) mod 2^64
 abbrev pub link_at : Memory → ℕ → Option ℕ
 link_at m at = target_of at (word_at m at)
 

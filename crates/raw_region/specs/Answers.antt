@@ -2,7 +2,7 @@
 use Rattle.std.specs.Prelude.{◌≡◌, ◌<◌, ℕ, Bool, false, List, ◌++◌, length, take, nat_lt, ◌==◌, ◌&&◌, if◌then◌else◌}
 use Rattle.std.specs.Prelude.{Result, Ok, Err}
 
--- a read of a slice that is not empty answered the end
+-- the answer says 0 bytes; of a slice that is not empty that is the end
 abbrev pub answers_end : {E : Type 0} → Result ℕ E → Bool
 answers_end (Ok n) = n == 0
 answers_end (Err e) = false

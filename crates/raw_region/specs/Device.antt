@@ -19,7 +19,8 @@ pub record WriterHistory : Type 0 where
 
 -- ---- what it did in a call
 
--- of a reader: the bytes that it gave, whether its last read answered the end, and whether it failed
+-- of a reader: the bytes that it gave in a call, whether its last read so far answered the end, and whether a read
+-- failed
 pub record ReadDelta : Type 0 where
   pub bytes : List ℕ
   pub ended : Bool
@@ -55,7 +56,7 @@ pub record ReadsSource (old new : ReaderHistory) (failed : ℕ) : Type 0 where
   pub grows : AppendsBytes old.bytes new.bytes
   pub counted : new.failures ≡ old.failures + failed
 
--- A call asks a reader no more after its end: at most one of its reads answered it.
+-- at most one read of the call answered the end
 abbrev pub EndsAtMostOnce : ReaderHistory → ReaderHistory → Type 0
 EndsAtMostOnce old new = new.ends ≤ old.ends + 1
 

@@ -4,7 +4,7 @@ use Rattle.std.specs.Prelude.{ℕ, ◌+◌, ◌/◌, ◌%◌, Bool, List, nat_lt
 use Rattle.std.specs.{Cmp.Lexicographic.slice_cmp, Ordering.nat_cmp, Ordering.is_lt}
 use Rattle.raw_region.specs.Memory.{Memory, read, word_at}
 
--- the code of the kind, and the count, are the halves of the first word
+-- the code of the kind in the head of an object
 abbrev pub code_at : Memory → ℕ → ℕ
 code_at m h = word_at m h % 4294967296
 
@@ -12,7 +12,7 @@ code_at m h = word_at m h % 4294967296
 abbrev pub count_at : Memory → ℕ → ℕ
 count_at m h = word_at m h / 4294967296
 
--- the length of the name, and the code of the class, are those of the second
+-- the length of the name in the head of an object
 abbrev pub name_len_at : Memory → ℕ → ℕ
 name_len_at m h = word_at m (h + 8) % 4294967296
 
@@ -24,7 +24,7 @@ class_at m h = word_at m (h + 8) / 4294967296
 abbrev pub name_at : Memory → ℕ → List ℕ
 name_at m h = read m (h + 16) (name_len_at m h)
 
--- the orders of the two indexes: by the bytes of the names, and by the codes of the kinds
+-- names in the order of their bytes
 abbrev pub name_before : Memory → ℕ → ℕ → Bool
 name_before m g h = is_lt (slice_cmp nat_cmp (name_at m g) (name_at m h))
 

@@ -33,7 +33,7 @@ pub record SessionIo : Type 0 where
 
 -- ---- where a session begins
 
--- if a segment is made fresh, the image's reader is not asked
+-- if a segment is made fresh, the image's reader gave nothing and did not fail
 abbrev pub IsImageLeft : Start → ReadDelta → Type 0
 IsImageLeft (Fresh size) image = IsUntouched image
 IsImageLeft Image image = ⊤
@@ -170,7 +170,8 @@ pub record IsScriptTooLong (start : Start) (mode : Mode) (t : SessionIo) : Type 
   pub cut : AnswersEndedLines start mode t
   pub failed : failures t ≡ none_failed
 
--- the session ended before the script was asked for; the image's reader may have failed after what decides the answer
+-- the session ended before a byte of the script was read; the image's reader may have failed after what decides the
+-- answer
 pub record IsRefusedBefore (t : SessionIo) (cause : Type 0) : Type 0 where
   pub why : cause
   pub silent : IsSilent t

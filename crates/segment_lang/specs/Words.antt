@@ -50,8 +50,8 @@ text_word rest = option_map (λ (bs, ws). Text bs ∷ ws) rest
 abbrev pub ended : Option (List Word) → WordRest
 ended ws = option_map (λ ws. ([], ws)) ws
 
--- The words of a line, or nothing if a byte does not fit. The three functions stand between words, inside a bare
--- word, and inside a text.
+-- The words of a line, or nothing if a byte does not fit. The functions stand between words, inside a bare word,
+-- inside a text, after it, and inside an escape.
 abbrev mutual
   pub words : List ℕ → Option (List Word)
   words [] = Some []
@@ -108,7 +108,7 @@ negative_of w =
     if is_numeral w && nat_lt 0 (number_after 0 w) && nat_le (number_after 0 w) 9223372036854775808
     then Some (negsuc (number_after 0 w - 1)) else None
 
--- a number, or `-` and a number that is not 0
+-- a number, or `-` and a number that is not 0, at least -2^63
 abbrev pub whole_of : List ℕ → Option ℤ
 whole_of [] = None
 whole_of (c ∷ cs) = if c == 0x2D then negative_of cs else option_map pos (number_of (c ∷ cs))

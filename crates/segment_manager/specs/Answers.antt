@@ -28,9 +28,9 @@ abbrev pub refusal_of : Answer → Option Refusal
 refusal_of (Refused r) = Some r
 refusal_of answer = None
 
--- A command was refused before it asked for a block, and changed nothing. If a block has no fit, one that was taken
--- before it is given back, and its tag may be left in the gap. Of a call that takes the items of an iterator
--- `KeepsUnasked` says it: if too few items come it is refused as out of range, and has asked for its blocks.
+-- A command was refused before it asked for a block, and changed no byte. After `NoSpace` a block that was taken first
+-- is given back, and its tag may be left in the gap. (`ConstructIt` with too few items also asks first; no script
+-- reaches that.)
 abbrev pub is_untouched : Answer → Bool
 is_untouched (Refused NoSpace) = false
 is_untouched (Refused r) = true

@@ -49,7 +49,7 @@ kind_of (Bytes bs t) = String
 kind_of (Pairs k v ps) = Map k v
 kind_of (Texts ps t) = StringsKind
 
--- how many elements, bytes or pairs a value has
+-- the count in an object's head: how many numbers an array has, and 1 for any other value
 abbrev pub count_of : Value → ℕ
 count_of (Numbers k zs) = length zs
 count_of (Elements k zs t) = 1
@@ -94,7 +94,7 @@ abbrev pub sorted : List Extent → List Extent
 sorted [] = []
 sorted (x ∷ xs) = insert x (sorted xs)
 
--- all of them, by offset
+-- the blocks of a directory, objects and indexes, by offset
 unfoldable pub live : Directory → LiveSet
 live d = record {
   size = d.size;
@@ -147,10 +147,11 @@ with_changed d o = record d { objects = replace_object o d.objects }
 abbrev pub without_object : Directory → Object → Directory
 without_object d o = record d { objects = remove_object (handle o.extent) d.objects }
 
--- the objects of an index in its order: by the bytes of their names, by the codes of their kinds
+-- objects in the order of the bytes of their names
 abbrev pub by_name : Object → Object → Bool
 by_name o p = is_lt (slice_cmp nat_cmp o.name p.name)
 
+-- objects in the order of the codes of their kinds
 abbrev pub by_kind : Object → Object → Bool
 by_kind o p = nat_lt (code_of (kind_of o.value)) (code_of (kind_of p.value))
 
@@ -193,13 +194,13 @@ is_good_value (Texts ps t) = is_vector 16 is_owned_text ps t
 abbrev pub has_good_name : ℕ → Object → Bool
 has_good_name format o = if is_class Named o then is_name format o.name else length o.name == 0
 
--- the kinds and names are those of the format
+-- an object has a name and a kind of the format, a value in its range, and a block of its own
 abbrev pub is_object : ℕ → Object → Bool
 is_object format o =
     has_good_name format o && is_kind_of format (kind_of o.value) && is_good_value o.value
     && serves o.extent ObjectRole (object_len o.name o.value)
 
--- a full index has as many objects as it has places
+-- an index has the block that its places need, no more objects than places, and rising keys
 abbrev pub is_index : BackingArray → List Object → (Object → Object → Bool) → Bool
 is_index t os lt = has_backing Index 8 t && nat_le (length os) t.capacity && rises lt os
 

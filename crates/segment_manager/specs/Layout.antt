@@ -16,11 +16,11 @@ format_at = 8
 abbrev pub size_at : ℕ
 size_at = 16
 
--- the index of names
+-- the offset of the words of the index of names in the header
 abbrev pub named_at : ℕ
 named_at = 32
 
--- the index of kinds
+-- the offset of the words of the index of kinds in the header
 abbrev pub unique_at : ℕ
 unique_at = 56
 

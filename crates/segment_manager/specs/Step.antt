@@ -110,7 +110,8 @@ texts_of (l ∷ ls) = Err WrongKind
 abbrev pub owned_text_at : List OwnedText → ℕ → Result OwnedText Refusal
 owned_text_at ps i = elim (slice_get ps i) [ None ↦ Err OutOfRange | Some p ↦ Ok p ]
 
--- what is assigned to a vector or text: as many places as are needed, if there are fewer
+-- what is assigned to a vector or string: the capacity grows to the length if it is less; a vector of texts always gets
+-- a new array, of exactly the length, unless nothing is assigned
 abbrev pub assign : Directory → Object → Value → List Literal → Plan
 assign d o (Elements k zs t) ls =
     with (values_of k ls) (λ new. with_capacity (size_of k) (length new) t

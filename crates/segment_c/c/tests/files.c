@@ -1402,7 +1402,7 @@ int main(int count, char **words) {
     saved_by_another_name();
     a_name_that_is_gone();
     a_file_that_stays_too_long();
-    a_folder_in_the_way();
+    if (count < 3) a_folder_in_the_way();
     no_room_for_the_mark();
     behind_the_look_of_a_reader();
     a_file_put_there_meanwhile();

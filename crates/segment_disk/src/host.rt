@@ -4,7 +4,9 @@ ghost use Rattle.segment_disk.specs.Events.{nothing_taken};
 
 use crate::disk::{Disk, OpenedFile};
 use crate::file_problems::{creation_problem, problem_of};
-use crate::locks::{FileLock, Identity, PAUSE, lock, lock_made, open_to_write, sync_file};
+use crate::locks::{
+    FileLock, Identity, PAUSE, are_different, lock, lock_made, open_to_write, sync_file,
+};
 use crate::presence::{AlreadyLocked, FileProblem, Presence, SaveMode};
 use crate::replacement_file::ReplacementFile;
 use crate::sparse::{SparseFile, longest_file};
@@ -129,10 +131,7 @@ impl<'a, R: Files<File = File> + AllocGlobal + Clock> HostDisk<'a, R> {
 
     /// Tells whether another file has taken the name of the one that is locked, or one has come where nothing was.
     fn is_taken(&self, path: &str, hold: &HostLock) -> bool {
-        match (hold.lock.identity(), Identity::at(self.files, path)) {
-            (Some(held), Ok(named)) => held != named,
-            _ => false,
-        }
+        are_different(hold.lock.identity(), Identity::at(self.files, path).ok())
     }
 }
 

@@ -69,13 +69,19 @@ worse = ord_max nat_cmp
 abbrev pub worst_status : List Checked → ℕ
 worst_status = fold (λ worst c. worse worst (status_in c.found)) 0
 
+-- a file was checked, and what is told of it is what its disk says right after that
+pub record ChecksOneFile {D : Type 0} (step : D → Event → D → Type 0) (tells : D → Option FileProblem
+    → Type 0) (old : D) (c : Checked) (new : D) : Type 0 where
+  pub asked : VerifiesFile step old new c.path c.found
+  pub told : tells new c.trouble
+
 -- The files of these paths were checked one after another. If the output took what was to be said, these are all of
 -- them, and the answer is the worst status; else they are the first ones, and the answer is that the output failed.
-pub record ChecksAll {D O : Type 0} (step : D → Event → D → Type 0) (disk disk' : D) (history : O
-    → WriterHistory) (flushes : O → Bool → O → Type 0) (out out' : O) (err err' : WriterHistory)
-    (quiet : Bool) (paths : List (List ℕ)) (result : Result ℕ CommandFault) : Type 0 where
+pub record ChecksAll {D O : Type 0} (step : D → Event → D → Type 0) (tells : D → Option FileProblem
+    → Type 0) (disk disk' : D) (history : O → WriterHistory) (flushes : O → Bool → O → Type 0) (out out' : O)
+    (err err' : WriterHistory) (quiet : Bool) (paths : List (List ℕ)) (result : Result ℕ CommandFault) : Type 0 where
   pub checked : List Checked
-  pub asked : FoldsTo (λ d c d'. VerifiesFile step d d' c.path c.found) disk checked disk'
+  pub asked : FoldsTo (ChecksOneFile step tells) disk checked disk'
   pub unfit : WritesText err err' (all_unfit_lines checked)
   pub answer : MatchResult result
       (λ status. (map (λ c. c.path) checked ≡ paths) × (status ≡ worst_status checked)

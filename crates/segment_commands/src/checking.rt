@@ -1,5 +1,6 @@
 //! The commands that tell whether files hold segments.
 ghost use Rattle.std.specs.Prelude.{◌≡◌, ◌^◌, ◌-◌, ◌<◌, IsErr, IsOk, MatchResult, map};
+ghost use Rattle.std.specs.Fn.{FnReturnsAt};
 ghost use Rattle.raw_region.specs.Device.{Writes};
 ghost use Rattle.segment_commands.specs.Checking.{ChecksAll, TellsFit, reason_lines, status_in, unfit_lines};
 ghost use Rattle.segment_commands.specs.Commands.{RunsCheck};
@@ -107,7 +108,7 @@ fn status_in(found: Result<(), SessionFault>) -> u8
 
 /// Checks files one after another, and returns the worst status. Each line begins with the file's path, as a text of
 /// the language. Files that hold a segment get a line on standard output, unless the check is quiet, and others one on
-/// standard error, followed by what `trouble_of` tells of the disk.
+/// standard error, followed by what `trouble_of` returns for the disk right after the file's check.
 ///
 /// # Errors
 ///
@@ -125,9 +126,8 @@ pub fn check_all<D: Disk, O: Output, E: Sink, F: Fn(&D) -> Option<FileProblem>>(
     requires report { F.IsAlwaysCallable trouble_of }
     requires out { (O.history out.old).failures < 2 ^ 64 - 1 }
     requires on_error { (E.history err.old).failures < 2 ^ 64 - 1 }
-    ensures { ChecksAll D.step disk.old disk.new O.history O.flushes out.old out.new (E.history err.old)
-        (E.history err.new)
-        is_quiet (map (λ file. file.now) files.now) result }
+    ensures { ChecksAll D.step (FnReturnsAt F.Fn trouble_of) disk.old disk.new O.history O.flushes out.old out.new
+        (E.history err.old) (E.history err.new) is_quiet (map (λ file. file.now) files.now) result }
 {
     let mut worst = 0;
     let mut said = Ok(());

@@ -5,8 +5,8 @@ ghost use Rattle.segment_disk.specs.Events.{nothing_taken};
 use crate::disk::{Disk, OpenedFile};
 use crate::file_problems::{creation_problem, names_none, problem_of};
 use crate::locks::{
-    FileLock, Identity, PAUSE, has_bytes, is_written, leads_to, lock, lock_made, open_to_write,
-    sync_file,
+    FileLock, Identity, PAUSE, are_different, has_bytes, is_written, leads_to, lock, lock_made,
+    open_to_write, sync_file,
 };
 use crate::presence::{AlreadyLocked, Comparison, FileProblem, Presence, SaveMode};
 use crate::replacement_file::ReplacementFile;
@@ -212,10 +212,7 @@ impl<'a, R: Files<File = File> + AllocGlobal + Clock> HostDisk<'a, R> {
 
     /// Tells whether another file has taken the name of the one that is locked, or one has come where nothing was.
     fn is_taken(&self, path: &str, hold: &HostLock) -> bool {
-        match (hold.lock.identity(), Identity::at(self.files, path)) {
-            (Some(held), Ok(named)) => held != named,
-            _ => false,
-        }
+        are_different(hold.lock.identity(), Identity::at(self.files, path).ok())
     }
 }
 

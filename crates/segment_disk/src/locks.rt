@@ -1,4 +1,7 @@
 //! The right to write a file of the system: a lock on it, which the system takes away when its holder ends.
+ghost use Rattle.std.specs.Prelude.{◌≡◌, ◌≢◌, Some, false};
+ghost use Rattle.std.specs.Bool.{OnTrue};
+ghost use Rattle.segment_disk.specs.declared.locks.Identity.{Identity};
 
 use crate::presence::AlreadyLocked;
 use std::fs::{self, File, Metadata, OpenOptions, TryLockError};
@@ -49,6 +52,17 @@ impl Identity {
     /// Returns the identity of the file that a path leads to.
     pub(crate) fn at<R: Files<File = File>>(files: &R, path: &str) -> io::Result<Identity> {
         Ok(Identity::new(&fs::metadata(files, path)?))
+    }
+}
+
+/// Returns true if both files are known, and are not the same.
+pub(crate) fn are_different(held: Option<Identity>, named: Option<Identity>) -> bool
+    ensures on_true { OnTrue result ((h n : Identity) × (held ≡ Some h) × (named ≡ Some n) × (h ≢ n)) }
+    ensures on_false { result ≡ false → (h n : Identity) → held ≡ Some h → named ≡ Some n → h ≡ n }
+{
+    match (held, named) {
+        (Some(held), Some(named)) => held != named,
+        _ => false,
     }
 }
 

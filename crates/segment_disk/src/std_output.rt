@@ -1,6 +1,6 @@
 //! A writer of std as an `Output`.
-ghost use Rattle.std.specs.Prelude.{◌≡◌, ⊤, Ok, length};
-ghost use Rattle.segment_disk.specs.Events.{nothing_taken};
+ghost use Rattle.std.specs.Prelude.{◌≡◌, ⊤, Ok, is_ok, length};
+ghost use Rattle.segment_disk.specs.{Events.nothing_taken, StdOutputs.is_pipe_end};
 
 use crate::disk::Output;
 use raw_region::std_io::{StdSink, WriteOnce};
@@ -77,7 +77,7 @@ impl<W> StdOutput<W> {
         ensures { self.new ≡ self.old }
     {
         if let Err(error) = answer {
-            self.is_closed_pipe = error.kind() == ErrorKind::BrokenPipe;
+            self.is_closed_pipe = is_pipe_end(error.kind());
         }
     }
 }
@@ -104,10 +104,27 @@ impl<W: Write> Output for StdOutput<W> {
 
     fn flush(&mut self) -> Result<(), DeviceFault> {
         let answer = self.inner.flush();
-        if answer.is_ok() {
-            return Ok(());
+        let outcome = outcome_of(&answer);
+        if outcome.is_err() {
+            self.note_failure(&answer);
         }
-        self.note_failure(&answer);
-        Err(DeviceFault)
+        outcome
+    }
+}
+
+/// Returns true for the error of a pipe whose reader has ended.
+fn is_pipe_end(kind: ErrorKind) -> bool
+    ensures { result ≡ is_pipe_end kind }
+{
+    matches!(kind, ErrorKind::BrokenPipe)
+}
+
+/// Returns an error if std returned one.
+fn outcome_of(answer: &io::Result<()>) -> Result<(), DeviceFault>
+    ensures { is_ok result ≡ is_ok answer.now }
+{
+    match answer {
+        Ok(()) => Ok(()),
+        Err(_) => Err(DeviceFault),
     }
 }

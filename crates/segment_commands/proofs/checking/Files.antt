@@ -13,7 +13,8 @@ use Rattle.segment_cli.specs.Reports.{WritesText}
 use Rattle.segment_cli.specs.declared.faults.SessionFault.{SessionFault}
 use Rattle.segment_cli.specs.declared.faults.SessionFault.TheVariants.{WriteFault}
 use Rattle.segment_commands.specs.declared.command_faults.CommandFault.{CommandFault}
-use Rattle.segment_commands.specs.Checking.{Checked, ChecksAll, TellsFit, all_unfit_lines, fit_line, fit_lines}
+use Rattle.segment_commands.specs.Checking.{Checked, ChecksAll, ChecksOneFile, TellsFit, all_unfit_lines, fit_line}
+use Rattle.segment_commands.specs.Checking.{fit_lines}
 use Rattle.segment_commands.specs.Checking.{status_in, unfit_lines, worse, worst_status}
 use Rattle.segment_commands.specs.Faults.{Session}
 use Rattle.segment_commands.specs.Opening.{VerifiesFile}
@@ -23,14 +24,10 @@ use Rattle.segment_disk.specs.Events.{Event}
 
 -- ---- one more file
 
-module _ {D : Type 0} (step : D → Event → D → Type 0) where
-  abbrev pub IsAsked : D → Checked → D → Type 0
-  IsAsked d c d' = VerifiesFile step d d' c.path c.found
-
-  asked-more : (first : D) (cs : List Checked) (mid : D) (c : Checked) (last : D) → FoldsTo IsAsked first cs mid
-      → IsAsked mid c last → FoldsTo IsAsked first (cs ++ c ∷ []) last
-  asked-more first [] mid c last p q = (last, subst (λ (d : D). IsAsked d c last) (sym p) q, refl)
-  asked-more first (x ∷ xs) mid c last p q = (p.0, p.1, asked-more p.0 xs mid c last p.2 q)
+asked-more : {D : Type 0} (asks : D → Checked → D → Type 0) (first : D) (cs : List Checked) (mid : D) (c : Checked)
+    (last : D) → FoldsTo asks first cs mid → asks mid c last → FoldsTo asks first (cs ++ c ∷ []) last
+asked-more {D} asks first [] mid c last p q = (last, subst (λ (d : D). asks d c last) (sym p) q, refl)
+asked-more asks first (x ∷ xs) mid c last p q = (p.0, p.1, asked-more asks p.0 xs mid c last p.2 q)
 
 unfit-more : {E F : Type 0} (old mid new : WriterHistory) (said : Result (Unit {0}) E) (said' : Result (Unit {0}) F)
     (cs : List Checked) (c : Checked) → Writes old mid said (all_unfit_lines cs)
@@ -96,14 +93,15 @@ module _ {O : Type 0} (history : O → WriterHistory) (flushes : O → Bool → 
 
 -- ---- the files so far
 
-module _ {D O E : Type 0} (step : D → Event → D → Type 0) (history : O → WriterHistory) (flushes : O → Bool → O
-    → Type 0) (disk : D) (err : WriterHistory) (out : O) (quiet : Bool) where
+module _ {D O E : Type 0} (step : D → Event → D → Type 0) (tells : D → Option FileProblem
+    → Type 0) (history : O → WriterHistory) (flushes : O → Bool → O → Type 0) (disk : D) (err : WriterHistory) (out : O)
+    (quiet : Bool) where
   -- the files of these paths were checked, the output took their lines, and this is their worst status
   pub record Going (disk' : D) (err' : WriterHistory) (out' : O) (said : Result (Unit {0}) E)
       (paths : List (List ℕ)) (worst : ℕ) : Type 0 where
     pub checked : List Checked
     pub named : map (λ c. c.path) checked ≡ paths
-    pub asked : FoldsTo (IsAsked step) disk checked disk'
+    pub asked : FoldsTo (ChecksOneFile step tells) disk checked disk'
     pub unfit : Writes err err' said (all_unfit_lines checked)
     pub fit : Writes {A = Unit {0}} {E = Unit {0}} (history out) (history out') (Ok tt) (fit_lines quiet checked)
     pub worst_is : worst ≡ worst_status checked
@@ -123,7 +121,7 @@ module _ {D O E : Type 0} (step : D → Event → D → Type 0) (history : O →
   module _ (disk' disk'' : D) (err' err'' : WriterHistory) (out' out'' : O) (said said' : Result (Unit {0}) E)
       (paths : List (List ℕ)) (worst : ℕ) (going : Going disk' err' out' said paths worst)
       (path : List ℕ) (found : Result (Unit {0}) SessionFault) (trouble : Option FileProblem)
-      (asked : VerifiesFile step disk' disk'' path found)
+      (asked : VerifiesFile step disk' disk'' path found) (told : tells disk'' trouble)
       (unfit : MatchResult said (λ u. Writes err' err'' said' (unfit_lines path found trouble)) (λ e. (err'' ≡ err')
       × IsErr said')) where
     -- one file more was checked
@@ -137,7 +135,8 @@ module _ {D O E : Type 0} (step : D → Event → D → Type 0) (history : O →
         record {
           checked = going.checked ++ c ∷ [];
           named = named-more going.checked paths c going.named ∙ sym p;
-          asked = asked-more step disk going.checked disk' c disk'' going.asked asked;
+          asked = asked-more (ChecksOneFile step tells) disk going.checked disk' c disk'' going.asked
+              (record { asked = asked; told = told });
           unfit = unfit-more err err' err'' said said' going.checked c going.unfit unfit;
           fit = fit-more quiet (history out) (history out') (history out'') tt done going.checked c going.fit
               (record { ok = w.ok; err = tt; counted = w.counted });
@@ -149,12 +148,13 @@ module _ {D O E : Type 0} (step : D → Event → D → Type 0) (history : O →
     pub going_lost : FailsOutput history out' out'' (fit_line quiet path found)
         ⊎ FlushesText history flushes out' out'' (fit_line quiet path found) false → (files rest : List (List ℕ))
         → files ≡ (paths ++ path ∷ []) ++ rest
-        → ChecksAll step disk disk'' history flushes out out'' err err'' quiet files (Err (Session WriteFault))
+        → ChecksAll step tells disk disk'' history flushes out out'' err err'' quiet files (Err (Session WriteFault))
     going_lost lost files rest e =
         let c : Checked = record { path = path; found = found; trouble = trouble } in
         record {
           checked = going.checked ++ c ∷ [];
-          asked = asked-more step disk going.checked disk' c disk'' going.asked asked;
+          asked = asked-more (ChecksOneFile step tells) disk going.checked disk' c disk'' going.asked
+              (record { asked = asked; told = told });
           unfit = puts err err'' said' (all_unfit_lines (going.checked ++ c ∷ []))
               (unfit-more err err' err'' said said' going.checked c going.unfit unfit);
           answer = (
@@ -178,7 +178,7 @@ module _ {D O E : Type 0} (step : D → Event → D → Type 0) (history : O →
 
     -- all went out
     pub going_done : flushes out' true out''
-        → ChecksAll step disk disk' history flushes out out'' err err' quiet files (Ok worst)
+        → ChecksAll step tells disk disk' history flushes out out'' err err' quiet files (Ok worst)
     going_done flush = record {
       checked = going.checked;
       asked = going.asked;
@@ -188,7 +188,7 @@ module _ {D O E : Type 0} (step : D → Event → D → Type 0) (history : O →
 
     -- the last of it did not
     pub going_kept : flushes out' false out''
-        → ChecksAll step disk disk' history flushes out out'' err err' quiet files (Err (Session WriteFault))
+        → ChecksAll step tells disk disk' history flushes out out'' err err' quiet files (Err (Session WriteFault))
     going_kept flush = record {
       checked = going.checked;
       asked = going.asked;

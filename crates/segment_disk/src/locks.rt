@@ -120,7 +120,8 @@ pub(crate) fn has_bytes<R: Files<File = File>>(
     }
     let mut room = [0; PIECE];
     'pieces: for piece in bytes.chunks(PIECE) {
-        let read = &mut room[..piece.len()];
+        let len = piece.len().min(room.len());
+        let read = &mut room[..len];
         file.read_exact(read)?;
         if &*read != piece {
             return Ok(false);

@@ -1,5 +1,5 @@
 -- How a session begins: with a segment for its script, or with the fault that it ends with.
-use Rattle.std.specs.Prelude.{◌≡◌, ℕ, false, Result, Err, MatchResult}
+use Rattle.std.specs.Prelude.{◌≡◌, ℕ, false, length, Result, Err, MatchResult}
 use Rattle.raw_region.specs.Device.{ReadDelta}
 use Rattle.raw_region.specs.Format.{current}
 use Rattle.segment_manager.specs.declared.modes.Mode.{Mode}
@@ -15,7 +15,7 @@ use Rattle.image_check.specs.declared.errors.OpenError.TheVariants.{OutOfMemory 
 use Rattle.image_check.specs.Opening.{IsOutOfMemory, IsRefusedAs, IsUndecided}
 use Rattle.image_check.specs.Passes.{IsMapRefused}
 use Rattle.segment_cli.specs.declared.faults.Start.{Start}
-use Rattle.segment_cli.specs.declared.faults.Start.TheVariants.{Image}
+use Rattle.segment_cli.specs.declared.faults.Start.TheVariants.{Fresh, Image}
 use Rattle.segment_scripts.specs.declared.faults.RunFault.{RunFault}
 use Rattle.segment_scripts.specs.declared.faults.RunFault.TheVariants.{ReadFault as ScriptNotRead}
 use Rattle.segment_scripts.specs.declared.faults.RunFault.TheVariants.{WriteFault as AnswerNotWritten}
@@ -50,6 +50,11 @@ pub record BeginsSessionOk (start : Start) (how : Mode) (image : ReadDelta) (s :
   pub stands : DenotesCurrent s.cut.bytes from
   pub zeros : BeginsWithZeros start image → HasZeroGaps s
   pub read : image.failed ≡ false
+
+-- how many bytes the segment has
+abbrev pub begun_size : Start → ReadDelta → ℕ
+begun_size (Fresh size) image = size
+begun_size Image image = length image.bytes
 
 -- why there is no segment
 abbrev pub IsWhyNotBegun : Start → ReadDelta → ℕ → ℕ → SessionFault → Type 0

@@ -1,10 +1,14 @@
 //! A session: a segment is made or opened, a script is run on it, and its image is saved.
-ghost use Rattle.std.specs.Prelude.{◌≡◌, ◌+◌, ◌-◌, ◌%◌, ◌^◌, ◌<◌, ◌≤◌, ◌++◌, length, drop, OnOk, OnErr};
+ghost use Rattle.std.specs.Prelude.{◌≡◌, ◌+◌, ◌-◌, ◌%◌, ◌^◌, ◌<◌, ◌≤◌, ◌++◌, length, drop, IfOk, OnOk, OnErr};
+ghost use Rattle.std.specs.Prelude.{IsTrue, List, ℕ};
 ghost use Rattle.raw_region.specs.Device.{read_delta, write_delta, EndsAtMostOnce, AppendsBytes, IsProperPrefix};
-ghost use Rattle.raw_region.specs.Answers.{failures_in};
+ghost use Rattle.raw_region.specs.{Answers.failures_in, Format.current, Memory.are_bytes};
+ghost use Rattle.raw_region.specs.Memory.{SameSurroundings, cut_at};
+ghost use Rattle.image_check.specs.Meaning.{HasOneDirectory};
 ghost use Rattle.segment_manager.specs.{declared.modes.Mode.TheVariants.Write, Directory.Directory};
 ghost use Rattle.segment_manager.specs.{State.DenotesCurrent};
-ghost use Rattle.segment_cli.specs.{Session.RunsSession, Session.SavesImage, Beginning.BeginsSession, Serving.Serves};
+ghost use Rattle.segment_cli.specs.{Session.RunsSession, Session.SavesImage};
+ghost use Rattle.segment_cli.specs.{Beginning.BeginsSession, Beginning.begun_size, Serving.Serves};
 ghost use Rattle.segment_scripts.specs.{Lines.script_limit, Segments.IsMachineAt, Segments.MachineState};
 
 use crate::faults::{SessionFault, Start};
@@ -33,6 +37,8 @@ pub fn begin<I: Source>(
     ensures start { BeginsSession start mode base (length region)
         (read_delta (I.history image.old) (I.history image.new))
         result }
+    ensures place { IfOk result (λ s. SameSurroundings
+        (cut_at region base (begun_size start (read_delta (I.history image.old) (I.history image.new)))) s.cut) }
     ensures image_history { AppendsBytes (I.history image.old).bytes (I.history image.new).bytes }
     ensures image_end { EndsAtMostOnce (I.history image.old) (I.history image.new) }
 {
@@ -128,6 +134,7 @@ pub fn session<I: Source, S: Source, O: Sink, W: Sink>(
           saved = write_delta (W.history image_out.old) (W.history image_out.new);
         })
         result }
+    ensures unique { (b : List ℕ) → IsTrue (are_bytes b) → HasOneDirectory current b }
     ensures image_history { AppendsBytes (I.history image.old).bytes (I.history image.new).bytes }
     ensures image_end { EndsAtMostOnce (I.history image.old) (I.history image.new) }
     ensures script_history { AppendsBytes (S.history script.old).bytes (S.history script.new).bytes }

@@ -1,16 +1,17 @@
 -- Each end of a session is one that it may have.
 use Rattle.std.proofs.Common.{◌≡◌, ℕ, false, true, inl, inr, List, [], ◌++◌, length, take, drop, Result, Ok, Err}
-use Rattle.std.proofs.Common.{MatchResult, ◌+◌, ◌≤◌, nat_lt, refl, sym, ap, subst, ◌∙◌, arith}
+use Rattle.std.proofs.Common.{IsTrue, MatchResult, ◌+◌, ◌<◌, ◌≤◌, nat_lt, refl, sym, ap, subst, ◌∙◌, arith}
 use Rattle.std.proofs.lemmas.List.{append-nil, take-append-drop, length-drop, drop_all}
 use Rattle.raw_region.specs.Device.{ReaderHistory, ReadDelta, WriterHistory, WriteDelta, IsProperPrefix, read_delta}
 use Rattle.raw_region.specs.Device.{write_delta, AppendsBytes, EndsAtMostOnce}
-use Rattle.raw_region.specs.{Answers.AppendsProperPrefix, Format.current}
+use Rattle.raw_region.specs.{Answers.AppendsProperPrefix, Format.current, Memory.are_bytes}
 use Rattle.raw_region.proofs.Laws.{added}
 use Rattle.segment_manager.specs.declared.modes.Mode.TheVariants.{Write}
 use Rattle.segment_manager.specs.{State.SegmentState, State.DenotesCurrent, declared.modes.Mode.Mode}
 use Rattle.segment_manager.specs.{Directory.Directory}
 use Rattle.image_check.specs.{Opening.IsOutOfMemory, Opening.IsRefusedAs, Opening.IsUntouched, Passes.IsMapRefused}
-use Rattle.image_check.specs.{Saving.IsSaved}
+use Rattle.image_check.specs.{Meaning.HasOneDirectory, Saving.IsSaved}
+use Rattle.image_check.proofs.Facts.{one_directory}
 use Rattle.segment_lang.specs.Language.{whole_language}
 use Rattle.segment_cli.specs.declared.faults.SessionFault.TheVariants.{Image as Refused, RegionTooSmall, ScriptTooLong}
 use Rattle.segment_cli.specs.declared.faults.SessionFault.TheVariants.{BadSize, OutOfMemory, ReadFault, WriteFault}
@@ -106,6 +107,11 @@ pub served : (s s' : SegmentState) (script : ReadDelta) (out : WriteDelta) (end 
 served s s' script out Whole h at there = (h.left at there).ran
 served s s' script out StoppedEarly h at there =
     absurd (let stop = (h.left at there).stop in cc)
+
+-- bytes mean one directory at most, and none if a class holds of them
+pub images_mean_one : (b : List ℕ) → IsTrue (are_bytes b) → HasOneDirectory current b
+unfolding current
+images_mean_one b h = one_directory current b (omega arith) h
 
 -- ---- faults, as the call before answers them
 

@@ -1,7 +1,7 @@
 -- The segment that a session begins with, or why it has none, from what the call that was to make or open it answered.
 use Rattle.std.proofs.Common.{◌≡◌, ℕ, List, length, false, true, IsTrue, Result, Ok, Err, refl, sym, ap, subst, ◌∙◌}
 use Rattle.std.proofs.Common.{arith}
-use Rattle.raw_region.specs.{Device.ReadDelta, Format.current}
+use Rattle.raw_region.specs.{Device.ReadDelta, Format.current, Memory.SameSurroundings, Memory.cut_at}
 use Rattle.block_tags.specs.Format.{is_legal_size}
 use Rattle.segment_manager.specs.declared.errors.CreateError.TheVariants.{BadSize as NoSize, RegionTooSmall as NoRoom}
 use Rattle.segment_manager.specs.declared.errors.CreateRefused.{CreateRefused}
@@ -67,6 +67,13 @@ module _ (region : List ℕ) (base size : ℕ) (mode : Mode) (image : ReadDelta)
       let h = subst (λ (r : Result SegmentState CreateRefused). Creates region base size mode r) is made in
       created region base size mode image s h untouched
 
+  -- it lies where it was created
+  pub placed_by : (s : SegmentState) → result ≡ Ok s → SameSurroundings (cut_at region base size) s.cut
+  placed_by s is =
+      let h : CreatesOk region base size mode s =
+      subst (λ (r : Result SegmentState CreateRefused). Creates region base size mode r) is made in
+      h.place
+
   -- a session has no segment if none was created
   pub not_created_by : (refused : CreateRefused) → result ≡ Err refused
       → BeginsSession (Fresh size) mode base (length region) image (Err (created_fault refused.cause))
@@ -124,6 +131,13 @@ module _ (region : List ℕ) (base : ℕ) (mode : Mode) (image : ReadDelta) (res
   opened_by s is =
       let h = subst (λ (r : Result SegmentState OpenRefused). Opens current image region base mode r) is o in
       opened region base mode image s h.answers h.too_small
+
+  -- it lies where it was opened
+  pub opened_in : (s : SegmentState) → result ≡ Ok s → SameSurroundings (cut_at region base (length image.bytes)) s.cut
+  opened_in s is =
+      let h = subst (λ (r : Result SegmentState OpenRefused). Opens current image region base mode r) is o in
+      let opened : OpensOk current image region base mode s = h.answers in
+      opened.place
 
   -- a session has no segment if none was opened
   pub not_opened_by : (refused : OpenRefused) → result ≡ Err refused

@@ -1,5 +1,7 @@
 use Rattle.std.proofs.lemmas.Result.{err_from_is_err_and}
-use Rattle.segment_cli.proofs.sessions.Start.{created_by, not_created_by, not_opened_by, opened_by}
+use Rattle.raw_region.specs.Device.{read_delta}
+use Rattle.segment_cli.proofs.sessions.Start.{created_by, not_created_by, not_opened_by, opened_by, opened_in}
+use Rattle.segment_cli.proofs.sessions.Start.{placed_by}
 use Rattle.segment_cli.proofs.sessions.Ends.{not_asked}
 use Rattle.segment_cli.proofs.sessions.begin.Goals as goal
 
@@ -25,3 +27,14 @@ returns-in_ok-create-in-Fresh-clause-start g c =
 pub returns-in_ok-open-in-Image-clause-start : goal.returns-in_ok-open-in-Image-clause-start
 returns-in_ok-open-in-Image-clause-start g c = rw c.in-Image.is
     (opened_by c.args.region c.args.base c.args.mode _ _ c.open.ensures.opening _ c.in_ok-open-in-Image.was)
+
+pub returns-in_ok-create-in-Fresh-clause-place : goal.returns-in_ok-create-in-Fresh-clause-place
+returns-in_ok-create-in-Fresh-clause-place g c =
+    let Reader = g.I.Source in
+    rw c.in-Fresh.is (placed_by c.args.region c.args.base c.in-Fresh.size c.args.mode
+    (read_delta (Reader.history c.args.image.now) (Reader.history c.args.image.now)) _ c.create.ensures
+    (not_asked (Reader.history c.args.image.now)) _ c.in_ok-create-in-Fresh.was)
+
+pub returns-in_ok-open-in-Image-clause-place : goal.returns-in_ok-open-in-Image-clause-place
+returns-in_ok-open-in-Image-clause-place g c = rw c.in-Image.is
+    (opened_in c.args.region c.args.base c.args.mode _ _ c.open.ensures.opening _ c.in_ok-open-in-Image.was)

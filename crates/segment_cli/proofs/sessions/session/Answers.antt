@@ -2,7 +2,8 @@ use Rattle.std.proofs.{Common.length, lemmas.Result.err_from_is_err_and}
 use Rattle.raw_region.proofs.Laws.{added}
 use Rattle.segment_scripts.specs.Lines.{script_limit}
 use Rattle.segment_scripts.proofs.Laws.{one_failed}
-use Rattle.segment_cli.proofs.sessions.Ends.{at_first, first, none_appended, none_beyond, none_counted, none_ended}
+use Rattle.segment_cli.proofs.sessions.Ends.{at_first, first, images_mean_one, none_appended, none_beyond, none_counted}
+use Rattle.segment_cli.proofs.sessions.Ends.{none_ended}
 use Rattle.segment_cli.proofs.sessions.Ends.{not_asked, not_written, served, unbegun_session}
 use Rattle.segment_cli.proofs.sessions.Ends.{stopped_session, done_session, unsaved_session}
 use Rattle.segment_cli.proofs.sessions.session.Goals as goal
@@ -72,3 +73,15 @@ returns-in_err-segment-clause-script_end g c = none_ended (g.S.Source.history c.
 pub returns-in_err-segment-clause-read_limit : goal.returns-in_err-segment-clause-read_limit
 returns-in_err-segment-clause-read_limit g c =
     none_beyond (length (g.S.Source.history c.args.script.now).bytes) script_limit
+
+pub returns-in_err-segment-clause-unique : goal.returns-in_err-segment-clause-unique
+returns-in_err-segment-clause-unique g c = images_mean_one
+
+pub returns-in_err-serve-clause-unique : goal.returns-in_err-serve-clause-unique
+returns-in_err-serve-clause-unique g c = images_mean_one
+
+pub returns-clause-unique : goal.returns-clause-unique
+returns-clause-unique g c = images_mean_one
+
+pub returns-in_err-save_segment-clause-unique : goal.returns-in_err-save_segment-clause-unique
+returns-in_err-save_segment-clause-unique g c = images_mean_one

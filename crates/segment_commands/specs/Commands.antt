@@ -5,6 +5,7 @@ use Rattle.block_tags.specs.Format.{is_legal_size}
 use Rattle.raw_region.specs.Device.{ReadDelta, WriterHistory}
 use Rattle.segment_manager.specs.declared.modes.Mode.TheVariants.{Write, ReadOnly}
 use Rattle.segment_manager.specs.State.{SegmentState}
+use Rattle.grow_shrink.specs.LargerRegion.{region_len}
 use Rattle.segment_cli.specs.declared.faults.SessionFault.{SessionFault}
 use Rattle.segment_cli.specs.declared.faults.SessionFault.TheVariants.{BadSize, WriteFault}
 use Rattle.segment_cli.specs.declared.faults.Start.TheVariants.{Fresh}
@@ -34,6 +35,7 @@ pub record IsSizeless (size : ℕ) (result : Result SegmentState SessionFault) :
 pub record IsFreshSegment (size : ℕ) (segment : SegmentState) : Type 0 where
   pub image : ReadDelta
   pub capacity : ℕ
+  pub room : capacity ≡ region_len size
   pub starts : BeginsSession (Fresh size) Write 0 capacity image (Ok segment)
 
 -- one is made, or a region with room for it was refused

@@ -15,6 +15,7 @@ use Rattle.segment_scripts.specs.Lines.{script_limit}
 use Rattle.segment_scripts.specs.Run.{lines, run}
 use Rattle.segment_scripts.specs.Segments.{MachineState, IsMachineAt, answer_line, refuses_line}
 use Rattle.segment_scripts.specs.Stopping.{IsStoppedAt, goes_on, stops_at}
+use Rattle.grow_shrink.specs.LargerRegion.{region_len}
 use Rattle.segment_cli.specs.declared.faults.Start.{Start}
 use Rattle.segment_cli.specs.declared.faults.Start.TheVariants.{Fresh, Image}
 use Rattle.segment_cli.specs.declared.faults.SessionFault.{SessionFault}
@@ -295,6 +296,7 @@ module _ {D : Type 0} (step : D → Event → D
       → Type 0) (out out' : O) (result : Result End SessionFault) : Type 0 where
     pub image : ReadDelta
     pub capacity : ℕ
+    pub room : capacity ≡ region_len size
     pub ends : EndsRun step old new New path
         (record {
           start = Fresh size;

@@ -101,6 +101,7 @@ module _ {D O : Type 0} (step : D → Event → D
         in inr (record {
           image = a.image;
           capacity = a.capacity;
+          room = a.room;
           ends = ends a.capacity a.image a.starts;
         })
 

@@ -138,16 +138,16 @@ wrong_class : class_of current wrong ≡ Some BadObject
 unfolding word_at word_bytes half_word_at zeros current
 wrong_class = refl
 
--- a number, a free tile and storage: one tile is free, two are in use, and the last of these stands after the free one
+-- a number, a free tile and storage: one tile is free, two are in use
 abbrev three : List Tile
 three =
     record { offset = 128; len = 48; use_of = Some ObjectRole; red = false } ∷ record
     { offset = 176; len = 32; use_of = None; red = true }
     ∷ record { offset = 208; len = 64; use_of = Some Storage; red = false } ∷ []
 
-three_counted : AreCounted three (record { free = 1; used = 2; end = 208 })
-three_counted = record { free = refl; used = refl; end = refl }
+three_counted : AreCounted three (record { free = 1; used = 2 })
+three_counted = record { free = refl; used = refl }
 
 -- of no tiles nothing is counted
-none_counted : AreCounted [] (record { free = 0; used = 0; end = 0 })
-none_counted = record { free = refl; used = refl; end = refl }
+none_counted : AreCounted [] (record { free = 0; used = 0 })
+none_counted = record { free = refl; used = refl }

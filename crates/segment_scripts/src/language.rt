@@ -1,9 +1,8 @@
 //! The commands of a script in short.
 ghost use Rattle.std.specs.Prelude.{◌≡◌, ◌-◌, ◌^◌, ◌<◌, flat_map, map};
-ghost use Rattle.std.specs.List.{AllByRecursion};
 ghost use Rattle.raw_region.specs.Device.{Writes};
 ghost use Rattle.segment_lang.specs.Reading.{forms};
-ghost use Rattle.segment_scripts.specs.CommandRows.{IsUsage, row_text};
+ghost use Rattle.segment_scripts.specs.CommandRows.{form_read, form_rows, form_usage, row_text};
 
 use raw_region::{DeviceFault, Sink};
 use segment_lang::{Piece, put_pieces};
@@ -54,7 +53,8 @@ fn put_row<W: Sink>(out: &mut W, row: &CommandRow) -> Result<(), DeviceFault>
 /// what is read there.
 pub fn command_rows() -> &'static [CommandRow]
     ensures words { map (λ row. row.word.now) result.now ≡ map (λ form. form.0) forms }
-    ensures usages { AllByRecursion IsUsage result.now }
+    ensures usages { map (λ row. row.usage.now) result.now ≡ map form_usage form_rows }
+    ensures meaning { map form_read form_rows ≡ forms }
 {
     &LANGUAGE
 }

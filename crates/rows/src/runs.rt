@@ -1,5 +1,5 @@
 //! Scripts run by the library's `run` alone: on a machine that is no segment, and on a segment whose writer fails.
-ghost use Rattle.std.specs.Prelude.{◌≡◌, ◌+◌, ◌/◌, ◌%◌, ◌==◌, ◌∷◌, [], ℕ, min, length, take};
+ghost use Rattle.std.specs.Prelude.{◌≡◌, ◌+◌, ◌/◌, ◌%◌, ◌==◌, ◌∷◌, [], ℕ, false, min, length, take};
 ghost use Rattle.std.proofs.Common.{ap, arith, length-take};
 ghost use Rattle.segment_scripts.specs.Refusing.{was_refused};
 
@@ -24,6 +24,8 @@ impl Machine for Lengths {
         (count ∷ len / 256 ∷ len % 256 ∷ [], (count + 1) % 256) };
 
     ghost refuses = { λ count line. min (length line) 4098 == 4098 };
+
+    ghost is_idle = { λ count line. false };
 
     ghost stands = { λ machine count. machine.count ≡ count };
 

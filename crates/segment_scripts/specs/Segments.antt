@@ -14,7 +14,7 @@ use Rattle.segment_scripts.specs.declared.answered.Answered.{Answered}
 use Rattle.segment_scripts.specs.Refusing.{Tells, refuses}
 use Rattle.segment_scripts.specs.Run.{respond}
 use Rattle.segment_scripts.specs.Writing.{WritesFor}
-use Rattle.segment_scripts.specs.ZeroGaps.{zeros_after}
+use Rattle.segment_scripts.specs.ZeroGaps.{is_idle, zeros_after}
 
 -- what is known of a segment between two lines
 pub record MachineState : Type 0 where
@@ -46,6 +46,10 @@ answer_line at line = let asked = reading (whole_language current) line
 abbrev pub refuses_line : MachineState → List ℕ → Bool
 refuses_line at line = refuses at.mode at.directory (reading (whole_language current) line)
 
+-- whether a line changes nothing at a place
+abbrev pub is_idle_line : MachineState → List ℕ → Bool
+is_idle_line at line = is_idle at.mode at.directory (reading (whole_language current) line)
+
 -- wherever it stands, what it is asked leads where it is to lead, what is owed there is written, and it is told whether
 -- it is refused
 pub record Responds {E : Type 0} (old new : SegmentState) (took took' : WriterHistory) (result : Result Answered E)
@@ -53,3 +57,5 @@ pub record Responds {E : Type 0} (old new : SegmentState) (took took' : WriterHi
   pub leads : (at : MachineState) → IsMachineAt old at → IsMachineAt new (place_after at asked)
   pub writes : WritesFor took took' result (IsMachineAt old) (λ at. (respond at.mode at.directory asked).0)
   pub tells : (at : MachineState) → IsMachineAt old at → Tells result (refuses at.mode at.directory asked)
+  -- and where that changes nothing, nothing changes
+  pub idles : (at : MachineState) → IsMachineAt old at → is_idle at.mode at.directory asked ≡ true → new ≡ old

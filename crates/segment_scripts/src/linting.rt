@@ -1,5 +1,5 @@
 //! A machine that tells which lines of a script are no commands, and executes none.
-ghost use Rattle.std.specs.Prelude.{◌≡◌, ◌≤◌, ◌-◌, ◌^◌, ◌<◌, ◌+◌, length};
+ghost use Rattle.std.specs.Prelude.{◌≡◌, ◌≤◌, ◌-◌, ◌^◌, ◌<◌, ◌+◌, false, length};
 ghost use Rattle.raw_region.specs.Device.{Writes};
 ghost use Rattle.segment_scripts.specs.CommandRows.{usage_of};
 ghost use Rattle.segment_scripts.specs.LintLaws.{lint_line-long, misses_line-long};
@@ -47,6 +47,8 @@ impl<'a> Machine for Lint<'a> {
     ghost respond = { λ at line. lint_line at line };
 
     ghost refuses = { λ at line. misses_line line };
+
+    ghost is_idle = { λ at line. false };
 
     ghost stands = { λ lint at. is_at lint.line lint.has_found lint.rows.now at };
 

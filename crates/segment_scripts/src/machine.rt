@@ -1,5 +1,5 @@
 //! What stands between a script and whatever answers its lines.
-ghost use Rattle.std.specs.Prelude.{◌≡◌, ◌-◌, ◌^◌, ◌<◌, ℕ, Bool, List, length, take};
+ghost use Rattle.std.specs.Prelude.{◌≡◌, ◌-◌, ◌^◌, ◌<◌, ℕ, Bool, true, List, length, take};
 ghost use Rattle.segment_scripts.specs.Refusing.{Tells};
 ghost use Rattle.segment_scripts.specs.Writing.{WritesFor};
 
@@ -50,6 +50,9 @@ pub trait Machine {
     // Whether a line, without its end, is refused at a place.
     ghost refuses: { Place → List ℕ → Bool };
 
+    // Whether a line, without its end, changes nothing at a place.
+    ghost is_idle: { Place → List ℕ → Bool };
+
     // The places that a machine may stand for.
     ghost stands: { Self → Place → Type 0 };
 
@@ -66,7 +69,9 @@ pub trait Machine {
             → stands self.new (respond place line.now).1 }
         ensures output { WritesFor (W.history out.old) (W.history out.new) result (stands self.old)
             (λ place. (respond place line.now).0) }
-        ensures report { (place : Place) → stands self.old place → Tells result (refuses place line.now) };
+        ensures report { (place : Place) → stands self.old place → Tells result (refuses place line.now) }
+        ensures noop { (place : Place) → stands self.old place → is_idle place line.now ≡ true
+            → self.new ≡ self.old };
 
     // Of a line of more than 4097 bytes the first 4098 decide.
     ghost long_lines: { (place : Place) (line : List ℕ) → 4097 < length line

@@ -7,7 +7,8 @@ ghost use Rattle.segment_lang.specs.declared.forms.CommandForm.TheVariants as fo
 ghost use Rattle.segment_scripts.specs.Refusing.{Tells};
 ghost use Rattle.segment_scripts.specs.Replies.{IsMeant};
 ghost use Rattle.segment_scripts.specs.Run.{error_line};
-ghost use Rattle.segment_scripts.specs.Segments.{IsMachineAt, MachineState, Responds, answer_line, refuses_line};
+ghost use Rattle.segment_scripts.specs.Segments.{IsMachineAt, MachineState, Responds, answer_line, is_idle_line};
+ghost use Rattle.segment_scripts.specs.Segments.{refuses_line};
 ghost use Rattle.segment_scripts.specs.LongLines.{answer_line-long, refuses_line-long};
 
 use crate::answered::Answered;
@@ -30,6 +31,8 @@ impl Machine for Segment {
     ghost respond = { λ at line. answer_line at line };
 
     ghost refuses = { λ at line. refuses_line at line };
+
+    ghost is_idle = { λ at line. is_idle_line at line };
 
     ghost stands = { λ segment at. IsMachineAt segment at };
 

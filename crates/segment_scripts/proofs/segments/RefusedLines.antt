@@ -38,6 +38,7 @@ responds-wrong {took = took} {took' = took'} {result = result} {asked = asked} s
   leads = λ at h. subst (λ (r : Reading). IsMachineAt s (place_after at r)) is (stays s at e h);
   writes = writes_owed w (λ at h. printed at e ∙ ap (λ (r : Reading). (respond at.mode at.directory r).0) is);
   tells = λ at h. subst (Tells result) (refused at e ∙ ap (refuses at.mode at.directory) is) t;
+  idles = λ _ _ _. refl;
 }
 
 -- what the first word asks for is what the line asks for

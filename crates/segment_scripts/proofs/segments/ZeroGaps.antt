@@ -11,8 +11,8 @@ use Rattle.segment_manager.specs.State.{AnswersQuery, SegmentState, DenotesCurre
 use Rattle.segment_manager.specs.Step.{step}
 use Rattle.segment_manager.specs.Calls.{HasZeroGaps}
 use Rattle.segment_manager.proofs.Laws.{step-reads}
-use Rattle.std.specs.Prelude.{◌||◌}
-use Rattle.segment_scripts.specs.ZeroGaps.{changes_nothing, is_zero_free}
+use Rattle.std.specs.Prelude.{◌||◌, not}
+use Rattle.segment_scripts.specs.ZeroGaps.{changes_nothing, is_idle, is_zero_free}
 use Rattle.segment_scripts.specs.declared.replies.CommandAnswer.{CommandAnswer as Reply}
 use Rattle.segment_scripts.specs.Answer.{answer_text}
 use Rattle.segment_scripts.specs.Changes.{Executes}
@@ -119,16 +119,34 @@ refused-owed : (old : SegmentState) (c : Command) (asked : Reading) → Asked c 
 refused-owed old c asked e at h = ap (λ (n : Mode). is_refusal (step n at.directory c).0) h.mode
     ∙ ap (refuses at.mode at.directory) e
 
+-- a command that reads, or one that changes nothing
+reads_or : {P : Type 0} (changing nothing : Bool) → (changing ≡ false → P) → (nothing ≡ true → P)
+    → (not changing || nothing) ≡ true → P
+reads_or true nothing reads kept e = kept e
+reads_or false nothing reads kept e = reads refl
+
+-- what is asked changes nothing: nothing changes
+idle : (old new : SegmentState) (c : Command) (asked : Reading) → Asked c ≡ asked
+    → ((d : Directory) → DenotesCurrent old.cut.bytes d → changes_nothing old.mode d c ≡ true → new ≡ old)
+    → (is_changing c ≡ false → new ≡ old)
+    → (at : MachineState) → IsMachineAt old at → is_idle at.mode at.directory asked ≡ true → new ≡ old
+idle old new c asked e kept reads at h i =
+    reads_or (is_changing c) (changes_nothing at.mode at.directory c) reads
+    (λ r. kept at.directory h.denotes (ap (λ (n : Mode). changes_nothing n at.directory c) h.mode ∙ r))
+    (ap (is_idle at.mode at.directory) e ∙ i)
+
 -- ---- what is asked is responded to
 
 module _ {E : Type 0} {took took' : WriterHistory} {result : Result Answered E} {asked : Reading} where
   -- a call that answers what its command does
   responds : {old new : SegmentState} (c : Command) → Asked c ≡ asked
       → ((at : MachineState) → IsMachineAt old at → IsMachineAt new (place_after at asked))
+      → ((at : MachineState) → IsMachineAt old at → is_idle at.mode at.directory asked ≡ true → new ≡ old)
       → AnswersFor took took' result (DenotesCurrent old.cut.bytes) (λ d. (step old.mode d c).0)
       → Responds old new took took' result asked
-  responds {old} c e leads w = record {
+  responds {old} c e leads idles w = record {
     leads = leads;
+    idles = idles;
     writes = record {
       writes = λ at h.
           subst (Writes took took' result) (asked-owed old c asked e at h) (w.writes.writes at.directory h.denotes);
@@ -141,13 +159,15 @@ module _ {E : Type 0} {took took' : WriterHistory} {result : Result Answered E} 
   pub responds-read : (s : SegmentState) (c : Command) → is_changing c ≡ false → Asked c ≡ asked
       → AnswersFor took took' result (DenotesCurrent s.cut.bytes) (λ d. (step s.mode d c).0)
       → Responds s s took took' result asked
-  responds-read s c r e w = responds c e (answered s c asked r e) w
+  responds-read s c r e w = responds c e (answered s c asked r e) (λ _ _ _. refl) w
 
   -- a popped element leaves the gaps
   pub responds-popped : {old new : SegmentState} (key : Key) → Asked (Pop key) ≡ asked → Executes old new (Pop key)
       → AnswersFor took took' result (DenotesCurrent old.cut.bytes) (λ d. (step old.mode d (Pop key)).0)
       → Responds old new took took' result asked
-  responds-popped {old} {new} key e done w = responds (Pop key) e (popped old new key asked e done) w
+  responds-popped {old} {new} key e done w = responds (Pop key) e (popped old new key asked e done)
+      (idle old new (Pop key) asked e
+      (λ d st r. done.refused d st (first-of (is_untouched (step old.mode d (Pop key)).0) r)) (λ n. absurd (cc))) w
 
   -- a number
   pub responds-number : (s : SegmentState) (c : Command) {n : ℕ} → is_changing c ≡ false → Asked c ≡ asked
@@ -161,5 +181,5 @@ module _ {E : Type 0} {took took' : WriterHistory} {result : Result Answered E} 
       → Replies old new c reply → AnswersFor took took' result (DenotesCurrent new.cut.bytes) (λ d. answer_seen d reply)
       → Responds old new took took' result asked
   responds-replied {old} {new} {c} {reply} e done w =
-      responds c e (executed old new c reply asked e done) (answers-before {said = λ d. answer_seen d reply} (λ d.
-      (step old.mode d c).1) w done.denotes done.answers)
+      responds c e (executed old new c reply asked e done) (idle old new c asked e done.kept done.reads)
+      (answers-before {said = λ d. answer_seen d reply} (λ d. (step old.mode d c).1) w done.denotes done.answers)

@@ -1,4 +1,5 @@
 use Rattle.std.proofs.Common.{subst, sym}
+use Rattle.std.proofs.lemmas.Bool.{false≢true}
 use Rattle.segment_scripts.specs.declared.answered.Answered.TheVariants.{Done, Refused}
 use Rattle.segment_scripts.specs.Refusing.{Tells}
 use Rattle.segment_scripts.proofs.linting.Outcomes.{finds, quiet, quiet_leads, quiet_writes, told_missed}
@@ -28,4 +29,8 @@ returns-in-None g c =
       output = quiet_writes was.line was.has_found was.rows.now c.saturating_add-self.result c.args.line.now
           c.saturating_add-self.ensures same Done (g.W.Sink.history c.args.out.now);
       report = λ at s. sym c.in-None.ensures;
+      noop = λ at s e. absurd (false≢true e);
     }
+
+pub returns-in-Some-clause-noop : goal.returns-in-Some-clause-noop
+returns-in-Some-clause-noop g c = λ at s e. absurd (false≢true e)

@@ -19,37 +19,37 @@ pub returns-in-Wrong : goal.returns-in-Wrong
 returns-in-Wrong g c =
     let r = responds-wrong c.args.self.now c.in-Wrong.error c.in-Wrong.ensures c.put_wrong.ensures.output
     c.put_wrong.ensures.report in
-    record { step = r.leads; output = r.writes; report = r.tells }
+    record { step = r.leads; output = r.writes; report = r.tells; noop = r.idles }
 
 pub returns-in-Size : goal.returns-in-Size
 returns-in-Size g c =
     let r = responds-form c.in-Form.rest.now c.in-Size.is c.in-Form.ensures c.answer_size.ensures in
-    record { step = r.leads; output = r.writes; report = r.tells }
+    record { step = r.leads; output = r.writes; report = r.tells; noop = r.idles }
 
 pub returns-in-Get : goal.returns-in-Get
 returns-in-Get g c =
     let r = responds-form c.in-Form.rest.now c.in-Get.is c.in-Form.ensures c.answer_get.ensures in
-    record { step = r.leads; output = r.writes; report = r.tells }
+    record { step = r.leads; output = r.writes; report = r.tells; noop = r.idles }
 
 pub returns-in-Push : goal.returns-in-Push
 returns-in-Push g c =
     let r = responds-form c.in-Form.rest.now c.in-Push.is c.in-Form.ensures c.answer_push.ensures in
-    record { step = r.leads; output = r.writes; report = r.tells }
+    record { step = r.leads; output = r.writes; report = r.tells; noop = r.idles }
 
 pub returns-in-Put : goal.returns-in-Put
 returns-in-Put g c =
     let r = responds-form c.in-Form.rest.now c.in-Put.is c.in-Form.ensures c.answer_put.ensures in
-    record { step = r.leads; output = r.writes; report = r.tells }
+    record { step = r.leads; output = r.writes; report = r.tells; noop = r.idles }
 
 pub returns-in-Pop : goal.returns-in-Pop
 returns-in-Pop g c =
     let r = responds-form c.in-Form.rest.now c.in-Pop.is c.in-Form.ensures c.answer_pop.ensures in
-    record { step = r.leads; output = r.writes; report = r.tells }
+    record { step = r.leads; output = r.writes; report = r.tells; noop = r.idles }
 
 pub returns-in-Deed : goal.returns-in-Deed
 returns-in-Deed g c =
     let r = responds-form c.in-Form.rest.now c.in-Deed.is c.in-Form.ensures c.answer_deed.ensures in
-    record { step = r.leads; output = r.writes; report = r.tells }
+    record { step = r.leads; output = r.writes; report = r.tells; noop = r.idles }
 
 pub returns-in-Nothing-clause-report : goal.returns-in-Nothing-clause-report
 returns-in-Nothing-clause-report g c = λ at s. ap (refuses at.mode at.directory) c.in-Nothing.ensures

@@ -143,28 +143,14 @@ impl<'a> Host<'a> {
     /// Says in a second line why a command failed, as far as that is known, and of one that is done if the file has
     /// another owner since.
     fn explain(&self, asked: &Invocation<'_>, answer: Result<u8, CommandFault>) {
-        let known = self.trouble_of(asked);
-        let is_told = match (answer, known) {
-            (Ok(_), Some((_, FileProblem::Owner))) => true,
-            (Ok(_), _) => false,
-            (Err(CommandFault::Program(ProgramFault::Session(fault))), Some((_, trouble))) =>
-                match fault {
-                    SessionFault::ReadFault => true,
-                    SessionFault::WriteFault => {
-                        !matches!(trouble, FileProblem::Writer | FileProblem::Owner)
-                    }
-                    SessionFault::Image(_) => trouble == FileProblem::Writer,
-                    _ => false,
-                },
-            (Err(fault), Some(_)) => matches!(fault, CommandFault::InUse),
-            (Err(_), None) => false,
-        };
-        match (is_told, known, answer) {
-            (true, Some((path, trouble)), _) => {
+        if let Some((path, trouble)) = self.trouble_of(asked) {
+            if is_told(answer, trouble) {
                 let _ = put_trouble(path, Some(trouble), &mut StdSink::new(self.rt.stderr()));
+                return;
             }
-            (_, _, Err(fault)) => self.say_limits(fault),
-            _ => {}
+        }
+        if let Err(fault) = answer {
+            self.say_limits(fault);
         }
     }
 
@@ -326,6 +312,23 @@ impl<'a> Host<'a> {
         let (alloc, disk) = (self.rt.alloc(), &mut self.disk);
         segment_commands::run(alloc, disk, file, mode, size, saving, until, script, out)?;
         Ok(0)
+    }
+}
+
+/// Tells whether a file's trouble is why a command failed, or is said of one that is done.
+fn is_told(answer: Result<u8, CommandFault>, trouble: FileProblem) -> bool {
+    match answer {
+        Ok(_) => trouble == FileProblem::Owner,
+        Err(CommandFault::InUse) => true,
+        Err(CommandFault::Program(ProgramFault::Session(fault))) => match fault {
+            SessionFault::ReadFault => true,
+            SessionFault::WriteFault => {
+                !matches!(trouble, FileProblem::Writer | FileProblem::Owner)
+            }
+            SessionFault::Image(_) => trouble == FileProblem::Writer,
+            _ => false,
+        },
+        Err(_) => false,
     }
 }
 

@@ -825,6 +825,10 @@ def goes(lines, peers):
         return False
     if any(line.startswith("do limit") for line in lines) and isinstance(peers["A"], Program):
         return False
+    # Python saves to a new name alone
+    if any(line.startswith("A saveas open_only") for line in lines) and not isinstance(peers["A"], Program) \
+            and any("python" in word for word in peers["A"].command):
+        return False
     # a file that the program makes is there when all of it is written
     makes = "A open open_or_create", "A open create_only"
     if any(line.startswith(makes) and line.endswith("ok") for line in lines) and isinstance(peers["A"], Program):

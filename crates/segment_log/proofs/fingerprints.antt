@@ -1,0 +1,2 @@
+-- Fingerprints: that of an image whose pages changed (`Changes`).
+pub mod Changes

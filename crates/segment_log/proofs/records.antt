@@ -1,0 +1,3 @@
+-- Records: what a log stands for, record by record (`Reading`).
+pub mod Reading
+pub mod Pieces

@@ -1,0 +1,2 @@
+-- Replaying: a log is read record by record (`Runs`).
+pub mod Runs

@@ -1,0 +1,68 @@
+-- What a disk was asked for a commit, an opening and a checkpoint, and what a crash leaves at each moment.
+use Rattle.std.specs.Prelude.{◌≡◌, ◌≢◌, ◌⊎◌, ◌<◌, ◌≤◌, ◌+◌, ◌&&◌, ◌^◌, ℕ, Bool, true, false, List, [], ◌∷◌, length}
+use Rattle.std.specs.Prelude.{take}
+use Rattle.std.specs.Prelude.{Result, Ok, Err, MatchResult, IfOk, OnOk, is_ok}
+use Rattle.segment_log.specs.Crashes.{LoggedFile}
+use Rattle.segment_log.specs.Records.{IsAjar, IsEndOfLog}
+use Rattle.segment_log.specs.Edits.{stands_for}
+use Rattle.segment_log.specs.Events.{LogEvent, leaves_after}
+use Rattle.segment_log.specs.Laws.{through_events}
+use Rattle.segment_log.specs.Openings.{IsReady, IsPayloadFor, EndsReady}
+use Rattle.segment_log.specs.Tags.{AreTogether, IsMidCommit, KeepsImage}
+use Rattle.segment_log.specs.declared.committing.CommitError.{CommitError}
+use Rattle.segment_log.specs.declared.committing.CommitError.TheVariants.{OutOfMemory, TooLong, WriteFault}
+use Rattle.segment_log.specs.declared.log_disk.LogFault.{LogFault}
+
+-- Of a disk, where one question leads from a state to a state: these were asked in this order, and no others.
+abbrev pub AsksFor : {D : Type 0} → (D → LogEvent → D → Type 0) → D → List LogEvent → D → Type 0
+AsksFor step old [] new = new ≡ old
+AsksFor {D} step old (e ∷ es) new = (next : D) × step old e next × AsksFor step next es new
+
+-- the log took bytes at an offset, and all of it lasts if the answer is Ok
+pub record WritesThrough {D : Type 0} (step : D → LogEvent → D → Type 0) (old new : D) (at : ℕ) (bytes : List ℕ)
+    (result : Result (Unit {0}) LogFault) : Type 0 where
+  pub written : Bool
+  pub synced : Bool
+  pub asked : AsksFor step old (through_events at bytes written synced) new
+  pub answer : is_ok result ≡ (written && synced)
+
+-- Of a call: whatever image the files of before stand for, and whatever the call does, each crash meanwhile leaves one
+-- of these.
+abbrev pub CrashLeaves : LoggedFile → List LogEvent → (LoggedFile → Type 0) → Type 0
+CrashLeaves files events P = (k : ℕ) (c : LoggedFile) → leaves_after files (take k events) c → P c
+
+-- The call adds a record. A crash at any moment leaves the last image or the new one, with its own log; after Ok each
+-- crash leaves the new one, and the log can take another record.
+pub record CommitsRecord {D : Type 0} (step : D → LogEvent → D → Type 0) (old new : D) (end : ℕ) (payload : List ℕ)
+    (result : Result ℕ CommitError) : Type 0 where
+  pub events : List LogEvent
+  pub asked : AsksFor step old events new
+  pub crash : (files : LoggedFile) (last image : List ℕ) → IsReady files end last
+      → IsPayloadFor files payload last image → CrashLeaves files events (IsMidCommit last image)
+  pub on_ok : IfOk result (λ now. (files : LoggedFile) (last image : List ℕ) → IsReady files end last
+      → IsPayloadFor files payload last image → EndsReady files events now image)
+  -- without a question, if it is refused
+  pub refused : (result ≡ Err OutOfMemory) ⊎ (result ≡ Err TooLong) → events ≡ []
+  pub too_long : result ≡ Err TooLong → (2 ^ 40 ≤ end) ⊎ (2 ^ 40 ≤ length payload)
+
+-- The call shuts the gate at the end of a log. A crash at any moment leaves the image, with its own log; after Ok the
+-- log can take a record.
+pub record ShutsGate {D : Type 0} (step : D → LogEvent → D → Type 0) (old new : D) (end : ℕ)
+    (result : Result (Unit {0}) CommitError) : Type 0 where
+  pub events : List LogEvent
+  pub asked : AsksFor step old events new
+  pub crash : (files : LoggedFile) → IsEndOfLog 4096 files.log end → IsAjar 4096 files.log end → AreTogether files
+      → CrashLeaves files events (KeepsImage (stands_for files))
+  pub on_ok : OnOk result ((files : LoggedFile) → IsEndOfLog 4096 files.log end → AreTogether files
+      → EndsReady files events end (stands_for files))
+
+-- The call puts the image in the place of the file, and empties the log. A crash at any moment leaves the image, with
+-- its own log; after Ok the file has it, and the log can take a record.
+pub record MakesCheckpoint {D : Type 0} (step : D → LogEvent → D → Type 0) (old new : D) (image : List ℕ)
+    (result : Result (Unit {0}) CommitError) : Type 0 where
+  pub events : List LogEvent
+  pub asked : AsksFor step old events new
+  pub crash : (files : LoggedFile) (end : ℕ) → IsReady files end image → 0 < end
+      → CrashLeaves files events (KeepsImage image)
+  pub on_ok : OnOk result ((files : LoggedFile) (end : ℕ) → IsReady files end image → 0 < end
+      → EndsReady files events 0 image)

@@ -1,0 +1,10 @@
+pub mod Crashes
+pub mod Records
+pub mod Edits
+pub mod Fingerprints
+pub mod Tags
+pub mod Events
+pub mod Laws
+pub mod Openings
+pub mod Histories
+pub mod Committing

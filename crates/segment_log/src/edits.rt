@@ -1,0 +1,76 @@
+//! What the payload of a record does to an image.
+ghost use Rattle.std.specs.Prelude.{◌≡◌, ◌≤◌, length, take, OnOk, MatchOption, Some, None};
+ghost use Rattle.segment_log.specs.Records.{number_of, zeros};
+ghost use Rattle.segment_log.specs.Edits.{applied, edited, next_edit, put, resized};
+
+use crate::records::{number_of, zeros};
+use std::alloc::{AllocError, Global};
+
+/// Puts bytes at an offset of an image, if they lie within it.
+fn put(image: &mut [u8], at: u64, bytes: &[u8])
+    ensures { image.new ≡ put at bytes.now image.old }
+{
+    if at > image.len() as u64 {
+        return;
+    }
+    let at = at as usize;
+    if bytes.len() > image.len() - at {
+        return;
+    }
+    image[at..at + bytes.len()].copy_from_slice(bytes);
+}
+
+/// Returns the first edit of a text, as its offset, its bytes, and what stands behind it.
+pub(crate) fn next_edit(text: &[u8]) -> Option<(u64, &[u8], &[u8])>
+    ensures { MatchOption result
+        (next_edit text.now ≡ None)
+        (λ e. next_edit text.now ≡ Some (e.0, e.1.now, e.2.now)) }
+{
+    if text.len() < 16 {
+        return None;
+    }
+    let at = number_of(text);
+    let len = number_of(&text[8..]);
+    let behind = &text[16..];
+    if len > behind.len() as u64 {
+        return None;
+    }
+    let (bytes, rest) = behind.split_at(len as usize);
+    Some((at, bytes, rest))
+}
+
+/// Makes the edits of a text.
+fn edit(image: &mut [u8], text: &[u8])
+    ensures { image.new ≡ edited text.now image.old }
+{
+    let mut rest = text;
+    while let Some((at, bytes, behind)) = next_edit(rest) {
+        put(image, at, bytes);
+        rest = behind;
+    }
+}
+
+/// Cuts an image, or makes it longer by bytes that are 0.
+fn resize(alloc: Global, image: &mut Vec<u8>, len: usize) -> Result<(), AllocError>
+    ensures { OnOk result (image.new.items ≡ resized len image.old.items) }
+{
+    let old = image.len();
+    image.truncate(len);
+    if old < len {
+        let more = zeros(alloc, len - old)?;
+        image.extend_from_slice(&more)?;
+    }
+    Ok(())
+}
+
+/// Makes of an image what the payload of a record says. After an error the image may be cut or longer.
+pub fn apply(alloc: Global, image: &mut Vec<u8>, payload: &[u8]) -> Result<(), AllocError>
+    ensures { OnOk result (image.new.items ≡ applied payload.now image.old.items) }
+{
+    if payload.len() < 8 {
+        return Ok(());
+    }
+    resize(alloc, image, number_of(payload) as usize)?;
+    edit(image.as_mut_slice(), &payload[8..]);
+    Ok(())
+}

@@ -1,0 +1,34 @@
+//! The log beside the file of a segment: a commit adds a record of what was changed, and costs that.
+//!
+//! `changes` makes the payload of a record, and `commit` writes it to a `LogDisk`; `recover` makes the image of a file
+//! with its log, and refuses the log of another file; `checkpoint` puts that image in the place of the file. The
+//! contracts and the laws, as `commit_finds_one`, say what opening finds after a crash at any moment. A caller that
+//! writes by itself has the bytes of `record_body` and of the gates.
+#![tactic(auto)]
+
+mod committing;
+mod edits;
+mod fingerprints;
+mod log_disk;
+mod payloads;
+mod records;
+mod recovery;
+mod replaying;
+mod tags;
+mod theorems;
+
+pub use committing::{CommitError, checkpoint, commit, shut};
+pub use edits::apply;
+pub use fingerprints::{PAGE_LEN, fingerprint, fingerprint_of_a_change, page_mark, with_page};
+pub use log_disk::{LogDisk, LogFault};
+pub use payloads::{begin_payload, changes, fill, push_edit};
+pub use records::{GATE_LEN, MAX_LOG_LEN, next_record, open_gate, record_body, shut_gate};
+pub use recovery::{RecoverError, RecoveredImage, recover};
+pub use replaying::{is_ajar, replay};
+pub use tags::{belongs, fits};
+pub use theorems::{
+    checkpoint_finds_the_same, checkpoint_keeps_own, checkpoint_keeps_the_image,
+    checkpointed_is_ready, commit_finds_one, commit_keeps_one, commit_keeps_own,
+    committed_finds_the_new, committed_lasts, histories_stay_ready, opening_finds_one,
+    repair_finds_the_same, repair_keeps_the_image, repaired_is_ready, shut_is_ready,
+};

@@ -1,0 +1,72 @@
+//! The opening of a file with its log, as a crash may have left both.
+ghost use Rattle.std.specs.Prelude.{◌≡◌, IfErr, IfOk, OnOk};
+ghost use Rattle.segment_log.specs.Crashes.{with_log};
+ghost use Rattle.segment_log.specs.Edits.{stands_for};
+ghost use Rattle.segment_log.specs.Fingerprints.{fingerprint};
+ghost use Rattle.segment_log.specs.Records.{IsEndOfLog};
+ghost use Rattle.segment_log.specs.Tags.{AreTogether};
+ghost use Rattle.segment_log.specs.declared.recovery.RecoverError.TheVariants.{ForeignLog, OutOfMemory as NoMemory};
+
+use crate::fingerprints::fingerprint;
+use crate::replaying::replay;
+use crate::tags::{belongs, fits};
+use std::alloc::{AllocError, Global};
+use thiserror::Error;
+
+/// Why a file and its log stand for no image.
+#[derive(Clone, Copy, Debug, PartialEq, Eq, Error)]
+pub enum RecoverError {
+    /// Memory was refused.
+    #[error("no memory for the log")]
+    OutOfMemory,
+    /// The log is that of another file, or of the file as it was before another program wrote it.
+    #[error("the log beside the file is of another file")]
+    ForeignLog,
+}
+
+impl From<AllocError> for RecoverError {
+    ghost from_gives = { λ _ error. error ≡ NoMemory };
+
+    fn from(_: AllocError) -> RecoverError {
+        RecoverError::OutOfMemory
+    }
+}
+
+/// What a file stands for with its log.
+#[derive(Drop)]
+pub struct RecoveredImage {
+    /// The image, with all records of the log.
+    pub image: Vec<u8>,
+    /// Where the records end. The gate there may be ajar.
+    pub end: usize,
+    /// The fingerprint of the file, which the first record of a log names.
+    pub base: u64,
+}
+
+/// Returns the image of a file with its log.
+///
+/// # Errors
+///
+/// `ForeignLog` exactly if the log does not belong to the file: none of it is applied. `OutOfMemory`.
+pub fn recover(alloc: Global, base: Vec<u8>, log: &[u8]) -> Result<RecoveredImage, RecoverError>
+    ensures image { IfOk result (λ r. r.image.items ≡ stands_for (with_log base.items log.now)) }
+    ensures end { IfOk result (λ r. IsEndOfLog 4096 log.now r.end) }
+    ensures base { IfOk result (λ r. r.base ≡ fingerprint base.items) }
+    ensures tags { OnOk result (AreTogether (with_log base.items log.now)) }
+    ensures refused { IfErr result (λ error. error ≡ ForeignLog → AreTogether (with_log base.items log.now) → ⊥) }
+{
+    let id = fingerprint(&base);
+    if !belongs(log, id) {
+        return Err(RecoverError::ForeignLog);
+    }
+    let mut image = base;
+    let end = replay(alloc, &mut image, log)?;
+    if !fits(log, fingerprint(&image)) {
+        return Err(RecoverError::ForeignLog);
+    }
+    Ok(RecoveredImage {
+        image,
+        end,
+        base: id,
+    })
+}

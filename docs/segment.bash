@@ -24,16 +24,16 @@ _segment() {
         --size | --wait | --prefix | --most) return ;;
     esac
     case ${COMP_WORDS[1]} in
-        run) options='-c --mode --size --replace --strict --numbered --wait' more=2 ;;
-        check) options='--explain --quiet' more=99 ;;
-        create) more=1 ;;
+        run) options='-c -r --mode --read-only --size --replace --strict --numbered --wait' more=2 ;;
+        check) options='--explain --quiet --wait' more=99 ;;
+        create) options='--replace' more=1 ;;
         grow) options='--replace --wait' more=1 ;;
         shrink | migrate) options='--replace --wait' more=1 ;;
-        draw) options='--html' more=1 ;;
-        dump) options='--capacities --json' more=1 ;;
-        names) options='--prefix --most' more=1 ;;
+        draw) options='--html --wait' more=1 ;;
+        dump) options='--capacities --json --wait' more=1 ;;
+        names) options='--prefix --most --wait' more=1 ;;
         load) options='--size --replace --wait' more=1 ;;
-        stat) more=1 ;;
+        stat) options='--wait' more=1 ;;
         help)
             COMPREPLY=($(compgen -W "$commands" -- "$word"))
             return ;;

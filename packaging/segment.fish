@@ -12,7 +12,9 @@ complete -c segment -n '__fish_seen_subcommand_from run' -s c -x -d 'a line of t
 complete -c segment -n '__fish_seen_subcommand_from run load' -l size -x -d 'bytes of a new segment'
 complete -c segment -n '__fish_seen_subcommand_from run grow shrink migrate load' -l replace \
     -d 'keep the old file until the new one is whole'
-complete -c segment -n '__fish_seen_subcommand_from run grow shrink migrate load' -l wait -x -d 'seconds for the file'
+complete -c segment -n 'not __fish_seen_subcommand_from create lint language help' -l wait -x -d 'seconds for the file'
+complete -c segment -n '__fish_seen_subcommand_from run' -s r -l read-only \
+    -d 'refuse commands that change the segment'
 complete -c segment -n '__fish_seen_subcommand_from run' -l strict -d 'stop at the first error, and save nothing'
 complete -c segment -n '__fish_seen_subcommand_from run' -l numbered -d 'number the answers'
 complete -c segment -n '__fish_seen_subcommand_from check' -l explain -d 'tell where and why'

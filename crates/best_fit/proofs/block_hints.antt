@@ -1,3 +1,3 @@
--- Handles by piece: what one that is noted or taken out leaves of the others (`Pieces`, whose last lemma is the main
--- one: pieces that were made wider).
+-- Handles by piece, as the pieces become wider (`Pieces`, whose last lemma is the main one: the handle of a piece is
+-- noted in a wider one).
 pub mod Pieces

@@ -1,16 +1,26 @@
 -- Handles of blocks in use that are known.
-use Rattle.std.specs.Prelude.{◌≡◌, ℕ, ◌/◌, ◌%◌, ◌^◌, ◌<◌, List, IsTrue, slice_index}
+use Rattle.std.specs.Prelude.{◌≡◌, ◌≢◌, ℕ, ◌+◌, ◌/◌, ◌%◌, ◌^◌, ◌<◌, ◌⊎◌, List, IsTrue, min, slice_index}
 use Rattle.raw_region.specs.Format.{current}
 use Rattle.best_fit.specs.declared.block_hints.BlockHints.{BlockHints}
 use Rattle.best_fit.specs.Heap.{IsHeap, is_live_in, live_of}
 
--- the piece in which an offset lies, if pieces have 2 ^ piece bytes
+-- the place of the piece in which an offset lies, behind 256 others, if pieces have 2 ^ piece bytes
 abbrev pub place_of : ℕ → ℕ → ℕ
-place_of piece offset = offset / 2 ^ (piece % 64)
+place_of piece offset = min (offset / 2 ^ (piece % 64) + 256) 18446744073709551615
 
--- the handle stands in the place of its piece
+-- the place for a remembered handle
+abbrev pub known_place_of : ℕ → ℕ
+known_place_of h = h / 16 % 256
+
+-- the handle is in its own place, or in the place of its piece
 abbrev pub IsHinted : BlockHints → ℕ → Type 0
-IsHinted p h = (0 < h) × (slice_index p.handles (place_of p.piece h) ≡ h)
+IsHinted p h = (0 < h)
+    × ((slice_index p.handles (known_place_of h) ≡ h) ⊎ (slice_index p.handles (place_of p.piece h) ≡ h))
+
+-- the handle does not stand in the place, and each number that is not 0 stood where it stands
+pub record LacksHandle (old new : List ℕ) (place handle : ℕ) : Type 0 where
+  pub gone : 0 < handle → slice_index new place ≢ handle
+  pub others : (i : ℕ) → (slice_index new i ≡ slice_index old i) ⊎ (slice_index new i ≡ 0)
 
 -- no handle is hinted
 abbrev pub AreNone : BlockHints → Type 0

@@ -41,16 +41,16 @@ len_in gs n = elim (find (λ (g : Gap). g.offset + 16 == n) gs) [ None ↦ 0 | S
 abbrev pub comes_before : List Gap → ℕ → ℕ → Bool
 comes_before gs a b = nat_lt (len_in gs a) (len_in gs b) || ((len_in gs a == len_in gs b) && nat_lt a b)
 
--- the gap is shorter than what is looked for, or as long and stands before it
+-- the gap is shorter than the probe, or as long and at a lesser offset
 abbrev pub stands_before : List Gap → GapProbe → ℕ → Bool
 stands_before gs sought n =
     nat_lt (len_in gs n) sought.len || ((len_in gs n == sought.len) && nat_lt n sought.from)
 
--- what the first gap of at least some length is looked for by
+-- the probe for the first gap of at least some length
 abbrev pub from_first : ℕ → GapProbe
 from_first wanted = record { len = wanted; from = 0 }
 
--- what a gap itself is looked for by
+-- the probe that finds a gap itself
 abbrev pub own_probe : List Gap → ℕ → GapProbe
 own_probe gs n = record { len = len_in gs n; from = n }
 
@@ -103,7 +103,7 @@ pub record GapTreeFrame : Type 0 where
   pub tiles : List Tile
   pub byte : ℕ → ℕ
 
--- what a change of the free tree keeps
+-- the state that a change of the free tree keeps
 unfoldable pub kept_of : WindowState → GapTreeFrame
 kept_of c =
     record {

@@ -21,7 +21,7 @@ node_of g = g.offset + 16
 abbrev pub is_long : ℕ → Gap → Bool
 is_long wanted g = nat_le wanted g.len
 
--- the lengths that are looked up are those of the gaps
+-- the lengths that searches read are the lengths of the gaps
 abbrev pub HaveGapLengths : List Gap → List Gap → Type 0
 HaveGapLengths gs hs = AllByRecursion (λ (h : Gap). len_in gs (h.offset + 16) ≡ h.len) hs
 

@@ -1,4 +1,4 @@
--- A tree of the gaps that is written anew.
+-- Building of the tree of gaps.
 use Rattle.std.specs.Prelude.{◌≡◌, ℕ, ◌+◌, ◌<◌, ◌≤◌, ◌⊎◌, List, ◌∷◌, ◌++◌, length}
 use Rattle.std.specs.List.{AllByRecursion}
 use Rattle.raw_region.specs.Memory.{WindowState, SameBytes, bytes_of}

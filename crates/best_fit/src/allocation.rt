@@ -39,8 +39,8 @@ pub fn allocate(touches: &mut TouchCounter, n: u64, role: Role) -> Result<u64, N
     Ok(node)
 }
 
-/// Takes `wanted` bytes at the front of a gap that is not in the tree into use, or all of them if less than 32 would be
-/// left. What is left enters the tree.
+/// Allocates `wanted` bytes at the front of a gap that is not in the tree, or the whole gap if less than 32 bytes would
+/// be left. The rest enters the tree.
 fn take(touches: &mut TouchCounter, at: u64, wanted: u64, role: Role)
     requires gap { (len : ℕ) × IsUnlinkedGap touches.old.gaps.now.window at len × (wanted ≤ len) }
     requires min_len { MIN_BLOCK_LEN ≤ wanted }

@@ -1,17 +1,22 @@
-//! Block hints: handles of blocks in use that are known, so that a handle is looked for from the nearest one on.
-ghost use Rattle.std.specs.Prelude.{◌≡◌, ◌≢◌, ℕ, ◌⊎◌, ◌<◌, ◌≤◌, IfSome, slice_index};
-ghost use Rattle.best_fit.specs.BlockHints.{AreNone, IsHinted, place_of};
+//! Block hints: handles of blocks in use that are known, so that a handle is found at once, or looked for from the
+//! nearest one on.
+ghost use Rattle.std.specs.Prelude.{◌≡◌, ◌≢◌, ℕ, ◌⊎◌, ◌<◌, ◌≤◌, IfSome, slice_index, true};
+ghost use Rattle.best_fit.specs.BlockHints.{AreNone, IsHinted, LacksHandle, known_place_of, place_of};
 
 use raw_region::Notes;
 
 /// The first pieces have 2 to this many bytes.
 const SHORTEST: u32 = 11;
 
-/// At most one handle for each piece of a window. The pieces are as long as each other. There are as many as there is
-/// room for notes about the window's region: none if it came without.
+/// The number of places for remembered handles. The places of the pieces follow.
+const KNOWN: usize = 256;
+
+/// Remembered handles, each in the place for its number, and at most one handle for each piece of a window. All pieces
+/// have the same length. Their number depends on the room for notes that came with the window's region; without it
+/// there are no hints.
 #[derive(Drop)]
 pub struct BlockHints {
-    /// The least known handle in each piece, or 0.
+    /// The remembered handles, and then the least known handle of each piece; 0 for an empty place.
     handles: Notes,
     /// The number of bytes of a piece is 2 to this.
     piece: u32,
@@ -55,16 +60,28 @@ impl BlockHints {
         self.piece = wider;
     }
 
-    /// Takes a handle out, and returns whether it was noted.
+    /// Stores a handle in its own place, over the handle there.
+    pub(crate) fn insert_known(&mut self, handle: u64)
+        ensures { (h : ℕ) → IsHinted self.new h → (h ≡ handle) ⊎ IsHinted self.old h }
+    {
+        if handle <= u32::MAX as u64 {
+            self.handles.set(known_place(handle), handle as u32);
+        }
+    }
+
+    /// Tells whether a handle stands in its own place.
+    pub(crate) fn is_known(&self, handle: u64) -> bool
+        ensures { result ≡ true → IsHinted self.now handle }
+    {
+        handle != 0 && self.handles.get(known_place(handle)) as u64 == handle
+    }
+
+    /// Takes a handle out, and returns whether it was noted in its piece.
     pub(crate) fn remove(&mut self, handle: u64) -> bool
         ensures { (h : ℕ) → IsHinted self.new h → (h ≢ handle) × IsHinted self.old h }
     {
-        let place = place(self.piece, handle);
-        if self.handles.get(place) as u64 == handle {
-            self.handles.set(place, 0);
-            return true;
-        }
-        false
+        clear(&mut self.handles, known_place(handle), handle);
+        clear(&mut self.handles, place(self.piece, handle), handle)
     }
 
     /// Returns the nearest noted handle at or before this one, if there is one.
@@ -75,7 +92,7 @@ impl BlockHints {
         let behind = place(self.piece, handle)
             .saturating_add(1)
             .min(handles.len());
-        'pieces: for piece in (0..behind).rev() {
+        'pieces: for piece in (KNOWN..behind).rev() {
             let known = handles[piece] as u64;
             if known != 0 && known <= handle && place(self.piece, known) == piece {
                 return Some(known);
@@ -99,12 +116,24 @@ fn note(handles: &mut Notes, piece: u32, handle: u64)
     }
 }
 
+/// Empties a place if the handle stands there, and returns whether it did.
+fn clear(handles: &mut Notes, place: usize, handle: u64) -> bool
+    ensures { LacksHandle handles.old handles.new place handle }
+{
+    if handles.get(place) as u64 == handle {
+        handles.set(place, 0);
+        return true;
+    }
+    false
+}
+
 /// Notes the handles of shorter pieces in wider ones.
 fn spread(handles: &mut Notes, shorter: u32, wider: u32)
-    ensures { (h : ℕ) → 0 < h → slice_index handles.new (place_of wider h) ≡ h
+    ensures piece { (h : ℕ) → 0 < h → slice_index handles.new (place_of wider h) ≡ h
         → slice_index handles.old (place_of shorter h) ≡ h }
+    ensures frame { (i : ℕ) → i < 256 → slice_index handles.new i ≡ slice_index handles.old i }
 {
-    'pieces: for piece in 0..handles.len() {
+    'pieces: for piece in KNOWN..handles.len() {
         let handle = handles.get(piece) as u64;
         handles.set(piece, 0);
         if place(shorter, handle) == piece && place(wider, handle) <= piece {
@@ -113,9 +142,16 @@ fn spread(handles: &mut Notes, shorter: u32, wider: u32)
     }
 }
 
-/// Returns the piece in which an offset lies.
+/// Returns the place of the piece in which an offset lies.
 fn place(piece: u32, offset: u64) -> usize
     ensures { result ≡ place_of piece offset }
 {
-    offset.wrapping_shr(piece) as usize
+    (offset.wrapping_shr(piece) as usize).saturating_add(KNOWN)
+}
+
+/// Returns the place for a remembered handle.
+fn known_place(handle: u64) -> usize
+    ensures { result ≡ known_place_of handle }
+{
+    (handle / 16 % KNOWN as u64) as usize
 }

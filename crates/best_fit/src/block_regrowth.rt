@@ -1,4 +1,4 @@
-//! More room for what a block holds: where it stands, or in a new block.
+//! Regrowth: a longer block in place, or a new block.
 ghost use Rattle.std.specs.Prelude.{◌≤◌, IfSome, IsTrue};
 ghost use Rattle.raw_region.specs.Format.{current};
 ghost use Rattle.best_fit.specs.Exchange.{Regrows, Replaces};
@@ -22,7 +22,7 @@ impl Heap {
         requires room { IfSome storage (λ h. IsTrue (has_room (live_of self.old.bytes) h used)) }
         ensures { Regrows current self.old self.new storage n used result }
     {
-        // What is true of every heap is known from here on: its bytes lay out a live set.
+        // This brings in the invariant of a heap: its bytes encode a live set.
         let _ = &self.gaps;
         match storage {
             None => self.allocate(n, Role::Storage, &mut Steps::new()),
@@ -44,7 +44,7 @@ impl Heap {
         requires room { IsTrue (has_room (live_of self.old.bytes) handle used) }
         ensures { Replaces current self.old self.new handle n used result }
     {
-        // What is true of every heap is known from here on: its bytes lay out a live set.
+        // This brings in the invariant of a heap: its bytes encode a live set.
         let _ = &self.gaps;
         let new = self.allocate(n, Role::Storage, &mut Steps::new())?;
         self.copy(handle, 0, new, 0, used);

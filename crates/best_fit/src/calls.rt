@@ -1,5 +1,4 @@
-//! The calls of a heap that take blocks, give them back and change their sizes. What they do, they do through
-//! `TouchCounter`, which counts it.
+//! The calls of a heap that allocate, free and resize blocks. They work through `TouchCounter`, which counts touches.
 ghost use Rattle.std.specs.Prelude.{◌≡◌, ◌≢◌, true, is_ok, ◌<◌, ◌+◌, ◌≤◌, IsTrue};
 ghost use Rattle.raw_region.specs.Format.{current};
 ghost use Rattle.best_fit.specs.Heap.{Allocates, TryExtends, Deallocates, ShrinksInPlace, heap_touches, is_live_in};
@@ -34,7 +33,7 @@ impl Heap {
         result
     }
 
-    /// Gives back the block of a handle: it becomes one gap with those before and after it.
+    /// Frees the block of a handle: it becomes one gap with the gaps before and after it.
     pub fn deallocate(&mut self, handle: u64, steps: &mut Steps)
         requires { IsTrue (is_live_in (live_of self.old.bytes) handle) }
         ensures released { Deallocates current self.old self.new handle }

@@ -1,4 +1,4 @@
-//! A block that is given back, and gaps that are joined.
+//! Deallocation, and the joining of gaps.
 ghost use Rattle.std.specs.Prelude.{◌≡◌, ℕ, ◌+◌, ◌*◌, ◌^◌, ◌<◌, ◌≤◌, List, Some, ◌++◌, IsTrue, length, true};
 ghost use Rattle.block_tags.specs.declared.tile.Tile.{Tile as ATile};
 ghost use Rattle.raw_region.specs.Format.{current};
@@ -15,7 +15,7 @@ ghost use Rattle.best_fit.specs.Tiling.{free_behind, joined_before, joined_free_
 use crate::heap::touch_counter::TouchCounter;
 use block_tags::{TAG_LEN, Tile};
 
-/// Gives back the block whose tag begins at `at`: it becomes one gap with those before and after it, which leave the
+/// Frees the block whose tag begins at `at`. It becomes one gap with the gaps before and after it, which leave the
 /// tree.
 pub fn release(touches: &mut TouchCounter, at: u64)
     requires heap { IsHeap current touches.old.gaps.now.window.bytes }

@@ -34,7 +34,7 @@ use std::marker::Model;
 #[derive(Drop)]
 pub struct Heap {
     pub(crate) gaps: GapTree,
-    /// Where to begin to look for a handle. Neither the bytes nor what is answered depend on it. Its room came with the
+    /// Places at which a search for a handle begins. No byte and no result depends on them. Their room came with the
     /// window's region.
     pub(crate) hints: BlockHints,
 }
@@ -53,8 +53,8 @@ impl Model for Heap {
 impl Heap {
     ghost use Rattle.best_fit.specs.Lent.{LendsBlock};
 
-    /// Returns a heap with no block in use, over a window of 144 bytes or of a multiple of 16 from 176 to 1073741824.
-    /// It writes the tags, the links of the one gap and the word at 24, and no other byte.
+    /// Returns a heap without blocks, over a window of 144 bytes or of a multiple of 16 from 176 to 1073741824. It
+    /// writes only the tags, the links of the one gap and the word at 24.
     pub fn fresh(window: Window) -> Heap
         requires { IsTrue (is_legal_size (length window.bytes)) }
         ensures { FormatsHeap current window result }
@@ -94,6 +94,14 @@ impl Heap {
         ensures { self.new ≡ self.old }
     {
         self.hints.insert(handle);
+    }
+
+    /// Notes a handle if a block in use has it, so that `is_live` tells so at once. Any number may be given. No byte
+    /// changes.
+    pub fn remember(&mut self, handle: u64)
+        ensures { self.new ≡ self.old }
+    {
+        tile_walk::remember(&self.gaps.window, &mut self.hints, handle);
     }
 
     /// Returns the heap's window, with the bytes that it has now. The room for hints goes with it.
@@ -149,14 +157,14 @@ impl Heap {
         self.gaps.window.write_u64(at, value);
     }
 
-    /// Tells whether a block in use has this handle. Any number may be asked for.
+    /// Returns true if a block in use has this handle. The number can be any number.
     pub fn is_live(&self, handle: u64) -> bool
         ensures { result ≡ is_live_in (live_of self.now.bytes) handle }
     {
         tile_walk::is_live(&self.gaps.window, &self.hints, handle)
     }
 
-    /// Returns what the block of a handle is used for.
+    /// Returns the role of the block of a handle.
     pub fn role(&self, handle: u64) -> Role
         requires { IsTrue (is_live_in (live_of self.now.bytes) handle) }
         ensures { option_map (λ (x : Extent). x.role) (extent_at (live_of self.now.bytes) handle) ≡ Some result }
@@ -220,7 +228,7 @@ impl Heap {
         self.gaps.window.move_within(from + from_at, to + to_at, n);
     }
 
-    /// Returns the payload of the block of a handle: its bytes after the tag, at least as many as were asked for.
+    /// Returns the payload of the block of a handle: its bytes after the tag, at least as many as were requested.
     pub fn block(&self, handle: u64) -> &[u8]
         requires { IsTrue (is_live_in (live_of self.now.bytes) handle) }
         ensures { result.now ≡ payload_at self.now.bytes (live_of self.now.bytes) handle }

@@ -39,7 +39,7 @@ pub fn extend(touches: &mut TouchCounter, at: u64, n: u64) -> bool
     true
 }
 
-/// Shortens the block whose tag begins at `at` to hold `n` bytes, if what is cut off can be a gap.
+/// Shortens the block whose tag begins at `at` to hold `n` bytes, if the part that is cut off can be a gap.
 pub fn shorten(touches: &mut TouchCounter, at: u64, n: u64)
     requires heap { IsHeap current touches.old.gaps.now.window.bytes }
     requires live { IsTrue (is_live_in (live_of touches.old.gaps.now.window.bytes) (at + TAG_LEN)) }
@@ -64,7 +64,7 @@ pub fn shorten(touches: &mut TouchCounter, at: u64, n: u64)
     }
 }
 
-/// Tells whether what is cut off a block is part of a gap: of the one after it, or of one of its own.
+/// Returns true if the part that is cut off a block joins the gap after it, or is long enough for a gap of its own.
 fn leaves_gap(cut: u64, behind: u64) -> bool
     ensures { result ≡ (nat_lt 0 behind || nat_le 32 cut) }
 {

@@ -1,4 +1,4 @@
-//! A block hint that leads to a block which is given back goes on to the block after it.
+//! Block hints of freed blocks: the hint then leads to the next block.
 ghost use Rattle.std.specs.Prelude.{◌≡◌, ◌≢◌, ℕ, ◌+◌, ◌^◌, ◌<◌, ◌≤◌, IfSome, IsTrue};
 ghost use Rattle.raw_region.specs.Format.{current};
 ghost use Rattle.best_fit.specs.Heap.{IsHeap, is_live_in, live_of};
@@ -8,7 +8,7 @@ use crate::block_hints::BlockHints;
 use crate::heap::touch_counter::TouchCounter;
 use block_tags::TAG_LEN;
 
-/// Lets no block hint lead to the block of a handle: one that did leads to the block after it, if there is one.
+/// Removes a handle from the block hints. A hint of a piece then leads to the block after it, if there is one.
 pub fn retarget_hint(touches: &mut TouchCounter, hints: &mut BlockHints, handle: u64)
     requires heap { IsHeap current touches.old.gaps.now.window.bytes }
     requires hints { LeadToBlocks hints.old touches.old.gaps.now.window.bytes }

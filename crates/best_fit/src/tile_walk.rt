@@ -10,9 +10,20 @@ use crate::block_hints::BlockHints;
 use block_tags::{TAG_LEN, Tile, first, next, tile_at};
 use raw_region::Window;
 
-/// Tells whether a block in use has this handle. Any number may be asked for. The walk begins at the nearest block
-/// hint.
+/// Returns true if a block in use has this handle, which can be any number. A remembered handle is known at once; any
+/// other is searched from the nearest block hint on.
 pub fn is_live(window: &Window, hints: &BlockHints, handle: u64) -> bool
+    requires { IsHintedHeap window.now.bytes hints.now }
+    ensures { result ≡ is_live_in (live_of window.now.bytes) handle }
+{
+    if hints.is_known(handle) {
+        return true;
+    }
+    is_reached(window, hints, handle)
+}
+
+/// Tells whether a walk from the nearest block hint reaches a block in use of this handle.
+fn is_reached(window: &Window, hints: &BlockHints, handle: u64) -> bool
     requires { IsHintedHeap window.now.bytes hints.now }
     ensures { result ≡ is_live_in (live_of window.now.bytes) handle }
 {
@@ -27,6 +38,16 @@ pub fn is_live(window: &Window, hints: &BlockHints, handle: u64) -> bool
         ahead = next(window, tile.offset);
     }
     false
+}
+
+/// Notes a handle if a block in use has it, so that `is_live` tells so at once. Any number may be given.
+pub fn remember(window: &Window, hints: &mut BlockHints, handle: u64)
+    requires { IsHintedHeap window.now.bytes hints.old }
+    ensures { LeadToBlocks hints.new window.now.bytes }
+{
+    if !hints.is_known(handle) && is_reached(window, hints, handle) {
+        hints.insert_known(handle);
+    }
 }
 
 /// Notes the first block in use of each piece of a heap's window, and reads all tiles.

@@ -1,4 +1,4 @@
--- What is tested of one tile by a call that reads all tags of a window.
+-- Tests of one tile, for a call that reads all tags of a window.
 use Rattle.std.specs.Prelude.{◌≡◌, ◌<◌, ℕ, zero, suc, ◌+◌, ◌-◌, ◌/◌, Bool, true, false, ◌&&◌, not, IsTrue, ◌==◌, nat_le}
 use Rattle.std.specs.Prelude.{nat_lt, if◌then◌else◌}
 use Rattle.raw_region.specs.Memory.{Memory, word_at}
@@ -17,7 +17,7 @@ is_good_tile format m at before behind_free end =
     (word_at m at == before) && nat_le t.len (end - at) && is_tagged format t (word_at m (at + 8))
     && not (behind_free && is_free t)
 
--- how many good tiles stand one after another from an offset on, of at most this many
+-- the number of good tiles from an offset on, at most this many
 abbrev pub good_tiles_from : ℕ → ℕ → Memory → ℕ → ℕ → Bool → ℕ → ℕ
 good_tiles_from format zero m at before behind_free end = 0
 good_tiles_from format (suc more) m at before behind_free end =
@@ -26,7 +26,7 @@ good_tiles_from format (suc more) m at before behind_free end =
       | true ↦ let t : Tile = tile_at m at in 1 + good_tiles_from format more m (at + t.len) t.len (is_free t) end
     ]
 
--- how many good tiles stand from 128 on, up to the first wrong tag or to the end tag
+-- the number of good tiles from 128 on, up to the first wrong tag or the end tag
 abbrev pub good_tiles_of : ℕ → Memory → ℕ → ℕ
 good_tiles_of format m size = good_tiles_from format (size / 32) m 128 0 false (size - 16)
 

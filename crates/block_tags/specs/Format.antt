@@ -1,4 +1,4 @@
--- How many bytes a segment may have.
+-- The legal sizes of a segment.
 use Rattle.std.specs.Prelude.{ℕ, ◌%◌, Bool, ◌&&◌, ◌||◌, ◌==◌, nat_le}
 
 -- 144 bytes, or a multiple of 16 from 176 to 2 ^ 30

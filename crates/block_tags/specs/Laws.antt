@@ -10,7 +10,7 @@ use Rattle.block_tags.specs.Lists.{AreContiguous, tile_in, first_in, next_in, pr
 use Rattle.block_tags.specs.Lists.{without_last, IsBesideTags}
 use Rattle.block_tags.specs.Windows.{EncodesTiles, FrontSaysTiles}
 
--- the tiles that are read off are those that the tags say, and so is each of them
+-- the tiles that a reading finds are the tiles of the tags, and so is each of them
 abbrev pub TilesAreReadOff : Type 0
 TilesAreReadOff = (c : WindowState) (ts : List Tile) → EncodesTiles c ts
     → tiles_of (bytes_of c.bytes) (length c.bytes) ≡ ts
@@ -42,8 +42,7 @@ PayloadIsBesideTags = (c : WindowState) (ts : List Tile) (at : ℕ) (t : Tile) �
     → tile_in ts at ≡ Some t
     → (k : ℕ) → at + 16 ≤ k → k < at + t.len → IsBesideTags ts k × (k < length c.bytes - 16)
 
--- where the tile at an offset stands in a list: what is before it, what is after, and what becomes of the list if
--- it changes
+-- a tile at an offset splits a list: the tiles before it, the tiles after it, and the list after a change of it
 pub record SplitsListAt (ts : List Tile) (at : ℕ) (t : Tile) : Type 0 where
   pub front : List Tile
   pub back : List Tile
@@ -71,7 +70,7 @@ pub record SameTags (m m' : Memory) (ts : List Tile) (end : ℕ) : Type 0 where
   pub tags : AllByRecursion (λ (t : Tile). SameBytes m m' t.offset (t.offset + 16)) ts
   pub last : SameBytes m m' end (end + 16)
 
--- tags that stay say what they said
+-- unchanged tags have unchanged tiles
 abbrev pub TagsThatStaySayTheSame : Type 0
 TagsThatStaySayTheSame = (c d : WindowState) (ts : List Tile) → EncodesTiles c ts → length d.bytes ≡ length c.bytes
     → SameTags (bytes_of c.bytes) (bytes_of d.bytes) ts (length c.bytes - 16) → EncodesTiles d ts
@@ -88,7 +87,7 @@ abbrev pub HeaderMayChange : Type 0
 HeaderMayChange = (c d : WindowState) (ts : List Tile) → EncodesTiles c ts → length d.bytes ≡ length c.bytes
     → (from n : ℕ) → from + n ≤ 128 → SameBytesExcept (bytes_of c.bytes) (bytes_of d.bytes) from n → EncodesTiles d ts
 
--- the first bytes of a window say what they say as a window of their own
+-- the front of a window has the same tiles as a window of its own
 abbrev pub FrontIsAWindow : Type 0
 FrontIsAWindow = (c d : WindowState) (ts : List Tile) → length c.bytes ≤ length d.bytes
     → SameBytes (bytes_of c.bytes) (bytes_of d.bytes) 0 (length c.bytes)

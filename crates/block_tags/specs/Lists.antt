@@ -1,4 +1,4 @@
--- Lists of tiles: the tile at an offset and its neighbours, and what a list becomes if one of its tiles changes.
+-- Lists of tiles: the tile at an offset and its neighbours, and the list after a change of one tile.
 use Rattle.std.specs.Prelude.{◌≡◌, IsTrue, ℕ, ◌+◌, ◌-◌, ◌<◌, ◌≤◌, ◌⊎◌, Bool, false, Option, Some, None, List, [], ◌∷◌}
 use Rattle.std.specs.Prelude.{◌++◌, ◌==◌, if◌then◌else◌}
 use Rattle.block_tags.specs.declared.tile.Role.{Role}
@@ -49,7 +49,7 @@ last_in (t ∷ u ∷ ts) = last_in (u ∷ ts)
 abbrev pub free_tile : ℕ → ℕ → Tile
 free_tile offset len = record { offset = offset; len = len; use_of = None; red = false }
 
--- what a list becomes if the tile at an offset and those after it become others
+-- the list after a change of the tile at an offset, and of the tiles after it
 abbrev pub changed_at : ℕ → (Tile → List Tile → List Tile) → List Tile → List Tile
 changed_at at change [] = []
 changed_at at change (t ∷ ts) = if t.offset == at then change t ts else t ∷ changed_at at change ts

@@ -1,4 +1,5 @@
--- What contracts say of a window: its tags say a list of tiles. The records named by what a call needs are conditions.
+-- Words of contracts about a window: its tags encode a list of tiles. Records that bear the name of a need are
+-- conditions.
 use Rattle.std.specs.Prelude.{◌≡◌, ℕ, ◌+◌, ◌-◌, ◌%◌, ◌<◌, ◌≤◌, Bool, ◌||◌, not, Option, Some, List, length, IsTrue}
 use Rattle.raw_region.specs.Memory.{WindowState, SameSurroundings, SameBytesExcept, bytes_of, word_at}
 use Rattle.raw_region.specs.Format.{current}
@@ -13,7 +14,7 @@ pub record EncodesTiles (c : WindowState) (ts : List Tile) : Type 0 where
   pub size : IsTrue (is_legal_size (length c.bytes))
   pub tags : AreTilesOf current (bytes_of c.bytes) (length c.bytes) ts
 
--- this many bytes at the front of the window are those of a segment whose tags say these tiles
+-- the first n bytes of the window are a segment whose tags encode these tiles
 pub record FrontSaysTiles (c : WindowState) (n : ℕ) (ts : List Tile) : Type 0 where
   pub size : IsTrue (is_legal_size n)
   pub within : n ≤ length c.bytes

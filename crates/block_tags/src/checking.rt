@@ -14,12 +14,12 @@ use raw_region::Window;
 /// The number of the format that is written.
 const FORMAT: u64 = 2;
 
-/// Whether all tags of a window are right, how many of them were read, and where that ended.
+/// The result of a check of all tags: whether all are right, the number of tags that it read, and where it ended.
 #[derive(Clone, Copy, Debug, PartialEq, Eq)]
 pub struct CheckedTags {
     /// Whether the tags say tiles that fill the window.
     pub are_good: bool,
-    /// How many tags were read: those of the good tiles, and one more, the end tag or the first wrong one.
+    /// The number of tags that were read: the good tiles, and one more, which is the end tag or the first wrong tag.
     pub tags: u64,
     /// Where the last tag that was read stands.
     pub at: u64,
@@ -110,7 +110,7 @@ fn is_good(format: u64, window: &Window, at: u64, before: u64, behind_free: bool
     is_whole(format, tile, window.read_u64(at + 8))
 }
 
-/// Tells whether the tile is one that may stand in a window of the format, and this the second word of its tag.
+/// Returns true if the tile can be in a window of the format, and this is the second word of its tag.
 fn is_whole(format: u64, tile: Tile, word: u64) -> bool
     requires { tile.len < 2 ^ 63 }
     ensures { result ≡ is_tagged format tile word }

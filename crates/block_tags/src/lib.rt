@@ -1,8 +1,7 @@
-//! Tiles: the parts that fill a segment from its header to its end tag, and the boundary tags (Knuth, The Art of
-//! Computer Programming, volume 1, section 2.5) that say where each begins, how long it is and what it is used for.
+//! Tiles: the parts of a segment from its header to its end tag, and the boundary tags (Knuth, The Art of Computer
+//! Programming, volume 1, section 2.5) that say where each begins, its length and its use.
 //!
-//! The calls are functions of a `Window`, which the caller owns: the tags are all that there is of a tile, and no value
-//! of this crate's stands beside them.
+//! The calls are functions of a `Window`, which the caller owns. The tags in the window are the only state.
 #![tactic(auto)]
 
 mod checking;

@@ -1,4 +1,4 @@
-//! How many bytes a segment, its header and a tag have.
+//! The lengths of a segment, its header and a tag, in bytes.
 ghost use Rattle.std.specs.Prelude.{◌≡◌};
 ghost use Rattle.block_tags.specs.Format.{is_legal_size as is_legal};
 

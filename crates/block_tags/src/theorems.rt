@@ -12,7 +12,7 @@ pub fn tags_say_one_list()
     ensures { SayOneList }
 {}
 
-/// States that the tiles that the tags say are those that are read off from the header on.
+/// States that the tiles of the tags are those that a reading from the header on finds.
 pub fn tiles_are_read_off()
     ensures { TilesAreReadOff }
 {}
@@ -47,7 +47,7 @@ pub fn tile_stands_in_list()
     ensures { TileStandsInList }
 {}
 
-/// States that each tile that the tags say is the one that is found at its offset.
+/// States that each tile of the tags is the one at its offset.
 pub fn one_tile_at_an_offset()
     ensures { OneTileAtAnOffset }
 {}
@@ -77,7 +77,7 @@ pub fn front_is_a_window()
     ensures { FrontIsAWindow }
 {}
 
-/// States what the words of the definitions are at the tiles of one window.
+/// States the definitions at the tiles of one window, as a worked example.
 pub fn worked_tiles()
     ensures { WorkedTiles }
 {}

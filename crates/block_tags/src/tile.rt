@@ -1,8 +1,8 @@
-//! A tile, what it is used for, and the one refusal of this crate.
+//! A tile, its use, and the one refusal of this crate.
 
 use thiserror::Error;
 
-/// What a tile in use is for.
+/// The use of a tile.
 #[derive(Clone, Copy, Debug, PartialEq, Eq)]
 pub enum Role {
     /// A value under a name, as the one of its kind, or under its handle alone.
@@ -22,7 +22,7 @@ pub struct Tile {
     pub offset: u64,
     /// The number of bytes with the tag: a multiple of 16, at least 32.
     pub len: u64,
-    /// What the payload is for, or nothing if the tile is free.
+    /// The use of the payload, or nothing if the tile is free.
     pub use_of: Option<Role>,
     /// The tile's colour in a tree of tiles, red or black.
     pub red: bool,

@@ -1,5 +1,5 @@
-//! Tiles that are split, joined, and given another use or colour. Only tags are written: those of the tiles that are
-//! named, and the length before in the tag after them, so that a tile is found from either side without a search.
+//! Calls that split and join tiles, and change their use and colour. They write only tags: those of the named tiles,
+//! and the length in the tag after them, so that a tile is found from either side without a search.
 ghost use Rattle.std.specs.Prelude.{◌+◌, List};
 ghost use Rattle.raw_region.specs.Memory.{SameBytesExcept, bytes_of};
 ghost use Rattle.block_tags.specs.declared.tile.Tile.{Tile};

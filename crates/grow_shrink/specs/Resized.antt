@@ -11,7 +11,7 @@ use Rattle.grow_shrink.specs.declared.refusals.GrowError.TheVariants.{ReadOnly, 
 -- the directory with this many bytes more, and as far as its last extent and the end tag
 pub use Rattle.segment_manager.specs.blocks.Resized.{grown, shrunk}
 
--- how many bytes the region has from the segment's base on
+-- the number of bytes of the region from the segment's base on
 abbrev pub room_of : WindowState → ℕ
 room_of c = length (whole c) - length c.before
 
@@ -44,7 +44,7 @@ abbrev pub GrownIsDirectory : Type 0
 GrownIsDirectory = (format : ℕ) (d : Directory) (extra : ℕ) → IsDirectory format d → 32 ≤ extra → extra % 16 ≡ 0
     → d.size + extra ≤ 1073741824 → IsDirectory format (grown d extra)
 
--- the law: what is left after the last extent can be given up
+-- the law: the bytes after the last extent can be cut off
 abbrev pub ShrunkIsDirectory : Type 0
 ShrunkIsDirectory = (format : ℕ) (d : Directory) → IsDirectory format d → IsDirectory format (shrunk d)
 

@@ -1,4 +1,4 @@
-//! The same directory in a larger segment, or in the least one that serves.
+//! The same directory in a larger segment, or in the smallest segment that holds its blocks.
 #![tactic(auto)]
 
 mod larger_region;

@@ -1,4 +1,4 @@
-//! A segment that grows at its end, or gives up what is free there.
+//! Growth of a segment at its end, and removal of the free bytes there.
 ghost use Rattle.std.specs.Prelude.{◌≡◌, ◌+◌, ◌%◌, not, ◌||◌, ◌==◌, nat_lt, OnErr, OnOk};
 ghost use Rattle.segment_manager.specs.blocks.Resized.{Resizes, grown, shrunk};
 ghost use Rattle.segment_manager.specs.Step.{is_read_only as may_only_be_read};

@@ -30,8 +30,8 @@ pub use Rattle.block_tags.specs.declared.tile.Role.{Role}
 pub use Rattle.block_tags.specs.declared.tile.Role.TheVariants.{Index, Node, Storage}
 pub use Rattle.block_tags.specs.declared.tile.Tile.{Tile}
 pub use Rattle.byteorder.specs.Endian.{little_number}
-pub use Rattle.image_check.specs.Causes.{IsShown, error_for, opened_as}
-pub use Rattle.image_check.specs.Checking.{ExaminesWindow, IsWhyRefused, OpensWindow}
+pub use Rattle.image_check.specs.Causes.{IsShown}
+pub use Rattle.image_check.specs.Checking.{IsWhyRefused, OpensWindow}
 pub use Rattle.image_check.specs.Classes.{class_of, classes}
 pub use Rattle.image_check.specs.Containers.{AreFollowed, block_weight, container_block_rates, container_walk_rates}
 pub use Rattle.image_check.specs.Containers.{has_container, rooted_weight}
@@ -59,9 +59,8 @@ pub use Rattle.image_check.specs.ObjectTests.{has_name, has_objects, has_padding
 pub use Rattle.image_check.specs.ObjectTests.{is_object_tile, is_table_link, is_use, is_value_in, kind_at, leads_to}
 pub use Rattle.image_check.specs.ObjectTests.{object_tiles, payload, rise_by, targets, tile_of, value_offset}
 pub use Rattle.image_check.specs.Opening.{IsHandedBack, IsImage, IsOpenCause, IsTooSmallFor, failed_reads}
-pub use Rattle.image_check.specs.Opening.{has_early_class}
-pub use Rattle.image_check.specs.OpeningAny.{OpensAny, UpgradesFormat}
-pub use Rattle.image_check.specs.OpeningBytes.{OpensBytes, as_given}
+pub use Rattle.image_check.specs.Opening.{as_given, has_early_class}
+pub use Rattle.image_check.specs.Upgrading.{UpgradesFormat}
 pub use Rattle.image_check.specs.OwnerPlaces.{IsSharedAt}
 pub use Rattle.image_check.specs.Owners.{AreBlocks, BlockMap, Blocks, IsBlockAt, IsFollowed, IsMarkedLink, IsMarking}
 pub use Rattle.image_check.specs.Owners.{IsMarkingOf, IsRooted, IsSharedIn, IsTileAt, IsUnmarked, IsWholeMarking}
@@ -81,8 +80,6 @@ pub use Rattle.image_check.specs.declared.classes.ImageClass.TheVariants.{BadCon
 pub use Rattle.image_check.specs.declared.classes.ImageClass.TheVariants.{BadObject, BadReserved, BadSize, BadTag}
 pub use Rattle.image_check.specs.declared.classes.ImageClass.TheVariants.{OrphanBlock, SharedBlock, Truncated}
 pub use Rattle.image_check.specs.declared.classes.ImageClass.TheVariants.{UnsupportedVersion}
-pub use Rattle.image_check.specs.declared.errors.ExamineError.{ExamineError}
-pub use Rattle.image_check.specs.declared.errors.ExamineRefused.{ExamineRefused}
 pub use Rattle.image_check.specs.declared.errors.OpenError.{OpenError}
 pub use Rattle.image_check.specs.declared.errors.OpenRefused.{OpenRefused}
 pub use Rattle.image_check.specs.declared.owners.Block.{Block}

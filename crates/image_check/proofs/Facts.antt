@@ -1,10 +1,9 @@
 -- What holds of images, for other crates: the laws of `laws.rt`.
-pub use Rattle.image_check.proofs.opening.Decisions.{why-by_format}
+pub use Rattle.image_check.proofs.opening.Decisions.{refused-class}
 pub use Rattle.image_check.proofs.reading.Deciding.{all_decided}
 pub use Rattle.image_check.proofs.reading.Ends.{ends_at_most_once}
 pub use Rattle.image_check.proofs.law.OneDirectory.{one_directory}
 pub use Rattle.image_check.proofs.containers.MapMeaning.{tests_mean_relations}
-pub use Rattle.image_check.proofs.opening.AnyFormat.{why-given}
 -- And what is true of the tests of indexes and objects, whoever reads the bytes.
 pub use Rattle.image_check.proofs.indexes.AllEntries.{targets-split}
 pub use Rattle.image_check.proofs.objects.HeadBytes.{element-spelled, named-right, padding-read}

@@ -1,5 +1,4 @@
--- Opening an image: which are opened (`AnyFormat`), and why the others are refused.
-pub mod AnyFormat
+-- Opening an image: what is decided of it, and why it is refused.
 pub mod Decisions
 pub mod InRegion
 pub mod InMemory

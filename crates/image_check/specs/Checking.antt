@@ -8,16 +8,14 @@ use Rattle.image_check.specs.declared.classes.ImageClass.TheVariants.{OrphanBloc
 use Rattle.image_check.specs.ObjectTests.{has_indexes, has_objects}
 use Rattle.image_check.specs.Fields.{is_shared, is_orphaned, has_containers}
 use Rattle.image_check.specs.Owners.{Blocks, entries_of, frames}
-use Rattle.image_check.specs.Passes.{CountsTiles, HasTiles, IsRefusalFor, Spends, tiles_in, has_block}
-use Rattle.image_check.specs.declared.errors.ExamineError.{ExamineError}
-use Rattle.image_check.specs.declared.errors.ExamineError.TheVariants.{Image, RegionTooSmall, OutOfMemory, ReadFault}
-use Rattle.image_check.specs.declared.errors.ExamineRefused.{ExamineRefused}
+use Rattle.image_check.specs.Passes.{CountsTiles, HasTiles, IsMapRefused, Spends, tiles_in, has_block}
+use Rattle.image_check.specs.declared.errors.OpenError.{OpenError}
+use Rattle.image_check.specs.declared.errors.OpenError.TheVariants.{Image, RegionTooSmall, OutOfMemory, ReadFault}
 use Rattle.image_check.specs.declared.errors.OpenRefused.{OpenRefused}
 use Rattle.segment_manager.specs.declared.modes.Mode.{Mode}
 use Rattle.segment_manager.specs.State.{SegmentState}
-use Rattle.image_check.specs.Causes.{error_for}
 use Rattle.image_check.specs.Opening.{IsImage, has_early_class}
-use Rattle.image_check.specs.OpeningAny.{UpgradesFormat}
+use Rattle.image_check.specs.Upgrading.{UpgradesFormat}
 use Rattle.image_check.specs.Verdicts.{IsVerdict}
 use Rattle.image_check.specs.Visits.{all_rates}
 
@@ -35,10 +33,10 @@ late_class format m ts = late_by (has_indexes m ts) (has_objects format m ts) (i
     (has_containers format m ts) (is_orphaned format m ts)
 
 -- why an image that stands in its window is refused
-abbrev pub IsWhyRefused : ℕ → List ℕ → ExamineError → Type 0
+abbrev pub IsWhyRefused : ℕ → List ℕ → OpenError → Type 0
 IsWhyRefused format b (Image v) = IsVerdict format b v
 IsWhyRefused format b (OutOfMemory refusal) =
-    (has_early_class format b ≡ false) × IsTrue (has_block b) × IsRefusalFor b refusal
+    (has_early_class format b ≡ false) × IsTrue (has_block b) × IsMapRefused b refusal
 IsWhyRefused format b RegionTooSmall = ⊥
 IsWhyRefused format b ReadFault = ⊥
 
@@ -60,16 +58,9 @@ pub record OpensWindowOk (format : ℕ) (w : WindowState) (how : Mode) (s : Segm
 
 -- the image is refused, and its region comes back as it was
 pub record OpensWindowErr (format : ℕ) (w : WindowState) (refused : OpenRefused) : Type 0 where
-  pub why : ExamineError
-  pub holds : IsWhyRefused format w.bytes why
-  pub cause : refused.cause ≡ error_for why
+  pub why : IsWhyRefused format w.bytes refused.cause
   pub region : refused.region ≡ whole w
 
 -- the call opens the image, or refuses it
 abbrev pub OpensWindow : ℕ → WindowState → Mode → Result SegmentState OpenRefused → Type 0
 OpensWindow format w mode result = MatchResult result (OpensWindowOk format w mode) (OpensWindowErr format w)
-
--- the call tells whether the image denotes a directory; the region comes back as it was
-abbrev pub ExaminesWindow : ℕ → WindowState → Result (List ℕ) ExamineRefused → Type 0
-ExaminesWindow format w result = MatchResult result (λ region. IsImage format w.bytes × (region ≡ whole w))
-    (λ refused. IsWhyRefused format w.bytes refused.cause × (refused.region ≡ whole w))

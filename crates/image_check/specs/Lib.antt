@@ -29,7 +29,5 @@ pub mod MapNodes
 pub mod MapLaws
 pub mod Containers
 pub mod Sharing
-pub mod OpeningAny
-pub mod OpeningBytes
-pub mod Examining
+pub mod Upgrading
 pub mod Saving

@@ -1,4 +1,4 @@
--- What opening an image may answer, from what its reader gave, if images of one format are read.
+-- What opening an image may answer, from what its reader gave, by the rules of one format.
 use Rattle.std.specs.Prelude.{◌≡◌, ◌⊎◌, ◌<◌, ◌≤◌, ⊤, ℕ, ◌+◌, ◌*◌, ◌/◌, true, false, ◌&&◌, List, [], length, take, drop}
 use Rattle.std.specs.Prelude.{IsTrue, nat_lt, Bool, Some, Result, Ok, Err, MatchResult, if◌then◌else◌}
 use Rattle.std.specs.List.{list_any}
@@ -6,7 +6,6 @@ use Rattle.raw_region.specs.Memory.{SameSurroundings, cut_at, whole}
 use Rattle.block_tags.specs.Format.{is_legal_size}
 use Rattle.raw_region.specs.Device.{ReaderHistory, ReadDelta}
 use Rattle.segment_manager.specs.declared.modes.Mode.{Mode}
-use Rattle.segment_manager.specs.declared.modes.Mode.TheVariants.{ReadOnly}
 use Rattle.segment_manager.specs.Directory.{Directory}
 use Rattle.segment_manager.specs.Denotes.{Denotes}
 use Rattle.segment_manager.specs.State.{SegmentState}
@@ -16,7 +15,8 @@ use Rattle.image_check.specs.declared.errors.OpenRefused.{OpenRefused}
 use Rattle.image_check.specs.declared.classes.ImageClass.{ImageClass}
 use Rattle.image_check.specs.EarlyTests.{has_front, size_word}
 use Rattle.image_check.specs.Classes.{holds, classes, class_of, number_of, DecidesClass}
-use Rattle.image_check.specs.Passes.{IsRefusalFor, has_block}
+use Rattle.image_check.specs.Upgrading.{UpgradesFormat}
+use Rattle.image_check.specs.Passes.{IsMapRefused, has_block}
 
 -- ---- of the bytes
 
@@ -29,6 +29,10 @@ abbrev pub has_early_class : ℕ → List ℕ → Bool
 has_early_class format b = list_any (λ c. nat_lt (number_of c) 8 && holds format b c) classes
 
 -- ---- of what the reader gave
+
+-- bytes that lie in memory are as those of a reader that gave them, was read to its end and did not fail
+abbrev pub as_given : List ℕ → ReadDelta
+as_given b = record { bytes = b; ended = true; failed = false }
 
 -- the reader gave nothing and did not fail
 pub record IsUntouched (image : ReadDelta) : Type 0 where
@@ -72,21 +76,22 @@ pub record IsOutOfMemory (format : ℕ) (image : ReadDelta) : Type 0 where
 
 -- ---- the call
 
--- the image was read to its end and is the segment's, in its place in the region, and it denotes a directory
+-- the image was read to its end and denotes a directory by its format, and the segment has it, in its place in the
+-- region
 pub record OpensOk (format : ℕ) (image : ReadDelta) (region : List ℕ) (base : ℕ) (how : Mode) (s : SegmentState) :
     Type 0 where
   pub read : IsReadToEnd image
   pub mode : s.mode ≡ how
-  pub bytes : s.cut.bytes ≡ image.bytes
   pub place : SameSurroundings (cut_at region base (length image.bytes)) s.cut
   pub denotes : IsImage format image.bytes
+  pub renewed : UpgradesFormat format image.bytes s.cut.bytes
 
 -- why no segment is opened
 abbrev pub IsOpenCause : ℕ → ReadDelta → ℕ → ℕ → OpenError → Type 0
-IsOpenCause format image base capacity (Image c) = IsRefusedAs format image c
+IsOpenCause format image base capacity (Image v) = IsRefusedAs format image v.class
 IsOpenCause format image base capacity RegionTooSmall = IsTooSmallFor format image base capacity
 IsOpenCause format image base capacity (OutOfMemory refusal) =
-    IsOutOfMemory format image × IsRefusalFor image.bytes refusal
+    IsOutOfMemory format image × IsMapRefused image.bytes refusal
 IsOpenCause format image base capacity ReadFault = IsUndecided format image
 
 -- The region comes back. The bytes before the base and those after base and size are as they were, and if the image
@@ -124,23 +129,15 @@ pub record Opens (format : ℕ) (image : ReadDelta) (region : List ℕ) (base : 
   -- this one is answered wherever it applies
   pub too_small : IsTooSmallFor format image base (length region) → is_too_small_answer (cause_of result)
 
--- the region that comes back is that of a segment which is opened for reading: it has the image in its place
-pub record IsVerified (format : ℕ) (image : ReadDelta) (region : List ℕ) (base : ℕ) (back : List ℕ) : Type 0 where
-  pub segment : SegmentState
-  pub opened : OpensOk format image region base ReadOnly segment
-  pub handed_back : back ≡ whole segment.cut
-
--- `verify` answers as `open` does, and makes no segment
-pub record Verifies (format : ℕ) (image : ReadDelta) (region : List ℕ) (base : ℕ)
-    (result : Result (List ℕ) OpenRefused) : Type 0 where
-  pub answers : MatchResult result (IsVerified format image region base) (IsNotOpened format image region base)
-  -- this one is answered wherever it applies
-  pub too_small : IsTooSmallFor format image base (length region) → is_too_small_answer (cause_of result)
+-- the answer of an opening whose segment is let go: its region
+abbrev pub let_go : Result SegmentState OpenRefused → Result (List ℕ) OpenRefused
+let_go (Ok s) = Ok (whole s.cut)
+let_go (Err refused) = Err refused
 
 -- by how much a call raises the count of failed reads
 abbrev pub failed_reads : {T : Type 0} → Result T OpenError → ℕ
 failed_reads (Ok x) = 0
-failed_reads (Err cause) = elim cause [ Image c ↦ 0 | RegionTooSmall ↦ 0 | OutOfMemory refusal ↦ 0 | ReadFault ↦ 1 ]
+failed_reads (Err cause) = elim cause [ Image v ↦ 0 | RegionTooSmall ↦ 0 | OutOfMemory refusal ↦ 0 | ReadFault ↦ 1 ]
 
 -- a call asks a reader no more after its end: if the last read answered it that one alone did, and otherwise none
 abbrev pub AsksToTheEnd : ReaderHistory → ReaderHistory → Type 0
@@ -154,7 +151,7 @@ size_or_least b = if is_legal_size (size_word b) then size_word b else 144
 
 -- why an image is refused for its blocks in use, which were gone over then: by a class from the eighth on
 abbrev pub is_late : OpenError → Bool
-is_late (Image c) = nat_lt 7 (number_of c)
+is_late (Image v) = nat_lt 7 (number_of v.class)
 is_late RegionTooSmall = false
 is_late (OutOfMemory refusal) = false
 is_late ReadFault = false

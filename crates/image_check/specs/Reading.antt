@@ -1,20 +1,19 @@
 -- What the parts of an opening read, and why they stop.
-use Rattle.std.specs.Prelude.{◌≡◌, ◌⊎◌, ◌≤◌, ℕ, ◌+◌, Bool, true, false, List, [], ◌∷◌, ◌++◌, length}
+use Rattle.std.specs.Prelude.{◌≡◌, ◌≤◌, ⊤, ℕ, ◌+◌, Bool, true, false, List, [], ◌∷◌, ◌++◌, length}
 use Rattle.std.specs.Prelude.{IsTrue, if◌then◌else◌, Result, Ok, Err}
 use Rattle.raw_region.specs.Memory.{WindowState, SameSurroundings, cut_at, whole}
 use Rattle.raw_region.specs.Device.{ReadDelta}
 use Rattle.block_tags.specs.Format.{is_legal_size}
 use Rattle.image_check.specs.declared.errors.OpenError.{OpenError}
-use Rattle.image_check.specs.declared.errors.OpenError.TheVariants.{Image, RegionTooSmall, ReadFault}
+use Rattle.image_check.specs.declared.errors.OpenError.TheVariants.{Image, RegionTooSmall, OutOfMemory, ReadFault}
 use Rattle.image_check.specs.declared.errors.OpenRefused.{OpenRefused}
 use Rattle.image_check.specs.declared.classes.ImageClass.{ImageClass}
 use Rattle.image_check.specs.declared.classes.ImageClass.TheVariants.{Truncated, BadMagic, UnsupportedVersion, BadSize}
 use Rattle.image_check.specs.declared.versions.AcceptedVersions.{AcceptedVersions}
-use Rattle.image_check.specs.declared.errors.ExamineError.{ExamineError}
 use Rattle.image_check.specs.Causes.{IsShown}
 use Rattle.image_check.specs.Formats.{format_in}
 use Rattle.image_check.specs.EarlyTests.{has_magic, has_version, has_front, size_word}
-use Rattle.image_check.specs.Opening.{IsHandedBack, IsReadToEnd, IsOpenCause, IsTooSmallFor, is_late}
+use Rattle.image_check.specs.Opening.{IsHandedBack, IsReadToEnd, IsOpenCause, IsTooSmallFor, as_given, is_late}
 
 -- ---- the first words
 
@@ -29,12 +28,17 @@ front_of format b =
 
 -- why fewer bytes came than were asked for: the reader failed, or it ended
 abbrev pub IsShort : Bool → OpenError → Type 0
-IsShort ended cause = (cause ≡ ReadFault) ⊎ ((cause ≡ Image Truncated) × (ended ≡ true))
+IsShort ended (Image v) = (v.class ≡ Truncated) × (ended ≡ true)
+IsShort ended RegionTooSmall = ⊥
+IsShort ended (OutOfMemory refusal) = ⊥
+IsShort ended ReadFault = ⊤
 
 -- Why a reader that was asked for one byte after the image did not end: it failed, or it gave one.
 abbrev pub ReadsPastEnd : List ℕ → List ℕ → OpenError → Type 0
-ReadsPastEnd old new cause = ((cause ≡ ReadFault) × (new ≡ old))
-    ⊎ ((cause ≡ Image BadSize) × ((byte : ℕ) × (new ≡ old ++ byte ∷ [])))
+ReadsPastEnd old new (Image v) = (v.class ≡ BadSize) × ((byte : ℕ) × (new ≡ old ++ byte ∷ []))
+ReadsPastEnd old new RegionTooSmall = ⊥
+ReadsPastEnd old new (OutOfMemory refusal) = ⊥
+ReadsPastEnd old new ReadFault = new ≡ old
 
 -- why no image is in the region, when these bytes were read
 pub record Stops (format : ℕ) (image : ReadDelta) (base capacity : ℕ) (cause : OpenError) : Type 0 where
@@ -85,5 +89,25 @@ abbrev pub IsNotReadBy : AcceptedVersions → ReadDelta → List ℕ → ℕ →
 IsNotReadBy versions image = IsNotRead (format_in versions image.bytes) image
 
 -- a place that is told shows the class, by the accepted versions
-abbrev pub IsShownBy : AcceptedVersions → ReadDelta → ExamineError → Type 0
+abbrev pub IsShownBy : AcceptedVersions → ReadDelta → OpenError → Type 0
 IsShownBy versions image = IsShown (format_in versions image.bytes) image.bytes
+
+-- ---- bytes that lie in memory
+
+-- the bytes are as many as their first words say, and there is room for them
+pub record FitsIn (format : ℕ) (b : List ℕ) (base capacity size : ℕ) : Type 0 where
+  pub front : IsTrue (has_front format b)
+  pub says : size ≡ size_word b
+  pub long : length b ≡ size
+  pub room : base + size ≤ capacity
+
+-- why the bytes are not put into the region
+pub record IsMisfit (format : ℕ) (b : List ℕ) (base capacity : ℕ) (cause : OpenError) : Type 0 where
+  pub why : IsOpenCause format (as_given b) base capacity cause
+  pub too_small : IsTooSmallFor format (as_given b) base capacity → cause ≡ RegionTooSmall
+  pub early : is_late cause ≡ false
+
+-- the bytes are not put into the region, which comes back as it was
+pub record IsNotPlaced (format : ℕ) (b region : List ℕ) (base : ℕ) (refused : OpenRefused) : Type 0 where
+  pub misfit : IsMisfit format b base (length region) refused.cause
+  pub back : refused.region ≡ region

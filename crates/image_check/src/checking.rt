@@ -1,8 +1,7 @@
 //! Whether a whole image is that of a directory.
 ghost use Rattle.std.specs.Prelude.{◌≡◌, ◌≤◌, ℕ, IfErr, IfOk, IsTrue, None, Some, MatchResult, OnErr, OnOk};
 ghost use Rattle.std.specs.Prelude.{false, length, true};
-ghost use Rattle.image_check.specs.Causes.{error_for};
-ghost use Rattle.image_check.specs.Checking.{ExaminesWindow, IsWhyRefused, OpensWindow, PassesImage};
+ghost use Rattle.image_check.specs.Checking.{IsWhyRefused, OpensWindow, PassesImage};
 ghost use Rattle.raw_region.specs.Memory.{are_bytes};
 ghost use Rattle.image_check.specs.Counting.{AreCounted};
 ghost use Rattle.image_check.specs.EarlyTests.{has_reserved as is_reserved};
@@ -22,7 +21,7 @@ use crate::block_collection::collect_blocks;
 use crate::classes::ImageClass;
 use crate::containers::check_containers;
 use crate::counting::Counts;
-use crate::errors::{ExamineError, ExamineRefused, OpenRefused};
+use crate::errors::{MemoryFault, OpenError, OpenRefused};
 use crate::free_tree::check_gaps;
 use crate::image_window::ImageWindow;
 use crate::indexes::check_indexes;
@@ -33,7 +32,7 @@ use crate::shared_blocks::check_sharing;
 use crate::verdict::{Offset, Verdict};
 use best_fit::FREE_TREE_ROOT;
 use block_tags::HEADER_LEN;
-use raw_region::{RawRegion, Steps};
+use raw_region::Steps;
 use segment_manager::layout::{FORMAT_AT, RESERVED_AT};
 use segment_manager::{Mode, Segment};
 use std::alloc::Global;
@@ -73,40 +72,8 @@ pub fn open_window(
             *steps = visits.into_steps();
             Err(OpenRefused {
                 region: window.into_region(),
-                cause: cause.into_error(),
+                cause,
             })
-        }
-    }
-}
-
-/// Checks the image that its window has, as [`open_window`] does, and makes no segment of it.
-///
-/// # Errors
-///
-/// As [`open_window`], and a class with the place that shows it.
-pub fn examine_window(
-    alloc: Global,
-    window: ImageWindow,
-    steps: &mut Steps,
-) -> Result<RawRegion, ExamineRefused>
-    requires { (format : ℕ) × HasFront format window × (format ≤ 2) }
-    ensures examination { (format : ℕ) → HasFront format window → ExaminesWindow format window result }
-    ensures steps { IsRaisedFor (length window.bytes) steps.old steps.new }
-    ensures tiles { OnOk result (CountsTiles window.bytes steps.old steps.new) }
-    ensures visits_on_error { IfErr result (λ refused. is_late (error_for refused.cause) ≡ true
-        → CountsTiles window.bytes steps.old steps.new) }
-{
-    let format = window.version();
-    let mut counter = VisitCounter::new(mem::replace(steps, Steps::new()));
-    match pass_all(format, alloc, &window, &mut counter) {
-        Ok(_owners) => {
-            *steps = counter.into_steps();
-            Ok(window.into_region())
-        }
-        Err(cause) => {
-            *steps = counter.into_steps();
-            let region = window.into_region();
-            Err(ExamineRefused { region, cause })
         }
     }
 }
@@ -122,26 +89,26 @@ fn pass_all(
     alloc: Global,
     window: &ImageWindow,
     visits: &mut VisitCounter,
-) -> Result<Owners, ExamineError>
+) -> Result<Owners, OpenError>
     requires format { format ≤ 2 }
     requires front { HasFront format window.now }
     ensures outcome { MatchResult result (λ owners.
         IsImage format window.now.bytes) (IsWhyRefused format window.now.bytes) }
     ensures pass { IfOk result (λ owners. PassesImage window.now.bytes owners.blocks.entries visits.old visits.new) }
     ensures visits { IsRaisedFor (length window.now.bytes) visits.old visits.new }
-    ensures visits_on_error { IfErr result (λ cause. is_late (error_for cause) ≡ true
+    ensures visits_on_error { IfErr result (λ cause. is_late cause ≡ true
         → CountsTiles window.now.bytes visits.old visits.new) }
 {
     let counts = match check_frame(format, window, visits) {
         Ok(counts) => counts,
-        Err(verdict) => return Err(ExamineError::Image(verdict)),
+        Err(verdict) => return Err(OpenError::Image(verdict)),
     };
     let mut owners = match collect_blocks(alloc, window, counts, visits) {
         Ok(owners) => owners,
-        Err(refusal) => return Err(ExamineError::OutOfMemory(refusal)),
+        Err(refusal) => return Err(OpenError::OutOfMemory(MemoryFault::BlockMap(refusal))),
     };
     if let Err(verdict) = check_blocks(format, window, &mut owners, visits) {
-        return Err(ExamineError::Image(verdict));
+        return Err(OpenError::Image(verdict));
     }
     Ok(owners)
 }
@@ -164,7 +131,7 @@ fn check_frame(
     ensures bytes { OnOk result (IsTrue (are_bytes window.now.bytes)) }
     ensures visits { OnOk result (Spends frame_rates 51 window.now.bytes visits.old visits.new) }
     ensures visits_on_error { OnErr result (IsRaisedFor (length window.now.bytes) visits.old visits.new) }
-    ensures early_stop { IfErr result (λ verdict. is_late (Image verdict.class) ≡ false) }
+    ensures early_stop { IfErr result (λ verdict. is_late (Image verdict) ≡ false) }
 {
     window.bytes_are_octets();
     if let Err(place) = check_reserved(window) {

@@ -1,8 +1,6 @@
 //! Why no segment is opened.
 ghost use Rattle.std.specs.Prelude.{◌≡◌};
-ghost use Rattle.image_check.specs.Causes.{error_for, opened_as};
 
-use crate::classes::ImageClass;
 use crate::room::NoBlockMemory;
 use crate::verdict::Verdict;
 use raw_region::{OutOfMemory, RawRegion};
@@ -12,15 +10,15 @@ use thiserror::Error;
 /// Why no segment is opened.
 #[derive(Clone, Copy, Debug, PartialEq, Eq, Error)]
 pub enum OpenError {
-    /// The image denotes no directory.
+    /// The image denotes no directory: the first class that holds, and the byte that shows it.
     #[error("image refused: {0}")]
-    Image(ImageClass),
+    Image(Verdict),
     /// The region ends before base plus the size that the image says.
     #[error("region too small")]
     RegionTooSmall,
-    /// Memory for the check of the image was refused.
+    /// Memory was refused. The check of an image requests it for the image's blocks.
     #[error("out of memory")]
-    OutOfMemory(NoBlockMemory),
+    OutOfMemory(MemoryFault),
     /// The reader failed before the bytes that it gave decided a class.
     #[error("read fault")]
     ReadFault,
@@ -76,53 +74,5 @@ impl From<OpenRefused> for OpenError {
 
     fn from(refused: OpenRefused) -> OpenError {
         refused.cause
-    }
-}
-
-/// Why an image is refused: as an [`OpenError`], with the place that shows a class.
-#[derive(Clone, Copy, Debug, PartialEq, Eq)]
-pub enum ExamineError {
-    /// The image denotes no directory.
-    Image(Verdict),
-    /// The region ends before base plus the size that the image says.
-    RegionTooSmall,
-    /// Memory for the check of the image was refused.
-    OutOfMemory(NoBlockMemory),
-    /// The reader failed before the bytes that it gave decided a class.
-    ReadFault,
-}
-
-impl ExamineError {
-    /// Returns the error without the place.
-    pub fn into_error(self) -> OpenError
-        ensures { result ≡ error_for self }
-    {
-        match self {
-            ExamineError::Image(verdict) => OpenError::Image(verdict.class),
-            ExamineError::RegionTooSmall => OpenError::RegionTooSmall,
-            ExamineError::OutOfMemory(refusal) => OpenError::OutOfMemory(refusal),
-            ExamineError::ReadFault => OpenError::ReadFault,
-        }
-    }
-}
-
-/// An image is refused. The region comes back as from an opening.
-#[derive(Drop)]
-pub struct ExamineRefused {
-    /// The region that was handed in.
-    pub region: RawRegion,
-    /// Why.
-    pub cause: ExamineError,
-}
-
-impl ExamineRefused {
-    /// Returns the error of `open` without the place.
-    pub fn into_opened(self) -> OpenRefused
-        ensures { result ≡ opened_as self }
-    {
-        OpenRefused {
-            region: self.region,
-            cause: self.cause.into_error(),
-        }
     }
 }

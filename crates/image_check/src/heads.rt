@@ -1,8 +1,7 @@
 //! What the head of an object says, and whether it and the value after it are right, part by part.
-ghost use Rattle.std.specs.Prelude.{◌≡◌, ◌+◌, ◌^◌, ◌<◌, ◌≤◌, IfSome, true, length};
+ghost use Rattle.std.specs.Prelude.{◌≡◌, ◌+◌, ◌^◌, ◌<◌, ◌≤◌, true, length};
 ghost use Rattle.raw_region.specs.Memory.{bytes_of};
 ghost use Rattle.seg_index.specs.Keys.{name_len_at};
-ghost use Rattle.seg_types.specs.Kinds.{kind_of_code as code_kind, scalar_code};
 ghost use Rattle.image_check.specs.EarlyTests.{is_zero as are_zeros};
 ghost use Rattle.image_check.specs.ObjectTests.{has_name as is_named, has_padding as is_padded};
 ghost use Rattle.image_check.specs.ObjectTests.{is_indexed as is_listed, kind_at, value_offset};
@@ -15,7 +14,7 @@ use crate::image_window::{BlockTable, ImageWindow, Object};
 use crate::owners::is_same;
 use crate::spellings::are_spellings;
 use block_tags::Role;
-use seg_types::{Kind, MAX_ARRAY_LEN, MAX_NAME_LEN, ScalarKind, is_name};
+use seg_types::{Kind, MAX_ARRAY_LEN, MAX_NAME_LEN, is_name};
 use segment_manager::layout::{CONTAINER_LEN, NAMED_AT, UNIQUE_AT};
 
 /// The class of the objects with a name.
@@ -29,45 +28,8 @@ pub(crate) fn kind_of(format: u64, window: &ImageWindow, object: Object) -> Opti
     requires { object.at + 8 ≤ length window.now.bytes }
     ensures { result ≡ kind_at format (bytes_of window.now.bytes) object.at }
 {
-    match kind_of_code(object.code(window) as u32) {
+    match Kind::from_code(object.code(window) as u32) {
         Some(kind) if kind.is_of(format) => Some(kind),
-        _ => None,
-    }
-}
-
-/// Returns the kind of this code, or `None` if no kind has it. The code of an object is looked for among all only if
-/// the kind that its parts name has another.
-fn kind_of_code(code: u32) -> Option<Kind>
-    ensures { result ≡ code_kind code }
-{
-    match named_kind(code) {
-        Some(kind) if kind.code() == code => Some(kind),
-        _ => Kind::from_code(code),
-    }
-}
-
-/// Returns the kind that the parts of a code name. Its own code may be another one.
-fn named_kind(code: u32) -> Option<Kind> {
-    match code / 65536 {
-        0 => Some(Kind::Scalar(named_scalar(code)?)),
-        1 => Some(Kind::String),
-        2 => Some(Kind::Vector(named_scalar(code % 256)?)),
-        3 => Some(Kind::Map(named_scalar(code / 256 % 256)?, named_scalar(code % 256)?)),
-        4 => Some(Kind::Strings),
-        _ => None,
-    }
-}
-
-/// Returns the scalar of a code.
-fn named_scalar(code: u32) -> Option<ScalarKind>
-    ensures { IfSome result (λ scalar. scalar_code scalar ≡ code) }
-{
-    match code {
-        1 => Some(ScalarKind::Bool),
-        2 => Some(ScalarKind::U8),
-        3 => Some(ScalarKind::I32),
-        4 => Some(ScalarKind::I64),
-        5 => Some(ScalarKind::U64),
         _ => None,
     }
 }

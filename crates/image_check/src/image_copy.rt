@@ -1,14 +1,14 @@
 //! The copying of an image that lies in memory into its place in a region, and the finding of one that stands there.
 ghost use Rattle.std.specs.Prelude.{◌≡◌, ◌+◌, ◌%◌, ◌<◌, ◌≤◌, length, IfErr, IfOk, MatchResult};
 ghost use Rattle.raw_region.specs.Format.{current};
-ghost use Rattle.image_check.specs.Causes.{IsShown, error_for, opened_as};
+ghost use Rattle.image_check.specs.Causes.{IsShown};
 ghost use Rattle.image_check.specs.Formats.{format_in};
-ghost use Rattle.image_check.specs.OpeningBytes.{FitsIn, IsMisfit, IsNotPlaced, as_given};
-ghost use Rattle.image_check.specs.Reading.{IsImageRead};
+ghost use Rattle.image_check.specs.Opening.{as_given};
+ghost use Rattle.image_check.specs.Reading.{FitsIn, IsImageRead, IsMisfit, IsNotPlaced};
 ghost use Rattle.raw_region.specs.Memory.{part, whole};
 
 use crate::classes::ImageClass;
-use crate::errors::{ExamineError, ExamineRefused};
+use crate::errors::{OpenError, OpenRefused};
 use crate::header::{FRONT, LEAST, judge_front};
 use crate::image_window::ImageWindow;
 use crate::verdict::Verdict;
@@ -25,11 +25,11 @@ pub fn copy_image(
     image: &[u8],
     region: RawRegion,
     base: u64,
-) -> Result<ImageWindow, ExamineRefused>
+) -> Result<ImageWindow, OpenRefused>
     requires aligned { base % 16 ≡ 0 }
     ensures placement { MatchResult result
         (IsImageRead (format_in versions image.now) (as_given image.now) region base)
-        (λ refused. IsNotPlaced (format_in versions image.now) image.now region base (opened_as refused)) }
+        (λ refused. IsNotPlaced (format_in versions image.now) image.now region base refused) }
     ensures output { IfErr result (λ refused. IsShown (format_in versions image.now) image.now refused.cause) }
 {
     match size_for(versions, image, &region, base) {
@@ -38,7 +38,7 @@ pub fn copy_image(
             window.write(0, image);
             Ok(ImageWindow::new(window))
         }
-        Err(cause) => Err(ExamineRefused { region, cause }),
+        Err(cause) => Err(OpenRefused { region, cause }),
     }
 }
 
@@ -48,11 +48,12 @@ pub fn copy_image(
 /// # Errors
 ///
 /// As [`size_for`]. The region comes back as it was.
-pub fn find_image(region: RawRegion, base: u64, len: u64) -> Result<ImageWindow, ExamineRefused>
+pub fn find_image(region: RawRegion, base: u64, len: u64) -> Result<ImageWindow, OpenRefused>
     requires aligned { base % 16 ≡ 0 }
     requires in_bounds { base + len ≤ length region }
     ensures search { MatchResult result (IsImageRead current (as_given (part region base len)) region base)
-        (λ refused. IsNotPlaced current (part region base len) region base (opened_as refused)) }
+        (λ refused. IsNotPlaced current (part region base len) region base refused) }
+    ensures output { IfErr result (λ refused. IsShown current (part region base len) refused.cause) }
     ensures not_written { IfOk result (λ window. whole window ≡ region) }
 {
     match size_for(
@@ -62,7 +63,7 @@ pub fn find_image(region: RawRegion, base: u64, len: u64) -> Result<ImageWindow,
         base,
     ) {
         Ok(size) => Ok(ImageWindow::new(Window::new(region, base, size))),
-        Err(cause) => Err(ExamineRefused { region, cause }),
+        Err(cause) => Err(OpenRefused { region, cause }),
     }
 }
 
@@ -78,14 +79,14 @@ fn size_for(
     image: &[u8],
     region: &RawRegion,
     base: u64,
-) -> Result<u64, ExamineError>
+) -> Result<u64, OpenError>
     ensures fits { MatchResult result
         (FitsIn (format_in versions image.now) image.now base (length region.now))
-        (λ cause. IsMisfit (format_in versions image.now) image.now base (length region.now) (error_for cause)) }
+        (λ cause. IsMisfit (format_in versions image.now) image.now base (length region.now) cause) }
     ensures output { IfErr result (IsShown (format_in versions image.now) image.now) }
 {
     let count = image.len() as u64;
-    let cut = ExamineError::Image(Verdict {
+    let cut = OpenError::Image(Verdict {
         class: ImageClass::Truncated,
         place: count,
     });
@@ -94,12 +95,12 @@ fn size_for(
     }
     match judge_front(versions, image) {
         Err(_) if image.len() < LEAST => Err(cut),
-        Err(verdict) => Err(ExamineError::Image(verdict)),
-        Ok(size) if !region.in_range(base, size) => Err(ExamineError::RegionTooSmall),
+        Err(verdict) => Err(OpenError::Image(verdict)),
+        Ok(size) if !region.in_range(base, size) => Err(OpenError::RegionTooSmall),
         Ok(size) if count < size => Err(cut),
         Ok(size) if size < count => {
             let class = ImageClass::BadSize;
-            Err(ExamineError::Image(Verdict { class, place: size }))
+            Err(OpenError::Image(Verdict { class, place: size }))
         }
         Ok(size) => Ok(size),
     }

@@ -1,33 +1,49 @@
-//! The opening of an image.
-ghost use Rattle.std.specs.Prelude.{◌≡◌, ◌+◌, ◌-◌, ◌%◌, ◌^◌, ◌<◌, IfErr, OnOk, length, true};
+//! The opening of an image: from a reader, from bytes in memory, and where it stands in a region.
+ghost use Rattle.std.specs.Prelude.{◌≡◌, ◌+◌, ◌-◌, ◌%◌, ◌^◌, ◌<◌, ◌≤◌, IfErr, MatchResult, OnOk, Result};
+ghost use Rattle.std.specs.Prelude.{length, true};
 ghost use Rattle.raw_region.specs.Device.{ReadsSource, read_delta};
 ghost use Rattle.raw_region.specs.Format.{current};
+ghost use Rattle.raw_region.specs.Memory.{part, whole};
+ghost use Rattle.segment_manager.specs.State.{SegmentState};
+ghost use Rattle.segment_manager.specs.declared.modes.Mode.TheVariants.{ReadOnly};
+ghost use Rattle.image_check.specs.declared.errors.OpenRefused.{OpenRefused as Refused};
+ghost use Rattle.image_check.specs.Causes.{IsShown};
+ghost use Rattle.image_check.specs.EarlyTests.{size_word};
+ghost use Rattle.image_check.specs.Formats.{format_in, format_of};
 ghost use Rattle.image_check.specs.Opening.{AsksToTheEnd, IsRaisedFor, Opens, ReadsFrontAlone, cause_of, failed_reads};
-ghost use Rattle.image_check.specs.Opening.{is_late, size_or_least};
+ghost use Rattle.image_check.specs.Opening.{as_given, is_late, let_go, size_or_least};
 ghost use Rattle.image_check.specs.Passes.{CountsBlocks, CountsTiles};
 
 use crate::checking::open_window;
 use crate::errors::OpenRefused;
+use crate::image_copy::{copy_image, find_image};
 use crate::image_read::read_image;
 use crate::versions::AcceptedVersions;
 use raw_region::{RawRegion, Source, Steps};
 use segment_manager::{Mode, Segment};
 use std::alloc::Global;
 
-/// Reads an image into the region, from `base` on, which is a multiple of 16, and opens it.
+/// Reads an image of one of these versions into the region, from `base` on, which is a multiple of 16, and opens it as
+/// a segment of the current format. The image is checked by the rules of the format that it says. One of the current
+/// format stays byte for byte. In one of format 1 the version alone changes, and from format 0 the gaps get a free tree
+/// as well. If the segment is dropped, this is the check of an image.
 ///
 /// # Errors
 ///
 /// `RegionTooSmall` as soon as the magic, the version and a legal size are read and the region ends before base plus
 /// size; no more is read then. A class of the image if it denotes no directory, the first that holds, if it was read
-/// to its end or what was read decides it. `ReadFault` if the reader failed before that; it is not asked again after an
-/// error, nor after its end. `OutOfMemory` if memory for the check of the blocks was refused: only if no class before
-/// `BadIndex` holds and a tile is in use. The region comes back.
+/// to its end or what was read decides it. The class comes with the byte that shows it: for an image that ends too
+/// early its end, and otherwise the first byte or link that is wrong by the rules of the class. `ReadFault` if the
+/// reader failed before that; it is not asked again after an error, nor after its end. `OutOfMemory` if memory for the
+/// check of the blocks was refused: only if no class before `BadIndex` holds and a tile is in use. The region comes
+/// back.
 ///
 /// Each visit of the check raises `steps`: by no more than 64 for each 16 bytes of the size, and 64. If a segment is
-/// answered, or a class from `BadIndex` on, it rises by at least one for each tile. No tile is read uncounted.
-pub fn open<S: Source>(
+/// answered, or a class from `BadIndex` on, it rises by at least one for each tile. No tile is read uncounted. The
+/// writing of a free tree is not counted.
+pub fn open_image<S: Source>(
     alloc: Global,
+    versions: AcceptedVersions,
     reader: &mut S,
     region: RawRegion,
     base: u64,
@@ -36,7 +52,11 @@ pub fn open<S: Source>(
 ) -> Result<Segment, OpenRefused>
     requires aligned { base % 16 ≡ 0 }
     requires reader { (S.history reader.old).failures < 2 ^ 64 - 1 }
-    ensures opening { Opens current (read_delta (S.history reader.old) (S.history reader.new)) region base mode result }
+    ensures opening { Opens (format_in versions (read_delta (S.history reader.old) (S.history reader.new)).bytes)
+        (read_delta (S.history reader.old) (S.history reader.new)) region base mode result }
+    ensures place { IfErr result (λ refused.
+        IsShown (format_in versions (read_delta (S.history reader.old) (S.history reader.new)).bytes)
+        (read_delta (S.history reader.old) (S.history reader.new)).bytes refused.cause) }
     ensures history { ReadsSource (S.history reader.old) (S.history reader.new) (failed_reads (cause_of result)) }
     ensures ends { AsksToTheEnd (S.history reader.old) (S.history reader.new) }
     ensures exclusive { ReadsFrontAlone (S.history reader.old) (S.history reader.new) (cause_of result) }
@@ -49,8 +69,182 @@ pub fn open<S: Source>(
     ensures visits_on_error { IfErr result (λ refused. is_late refused.cause ≡ true
         → CountsTiles (read_delta (S.history reader.old) (S.history reader.new)).bytes steps.old steps.new) }
 {
-    match read_image(AcceptedVersions::Current, reader, region, base) {
-        Ok(window) => open_window(alloc, window, mode, steps),
-        Err(refused) => Err(refused.into_opened()),
+    let window = read_image(versions, reader, region, base)?;
+    open_window(alloc, window, mode, steps)
+}
+
+/// Opens an image of the current format, as [`open_image`] does.
+pub fn open<S: Source>(
+    alloc: Global,
+    reader: &mut S,
+    region: RawRegion,
+    base: u64,
+    mode: Mode,
+    steps: &mut Steps,
+) -> Result<Segment, OpenRefused>
+    requires aligned { base % 16 ≡ 0 }
+    requires reader { (S.history reader.old).failures < 2 ^ 64 - 1 }
+    ensures opening { Opens current (read_delta (S.history reader.old) (S.history reader.new)) region base mode result }
+    ensures place { IfErr result (λ refused.
+        IsShown current (read_delta (S.history reader.old) (S.history reader.new)).bytes refused.cause) }
+    ensures history { ReadsSource (S.history reader.old) (S.history reader.new) (failed_reads (cause_of result)) }
+    ensures ends { AsksToTheEnd (S.history reader.old) (S.history reader.new) }
+    ensures exclusive { ReadsFrontAlone (S.history reader.old) (S.history reader.new) (cause_of result) }
+    ensures steps { IsRaisedFor (size_or_least (read_delta (S.history reader.old) (S.history reader.new)).bytes)
+        steps.old steps.new }
+    ensures tiles { OnOk result
+        (CountsTiles (read_delta (S.history reader.old) (S.history reader.new)).bytes steps.old steps.new) }
+    ensures blocks { OnOk result
+        (CountsBlocks (read_delta (S.history reader.old) (S.history reader.new)).bytes steps.old steps.new) }
+    ensures visits_on_error { IfErr result (λ refused. is_late refused.cause ≡ true
+        → CountsTiles (read_delta (S.history reader.old) (S.history reader.new)).bytes steps.old steps.new) }
+{
+    open_image(
+        alloc,
+        AcceptedVersions::Current,
+        reader,
+        region,
+        base,
+        mode,
+        steps,
+    )
+}
+
+/// Opens an image of any of the three formats, as [`open_image`] does.
+pub fn open_any<S: Source>(
+    alloc: Global,
+    reader: &mut S,
+    region: RawRegion,
+    base: u64,
+    mode: Mode,
+    steps: &mut Steps,
+) -> Result<Segment, OpenRefused>
+    requires aligned { base % 16 ≡ 0 }
+    requires reader { (S.history reader.old).failures < 2 ^ 64 - 1 }
+    ensures opening { Opens (format_of (read_delta (S.history reader.old) (S.history reader.new)).bytes)
+        (read_delta (S.history reader.old) (S.history reader.new)) region base mode result }
+    ensures place { IfErr result (λ refused.
+        IsShown (format_of (read_delta (S.history reader.old) (S.history reader.new)).bytes)
+        (read_delta (S.history reader.old) (S.history reader.new)).bytes refused.cause) }
+    ensures history { ReadsSource (S.history reader.old) (S.history reader.new) (failed_reads (cause_of result)) }
+    ensures ends { AsksToTheEnd (S.history reader.old) (S.history reader.new) }
+    ensures exclusive { ReadsFrontAlone (S.history reader.old) (S.history reader.new) (cause_of result) }
+    ensures steps { IsRaisedFor (size_or_least (read_delta (S.history reader.old) (S.history reader.new)).bytes)
+        steps.old steps.new }
+    ensures tiles { OnOk result
+        (CountsTiles (read_delta (S.history reader.old) (S.history reader.new)).bytes steps.old steps.new) }
+    ensures blocks { OnOk result
+        (CountsBlocks (read_delta (S.history reader.old) (S.history reader.new)).bytes steps.old steps.new) }
+    ensures visits_on_error { IfErr result (λ refused. is_late refused.cause ≡ true
+        → CountsTiles (read_delta (S.history reader.old) (S.history reader.new)).bytes steps.old steps.new) }
+{
+    open_image(
+        alloc,
+        AcceptedVersions::All,
+        reader,
+        region,
+        base,
+        mode,
+        steps,
+    )
+}
+
+/// Checks an image of the current format: opens it for reading, as [`open`] does, and returns the region with the image
+/// in its place.
+///
+/// # Errors
+///
+/// Those of [`open`], for the same reasons. The region comes back as it does there, and `steps` is raised as there.
+pub fn verify<S: Source>(
+    alloc: Global,
+    reader: &mut S,
+    region: RawRegion,
+    base: u64,
+    steps: &mut Steps,
+) -> Result<RawRegion, OpenRefused>
+    requires aligned { base % 16 ≡ 0 }
+    requires reader { (S.history reader.old).failures < 2 ^ 64 - 1 }
+    ensures verdict { (opened : Result SegmentState Refused)
+        × Opens current (read_delta (S.history reader.old) (S.history reader.new)) region base ReadOnly opened
+        × (result ≡ let_go opened) }
+    ensures place { IfErr result (λ refused.
+        IsShown current (read_delta (S.history reader.old) (S.history reader.new)).bytes refused.cause) }
+    ensures history { ReadsSource (S.history reader.old) (S.history reader.new) (failed_reads (cause_of result)) }
+    ensures ends { AsksToTheEnd (S.history reader.old) (S.history reader.new) }
+    ensures exclusive { ReadsFrontAlone (S.history reader.old) (S.history reader.new) (cause_of result) }
+    ensures steps { IsRaisedFor (size_or_least (read_delta (S.history reader.old) (S.history reader.new)).bytes)
+        steps.old steps.new }
+    ensures tiles { OnOk result
+        (CountsTiles (read_delta (S.history reader.old) (S.history reader.new)).bytes steps.old steps.new) }
+    ensures visits_on_error { IfErr result (λ refused. is_late refused.cause ≡ true
+        → CountsTiles (read_delta (S.history reader.old) (S.history reader.new)).bytes steps.old steps.new) }
+{
+    match open(alloc, reader, region, base, Mode::ReadOnly, steps) {
+        Ok(segment) => Ok(segment.into_region()),
+        Err(refused) => Err(refused),
     }
+}
+
+/// Copies an image of one of these versions into the region, from `base` on, which is a multiple of 16, and opens it as
+/// [`open_image`] does. The bytes are all of the image.
+///
+/// # Errors
+///
+/// As [`open_image`], but `ReadFault` never. The region comes back, as it was if the bytes are not as many as they say.
+///
+/// `steps` is raised as there.
+pub fn open_bytes(
+    alloc: Global,
+    versions: AcceptedVersions,
+    image: &[u8],
+    region: RawRegion,
+    base: u64,
+    mode: Mode,
+    steps: &mut Steps,
+) -> Result<Segment, OpenRefused>
+    requires aligned { base % 16 ≡ 0 }
+    ensures opening { Opens (format_in versions image.now) (as_given image.now) region base mode result }
+    ensures place { IfErr result (λ refused. IsShown (format_in versions image.now) image.now refused.cause) }
+    ensures not_written { IfErr result (λ refused. (length image.now ≡ size_word image.now → ⊥)
+        → refused.region ≡ region) }
+    ensures steps { IsRaisedFor (size_or_least image.now) steps.old steps.new }
+    ensures tiles { OnOk result (CountsTiles image.now steps.old steps.new) }
+    ensures blocks { OnOk result (CountsBlocks image.now steps.old steps.new) }
+    ensures visits_on_error { IfErr result (λ refused. is_late refused.cause ≡ true
+        → CountsTiles image.now steps.old steps.new) }
+{
+    let window = copy_image(versions, image, region, base)?;
+    open_window(alloc, window, mode, steps)
+}
+
+/// Opens the image of the current format that stands in the region from `base` on, which is a multiple of 16. It has
+/// `len` bytes. No byte of the region is written or copied.
+///
+/// # Errors
+///
+/// As [`open_bytes`]. The region comes back as it was.
+///
+/// `steps` is raised as there.
+pub fn open_here(
+    alloc: Global,
+    region: RawRegion,
+    base: u64,
+    len: u64,
+    mode: Mode,
+    steps: &mut Steps,
+) -> Result<Segment, OpenRefused>
+    requires aligned { base % 16 ≡ 0 }
+    requires in_bounds { base + len ≤ length region }
+    ensures opening { Opens current (as_given (part region base len)) region base mode result }
+    ensures place { IfErr result (λ refused. IsShown current (part region base len) refused.cause) }
+    ensures not_written { MatchResult result (λ segment. whole segment.cut ≡ region) (λ refused.
+        refused.region ≡ region) }
+    ensures steps { IsRaisedFor (size_or_least (part region base len)) steps.old steps.new }
+    ensures tiles { OnOk result (CountsTiles (part region base len) steps.old steps.new) }
+    ensures blocks { OnOk result (CountsBlocks (part region base len) steps.old steps.new) }
+    ensures visits_on_error { IfErr result (λ refused. is_late refused.cause ≡ true
+        → CountsTiles (part region base len) steps.old steps.new) }
+{
+    let window = find_image(region, base, len)?;
+    open_window(alloc, window, mode, steps)
 }

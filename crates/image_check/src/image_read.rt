@@ -5,7 +5,7 @@ ghost use Rattle.raw_region.specs.Answers.{AppendsProperPrefix};
 ghost use Rattle.raw_region.specs.Device.{ReadsSource, read_delta};
 ghost use Rattle.raw_region.specs.Memory.{SameSurroundings, whole};
 ghost use Rattle.raw_region.specs.Regions.{with_bytes};
-ghost use Rattle.image_check.specs.Causes.{IsNodeLink, IsEnd, IsShown, error_for, error_in, opened_as, opened_in};
+ghost use Rattle.image_check.specs.Causes.{IsExcess, IsEnd, IsShown};
 ghost use Rattle.image_check.specs.Formats.{format_in};
 ghost use Rattle.image_check.specs.declared.errors.OpenError.TheVariants.{RegionTooSmall};
 ghost use Rattle.image_check.specs.Opening.{AsksToTheEnd, ReadsFrontAlone, cause_of, failed_reads};
@@ -13,7 +13,7 @@ ghost use Rattle.image_check.specs.Reading.{ReadsPastEnd, HasFront, ReadsFrontOk
 ghost use Rattle.image_check.specs.Reading.{IsShownBy, Stops, StopsBy};
 
 use crate::classes::ImageClass;
-use crate::errors::{ExamineError, ExamineRefused};
+use crate::errors::{OpenError, OpenRefused};
 use crate::header::{FRONT, LEAST, judge_front};
 use crate::image_window::ImageWindow;
 use crate::verdict::Verdict;
@@ -31,30 +31,30 @@ pub(crate) fn read_image<S: Source>(
     reader: &mut S,
     region: RawRegion,
     base: u64,
-) -> Result<ImageWindow, ExamineRefused>
+) -> Result<ImageWindow, OpenRefused>
     requires aligned { base % 16 ≡ 0 }
     requires reader { (S.history reader.old).failures < 2 ^ 64 - 1 }
     ensures reading { MatchResult result
         (IsReadBy versions (read_delta (S.history reader.old) (S.history reader.new)) region base)
         (λ refused. IsNotReadBy versions (read_delta (S.history reader.old) (S.history reader.new)) region base
-        (opened_as refused)) }
+        refused) }
     ensures output { IfErr result (λ refused.
         IsShownBy versions (read_delta (S.history reader.old) (S.history reader.new)) refused.cause) }
     ensures history { ReadsSource (S.history reader.old) (S.history reader.new)
-        (failed_reads (cause_of (opened_in result))) }
+        (failed_reads (cause_of result)) }
     ensures ends { AsksToTheEnd (S.history reader.old) (S.history reader.new) }
-    ensures exclusive { ReadsFrontAlone (S.history reader.old) (S.history reader.new) (cause_of (opened_in result)) }
+    ensures exclusive { ReadsFrontAlone (S.history reader.old) (S.history reader.new) (cause_of result) }
 {
     let mut front = [0; FRONT];
     let size = match read_front(versions, reader, &mut front, &region, base) {
         Ok(size) => size,
-        Err(cause) => return Err(ExamineRefused { region, cause }),
+        Err(cause) => return Err(OpenRefused { region, cause }),
     };
     let mut window = Window::new(region, base, size);
     window.write(0, &front);
     match read_rest(reader, &mut window) {
         Ok(()) => Ok(ImageWindow::new(window)),
-        Err(cause) => Err(ExamineRefused {
+        Err(cause) => Err(OpenRefused {
             region: window.into_region(),
             cause,
         }),
@@ -73,26 +73,26 @@ fn read_front<S: Source>(
     front: &mut [u8; FRONT],
     region: &RawRegion,
     base: u64,
-) -> Result<u64, ExamineError>
+) -> Result<u64, OpenError>
     requires { (S.history reader.old).failures < 2 ^ 64 - 1 }
     ensures on_ok { IfOk result (ReadsFrontOk (format_in versions front.new) (S.history reader.old).bytes
         (S.history reader.new).bytes front.new base (length region.now)) }
     ensures on_error { IfErr result (λ cause.
         StopsBy versions (read_delta (S.history reader.old) (S.history reader.new)) base (length region.now)
-        (error_for cause)) }
+        cause) }
     ensures output { IfErr result (IsShownBy versions (read_delta (S.history reader.old) (S.history reader.new))) }
-    ensures history { ReadsSource (S.history reader.old) (S.history reader.new) (failed_reads (error_in result)) }
+    ensures history { ReadsSource (S.history reader.old) (S.history reader.new) (failed_reads result) }
     ensures ends { AsksToTheEnd (S.history reader.old) (S.history reader.new) }
-    ensures exclusive { ReadsFrontAlone (S.history reader.old) (S.history reader.new) (error_in result) }
+    ensures exclusive { ReadsFrontAlone (S.history reader.old) (S.history reader.new) result }
     ensures growth { OnOk result ((S.history reader.new).ended ≡ false) }
 {
     read_all(reader, front, 0)?;
     match judge_front(versions, front) {
         Ok(size) if region.in_range(base, size) => Ok(size),
-        Ok(_) => Err(ExamineError::RegionTooSmall),
+        Ok(_) => Err(OpenError::RegionTooSmall),
         Err(verdict) => {
             read_all(reader, &mut [0; LEAST - FRONT], FRONT as u64)?;
-            Err(ExamineError::Image(verdict))
+            Err(OpenError::Image(verdict))
         }
     }
 }
@@ -102,7 +102,7 @@ fn read_front<S: Source>(
 /// # Errors
 ///
 /// As `read_image`.
-fn read_rest<S: Source>(reader: &mut S, window: &mut Window) -> Result<(), ExamineError>
+fn read_rest<S: Source>(reader: &mut S, window: &mut Window) -> Result<(), OpenError>
     requires reader { (S.history reader.old).failures < 2 ^ 64 - 1 }
     requires min_len { 144 ≤ length window.old.bytes }
     ensures on_ok { OnOk result (window.new
@@ -112,15 +112,15 @@ fn read_rest<S: Source>(reader: &mut S, window: &mut Window) -> Result<(), Exami
     ensures on_error { IfErr result (λ cause. (format : ℕ) → HasFront format window.old → (start : List ℕ)
         → (S.history reader.old).bytes ≡ start ++ take 24 window.old.bytes
         → Stops format (read_delta (record (S.history reader.old) { bytes = start }) (S.history reader.new))
-        (length window.old.before) (length (whole window.old)) (error_for cause)) }
+        (length window.old.before) (length (whole window.old)) cause) }
     ensures output { IfErr result (λ cause. (format : ℕ) → HasFront format window.old → (start : List ℕ)
         → (S.history reader.old).bytes ≡ start ++ take 24 window.old.bytes
         → IsShown format (drop (length start) (S.history reader.new).bytes) cause) }
     ensures place { SameSurroundings window.old window.new }
     ensures len { length window.new.bytes ≡ length window.old.bytes }
-    ensures history { ReadsSource (S.history reader.old) (S.history reader.new) (failed_reads (error_in result)) }
+    ensures history { ReadsSource (S.history reader.old) (S.history reader.new) (failed_reads result) }
     ensures ends { AsksToTheEnd (S.history reader.old) (S.history reader.new) }
-    ensures room { IfErr result (λ cause. error_for cause ≢ RegionTooSmall) }
+    ensures room { IfErr result (λ cause. cause ≢ RegionTooSmall) }
 {
     let front = FRONT as u64;
     let size = window.size();
@@ -133,27 +133,27 @@ fn read_rest<S: Source>(reader: &mut S, window: &mut Window) -> Result<(), Exami
 /// # Errors
 ///
 /// `ReadFault` if the reader failed, and `Truncated` if it ended, before the slice was full.
-fn read_all<S: Source>(reader: &mut S, into: &mut [u8], before: u64) -> Result<(), ExamineError>
+fn read_all<S: Source>(reader: &mut S, into: &mut [u8], before: u64) -> Result<(), OpenError>
     requires reader { (S.history reader.old).failures < 2 ^ 64 - 1 }
     requires max_count { before ≤ 24 }
     ensures on_ok { OnOk result ((S.history reader.new).bytes ≡ (S.history reader.old).bytes ++ into.new) }
     ensures on_error { IfErr result (λ cause.
         AppendsProperPrefix (S.history reader.old).bytes (S.history reader.new).bytes into.new
-        × IsShort (S.history reader.new).ended (error_for cause)) }
+        × IsShort (S.history reader.new).ended cause) }
     ensures output { IfErr result (IsEnd
         (before + (length (S.history reader.new).bytes - length (S.history reader.old).bytes))) }
     ensures failures { (S.history reader.new).failures
-        ≡ (S.history reader.old).failures + failed_reads (error_in result) }
+        ≡ (S.history reader.old).failures + failed_reads result }
     ensures ends { 0 < length into.old → AsksToTheEnd (S.history reader.old) (S.history reader.new) }
     ensures growth { OnOk result (0 < length into.old → (S.history reader.new).ended ≡ false) }
 {
     let Ok(count) = read_full(reader, into) else {
-        return Err(ExamineError::ReadFault);
+        return Err(OpenError::ReadFault);
     };
     if count < into.len() {
         let class = ImageClass::Truncated;
         let place = before + count as u64;
-        return Err(ExamineError::Image(Verdict { class, place }));
+        return Err(OpenError::Image(Verdict { class, place }));
     }
     Ok(())
 }
@@ -163,23 +163,23 @@ fn read_all<S: Source>(reader: &mut S, into: &mut [u8], before: u64) -> Result<(
 /// # Errors
 ///
 /// `ReadFault` if the reader failed, and `BadSize` if it gave one.
-fn find_end<S: Source>(reader: &mut S, size: u64) -> Result<(), ExamineError>
+fn find_end<S: Source>(reader: &mut S, size: u64) -> Result<(), OpenError>
     requires { (S.history reader.old).failures < 2 ^ 64 - 1 }
     ensures unchanged { OnOk result ((S.history reader.new).bytes ≡ (S.history reader.old).bytes) }
     ensures end { OnOk result ((S.history reader.new).ended ≡ true) }
     ensures on_error { IfErr result (λ cause.
-        ReadsPastEnd (S.history reader.old).bytes (S.history reader.new).bytes (error_for cause)) }
-    ensures output { IfErr result (IsNodeLink size) }
+        ReadsPastEnd (S.history reader.old).bytes (S.history reader.new).bytes cause) }
+    ensures output { IfErr result (IsExcess size) }
     ensures failures { (S.history reader.new).failures
-        ≡ (S.history reader.old).failures + failed_reads (error_in result) }
+        ≡ (S.history reader.old).failures + failed_reads result }
     ensures ends { AsksToTheEnd (S.history reader.old) (S.history reader.new) }
 {
     match reader.read(&mut [0]) {
-        Err(_) => Err(ExamineError::ReadFault),
+        Err(_) => Err(OpenError::ReadFault),
         Ok(0) => Ok(()),
         Ok(_) => {
             let class = ImageClass::BadSize;
-            Err(ExamineError::Image(Verdict { class, place: size }))
+            Err(OpenError::Image(Verdict { class, place: size }))
         }
     }
 }

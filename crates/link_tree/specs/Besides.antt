@@ -1,16 +1,15 @@
--- Nodes that are asked for beside one of them.
+-- Searches for the place of a node of the tree.
 use Rattle.std.proofs.Common.{◌≡◌, ℕ, ◌≤◌, ◌^◌, Bool, true, false, not, ◌&&◌, Option, Some, None, List, length, sym}
 use Rattle.std.proofs.Common.{◌∙◌, ap, refl}
 use Rattle.std.proofs.lemmas.Bool.{false≢true}
 use Rattle.link_tree.specs.Nodes.{is_in, leads}
 
--- if what precedes a node that stands before a probe stands before it too, what follows one that does not does not
--- either
+-- if preceding one probe implies preceding another, then not preceding the other implies not preceding the one
 pub stays_behind : (p q : Bool) → (p ≡ true → q ≡ true) → not q ≡ true → not p ≡ true
 stays_behind true q f h = absurd (false≢true (sym (ap not (f refl)) ∙ h))
 stays_behind false q f h = refl
 
--- nodes that are asked for beside another node are nodes
+-- the nodes stay finite if a condition restricts them
 pub both_finite : (b : Bool) (good : ℕ → Bool)
     → ((ns : List ℕ) × (length ns ≤ 2 ^ 40) × ((n : ℕ) → good n ≡ true → is_in n ns ≡ true))
     → ((ns : List ℕ) × (length ns ≤ 2 ^ 40) × ((n : ℕ) → (b && good n) ≡ true → is_in n ns ≡ true))

@@ -14,7 +14,7 @@ is_below precedes n (Some high) = precedes n high
 abbrev pub is_between : (ℕ → ℕ → Bool) → Option ℕ → ℕ → Option ℕ → Bool
 is_between precedes low n high = is_above precedes low n && is_below precedes n high
 
--- how many nodes of the list stand between the two
+-- the number of nodes in the list between two bounds
 abbrev pub count_between : (ℕ → ℕ → Bool) → Option ℕ → Option ℕ → List ℕ → ℕ
 count_between precedes low high [] = 0
 count_between precedes low high (n ∷ ns) =

@@ -1,4 +1,4 @@
--- What a check of links finds.
+-- The result of a check of links.
 use Rattle.std.specs.Prelude.{◌≡◌, ℕ, Bool, true, Option, List}
 use Rattle.std.specs.List.{list_all}
 use Rattle.link_tree.specs.Tree.{Cell, Tree, nodes_of, IsTree, is_sorted, has_black_root, has_no_red_pair}

@@ -1,4 +1,4 @@
--- What a call says of the nodes that it changed, and of lists of nodes.
+-- Words about changed nodes, and about lists of nodes.
 use Rattle.std.specs.Prelude.{ℕ, Bool, true, false, not, ◌||◌, Option, Some, None, List, [], ◌∷◌, reverse, nat_eq}
 use Rattle.std.specs.Prelude.{if◌then◌else◌}
 use Rattle.std.specs.List.{find, list_all}

@@ -9,8 +9,7 @@ path_length before leaf = 0
 path_length before (fork red left n right) =
     suc (if before n then path_length before right else path_length before left)
 
--- what is kept at the end of that path, where each node on it is noted with its colour and whether it stands before the
--- probe
+-- the value that a search folds over that path, from each node, its colour, and whether it precedes the probe
 abbrev pub noted : {K : Type 0} → (K → ℕ → Bool → Bool → K) → (ℕ → Bool) → K → Tree → K
 noted pass before notes leaf = notes
 noted pass before notes (fork red left n right) =

@@ -6,7 +6,7 @@ use Rattle.link_tree.specs.Turning.{BecomesTree, painted, rebalanced, blackened,
 use Rattle.link_tree.specs.declared.cursor.Side.{Side}
 use Rattle.link_tree.specs.declared.cursor.Side.TheVariants.{Left, Right}
 
--- what is left of a tree, and whether it has fewer black nodes on each path than before
+-- a tree after a removal, and whether each of its paths has fewer black nodes than before
 pub record RemovedSubtree : Type 0 where
   pub tree : Tree
   pub fell : Bool
@@ -16,7 +16,7 @@ pub record IsOrderedTree (precedes : ℕ → ℕ → Bool) (cells : ℕ → Cell
   pub tree : IsTree cells link t
   pub ordered : is_sorted precedes (nodes_of t) ≡ true
 
--- the link leads to what is left, and the cells of no other nodes changed
+-- the link leads to the tree after the removal, and no other node's cell changed
 pub record RemovesTo (cells cells' : ℕ
     → Cell) (ns : List ℕ) (link : Option ℕ) (has_fallen : Bool) (rest : RemovedSubtree) : Type 0
   where
@@ -45,7 +45,7 @@ mended side leaf = record { tree = leaf; fell = false }
 mended side (fork red left n right) = mended_at side red (tree_on side left right) n
     (tree_on (opposite side) left right)
 
--- a node over what is left on this side
+-- a node over the changed subtree on this side
 abbrev pub settled : Side → Bool → RemovedSubtree → ℕ → Tree → RemovedSubtree
 settled side red rest n far =
     if rest.fell then mended_at (opposite side) red far n rest.tree else record

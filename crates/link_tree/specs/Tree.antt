@@ -4,7 +4,7 @@ use Rattle.std.specs.Prelude.{List, [], ◌∷◌, ◌++◌, length, IsTrue, ◌
 use Rattle.std.specs.List.{list_all}
 use Rattle.std.specs.Int.Digits.{digits_of}
 
--- what the fields of a node say: left link, right link, red or black
+-- the fields of a node: left link, right link, red or black
 pub record Cell : Type 0 where
   pub left : Option ℕ
   pub right : Option ℕ
@@ -15,7 +15,7 @@ pub data Tree : Type 0 where
   leaf : Tree
   fork : Bool → Tree → ℕ → Tree → Tree
 
--- what a link to the tree says
+-- the link to the tree
 abbrev pub root_of : Tree → Option ℕ
 root_of leaf = None
 root_of (fork red left n right) = Some n
@@ -112,7 +112,7 @@ left_blacks (fork false left n right) = suc (left_blacks left)
 abbrev pub is_red_black : Tree → Bool
 is_red_black t = has_black_root t && has_no_red_pair t && has_black_height t (left_blacks t)
 
--- the laws of both: a tree that is read off is the tree there, and one that is there and no deeper is read off
+-- the laws of both: a tree that is read off is the tree there, and a tree there within the depth is read off
 pub record ReadsOff : Type 0 where
   pub sound : (depth : ℕ) (good : ℕ → Bool) (cells : ℕ → Cell) (link : Option ℕ) (t : Tree)
       → tree_from depth good cells link ≡ Some t → IsTree cells link t × IsTrue (list_all good (nodes_of t))

@@ -5,20 +5,20 @@ use Rattle.link_tree.specs.Tree.{Tree, leaf, fork, has_black_root}
 use Rattle.link_tree.specs.declared.change_points.Passed.{Passed}
 use Rattle.link_tree.specs.declared.change_points.Followed.{Followed}
 
--- what is found below a node, or otherwise the node, if it is black and the way goes on to no red one
+-- the point found below a node; if there is none, the node, provided that it is black and the path goes on to no red
+-- node
 abbrev pub entry_over : Bool → ℕ → Tree → Option ℕ → Option ℕ
 entry_over red n next below = option_or below (if not red && has_black_root next then Some n else None)
 
--- The lowest black node on the path of a search that no red one follows there. If a red node is hung at the end of
--- the path, the tree below this one is balanced anew, with this one still on top and black: so all above it is as it
--- was.
+-- The lowest black node on the path of a search that no red node follows there. If a red node is inserted at the end of
+-- the path, the subtree of this node is balanced again, and its root stays black: so nothing above it changes.
 abbrev pub insert_point_of : (ℕ → Bool) → Tree → Option ℕ
 insert_point_of before leaf = None
 insert_point_of before (fork red left n right) =
     if before n then entry_over red n right (insert_point_of before right) else entry_over red n left
     (insert_point_of before left)
 
--- what a search keeps after one node more, on its way in
+-- the state of a search after one more node of its path
 abbrev pub passed : Passed → ℕ → Bool → Bool → Passed
 passed notes n red before = record {
   node = if before then notes.node else Some n;
@@ -26,13 +26,13 @@ passed notes n red before = record {
   entry = if red then notes.entry else option_or notes.above notes.entry;
 }
 
--- what is found below a node, or otherwise the node, if the way goes on to a red one
+-- the point found below a node; if there is none, the node, provided that the path goes on to a red node
 abbrev pub exit_over : ℕ → Tree → Option ℕ → Option ℕ
 exit_over n next below = option_or below (if has_black_root next then None else Some n)
 
--- The lowest node above another that a red one follows on the way there. If the other is taken out, the tree under
--- the red one has as many black nodes on each path as before, whatever its root is then: so all above this node is as
--- it was.
+-- The lowest node above another that a red node follows on the path to it. If the other is removed, each path of the
+-- subtree under the red node keeps its number of black nodes, whatever its root is then: so nothing above this node
+-- changes.
 abbrev pub remove_point_of : (ℕ → ℕ → Bool) → ℕ → Tree → Option ℕ
 remove_point_of precedes x leaf = None
 remove_point_of precedes x (fork red left n right) =

@@ -1,4 +1,4 @@
-//! The way of a search to the place where a node would enter, or to a node that is to leave.
+//! Searches that also return where a change begins: on the path to a node's insertion point, or to the node to remove.
 
 ghost use Rattle.std.specs.Prelude.{◌≡◌, ℕ, ◌+◌, ◌*◌, ◌≤◌, Bool, true, false, Option, Some, None, List, length, IfSome};
 ghost use Rattle.std.specs.Prelude.{if◌then◌else◌};
@@ -86,7 +86,7 @@ struct Followed {
     above: Option<u64>,
     /// The lowest node above it that a red one followed.
     exit: Option<u64>,
-    /// That of `node`.
+    /// The point for `node`.
     of_node: Option<u64>,
 }
 

@@ -13,7 +13,7 @@ use crate::nodes::Nodes;
 /// A red-black tree of at most 2 to the 40th nodes is no higher.
 pub const MAX_HEIGHT: u64 = 82;
 
-/// How many nodes the tree has, if there is one, and the steps that the check took.
+/// The result of a check: the number of nodes, or none if the links are no tree; and the steps of the check.
 #[derive(Clone, Copy, Debug, PartialEq, Eq)]
 pub struct CheckedTree {
     /// The number of nodes; none if the links are no ordered red-black tree.
@@ -98,7 +98,7 @@ fn check_below<N: Nodes>(
         → visits.new.steps ≤ visits.old.steps
         + 5 * count_between (N.order visits.old.nodes.now) low high ns
         + (if is_some result then 0 else 5) }
-    // A node is gone to anew where the check stands at none, or compares it with a bound.
+    // The check goes to a node again if it has left the node, or if it compares the node with a bound.
     ensures steps_lower { visits.old.at ≡ None ⊎ (is_some low ≡ true ⊎ is_some high ≡ true)
         → IfSome result (λ part. visits.old.steps + part.nodes ≤ visits.new.steps) }
     ensures blacks { IfSome result (λ part. part.blacks ≤ levels) }
@@ -147,17 +147,17 @@ fn check_below<N: Nodes>(
     })
 }
 
-/// Returns how many nodes are reached from the root, if they are an ordered red-black tree, or none, if they are not.
+/// Returns the number of nodes that the root leads to, or none if they are no ordered red-black tree.
 ///
-/// The links may be any links between nodes: with cycles, with nodes that are shared.
-/// A step is going to a node, with all that is read there before the check goes to another.
+/// The links can be any links between nodes: cycles and shared nodes are allowed. A step is a visit of a node, with all
+/// reads of its fields until the check goes to another node.
 pub fn check<N: Nodes>(nodes: &N, root: Option<u64>) -> CheckedTree
     requires { leads (N.is_node nodes.now) root ≡ true }
     // It counts n nodes exactly where the links are an ordered red-black tree of n nodes.
     ensures count { (n : ℕ) → (result.nodes ≡ Some n)
         ↔ ((t : Tree) × IsSearchTree (N.order nodes.now) (N.cells nodes.now) root t
         × (length (nodes_of t) ≡ n)) }
-    // `ns` may be any list of nodes that has the root, and with each node those that its links lead to.
+    // `ns` can be any list of nodes that holds the root, and for each of its nodes the nodes that the links lead to.
     ensures steps { (ns : List ℕ) → IsLinkClosed (N.cells nodes.now) ns
         → leads (λ n. is_in n ns) root ≡ true
         → result.steps ≤ 5 * length ns + 5 }

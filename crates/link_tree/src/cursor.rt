@@ -273,7 +273,7 @@ impl<'a, N: NodesMut> NodeCursorMut<'a, N> {
         self.nodes.precedes(first, second)
     }
 
-    /// Returns the side of `at` on which the node stands or is to stand, and the link there.
+    /// Returns the side of `at` for `node`, and the link on that side.
     pub fn toward(&mut self, node: u64, at: u64) -> DescentStep
         requires node { N.is_node self.old.nodes.now node ≡ true }
         requires position { N.is_node self.old.nodes.now at ≡ true }

@@ -1,4 +1,4 @@
-//! The one way of a search down a tree, with what it keeps of the nodes that it passes.
+//! The search that all calls use: it goes down a tree, and folds a value over the nodes of its path.
 
 ghost use Rattle.std.specs.Prelude.{◌≡◌, ℕ, ◌+◌, ◌*◌, ◌<◌, ◌≤◌, ◌^◌, Bool, true, false, Option, Some, None, List};
 ghost use Rattle.std.specs.Prelude.{length};
@@ -9,9 +9,10 @@ ghost use Rattle.link_tree.specs.Searching.{path_length, noted};
 use crate::cursor::NodeCursor;
 use crate::nodes::Nodes;
 
-/// What a search keeps of the nodes that it passes.
+/// A value that a search folds over the nodes of its path.
 pub trait PathFold: Copy {
-    // What is kept after one more node, of its number, whether it is red, and whether it stands before the probe.
+    // The value after one more node, from the node's number, its colour (true if red), and whether it precedes the
+    // probe.
     ghost passed: { Self → ℕ → Bool → Bool → Self };
 
     /// Passes the node that the search stands at.
@@ -25,10 +26,10 @@ pub trait PathFold: Copy {
         ensures steps { visits.new.steps ≡ visits.old.steps };
 }
 
-/// What was kept of the way, and the steps that it took.
+/// The result of a search: the folded value, and the steps.
 #[derive(Clone, Copy)]
 pub struct Descent<K> {
-    /// What the search noted on its path.
+    /// The value that the search folded over its path.
     pub notes: K,
     /// The steps that the search took.
     pub steps: u64,

@@ -41,7 +41,7 @@ fn make_red_leaf<N: NodesMut>(visits: &mut NodeCursorMut<N>, node: u64)
     visits.set_red(node, true);
 }
 
-/// Puts the node into the tree that the link leads to, and returns the root of what it has become.
+/// Inserts the node into the tree of the link, and returns the root of the new tree.
 fn insert_below<N: NodesMut>(visits: &mut NodeCursorMut<N>, link: Option<u64>, node: u64) -> u64
     requires link { leads (N.is_node visits.old.nodes.now) link ≡ true }
     requires node { N.is_node visits.old.nodes.now node ≡ true }
@@ -89,7 +89,7 @@ pub fn insert_at<N: NodesMut>(
     requires tree { (t : Tree) × IsSearchTree (N.order nodes.old) (N.cells nodes.old) root t
         × IsTrue (is_ordered_with (N.order nodes.old) node (nodes_of t))
         × IfSome entry (λ n. insert_point_of (λ m. not (N.order nodes.old node m)) t ≡ Some n) }
-    // `insert_in_order` puts the node before the first one that it precedes.
+    // `insert_in_order` inserts the node before the first node that it precedes.
     ensures tree { (t : Tree) → IsSearchTree (N.order nodes.old) (N.cells nodes.old) root t
         → (after_insert : Tree) × IsSearchTree (N.order nodes.new) (N.cells nodes.new) result.root after_insert
         × (nodes_of after_insert ≡ insert_in_order (N.order nodes.old) node (nodes_of t)) }
@@ -134,7 +134,7 @@ pub fn insert<N: NodesMut>(nodes: &mut N, root: Option<u64>, node: u64) -> TreeC
     // The node must precede or follow each node of the tree.
     requires tree { (t : Tree) × IsSearchTree (N.order nodes.old) (N.cells nodes.old) root t
         × IsTrue (is_ordered_with (N.order nodes.old) node (nodes_of t)) }
-    // `insert_in_order` puts the node before the first one that it precedes.
+    // `insert_in_order` inserts the node before the first node that it precedes.
     ensures tree { (t : Tree) → IsSearchTree (N.order nodes.old) (N.cells nodes.old) root t
         → (after_insert : Tree) × IsSearchTree (N.order nodes.new) (N.cells nodes.new) result.root after_insert
         × (nodes_of after_insert ≡ insert_in_order (N.order nodes.old) node (nodes_of t)) }
@@ -151,7 +151,7 @@ pub fn insert<N: NodesMut>(nodes: &mut N, root: Option<u64>, node: u64) -> TreeC
     // there is stay.
     ensures keeper { SameExceptCells N.Nodes nodes.old nodes.new }
 {
-    // A tree with nothing in it needs no search, as that of the gaps has where there was one.
+    // An empty tree needs no search. The tree of the gaps is empty whenever its only gap was just removed.
     if root.is_none() {
         return insert_at(nodes, root, None, node);
     }

@@ -1,10 +1,10 @@
-//! Ordered red-black trees over links that someone else keeps.
+//! Ordered red-black trees over links that the caller stores.
 //!
-//! The keeper of the nodes implements `Nodes`, and `NodesMut` if the tree changes: nodes are `u64`, links
-//! `Option<u64>`. No call makes, copies or moves a node, or allocates. Each answers its steps: a step is going to a
-//! node, with all reads and writes of its fields until the call goes to another.
-//! The trees are those of Cormen, Leiserson, Rivest and Stein, Introduction to Algorithms, chapter 13; `insert` goes
-//! after Okasaki, `remove` after Filliâtre and Letouzey.
+//! The caller implements `Nodes`, and `NodesMut` to change the tree: nodes are `u64`, links `Option<u64>`. No call
+//! creates, copies or moves a node, or allocates. Each call returns its steps. A step is a visit of a node, with all
+//! reads and writes of its fields until the call goes to another node. The trees are those of Cormen, Leiserson, Rivest
+//! and Stein, Introduction to Algorithms, chapter 13. `insert` follows Okasaki, `remove` follows Filliâtre and
+//! Letouzey.
 #![tactic(auto)]
 
 mod change_points;

@@ -1,4 +1,4 @@
-//! What a tree needs of the one who keeps its nodes.
+//! The traits for storage of nodes.
 
 ghost use Rattle.std.specs.Prelude.{◌≡◌, ℕ, ◌≤◌, ◌^◌, Bool, true, false, Option, Some, List, length};
 ghost use Rattle.link_tree.specs.Tree.{Cell};
@@ -10,17 +10,17 @@ ghost use Rattle.link_tree.specs.Nodes.{with_left, with_right, with_red, is_in, 
 /// tree call goes from node to node. A step is going to one node, with all that is read and written there until the
 /// call goes to another. To compare two nodes a call goes to both.
 pub trait Nodes {
-    /// What a search looks for: a node can be compared with it, and it need not be a node.
+    /// The target of a search. It can be compared with each node, and need not be a node.
     type Probe;
 
-    // What the fields of each node say: its two links, and whether it is red. Of other numbers it may say anything.
+    // The fields of each node: two links, and whether it is red. For a number that is no node the cell can be anything.
     ghost cells: { Self → ℕ → Cell };
 
     // Whether a number is a node. No tree call asks for the fields of any other number.
     ghost is_node: { Self → ℕ → Bool };
 
-    // Whether one node precedes another: a strict order, by the laws below. Of two nodes neither may precede the other;
-    // then at most one of them is in a tree.
+    // Whether one node precedes another: a strict order, by the laws below. Two nodes can be equal in the order; a tree
+    // then holds at most one of them.
     ghost order: { Self → ℕ → ℕ → Bool };
 
     // Whether a node stands before a probe. The nodes that do are the first ones of a tree, by the law `agrees`.
@@ -29,18 +29,18 @@ pub trait Nodes {
     // The name of the reference that the nodes are reached by, where there is one: no call changes it.
     ghost lender: { Self → ℕ } = { λ _. 0 };
 
-    // What the keeper has besides the links and colours of its nodes: no setter and no tree call changes it. The keeper
-    // says what that is; a unit type where there is nothing to say.
+    // The state of the storage apart from links and colours. No setter and no tree call changes it. The implementation
+    // chooses the type; the unit type means no further state.
     ghost Kept: { Type 0 } = { Unit {0} };
 
     ghost kept: { Self → Kept };
 
-    /// Returns the link to the left: the root of the nodes below this one that precede it.
+    /// Returns the left link: the root of the subtree whose nodes precede this node.
     fn left(&self, node: u64) -> Option<u64>
         requires { is_node self.now node ≡ true }
         ensures { result ≡ (cells self.now node).left };
 
-    /// Returns the link to the right: the root of the nodes below this one that it precedes.
+    /// Returns the right link: the root of the subtree whose nodes this node precedes.
     fn right(&self, node: u64) -> Option<u64>
         requires { is_node self.now node ≡ true }
         ensures { result ≡ (cells self.now node).right };
@@ -76,7 +76,7 @@ pub trait Nodes {
     // No node precedes itself.
     ghost irreflexive: { (s : Self) (n : ℕ) → order s n n ≡ false };
 
-    // A node precedes what a node precedes that it precedes.
+    // The order is transitive.
     ghost transitive: { (s : Self) (a b c : ℕ) → order s a b ≡ true → order s b c ≡ true
         → order s a c ≡ true };
 
@@ -87,8 +87,8 @@ pub trait Nodes {
 
 /// Nodes whose links and colours can be set.
 ///
-/// Each call changes one field of one node. It keeps which numbers are nodes, their order, what stands before a probe,
-/// the reference to the nodes, and all else that the keeper has.
+/// Each call changes one field of one node. It keeps the set of nodes, their order, their comparison with probes, the
+/// reference to the storage, and all other state.
 pub trait NodesMut: Nodes {
     ghost use Rattle.link_tree.specs.Frame.{SameExceptCells};
 

@@ -16,14 +16,14 @@ use crate::insertion::TreeChange;
 use crate::nodes::NodesMut;
 use crate::rotation::{fix_double_red, is_red, paint, rotate};
 
-/// What is left of a tree, and whether each path to its end has one black node fewer than before.
+/// The tree after a removal, and whether each of its paths has one black node fewer than before.
 #[derive(Clone, Copy)]
 struct Leftover {
     root: Option<u64>,
     fell: bool,
 }
 
-/// The first node of a tree, and what is left without it.
+/// The first node of a tree, and the tree without it.
 #[derive(Clone, Copy)]
 struct Least {
     node: u64,
@@ -100,7 +100,7 @@ fn mend<N: NodesMut>(visits: &mut NodeCursorMut<N>, top: u64, side: Side) -> Lef
     }
 }
 
-/// Hangs what is left on this side under its parent again.
+/// Links the changed subtree to its parent again, on this side.
 fn settle<N: NodesMut>(
     visits: &mut NodeCursorMut<N>,
     parent: u64,
@@ -174,7 +174,7 @@ fn sink<N: NodesMut>(visits: &mut NodeCursorMut<N>, red: bool, link: Option<u64>
 /// Takes the first node out of the tree below `at`.
 fn take_least<N: NodesMut>(visits: &mut NodeCursorMut<N>, at: u64) -> Least
     requires node { N.is_node visits.old.nodes.now at ≡ true }
-    // So that the way down to it is a step, which pays for what is done there on the way back.
+    // The way down to the node is then a step, which pays for the work there on the way back.
     requires exclusive { visits.old.at ≢ Some at }
     requires tree { (t : Tree)
         × IsOrderedTree (N.order visits.old.nodes.now) (N.cells visits.old.nodes.now) (Some at) t
@@ -210,7 +210,7 @@ fn take_least<N: NodesMut>(visits: &mut NodeCursorMut<N>, at: u64) -> Least
     }
 }
 
-/// Takes out the root of a tree, and puts the next node into its place: by links, no node is copied.
+/// Removes the root of a tree. The next node takes its place; links change, and no node is copied.
 fn uproot<N: NodesMut>(visits: &mut NodeCursorMut<N>, at: u64) -> Leftover
     requires node { N.is_node visits.old.nodes.now at ≡ true }
     requires tree { (t : Tree)

@@ -4,13 +4,13 @@ ghost use Rattle.link_tree.specs.Besides.{stays_behind, both_finite, both_lead};
 
 use crate::nodes::Nodes;
 
-/// Nodes that stand before what is looked for, whichever they are.
+/// A search in which every node precedes the probe, so that it goes to the end.
 #[derive(Drop)]
 pub struct SearchToEnd<'a, N> {
     pub nodes: &'a N,
 }
 
-/// Nodes among which the place of one of them is looked for. To ask whether one stands before it is to compare the two.
+/// A search for a node's own place: a node precedes the probe if it precedes that node.
 #[derive(Drop)]
 pub struct SearchForNode<'a, N> {
     pub nodes: &'a N,

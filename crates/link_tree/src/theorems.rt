@@ -7,8 +7,8 @@ pub fn law_of_height()
     ensures { BoundsHeight }
 {}
 
-/// States what a check of links finds. A tree read off links is the tree there, each tree that is not too deep is read
-/// off, and the test of red-black trees is exact.
+/// States the law of checks: the tree that is read off links is the tree there, each tree within the depth is read off,
+/// and the test for red-black trees is exact.
 pub fn law_of_reading()
     ensures { ReadsOff }
 {}

@@ -4,7 +4,7 @@
 //! `rt try --test --fail-alloc N`, a request for memory is refused, and then the second try succeeds.
 use crate::checks::{done, refusal, same};
 use crate::segments::{named, new_named};
-use image_check::{ImageClass, OpenError, OpenRefused, open, open_any};
+use image_check::{ImageClass, OpenError, OpenRefused, Verdict, open, open_any};
 use memory_devices::{EndBehaviour, MemorySource};
 use raw_region::{RawRegion, Steps};
 use segment_manager::{Mode, Segment};
@@ -108,7 +108,9 @@ fn open_anew(rt: &impl Abort, alloc: Global, image: &[u8], of_any: bool) -> Opti
 fn refuse(rt: &impl Abort, alloc: Global, image: &[u8]) -> Option<Tried> {
     let region = RawRegion::new(alloc, 2048).ok()?;
     let refused = refusal(rt, opens(alloc, image, region, false));
-    same(rt, refused.cause, OpenError::Image(ImageClass::BadFreeTree));
+    let class = ImageClass::BadFreeTree;
+    let cause = OpenError::Image(Verdict { class, place: 24 });
+    same(rt, refused.cause, cause);
     drop(refused);
     Some(Tried::Done)
 }

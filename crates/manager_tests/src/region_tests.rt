@@ -5,8 +5,7 @@ use crate::checks::{done, holds, refusal, same};
 use crate::regions::{are_sevens, reads, region_of_sevens};
 use crate::segments::fresh;
 use image_check::{
-    AcceptedVersions, ExamineError, ExamineRefused, ImageClass, OpenError, OpenRefused, Verdict,
-    examine, examine_bytes, open, open_bytes, verify,
+    AcceptedVersions, ImageClass, OpenError, OpenRefused, Verdict, open, open_bytes, verify,
 };
 use memory_devices::{EndBehaviour, MemorySource};
 use raw_region::{RawRegion, Steps};
@@ -108,7 +107,9 @@ fn a_region_that_is_too_small_comes_back(rt: HostRuntime) {
 fn opens_bytes<R: Abort + AllocGlobal>(rt: &R, image: &[u8]) {
     let region = region_of_sevens(rt, 2048);
     let mut steps = Steps::new();
-    let opened = open_bytes(rt.alloc(), image, region, 16, Mode::ReadOnly, &mut steps);
+    let versions = AcceptedVersions::Current;
+    let mode = Mode::ReadOnly;
+    let opened = open_bytes(rt.alloc(), versions, image, region, 16, mode, &mut steps);
     let segment = done(rt, opened);
     same(rt, segment.as_bytes(), image);
     same(rt, segment.mode(), Mode::ReadOnly);
@@ -129,19 +130,32 @@ fn opens_no_bytes<R: Abort + AllocGlobal>(rt: &R, image: &[u8], cause: OpenError
     let mut steps = Steps::new();
     let refused = refusal(
         rt,
-        open_bytes(rt.alloc(), image, region, 864, Mode::Write, &mut steps),
+        open_bytes(
+            rt.alloc(),
+            AcceptedVersions::Current,
+            image,
+            region,
+            864,
+            Mode::Write,
+            &mut steps,
+        ),
     );
     same(rt, refused.cause, cause);
     is_as_it_was(rt, &refused.region);
     drop(refused);
 }
 
+/// Returns the refusal of an image that ends too early, after `place` bytes.
+fn truncated_at(place: u64) -> OpenError {
+    let class = ImageClass::Truncated;
+    OpenError::Image(Verdict { class, place })
+}
+
 #[test]
 fn bytes_that_are_too_few_leave_the_region(rt: HostRuntime) {
-    let truncated = OpenError::Image(ImageClass::Truncated);
-    opens_no_bytes(&rt, b"MSEG", truncated);
+    opens_no_bytes(&rt, b"MSEG", truncated_at(4));
     let of_144 = b"MSEGFILE\x02\0\0\0\0\0\0\0\x90\0\0\0\0\0\0\0";
-    opens_no_bytes(&rt, of_144, truncated);
+    opens_no_bytes(&rt, of_144, truncated_at(24));
     let of_176 = b"MSEGFILE\x02\0\0\0\0\0\0\0\xB0\0\0\0\0\0\0\0";
     opens_no_bytes(&rt, of_176, OpenError::RegionTooSmall);
 }
@@ -174,42 +188,27 @@ fn a_wrong_image_is_told_and_writes_nothing_beside(rt: HostRuntime) {
     let mut image = [0; 1024];
     image[..18].copy_from_slice(b"MSEGFILE\x02\0\0\0\0\0\0\0\0\x04");
     let refused = refusal(&rt, verified(&rt, &image));
-    same(&rt, refused.cause, OpenError::Image(ImageClass::BadTag));
+    let class = ImageClass::BadTag;
+    let cause = OpenError::Image(Verdict { class, place: 128 });
+    same(&rt, refused.cause, cause);
     has_sevens_beside(&rt, &refused.region);
     drop(refused);
 }
 
-/// Returns what an examination of an image at 16 in a region of 2048 sevens answers.
-fn examined<R: Abort + AllocGlobal>(rt: &R, image: &[u8]) -> Result<RawRegion, ExamineRefused> {
-    let mut reader = MemorySource::new(image, 7, EndBehaviour::Ends);
+/// Opens an image that lies in memory for reading, at 16 in a region of 2048 sevens.
+fn opened_there<R: Abort + AllocGlobal>(rt: &R, image: &[u8]) -> Result<Segment, OpenRefused> {
     let region = region_of_sevens(rt, 2048);
-    examine(rt.alloc(), &mut reader, region, 16, &mut Steps::new())
-}
-
-/// Examines an image that lies in memory, at 16 in a region of 2048 sevens.
-fn examined_there<R: Abort + AllocGlobal>(
-    rt: &R,
-    image: &[u8],
-) -> Result<RawRegion, ExamineRefused> {
-    let region = region_of_sevens(rt, 2048);
-    let mut steps = Steps::new();
-    examine_bytes(
-        AcceptedVersions::All,
+    let steps = &mut Steps::new();
+    let versions = AcceptedVersions::All;
+    open_bytes(
         rt.alloc(),
+        versions,
         image,
         region,
         16,
-        &mut steps,
+        Mode::ReadOnly,
+        steps,
     )
-}
-
-#[test]
-fn a_right_image_is_examined(rt: HostRuntime) {
-    let made = fresh(&rt);
-    let image = made.segment.as_bytes();
-    reads(&rt, &done(&rt, examined(&rt, image)), 16, image);
-    reads(&rt, &done(&rt, examined_there(&rt, image)), 16, image);
-    made.ends(&rt);
 }
 
 #[test]
@@ -217,9 +216,8 @@ fn the_place_of_a_wrong_tag_is_told(rt: HostRuntime) {
     let mut image = [0; 1024];
     image[..18].copy_from_slice(b"MSEGFILE\x02\0\0\0\0\0\0\0\0\x04");
     let class = ImageClass::BadTag;
-    let cause = ExamineError::Image(Verdict { class, place: 128 });
-    same(&rt, refusal(&rt, examined(&rt, &image)).cause, cause);
-    same(&rt, refusal(&rt, examined_there(&rt, &image)).cause, cause);
+    let cause = OpenError::Image(Verdict { class, place: 128 });
+    same(&rt, refusal(&rt, opened_there(&rt, &image)).cause, cause);
 }
 
 #[test]

@@ -2,7 +2,7 @@
 use Rattle.std.specs.Prelude.{ℕ, ◌+◌, ◌-◌, ◌%◌, ◌^◌, Option, Some, None, if◌then◌else◌, ◌==◌, List, Bool, nat_le, ◌&&◌}
 use Rattle.raw_region.specs.Memory.{Memory, word_at, word_bytes}
 
--- what the word w at an offset leads to
+-- the target of the word w at an offset
 abbrev pub target_of : ℕ → ℕ → Option ℕ
 target_of at w = if w == 1 then None else Some ((at + w) % 2 ^ 64)
 

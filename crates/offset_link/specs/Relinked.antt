@@ -16,7 +16,7 @@ pub record AreValidLinks (m : Memory) (at n : ℕ) : Type 0 where
 pub record AllLinksLead (m : Memory) (at n : ℕ) : Type 0 where
   pub each : (k : ℕ) → k < n → (target : ℕ) × (link_at m (at + 8 * k) ≡ Some target) × (target % 16 ≡ 0)
 
--- none of the n links from an offset on is null
+-- no link among the n links from an offset on is null
 pub record HasNoNullLink (m : Memory) (at n : ℕ) : Type 0 where
   pub each : (k : ℕ) → k < n → link_at m (at + 8 * k) ≢ None
 

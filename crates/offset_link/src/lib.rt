@@ -1,5 +1,5 @@
-//! Links that store the distance from their own offset to their target, so that they hold wherever
-//! the window lies. The distance 1 is null.
+//! Links that store the distance from their own offset to their target, so that they hold wherever the window lies. The
+//! distance 1 is null.
 #![tactic(auto)]
 
 mod link;

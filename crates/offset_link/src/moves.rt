@@ -57,8 +57,8 @@ pub fn all_lead(w: &Window, at: u64, n: u64) -> bool
     true
 }
 
-/// Moves the `n` links from `at` on, eight at a time. Each leads where it led, to a multiple of 16 or nowhere, and the
-/// places that they leave may be among those that they take.
+/// Moves the `n` links from `at` on, eight at a time. Each keeps its target, a multiple of 16, or stays null. The old
+/// places and the new ones can overlap.
 pub fn shift(w: &mut Window, at: u64, n: u64, by: Places)
     requires aligned { at % 8 ≡ 0 }
     requires source { at + 8 * n ≤ length w.old.bytes }
@@ -83,7 +83,7 @@ pub fn shift(w: &mut Window, at: u64, n: u64, by: Places)
     }
 }
 
-/// Moves links as `shift`, if none of them is null: all their words change by the distance, and none is tested.
+/// Moves links as `shift` does, if none of them is null: every word changes by the distance, so no word is tested.
 pub fn shift_non_null(w: &mut Window, at: u64, n: u64, by: Places)
     requires aligned { at % 8 ≡ 0 }
     requires source { at + 8 * n ≤ length w.old.bytes }
@@ -114,11 +114,11 @@ const RUN: usize = 8;
 /// Of more runs than these the words do not all fit a processor's first cache.
 const NEAR: usize = 512;
 
-/// How many runs before their turn words are looked at.
+/// The number of runs by which words are read ahead of their move.
 const AHEAD: usize = 8;
 
-/// What was seen of words: all that stood first in a pair, in one, and all that stood second. So a compiler keeps both
-/// in one register of two words, as it does the words that move.
+/// The bits of all words, joined by a bitwise or: one word for the first of each pair, one for the second. A compiler
+/// keeps both in one register of two words, as it does the words that move.
 #[derive(Clone, Copy, Default)]
 struct Seen {
     first: u64,
@@ -126,7 +126,7 @@ struct Seen {
 }
 
 impl Seen {
-    /// Tells whether one of the words was odd, as that of a link that leads nowhere is.
+    /// Returns true if one of the words was odd; the word of a null link is odd.
     #[inline(always)]
     fn has_odd(self) -> bool
         ensures { result ≡ false → BothEven self.first self.second }
@@ -170,7 +170,7 @@ fn runs_up<const NON_NULL: bool>(bytes: &mut [u8], at: usize, n: usize, by: usiz
     }
 }
 
-/// Moves all runs towards the end, and returns what was seen of their words. Runs that are far look ahead.
+/// Moves all runs towards the end, and returns the joined bits of their words. With many runs it looks ahead.
 #[inline(always)]
 fn all_turns_up<const NON_NULL: bool>(bytes: &mut [u8], at: usize, n: usize, by: usize) -> Seen
     requires in_bounds { at + by + 64 * n ≤ length bytes.old }
@@ -245,8 +245,7 @@ fn look_ahead(bytes: &[u8], later: usize, far: bool, seen: Seen) -> Seen
     }
 }
 
-/// Moves a run. If it is known that none is null, what was seen before is all that counts, and a compiler leaves out
-/// the rest.
+/// Moves a run. If no link is null, the bits from before are the result, and a compiler leaves out the rest.
 #[inline(always)]
 fn see_run<const NON_NULL: bool>(bytes: &mut [u8], from: usize, to: usize, seen: Seen) -> Seen
     requires from_in_bounds { from + 64 ≤ length bytes.old }
@@ -282,8 +281,8 @@ fn move_down<const NON_NULL: bool>(bytes: &mut [u8], at: usize, n: usize, by: us
     requires non_null { IsTrue NON_NULL → HasNoNullLink (bytes_of bytes.old) at n }
     ensures { bytes.new ≡ patched bytes.old (at - by) (relinked (bytes_of bytes.old) at (at - by) n) }
 {
-    // The first one moves alone where the runs behind it then begin at a multiple of 16, as those of `move_up` end at
-    // one.
+    // The first link moves alone if the runs after it then begin at a multiple of 16, just as the runs of `move_up` end
+    // at one.
     let first = n.min((at - by) / 8 % 2);
     let others = n - first;
     let runs = others / RUN;
@@ -309,7 +308,7 @@ fn runs_down<const NON_NULL: bool>(bytes: &mut [u8], at: usize, n: usize, by: us
     }
 }
 
-/// Moves all runs towards the start, and returns what was seen of their words. Runs that are far look ahead.
+/// Moves all runs towards the start, and returns the joined bits of their words. With many runs it looks ahead.
 #[inline(always)]
 fn all_turns_down<const NON_NULL: bool>(bytes: &mut [u8], at: usize, n: usize, by: usize) -> Seen
     requires source { at + 64 * n ≤ length bytes.old }
@@ -375,8 +374,8 @@ fn links_down(bytes: &mut [u8], at: usize, n: usize, by: usize)
     }
 }
 
-/// Makes the eight words from `to` on those from `from` on, less the distance: links that lead where those lead, but
-/// for null ones. All are read before one is written, and what is written is seen.
+/// Moves the eight words at `from` to `to`, and subtracts the distance from each; a link that is not null keeps its
+/// target. It reads all words before it writes one, and joins their bits.
 #[inline(always)]
 fn move_run(bytes: &mut [u8], from: usize, to: usize, seen: Seen) -> Seen
     requires from_in_bounds { from + 64 ≤ length bytes.old }
@@ -453,7 +452,7 @@ fn moved(bytes: &[u8], from: usize, to: usize) -> u64
     moved_by_distance(bytes, from, to)
 }
 
-/// Returns the word at `from`, less the distance: that of the same link, if it is not null.
+/// Returns the word at `from`, less the distance: the word of the same link at `to`, unless the link is null.
 #[inline(always)]
 fn moved_by_distance(bytes: &[u8], from: usize, to: usize) -> u64
     requires { from + 8 ≤ length bytes.now }

@@ -6,13 +6,16 @@ use std::alloc::Global;
 use std::marker::Model;
 
 /// The most numbers that are noted about one memory.
-const MAX_NOTES: u64 = 4096;
+const MAX_NOTES: u64 = 4352;
 
-/// The bytes that one number is for.
+/// So many numbers are for all of the memory.
+const COMMON_NOTES: u64 = 256;
+
+/// The bytes that each other number is for.
 const NOTED_LEN: u64 = 2048;
 
-/// Numbers that whoever has memory keeps beside it: one for 2048 bytes, and at most 4096. Their room comes with the
-/// memory, and no call here asks for more. Without room there are none.
+/// Numbers that whoever has memory keeps beside it: 256 for all of it, and one for 2048 bytes, at most 4096 of these.
+/// Their room comes with the memory, and no call here asks for more. Without room there are none.
 #[derive(Drop)]
 pub struct Notes {
     numbers: Option<Vec<u32>>,
@@ -26,7 +29,7 @@ impl Model for Notes {
 
     ghost view = { λ n. numbers_in n.numbers };
 
-    ghost invariant = { λ n. length (numbers_in n.numbers) ≤ 4096 };
+    ghost invariant = { λ n. length (numbers_in n.numbers) ≤ 4352 };
 }
 
 impl Notes {
@@ -37,8 +40,8 @@ impl Notes {
         Notes { numbers: None }
     }
 
-    /// Makes notes with room for those of `capacity` bytes, or without room if the allocator has it not, or if one
-    /// number would be all.
+    /// Makes notes with room for those of `capacity` bytes, or without room if the allocator has it not, or if the
+    /// memory has less than the bytes for one.
     pub(crate) fn about(alloc: Global, capacity: u64) -> Notes {
         Notes {
             numbers: room_for(alloc, capacity),
@@ -68,10 +71,10 @@ impl Notes {
         }
     }
 
-    /// Returns how many there are: at most 4096.
+    /// Returns how many there are: at most 4352.
     pub fn len(&self) -> usize
         ensures len { result ≡ length self.now }
-        ensures most { result ≤ 4096 }
+        ensures most { result ≤ 4352 }
     {
         // The proof reads the bound from the field's type.
         let _ = &self.numbers;
@@ -97,23 +100,23 @@ impl Notes {
     }
 }
 
-/// Returns room for the numbers of `capacity` bytes, or none if the allocator refuses it, or if one number would be
-/// all.
+/// Returns room for the numbers of `capacity` bytes, or none if the allocator refuses it, or if the memory has less
+/// than the bytes for one.
 fn room_for(alloc: Global, capacity: u64) -> Option<Vec<u32>>
     ensures empty { numbers_in result ≡ [] }
-    ensures capacity { IfSome result (λ room. vec_capacity room ≤ 4096) }
+    ensures capacity { IfSome result (λ room. vec_capacity room ≤ 4352) }
 {
-    let others = (capacity / NOTED_LEN).min(MAX_NOTES - 1);
+    let others = (capacity / NOTED_LEN).min(MAX_NOTES - COMMON_NOTES - 1);
     if others == 0 {
         return None;
     }
-    Vec::with_capacity(alloc, others as usize + 1).ok()
+    Vec::with_capacity(alloc, (COMMON_NOTES + others) as usize + 1).ok()
 }
 
-/// Returns as many zeros as there is room for, and at most 4096, so that no memory is asked for.
+/// Returns as many zeros as there is room for, and at most 4352, so that no memory is asked for.
 fn filled(room: Vec<u32>) -> Vec<u32>
     ensures zeros { (i : ℕ) → slice_index result.items i ≡ 0 }
-    ensures most { length result.items ≤ 4096 }
+    ensures most { length result.items ≤ 4352 }
 {
     let mut zeros = room;
     let count = zeros.capacity().min(MAX_NOTES as usize);

@@ -7,7 +7,7 @@ use memory_devices::{MemorySink, MemorySource};
 use rows_trials::{Call, Case, Outcome, Place, Runner};
 use segment_cli::{Start, migrate, session};
 use std::alloc::{AllocError, Global};
-use zaluxhoni::{AcceptedVersions, ExamineError, Mode, RawRegion, Steps, examine_bytes};
+use zaluxhoni::{AcceptedVersions, Mode, OpenError, RawRegion, Steps, open_bytes};
 
 /// The library, with what gives it memory.
 #[derive(Drop)]
@@ -42,11 +42,12 @@ fn verdict_on(alloc: Global, image: &[u8]) -> Option<(&'static str, u64)> {
     let Ok(region) = region_of(alloc, Place::new(65536, 0)) else {
         return None;
     };
-    let mut steps = Steps::new();
-    match examine_bytes(AcceptedVersions::All, alloc, image, region, 0, &mut steps) {
+    let steps = &mut Steps::new();
+    let (versions, mode) = (AcceptedVersions::All, Mode::ReadOnly);
+    match open_bytes(alloc, versions, image, region, 0, mode, steps) {
         Ok(_) => None,
         Err(refused) => match refused.cause {
-            ExamineError::Image(verdict) => Some((class_name(verdict.class), verdict.place)),
+            OpenError::Image(verdict) => Some((class_name(verdict.class), verdict.place)),
             _ => None,
         },
     }

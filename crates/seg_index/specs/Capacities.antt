@@ -1,4 +1,4 @@
--- What a call leaves that gives an index another capacity.
+-- The effects of calls that change the capacity of an index.
 use Rattle.std.specs.Prelude.{◌≡◌, ℕ, ◌+◌, ◌*◌, ◌<◌, ◌≤◌, Some, None, Result, MatchResult, List, length, ◌==◌}
 use Rattle.std.specs.Prelude.{if◌then◌else◌}
 use Rattle.raw_region.specs.{Format.current, Memory.WindowState, Memory.bytes_of}

@@ -1,4 +1,4 @@
--- How many keys a binary search compares with the one that is looked up.
+-- The number of comparisons of a binary search.
 use Rattle.std.specs.Prelude.{ℕ, zero, suc, ◌+◌, ◌-◌, ◌*◌, ◌/◌, true, false, List, length, nat_lt, slice_get, unwrap_or}
 use Rattle.std.specs.{Prelude.IsTrue, declared.cmp.Ordering.Ordering}
 use Rattle.std.specs.declared.cmp.Ordering.TheVariants.{Less, Equal, Greater}
@@ -11,9 +11,9 @@ use Rattle.seg_index.specs.{declared.keys.Entry.Entry, Lookups.IsKeyReadable, Lo
 abbrev pub middle : ℕ → ℕ → ℕ
 middle low high = low + (high - low) / 2
 
--- How many keys are compared among those from `low` on and below `high`, where `stands` says of each how it stands to
--- the one that is looked up: the middle one, and then as many as among those after it, if it stands before, or among
--- those before it, if it stands after. The first number is at least as many as the keys that are left.
+-- The number of comparisons between `low` and `high`, where `stands` is the order of each key to the wanted one. The
+-- middle key is compared; the search goes on after it if it precedes the wanted key, and before it if it follows. The
+-- first number is at least the number of keys that are left.
 unfoldable pub comparisons_among : ℕ → (ℕ → Ordering) → ℕ → ℕ → ℕ
 comparisons_among zero stands low high = 0
 comparisons_among (suc most) stands low high =
@@ -37,7 +37,7 @@ comparisons m key handles =
 abbrev pub order_at : Memory → Entry → ℕ → ℕ → Ordering
 order_at m key block i = order m key (unwrap_or (link_at m (block + 8 * i)) 0)
 
--- how many comparisons a search makes in so many entries
+-- the number of comparisons of a search in this many entries
 abbrev pub comparisons_in : Memory → Entry → ℕ → ℕ → ℕ
 comparisons_in m key block count = comparisons_among count (order_at m key block) 0 count
 

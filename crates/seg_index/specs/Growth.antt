@@ -1,4 +1,4 @@
--- What the calls of an index leave in a heap.
+-- The effects of index calls on a heap.
 use Rattle.std.specs.Prelude.{◌≡◌, ℕ, ◌+◌, ◌*◌, ◌<◌, ◌≤◌, Option, Some, None, Result, MatchResult, IfSome, List, IsTrue}
 use Rattle.std.specs.List.{AllByRecursion}
 use Rattle.raw_region.specs.Memory.{WindowState, SameBytes, SameSurroundings, bytes_of}
@@ -27,7 +27,7 @@ Prepares old new at result =
     MatchResult result (λ g. PreparesOk old new at g.block)
     (λ e. (capacity_at old at ≤ entry_count old at) × AllocatesNoSpace old new (grown_bytes old at) IndexRole)
 
--- the block is given back, if there is one
+-- the block is freed, if there is one
 abbrev pub FreesGrowth : WindowState → WindowState → Option ℕ → Type 0
 FreesGrowth old new None = new ≡ old
 FreesGrowth old new (Some h) = Deallocates current old new h
@@ -83,7 +83,7 @@ abbrev pub grown_live : WindowState → ℕ → Option ℕ → LiveSet
 grown_live c at None = live_of c.bytes
 grown_live c at (Some h) = without_index_block c at
 
--- adding an entry keeps the other index, the header and all blocks but those of the index
+-- adding an entry keeps the other index, the header, and every block except the block of the index
 abbrev pub AddKeeps : WindowState → WindowState → ℕ → BackingArray → Option ℕ → Type 0
 AddKeeps old new at t None = KeepsOutsideIndex old new at (beside_table t (live_of old.bytes).extents)
 AddKeeps old new at t (Some h) = KeepsOutsideIndex old new at (others h (without_index_block old at).extents)

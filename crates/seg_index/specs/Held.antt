@@ -13,11 +13,11 @@ abbrev pub place_of : Index → ℕ
 place_of Named = 32
 place_of Unique = 56
 
--- the words of an index: how many entries it has, and how many places
+-- the count in the words of an index
 abbrev pub entry_count : WindowState → ℕ → ℕ
 entry_count c at = word_at (bytes_of c.bytes) (at + 8)
 
--- how many places the words of an index say
+-- the capacity in the words of an index
 abbrev pub capacity_at : WindowState → ℕ → ℕ
 capacity_at c at = word_at (bytes_of c.bytes) (at + 16)
 

@@ -1,5 +1,4 @@
--- What an index compares of the objects that it leads to, each by its handle, at which its payload begins: two words,
--- and the name.
+-- The keys of an index. A handle leads to an object's payload: two words, and the name.
 use Rattle.std.specs.Prelude.{ℕ, ◌+◌, ◌/◌, ◌%◌, Bool, List, nat_lt}
 use Rattle.std.specs.{Cmp.Lexicographic.slice_cmp, Ordering.nat_cmp, Ordering.is_lt}
 use Rattle.raw_region.specs.Memory.{Memory, read, word_at}

@@ -29,8 +29,8 @@ pub record IndexesStay : Type 0 where
       → IsIndexOf a (place_of i) t handles → ChangesBytes current a b (h + at) n
       → IsTrue (has_room (live_of a.bytes) h (at + n)) → (IsItsBlock a i h → ⊥) → IsIndexOf b (place_of i) t handles
 
--- the law: entries stay sorted if a block is taken, if one that is none of their objects' is released or written,
--- and if the same blocks are in use again with their bytes
+-- the law: entries stay sorted if a block is allocated, if a block of none of their objects is freed or written, and if
+-- the same blocks are in use again with their bytes
 pub record EntriesStaySorted : Type 0 where
   pub taken : (a b : WindowState) (n : ℕ) (role : Role) (h : ℕ) → AllocatesOk current a b n role h → KeepsSorted a b
   pub released : (i : Index) (a b : WindowState) (h : ℕ) (handles : List ℕ) → AreSortedHandles a i handles
@@ -48,7 +48,7 @@ AbsentKeysBelong =
     → FindsPosition (bytes_of c.bytes) key handles (Absent place) → HasSortKey c (index_of key) h
     → IsKeyOf key (bytes_of c.bytes) h → BelongsAt c (index_of key) handles place h
 
--- the law: of a sorted list one place alone is that of a key
+-- the law: in a sorted list a key has one place
 abbrev pub KeysHaveOnePlace : Type 0
 KeysHaveOnePlace =
     (c : WindowState) (key : Entry) (handles : List ℕ) (r s : Lookup) → AreSortedHandles c (index_of key) handles
@@ -73,10 +73,10 @@ own_codes at = if at % 16 == 0 then at else 0
 abbrev pub seven : List ℕ
 seven = 16 ∷ 32 ∷ 48 ∷ 64 ∷ 80 ∷ 96 ∷ 112 ∷ []
 
--- The law: how the keys stand to the one that is looked up alone decides how many are compared, and these are at most
--- as many as their number has binary digits. Counted by hand: of seven keys the fourth is compared first, then the
--- second or the sixth, then any other, and if the search ends between two keys it has compared three; of eight
--- the fifth, the third, the second and the first.
+-- The law: the order of each key to the wanted key alone decides the number of comparisons, which is at most the number
+-- of binary digits of their count. Counted by hand: of seven keys the fourth is compared first, then the second or the
+-- sixth, then any other; a search that ends between two keys has compared three. Of eight keys the fifth, the third,
+-- the second and the first are compared.
 pub record SearchesHalve : Type 0 where
   pub decided : (count : ℕ) (p q : ℕ → Ordering) → ((i : ℕ) → i < count → p i ≡ q i)
       → comparisons_among count p 0 count ≡ comparisons_among count q 0 count

@@ -27,13 +27,13 @@ abbrev pub sort_order : Index → Memory → ℕ → ℕ → Ordering
 sort_order Named m g h = slice_cmp nat_cmp (name_at m g) (name_at m h)
 sort_order Unique m g h = nat_cmp (code_at m g) (code_at m h)
 
--- the handle is that of an object's block in use, which holds the sort key
+-- the handle leads to an object's block in use, which holds the sort key
 pub record HasSortKey (c : WindowState) (i : Index) (h : ℕ) : Type 0 where
   pub extent : Extent
   pub found : extent_at (live_of c.bytes) h ≡ Some extent
   pub fits : IsTrue (serves extent ObjectRole (sort_key_end i (bytes_of c.bytes) h))
 
--- a sort key is that of the object of a handle
+-- the sort key is the key of the object of a handle
 abbrev pub IsKeyOf : Entry → Memory → ℕ → Type 0
 IsKeyOf (Name s) m h = name_at m h ≡ s.now
 IsKeyOf (Code n) m h = code_at m h ≡ n
@@ -68,6 +68,6 @@ pub record CanAdd (c : WindowState) (i : Index) (place handle : ℕ) : Type 0 wh
   pub index : IsSortedIndex c i table handles
   pub belongs : BelongsAt c i handles place handle
 
--- what was sorted is sorted still, of either index
+-- an index that was sorted stays sorted, for both indexes
 abbrev pub KeepsSorted : WindowState → WindowState → Type 0
 KeepsSorted old new = (i : Index) (handles : List ℕ) → AreSortedHandles old i handles → AreSortedHandles new i handles

@@ -16,7 +16,7 @@ use std::cmp::Ordering;
 /// A number in the low half of a word.
 const HALF: u64 = 4294967296;
 
-/// The entries of a block, and how often one of their keys was compared with the one that is looked up.
+/// The entries of a block, with the number of key comparisons of a search.
 #[derive(Drop)]
 pub struct ComparisonCounter<'a> {
     heap: &'a Heap,
@@ -45,7 +45,7 @@ impl<'a> ComparisonCounter<'a> {
         }
     }
 
-    /// Returns how many there were.
+    /// Returns the number of comparisons.
     pub fn count(&self) -> u64
         ensures { result ≡ self.now.count }
     {
@@ -92,24 +92,24 @@ fn order_of_name(heap: &Heap, name: &[u8], front: u64, handle: u64) -> Ordering
     found.cmp(name)
 }
 
-/// The bytes that a front is made of.
-const FRONT: usize = 8;
+/// The number of leading bytes of names that are compared as one number.
+const NAME_PREFIX: usize = 8;
 
-/// Returns the front of a name that is looked up. A code has none.
+/// Returns the front of a wanted name: its first bytes as a number. A code has no front.
 fn front_of(key: Entry<'_>) -> u64
     ensures { result ≡ key_front key.entry }
 {
     let Entry::Name(name) = key else { return 0 };
-    if name.len() >= FRONT {
+    if name.len() >= NAME_PREFIX {
         return BigEndian::read_u64(name);
     }
-    let mut bytes = [0; FRONT];
+    let mut bytes = [0; NAME_PREFIX];
     bytes[..name.len()].copy_from_slice(name);
     BigEndian::read_u64(&bytes)
 }
 
-/// Returns the front of the name of an object, of `len` bytes. Eight bytes are read also of a shorter name, for after
-/// each block there are as many, and those that are not of the name count as zeros.
+/// Returns the first eight bytes of an object's name, which has `len` bytes. Of a shorter name eight bytes are read,
+/// too, since at least 16 bytes follow each block; the bytes after the name count as zeros.
 fn front_at(heap: &Heap, handle: u64, len: u64) -> u64
     requires heap { IsHeap current heap.now.bytes }
     requires room { IsTrue (has_room (live_of heap.now.bytes) handle (16 + len)) }
@@ -119,8 +119,8 @@ fn front_at(heap: &Heap, handle: u64, len: u64) -> u64
     let at = handle as usize + 16;
     let bytes = heap.as_bytes();
     bytes_are_octets(bytes);
-    let word = BigEndian::read_u64(&bytes[at..at + FRONT]);
-    if len >= FRONT as u64 {
+    let word = BigEndian::read_u64(&bytes[at..at + NAME_PREFIX]);
+    if len >= NAME_PREFIX as u64 {
         return word;
     }
     word - (word & (u64::MAX >> (8 * len)))

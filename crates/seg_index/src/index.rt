@@ -1,4 +1,4 @@
-//! The two indexes of a heap, and what they answer.
+//! The two indexes of a heap, and their calls.
 ghost use Rattle.std.specs.Prelude.{◌≡◌, ℕ, ◌+◌, ◌<◌, ◌≤◌, List, [], Some, length, slice_get};
 ghost use Rattle.raw_region.specs.{Memory.bytes_of, Format.current};
 ghost use Rattle.link_tree.specs.Tree.{bits};
@@ -13,8 +13,8 @@ use crate::searching::search;
 use best_fit::Heap;
 use raw_region::Steps;
 
-/// An index of a heap: three words in the header, and a block of links. Each call takes the heap anew, so that nothing
-/// is borrowed between two calls.
+/// An index of a heap: three words in the header, and a block of links. Each call takes the heap as an argument, so
+/// that no borrow lasts between two calls.
 #[derive(Clone, Copy, Debug, PartialEq, Eq)]
 pub enum Index {
     /// Objects with names, by the bytes of their names.

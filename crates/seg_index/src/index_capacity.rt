@@ -89,8 +89,8 @@ impl Index {
         Ok(())
     }
 
-    /// Makes the capacity the number of entries. Without entries the block is released; otherwise it is shortened if
-    /// it stands, as far as what is cut off can be free, also if the capacity is that already.
+    /// Shrinks the capacity to the number of entries, as far as a block can be shortened, even if the capacity stays.
+    /// Without entries the block is freed.
     pub fn shrink(self, heap: &mut Heap, steps: &mut Steps)
         requires index { HasIndex heap.old (place_of self) }
         ensures shrinking { (t : ATable) (handles : List ℕ) → IsIndexOf heap.old (place_of self) t handles
@@ -114,8 +114,8 @@ impl Index {
         }
     }
 
-    /// Makes a block of `n` places, of which the first `count` links are set, the block of an index, and releases the
-    /// one that it had.
+    /// Installs a block of `n` places, whose first `count` links are set, as the block of the index, and frees the old
+    /// block.
     pub(crate) fn install_block(
         self,
         heap: &mut Heap,

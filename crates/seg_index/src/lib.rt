@@ -1,8 +1,8 @@
-//! The two indexes of a segment: links to objects that rise by name, or by the code of the kind.
+//! The two indexes of a segment: links to objects, sorted by name or by the code of the kind.
 //!
-//! An index is three words in the header of a heap (a link, a count and a capacity) and a block of links. A full one
-//! moves into a block of twice its places, which is taken in use before a command changes anything; so the old block
-//! lives while the new one is asked for, and a command that is refused later gives the new one back.
+//! An index is three words in the header of a heap (a link, a count and a capacity) and a block of links. A full index
+//! moves into a block with twice its places. A command allocates that block before it changes anything, while the old
+//! block is in use; if the command fails later, it frees the new block.
 #![tactic(auto, using(crate::proofs::entries::Entries::sizes))]
 
 mod adding;

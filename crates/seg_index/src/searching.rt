@@ -1,4 +1,5 @@
-//! Binary search over the entries of a block. It stands apart from what it counts with, whose fields it cannot read.
+//! Binary search over the entries of a block. It has a module of its own, so that it cannot read the fields of its
+//! counter.
 ghost use Rattle.std.specs.Prelude.{◌≡◌, ◌^◌, ◌<◌, ◌≤◌};
 ghost use Rattle.raw_region.specs.Memory.{bytes_of};
 ghost use Rattle.link_tree.specs.Tree.{bits};
@@ -9,7 +10,7 @@ use crate::comparing::ComparisonCounter;
 use crate::keys::Lookup;
 use std::cmp::Ordering;
 
-/// Returns where the key stands among those that the first entries lead to.
+/// Returns the place of the key among the first `count` entries.
 pub fn search(comparisons: &mut ComparisonCounter<'_>, count: u64) -> Lookup
     requires keys { AreKeys comparisons.old.heap.now comparisons.old.block count comparisons.old.key }
     requires max_count { count < 2 ^ 40 }

@@ -27,8 +27,7 @@ pub fn growths_stay()
     ensures { GrowthsStay }
 {}
 
-/// States that the comparisons of a look-up depend on nothing but how each key stands to the one that is looked up, and
-/// are few.
+/// States that the comparisons of a look-up depend only on the order of each key to the wanted key, and are few.
 pub fn searches_halve()
     ensures { SearchesHalve }
 {}

@@ -30,7 +30,7 @@ pub record KeepsOutsideMap (old new : WindowState) (at : ℕ) (ns : List ℕ) : 
   pub blocks : (x : Extent) → extent_at (live_of old.bytes) (handle x) ≡ Some x → is_in (handle x) ns ≡ false
       → SameBlockExcept (bytes_of old.bytes) (bytes_of new.bytes) at 24 x
 
--- how many pairs there are
+-- the map has this number of pairs
 abbrev pub CountsPairs : {K V : Type 0} → Plain K → Plain V → List ℕ → ℕ → ℕ → ℕ → Type 0
 CountsPairs {K} {V} k v b h at n = (ps : List (Pair K V)) → HoldsMap k v b h at ps → n ≡ length ps
 
@@ -118,7 +118,7 @@ abbrev pub AllocatesNode : {K V E : Type 0} → Plain K → Plain V → WindowSt
 AllocatesNode {K} {V} k v old new key value result = MatchResult result (AllocatesNodeOk k v old new key value)
     (λ e. AllocatesNoSpace old new (node_len k.SIZE v.SIZE) Node)
 
--- a pair with a node that leads nowhere, which is none of the map, as its key is not
+-- a pair whose node has no links, and whose key is not in the map
 pub record IsUnlinkedPair {K V : Type 0} (k : Plain K) (v : Plain V) (b : List ℕ) (h : ℕ) (ps : List (Pair K V))
     (p : Pair K V) : Type 0 where
   pub absent : pair_at k.order ps p.key ≡ None
@@ -164,7 +164,7 @@ pub record PutsNewPair {K V : Type 0} (k : Plain K) (v : Plain V) (old new : Win
   pub beside : KeepsOutsideMap old new (h + at) (nodes_of_pairs ps)
   pub map : HoldsMap k v new.bytes h at (put_pair k.order (record { key = key; value = value; node = extent }) ps)
 
--- a key gets another value, in the block that it had: no byte changes but those of the value
+-- the value of a key is replaced in its block: only the bytes of the value change
 pub record OverwritesPair {K V : Type 0} (k : Plain K) (v : Plain V) (old new : WindowState) (h at : ℕ)
     (ps : List (Pair K V)) (p : Pair K V) (key : K) (value : V) : Type 0 where
   pub change : ChangesBytes current old new (handle p.node + 16 + k.SIZE) v.SIZE
@@ -185,8 +185,7 @@ PutsPair {K} {V} k v old new h at key value result =
     × PutsNewPair k v old new h at ps key value) (λ e. PutsNoSpace k v old new))
     (λ p. (result ≡ Ok false) × OverwritesPair k v old new h at ps p key value)
 
--- the steps of the two tree calls of a change, the one in which what is found is read, and the touches of one call of
--- the heap
+-- the steps of the two tree calls of a change, one step that reads the pair, and the touches of one call of the heap
 abbrev pub ChangeSteps : {K V : Type 0} → Plain K → Plain V → WindowState → ℕ → ℕ → ℕ → ℕ → Type 0
 ChangeSteps {K} {V} k v old h at before after =
     (ps : List (Pair K V)) → HoldsMap k v old.bytes h at ps

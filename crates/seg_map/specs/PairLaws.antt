@@ -15,7 +15,7 @@ use Rattle.link_tree.proofs.Laws.{all_at}
 use Rattle.seg_map.specs.PairNodes.{is_block_in, links_among, is_good, is_pair_node, pair_cells, before_key}
 use Rattle.seg_map.specs.PairNodes.{comes_before, stands, stands_before, no_cell}
 
--- an order is strict if nothing stands before itself, and what stands before another stands before all after that
+-- the order is strict: irreflexive and transitive
 abbrev pub IsStrict : {K : Type 0} → (K → K → Bool) → Type 0
 IsStrict {K} less = (x : K) → less x x ≡ false
 

@@ -91,7 +91,7 @@ pub record PairTreeFrame : Type 0 where
   pub byte : ℕ → ℕ
   pub colour : ℕ → ℕ
 
--- what a change of the map's tree keeps
+-- the state that a change of the map's tree keeps
 unfoldable pub kept_of : List ℕ → WindowState → PairTreeFrame
 kept_of ns c =
     record {
@@ -103,7 +103,7 @@ kept_of ns c =
       colour = λ h. if is_other ns (live_of c.bytes) h then word_at (bytes_of c.bytes) (h - 8) % 16 else 0;
     }
 
--- ---- the nodes of a map: those of the tree that the bytes had, and one more
+-- ---- the nodes of a map: the nodes of its tree, and the spare one
 
 abbrev pub of_option : Option ℕ → List ℕ
 of_option None = []

@@ -35,7 +35,7 @@ pub record HoldsMap {K V : Type 0} (k : Plain K) (v : Plain V) (b : List ℕ) (h
 abbrev pub IsSomeMap : {K V : Type 0} → Plain K → Plain V → List ℕ → ℕ → ℕ → Type 0
 IsSomeMap {K} {V} k v b h at = (ps : List (Pair K V)) × HoldsMap k v b h at ps
 
--- ---- what is found
+-- ---- searches by key
 
 -- below the key, or not above it
 abbrev pub is_passed : {K V : Type 0} → (K → K → Bool) → Bool → K → Pair K V → Bool
@@ -53,7 +53,7 @@ last_pair less past key ps = find (is_passed less past key) (reverse ps)
 abbrev pub final_pair : {K V : Type 0} → List (Pair K V) → Option (Pair K V)
 final_pair ps = last_or None ps
 
--- what is answered of a pair
+-- a pair as the result of a call
 abbrev pub item_of : {K V : Type 0} → Pair K V → K × V
 item_of p = (p.key, p.value)
 

@@ -1,4 +1,4 @@
--- The steps of a search in a map, one by one: those of its path, from the root of the tree of its pairs down.
+-- The steps of a search in a map: the nodes of its path from the root.
 use Rattle.std.specs.Prelude.{◌≡◌, ℕ, ◌+◌, ◌≤◌, Bool, true, false, Option, Some, None, List, IfSome, IsTrue}
 use Rattle.std.specs.{Prelude.if◌then◌else◌, Prelude.option_and_then, Prelude.option_map, List.AllByRecursion}
 use Rattle.raw_region.specs.Memory.{WindowState, Memory, bytes_of, read}
@@ -13,7 +13,7 @@ use Rattle.seg_map.specs.Places.{FindsKey, HoldsMap, SearchSteps, final_pair, fi
 abbrev pub path_in : {K : Type 0} → Plain K → WindowState → Bool → K → Tree → ℕ
 path_in k c past key t = path_length (stands_before k.order (keys_in k (nodes_of t) c) past key) t
 
--- what is found is read, in one step
+-- one step to read the pair that was found
 abbrev pub reading_steps : {A : Type 0} → Option A → ℕ
 reading_steps None = 0
 reading_steps (Some x) = 1
@@ -46,7 +46,7 @@ LastTakes {K} {V} k v c at before after =
     (ps : List (Pair K V)) (s : HoldsMap k v c.bytes at.handle at.at ps) → after ≡ before + last_path s.map.tree.tree
     + reading_steps (final_pair ps)
 
--- ---- what is read where a search has ended
+-- ---- the pair at the end of a search
 
 -- the key and the value that the bytes of a node spell, or none
 abbrev pub item_at : {K V : Type 0} → Plain K → Plain V → Memory → ℕ → Option (K × V)
@@ -54,7 +54,7 @@ item_at k v m n =
     both (value_in k.reading k.is_value k.spelling (read m (n + 16) k.SIZE))
     (value_in v.reading v.is_value v.spelling (read m (n + (16 + k.SIZE)) v.SIZE))
 
--- the node, if a key is not below that of its bytes
+-- the node, if its key is at most the given one
 abbrev pub node_with : {K : Type 0} → Plain K → Memory → K → ℕ → Option ℕ
 node_with k m key n =
     option_and_then (λ x. if k.order key x then None else Some n)
@@ -68,7 +68,7 @@ pub record IsRead {K V : Type 0} (k : Plain K) (v : Plain V) (c : WindowState) (
     pub item : item_at k v (bytes_of c.bytes) (pair_node p) ≡ Some (item_of p)
     pub room : IsTrue (has_room (live_of c.bytes) (pair_node p) (16 + k.SIZE + v.SIZE))
 
--- the nodes that are searched are those of a map, with its tree and its pairs
+-- the nodes of a search are the nodes of the map, with its tree and its pairs
 pub record OpensPairTree {K V : Type 0} (k : Plain K) (v : Plain V) (now c : WindowState) (at : Place) (own : List ℕ)
     (root : Option ℕ) : Type 0 where
   pub same : now ≡ c

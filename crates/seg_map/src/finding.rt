@@ -119,7 +119,7 @@ impl<K: Plain, V: Plain> SegMap<K, V> {
         }
     }
 
-    /// Returns the key and the value of the first pair that does not stand before what is looked for.
+    /// Returns the first pair that does not precede the probe.
     fn find_from(self, heap: &Heap, sought: &KeyProbe<K>, steps: &mut Steps) -> Option<(K, V)>
         requires { IsSomeMap K.Plain V.Plain heap.now.bytes self.place.handle self.place.at }
         ensures { LooksUp K.Plain V.Plain heap.now self.place (first_pair K.order sought.now.past sought.now.key)
@@ -130,7 +130,7 @@ impl<K: Plain, V: Plain> SegMap<K, V> {
         read_found(heap, found, steps)
     }
 
-    /// Returns the key and the value of the last pair that stands before what is looked for.
+    /// Returns the last pair that precedes the probe.
     fn find_before(self, heap: &Heap, sought: &KeyProbe<K>, steps: &mut Steps) -> Option<(K, V)>
         requires { IsSomeMap K.Plain V.Plain heap.now.bytes self.place.handle self.place.at }
         ensures { LooksUp K.Plain V.Plain heap.now self.place (last_pair K.order sought.now.past sought.now.key)
@@ -178,7 +178,7 @@ impl<K: Plain, V: Plain> SegMap<K, V> {
     }
 }
 
-/// Returns the key and the value of what a search has found. What it took is counted here.
+/// Reads the pair that a search found, and counts the steps of the search.
 fn read_found<K: Plain, V: Plain>(
     heap: &Heap,
     found: SearchResult,

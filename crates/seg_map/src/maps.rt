@@ -13,10 +13,10 @@ use raw_region::Steps;
 use seg_types::Plain;
 use std::marker::PhantomData;
 
-/// A map at a place in a heap. Three words stand there: the link to the root of a red-black tree, the number of pairs,
-/// and 0. Each pair has a block, which it keeps until its key is erased.
+/// A map at a place in a heap: three words, which are the link to the root of a red-black tree, the number of pairs,
+/// and 0. Each pair has a block, and keeps it until its key is erased.
 ///
-/// It is the place alone. Each call takes the heap anew, so that nothing is borrowed between two calls.
+/// The type holds the place alone. Each call takes the heap as an argument, so that no borrow lasts between two calls.
 #[derive(Clone, Copy)]
 pub struct SegMap<K: Plain, V: Plain> {
     /// Where the three words stand.
@@ -82,8 +82,8 @@ impl<K: Plain, V: Plain> SegMap<K, V> {
         Ok(true)
     }
 
-    /// Erases a key, and returns whether it was there: else nothing changes. Its block is given back; all others keep
-    /// theirs.
+    /// Erases a key and frees its block; all other pairs keep theirs. Returns false, and changes nothing, if the key is
+    /// missing.
     pub fn erase(self, heap: &mut Heap, key: K, steps: &mut Steps) -> bool
         requires { IsSomeMap K.Plain V.Plain heap.old.bytes self.place.handle self.place.at }
         ensures changes { ErasesKey K.Plain V.Plain heap.old heap.new self.place.handle self.place.at key result }

@@ -16,7 +16,7 @@ use std::marker::{Model, PhantomData};
 
 /// A heap that is lent to a call of the tree, to be read or to be changed.
 pub trait HeapRef {
-    // What the heap has.
+    // The state of the heap.
     ghost cut: { Self → WindowState };
 
     // The name of the reference, where the heap is lent to be changed.
@@ -47,8 +47,7 @@ impl HeapRef for &mut Heap {
     }
 }
 
-/// The nodes of one map: those of the tree that led from a link when it was made, and one more. What is written since
-/// does not change which they are.
+/// The nodes of one map: those of its tree when this was made, and one spare node. Later writes do not change the set.
 #[derive(Drop)]
 pub struct NodeSet {
     then: Snapshot,
@@ -69,7 +68,7 @@ impl NodeSet {
     ghost use Rattle.std.specs.Prelude.{◌≡◌};
     ghost use Rattle.seg_map.specs.PairNodes.{own_nodes};
 
-    /// Lends the nodes that are reached from `root`, and the one that is to join them.
+    /// Makes the set of the nodes that `root` leads to, and the spare node, which the caller inserts.
     pub fn new(heap: &Heap, root: Option<u64>, spare: Option<u64>) -> NodeSet
         ensures { result ≡ own_nodes heap.now.bytes root spare }
     {

@@ -10,7 +10,7 @@ use seg_types::Plain;
 /// Where the key of a node stands.
 pub const KEY_OFFSET: u64 = 16;
 
-/// A key that is looked for: pairs below it stand before it, and if it is past, those that have it too.
+/// A key as the target of a search. Pairs with lesser keys precede it; if `past` is set, so does a pair with this key.
 #[derive(Drop)]
 pub struct KeyProbe<K> {
     /// The key.

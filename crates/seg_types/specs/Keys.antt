@@ -1,4 +1,4 @@
--- What the keys of the code stand for.
+-- The meanings of the keys of the code.
 use Rattle.std.specs.Prelude.{ℕ, List}
 use Rattle.seg_types.specs.Names as name
 use Rattle.seg_types.specs.declared.names.Name.{Name}
@@ -20,7 +20,7 @@ key_seen (found.Unique k) = name.ByKind k
 key_seen (found.Handle n) = name.ByHandle n
 key_seen found.Anonymous = name.NoKey
 
--- a key of an object that is to be made
+-- a key for a new object
 abbrev pub new_key_seen : NewKey → name.Key
 new_key_seen (new.Name n) = name.ByName (name_seen n)
 new_key_seen (new.Unique k) = name.ByKind k

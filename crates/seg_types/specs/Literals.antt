@@ -1,4 +1,4 @@
--- What a literal is as a value of a kind that is learnt late, and two as a pair of two kinds.
+-- Literals as values of a kind that is known later, and two literals as a pair of two kinds.
 use Rattle.std.specs.Prelude.{◌≡◌, ℤ, true, Result, Ok, Err, List, ◌∷◌, []}
 use Rattle.seg_types.specs.declared.kinds.ScalarKind.{ScalarKind}
 use Rattle.seg_types.specs.declared.refusals.Refusal.{Refusal}

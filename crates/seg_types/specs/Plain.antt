@@ -13,7 +13,7 @@ same_bytes [] [] = true
 same_bytes (x ∷ xs) (y ∷ ys) = (x == y) && same_bytes xs ys
 same_bytes xs ys = false
 
--- the value that the bytes spell, or none, where a function says what a spelling says
+-- the value of the bytes, or none, for a function that reads spellings
 unfoldable pub value_in : {T : Type 0} → (List ℕ → Option T) → (T → Bool) → (T → List ℕ) → List ℕ → Option T
 value_in reading is_value spelling bytes =
     elim (reading bytes) [ None ↦ None | Some x ↦ if is_value x && same_bytes (spelling x) bytes then Some x else None ]

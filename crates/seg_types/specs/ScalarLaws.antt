@@ -126,7 +126,7 @@ number-small (b ∷ bs) small =
     let e = little_from-cons 0 (length bs) b bs in
     rw (pow-succ' 256 (length bs)) (omega arith)
 
--- the number whose value is read is the one that spells it
+-- the spelling of a value that was read is the number that was read
 pub i32-back : (x : ℕ) → x < 256 ^ 4 → (x < 2 ^ 31) ⊎ (2 ^ 31 ≤ x) → complement 4 (value_of I32 x) ≡ x
 i32-back x s (inl l) = ap (complement 4) (i32-low x l)
 i32-back x s (inr l) = let e : 256 ^ 4 - (2 ^ 32 - 1 - x + 1) ≡ x = omega arith in ap (complement 4) (i32-high x l) ∙ e

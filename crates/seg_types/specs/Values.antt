@@ -1,4 +1,4 @@
--- What the values of the code stand for.
+-- The meanings of the values of the code.
 use Rattle.std.specs.Prelude.{◌≡◌, ◌≢◌, ℕ, ℤ, Result, Ok, Err, pos, nat_abs, nat_lt, true, false, List, Option, Some}
 use Rattle.std.specs.Prelude.{None}
 use Rattle.byteorder.specs.Endian.{little_number}

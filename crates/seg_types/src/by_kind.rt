@@ -17,7 +17,7 @@ macro_rules! by_kind {
     };
 }
 
-/// Makes one piece of code for what a value of each kind holds: a `bool`, a `u8`, and so on.
+/// Repeats a piece of code for the value of each kind: for a `bool`, a `u8`, and so on.
 ///
 /// Example: `by_value!(value, it => print(it))`.
 #[macro_export]

@@ -54,7 +54,7 @@ impl<'a> IndexKey<'a> {
         }
     }
 
-    /// Returns the key of an object that is to be made under this entry.
+    /// Returns the key for a new object under this entry.
     pub fn into_new_key(self) -> NewKey<'a>
         ensures { new_key_seen result ≡ index_key_seen self.entry }
     {

@@ -8,10 +8,10 @@ pub const MAX_SPELLING_LEN: usize = 4096;
 /// The most bytes of a spelling that goes by way of a short buffer: one for the longest is cleared at each use.
 pub const SHORT_SPELLING_LEN: usize = 16;
 
-/// A type whose values are spelled by a fixed number of bytes, each in one way, and stand in a strict total order.
+/// A type whose values have a fixed number of bytes, one spelling each, and a strict total order.
 ///
-/// The five scalar types have it, and a caller can give it to a type of his own. What is promised of spellings and of
-/// the order is proved where the trait is implemented.
+/// The five scalar types implement it, and callers can implement it for types of their own. The implementation proves
+/// the laws of spellings and of the order.
 pub trait Plain: Copy {
     /// The number of bytes of a spelling, from 1 to 4096.
     const SIZE: u64;
@@ -66,7 +66,7 @@ pub trait Plain: Copy {
     // Nothing stands before itself.
     ghost irreflexive: { (x : Self) → order x x ≡ false };
 
-    // What stands before another stands before all that the other stands before.
+    // The order is transitive.
     ghost transitive: { (x y z : Self) → order x y ≡ true → order y z ≡ true → order x z ≡ true };
 
     // Of two different values one stands before the other.

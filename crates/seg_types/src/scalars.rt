@@ -1,4 +1,4 @@
-//! The types whose values are those of a scalar kind.
+//! The types of the scalar kinds.
 ghost use Rattle.std.specs.Prelude.{◌≡◌, ℤ, int_lt, true};
 ghost use Rattle.seg_types.specs.declared.kinds.ScalarKind.{ScalarKind};
 ghost use Rattle.seg_types.specs.Kinds.{is_value as is_value_of, spelling as spelling_of, size_of, scalar_code};
@@ -14,9 +14,9 @@ use crate::plain::Plain;
 
 /// A type of a scalar kind: `bool`, `u8`, `i32`, `i64` or `u64`.
 ///
-/// Its values are the whole numbers of the kind, with the kind's code, size, spelling and order. What holds of whole
-/// numbers of a kind holds of the type. That is proved where the trait is implemented: a type of a caller's own can
-/// have it only as one of the five under another name.
+/// Its values are the whole numbers of the kind, with the kind's code, size, spelling and order. The laws of a kind's
+/// numbers hold for the type, and the implementation proves them: a caller can implement the trait only for one of the
+/// five types under another name.
 pub trait Scalar: Plain {
     ghost kind: { ScalarKind };
 

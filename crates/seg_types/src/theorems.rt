@@ -11,7 +11,7 @@ pub fn values_spell_one()
     ensures { AllSpellOne }
 {}
 
-/// Returns what is written is read again: the `SIZE` bytes of `bytes` spell `value` then, and are read as it.
+/// Writes `value` to the first `SIZE` bytes and reads it back: the result is the value.
 pub fn written_is_read<T: Plain>(value: T, bytes: &mut [u8]) -> Option<T>
     requires { length bytes.old ≡ T.SIZE }
     ensures output { bytes.new ≡ T.spelling value }
@@ -21,8 +21,8 @@ pub fn written_is_read<T: Plain>(value: T, bytes: &mut [u8]) -> Option<T>
     T::read(bytes)
 }
 
-/// Reads `T` from `SIZE` bytes. Returns the number that they spell, or `None` if they spell none of its kind: a law of
-/// `T::read`.
+/// Reads a `T` from `SIZE` bytes. Returns the number that they spell, or `None` if they spell no number of its kind: a
+/// law of `T::read`.
 pub fn scalar_is_number<T: Scalar>(from: &[u8]) -> Option<T>
     requires { length from.now ≡ T.SIZE }
     ensures { MatchOption result (is_spelling T.kind from.now ≡ false) (λ x. (is_spelling T.kind from.now ≡ true)
@@ -38,7 +38,7 @@ pub fn holds_value<T: Plain>(value: T)
     let _ = value.precedes(value);
 }
 
-/// Tells whether neither value stands before the other, which is so of a value and itself alone.
+/// Returns true if neither value precedes the other. This holds only for equal values.
 pub fn unordered_are_same<T: Plain>(one: T, other: T) -> bool
     ensures { IsTrue result ↔ (one ≡ other) }
 {

@@ -2,6 +2,7 @@
 ghost use Rattle.std.specs.Prelude.{◌≡◌, MatchOption, ⊤};
 ghost use Rattle.seg_types.specs.Commands.{Literal, Quoted, Truth, Whole, value_of_literal};
 ghost use Rattle.seg_types.specs.Literals.{ConvertsPair, IsValueOf, pair_values};
+ghost use Rattle.seg_types.specs.Values.{kind_of_scalar};
 ghost use Rattle.seg_types.specs.Written.{NoText, literal_seen};
 
 use crate::kinds::ScalarKind;
@@ -42,6 +43,9 @@ impl WrittenValue for ScalarValue {
     ghost fits = { λ v. ⊤ };
 
     fn value_of(&self, kind: ScalarKind) -> Result<ScalarValue, Refusal> {
+        if self.kind() == kind {
+            return own_value(*self);
+        }
         match *self {
             ScalarValue::Bool(truth) => truth_as(kind, truth),
             ScalarValue::U8(number) => whole_as(kind, i128::from(number)),
@@ -53,6 +57,19 @@ impl WrittenValue for ScalarValue {
 
     fn text<'r>(&'r self, _room: &'r mut ()) -> Option<&'r [u8]> {
         None
+    }
+}
+
+/// Returns the value of its own kind that a value is: itself.
+fn own_value(value: ScalarValue) -> Result<ScalarValue, Refusal>
+    ensures { IsValueOf (kind_of_scalar value) (value_of_literal (kind_of_scalar value) (literal_seen value)) result }
+{
+    match value {
+        ScalarValue::Bool(truth) => Ok(ScalarValue::Bool(truth)),
+        ScalarValue::U8(number) => Ok(ScalarValue::U8(number)),
+        ScalarValue::I32(number) => Ok(ScalarValue::I32(number)),
+        ScalarValue::I64(number) => Ok(ScalarValue::I64(number)),
+        ScalarValue::U64(number) => Ok(ScalarValue::U64(number)),
     }
 }
 
@@ -70,11 +87,11 @@ pub fn truth_as(kind: ScalarKind, truth: bool) -> Result<ScalarValue, Refusal>
     }
 }
 
-/// Returns the value of a kind that a whole number is.
+/// Returns a whole number as a value of a kind.
 ///
 /// # Errors
 ///
-/// `WrongKind` if the kind is that of truths, `OutOfRange` if the number is outside the range of the kind.
+/// `WrongKind` if the kind is `Bool`, `OutOfRange` if the number is outside the range of the kind.
 pub fn whole_as(kind: ScalarKind, number: i128) -> Result<ScalarValue, Refusal>
     ensures { IsValueOf kind (value_of_literal kind (Whole number)) result }
 {

@@ -13,11 +13,11 @@ use Rattle.seg_vector.specs.Vector.{IsContainerAt, capacity_for_one, grown_backi
 abbrev pub place_at : Place → ℕ
 place_at p = p.handle + p.at
 
--- what the words say: how many elements there are, and how many places
+-- the length in the words of a container
 abbrev pub len_at : List ℕ → Place → ℕ
 len_at b p = word_at (bytes_of b) (place_at p + 8)
 
--- how many places the words of a vector say
+-- the capacity in the words of a container
 abbrev pub capacity_at : List ℕ → Place → ℕ
 capacity_at b p = word_at (bytes_of b) (place_at p + 16)
 

@@ -55,8 +55,8 @@ Extends old new p each n more =
     (len : ℕ) (t : BackingArray) (bytes : List ℕ) → IsContainer old.bytes p each len t bytes
     → RewritesElements old new p each (len + n) t (bytes ++ more)
 
--- where an element is put: after the last one and before another one if there is a place more, and over one that is
--- there
+-- the position of a written element: after the last or before another if the capacity allows one more, or over an
+-- element
 abbrev pub HasSpot : List ℕ → Place → WritePos → Type 0
 HasSpot b p End = len_at b p < capacity_at b p
 HasSpot b p (Over i) = i < len_at b p
@@ -70,7 +70,7 @@ PutsAt old new p each (Before i) more = Inserts old new p each i more
 
 -- ---- fewer places
 
--- the container has no place, and its storage is given back; without storage no byte of a gap changes
+-- the container has capacity 0, and its storage is freed; without storage no byte of a gap changes
 pub record FreesStorageOk (old new : WindowState) (p : Place) (each : ℕ) (t : BackingArray) : Type 0 where
   pub change : ExchangesBlocks current old new (place_at p) 24 (option_to_list t.extent) []
   pub gaps : t.extent ≡ None → KeepsGaps old new
@@ -81,8 +81,8 @@ abbrev pub FreesStorage : WindowState → WindowState → Place → ℕ → Type
 FreesStorage old new p each = (len : ℕ) (t : BackingArray) (bytes : List ℕ) → IsContainer old.bytes p each len t bytes
     → FreesStorageOk old new p each t
 
--- the container has as many places as elements: its storage is shortened, or given back if there is no element;
--- if the block stays as it is, no byte of a gap changes
+-- the capacity is the length: the storage is shortened, or freed if there is no element; if the block stays as it is,
+-- no byte of a gap changes
 pub record ShrinksStorageOk (old new : WindowState) (p : Place) (each len : ℕ) (t : BackingArray) (bytes : List ℕ) :
     Type 0 where
   pub change : ExchangesBlocks current old new (place_at p) 24 (option_to_list t.extent)

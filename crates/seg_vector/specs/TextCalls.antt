@@ -30,7 +30,7 @@ pub record GrowsTextOk (old new : WindowState) (p : Place) (t : BackingArray) (n
   pub grown : grown_backing (live_of old.bytes) 1 n t ≡ Some table
   pub now : ReplacesText old new p t bytes table
 
--- ---- what is read
+-- ---- reading
 
 -- the number is the length of the string
 abbrev pub CountsBytes : List ℕ → Place → ℕ → Type 0

@@ -1,4 +1,4 @@
--- The parts of what the calls of a vector of texts do: elements of an array, and the blocks of texts.
+-- The parts of calls of a vector of texts: elements of an array, and the blocks of texts.
 use Rattle.std.specs.Prelude.{◌≡◌, ◌≢◌, ℕ, ◌+◌, ◌-◌, ◌*◌, ◌%◌, ◌<◌, ◌≤◌, ◌⊎◌, IsTrue, IfSome, Option, Some, None, List}
 use Rattle.std.specs.Prelude.{[], ◌∷◌, insert, length, option_map, option_to_list, Result, MatchResult}
 use Rattle.std.specs.List.{AllByRecursion}
@@ -15,11 +15,11 @@ use Rattle.seg_vector.specs.{TextsCalls.text_blocks}
 use Rattle.seg_vector.specs.Vector.{AreTextLinks, IsOwnedText, OwnedText, capacity_for_one, grown_backing}
 use Rattle.seg_vector.specs.TextsCalls.{AreDistinct, RefusesFirstBlock, LacksFit, InsertsTextOk, IsTexts, ReplacesTexts}
 
--- blocks are gone and others came, and nothing in those that stay changes
+-- some blocks are freed and others allocated, and nothing in the other blocks changes
 abbrev pub SwapsBlocks : WindowState → WindowState → List Extent → List Extent → Type 0
 SwapsBlocks old new gone come = ExchangesBlocks current old new 0 0 gone come
 
--- these blocks are freed, and nothing in those that stay changes; if there are none, nothing changes
+-- these blocks are freed, and nothing in the other blocks changes; if the list is empty, nothing changes
 pub record FreesBlocks (old new : WindowState) (xs : List Extent) : Type 0 where
   pub change : SwapsBlocks old new xs []
   pub same : xs ≡ [] → new ≡ old
@@ -68,7 +68,7 @@ pub record PutsElement (old new : WindowState) (at : ℕ) (text : Option ℕ) (l
   pub link : link_at (bytes_of new.bytes) at ≡ text
   pub len_word : word_at (bytes_of new.bytes) (at + 8) ≡ len
 
--- the element at b says what the one at a said
+-- the new element at b is the old element at a
 pub record SameElement (m m' : Memory) (a b : ℕ) : Type 0 where
   pub link : link_at m' b ≡ link_at m a
   pub len_word : word_at m' (b + 8) ≡ word_at m (a + 8)
@@ -99,7 +99,7 @@ pub record CanCarryUp (b : List ℕ) (array at n : ℕ) : Type 0 where
   pub room : IsTrue (has_room (live_of b) array (at + 16 * n + 16))
   pub even : AreEvenLinks (bytes_of b) (array + at) n
 
--- a block of storage is taken into use
+-- a block of storage is allocated
 abbrev pub TakesStorage : WindowState → WindowState → ℕ → Result ℕ Refusal → Type 0
 TakesStorage old new n result = MatchResult result (AllocatesOk current old new n Storage)
     (LacksFit old new (place (live_of old.bytes) n Storage))
@@ -113,7 +113,7 @@ IsServed q = elim q.extent [
   | Some x ↦ (0 < length q.bytes) × IsTrue (serves x Storage (length q.bytes))
 ]
 
--- a block was taken into use, and the text stands in it; an empty one needs none, and nothing changes
+-- a block was allocated, and holds the text; an empty text needs none, and nothing changes
 pub record PlacesTextOk (old new : WindowState) (bytes : List ℕ) (block : Option ℕ) : Type 0 where
   pub text : OwnedText
   pub placed : placed_text (live_of old.bytes) bytes ≡ Some text
@@ -131,7 +131,7 @@ PlacesText old new bytes result = MatchResult result (PlacesTextOk old new bytes
 
 -- ---- an array with more places
 
--- The old array has the room where it stands; or a new block was taken into use, beside the old one.
+-- The old array is long enough where it is; or a new block was allocated beside it.
 pub data ReservesArray (old new : WindowState) (o : Option Extent) (n g : ℕ) : Type 0 where
   widened : (w : WidensBlock current old new g n) → o ≡ Some w.before → ReservesArray old new o n g
   taken : (a : AllocatesOk current old new n Storage g) → regrow (live_of old.bytes) o n ≡ Some a.extent
@@ -158,7 +158,7 @@ pub record SetsWords (old new : WindowState) (p : Place) (storage : Option ℕ) 
   pub len_word : word_at (bytes_of new.bytes) (place_at p + 8) ≡ n
   pub capacity : word_at (bytes_of new.bytes) (place_at p + 16) ≡ n
 
--- An array was asked for, and other blocks were taken into use since; the vector is as it was.
+-- An array was reserved, and other blocks were allocated since; the vector is as it was.
 pub record IsArrayReserved (now : WindowState) (p : Place) (g n : ℕ) : Type 0 where
   pub first : WindowState
   pub mid : WindowState
@@ -171,8 +171,8 @@ pub record IsArrayReserved (now : WindowState) (p : Place) (g n : ℕ) : Type 0 
   pub since : SwapsBlocks mid now [] loose
   pub still : loose ≡ [] → now ≡ mid
 
--- The vector has the array that was asked for, with n places. Its elements are the same, and the blocks taken since
--- stay. No byte of a gap changed if the array is the block that it was, and no other one was taken.
+-- The vector has the reserved array, with n places. Its elements are the same, and the blocks allocated since stay. No
+-- byte of a gap changed if the array is the old block, and no other block was allocated.
 pub record AdoptsOk (first old new : WindowState) (p : Place) (ps : List OwnedText) (t : BackingArray) (g n : ℕ)
     (loose : List Extent) : Type 0 where
   pub array : Extent
@@ -187,7 +187,7 @@ pub record AdoptsOk (first old new : WindowState) (p : Place) (ps : List OwnedTe
   pub links : AreTextLinks (bytes_of new.bytes) g ps
   pub stay : AllByRecursion (SameBlock (bytes_of old.bytes) (bytes_of new.bytes)) loose
 
--- the vector of strings takes over a reserved array
+-- the vector of strings installs a reserved array
 abbrev pub Adopts : WindowState → WindowState → Place → ℕ → ℕ → Type 0
 Adopts old new p g n = (r : IsArrayReserved old p g n) → AdoptsOk r.first old new p r.ps r.t g n r.loose
 
@@ -209,7 +209,7 @@ pub record PreparesPut (first now : WindowState) (p : Place) (ps : List OwnedTex
   pub owned : IsOwnedText (bytes_of now.bytes) z
   pub served : IsServed z
 
--- the element of this text is asked for at i
+-- the conditions for inserting this text's element at i
 pub record IsPutAsked (now : WindowState) (p : Place) (i : ℕ) (block : Option ℕ) (len : ℕ) : Type 0 where
   pub first : WindowState
   pub ps : List OwnedText
@@ -229,17 +229,17 @@ InsertsElement old new p i block len =
     → ReplacesTexts first new p (option_to_list t.extent) (y ∷ option_to_list z.extent) (insert ps i z)
     (record { capacity = m; extent = Some y })
 
--- ---- an array that is given up
+-- ---- a reservation that is undone
 
 -- the room that the array has, as the vector's block says it
 abbrev pub room_of : Option Extent → ℕ
 room_of o = elim o [ None ↦ 0 | Some x ↦ x.len - 16 ]
 
--- the number is the room of the array of a vector of strings
+-- the number is the length of the array's block, of a vector of strings
 abbrev pub HasArrayRoom : List ℕ → Place → ℕ → Type 0
 HasArrayRoom b p room = (ps : List OwnedText) (t : BackingArray) → IsTexts b p ps t → room ≡ room_of t.extent
 
--- an array was asked for, and nothing else since
+-- an array was reserved, and no block was allocated since
 pub record IsToBeGivenUp (now : WindowState) (p : Place) (g room : ℕ) : Type 0 where
   pub first : WindowState
   pub ps : List OwnedText
@@ -257,7 +257,7 @@ GivesUp old new p g room =
 
 -- ---- a text put in, once the index is known to be inside
 
--- a text has no space: what was taken is given back
+-- a text has no space: the reservation is undone
 pub record RefusesPut (old new : WindowState) (ps : List OwnedText) (t : BackingArray) (bytes : List ℕ)
     (e : Refusal) : Type 0 where
   pub refusal : e ≡ NoSpace
@@ -284,7 +284,7 @@ abbrev pub InsertsWithin : WindowState → WindowState → Place → ℕ → Lis
 InsertsWithin old new p i bytes result = (ps : List OwnedText) (t : BackingArray)
     → IsTexts old.bytes p ps t → i ≤ length ps → length ps < t.capacity → PutsInto old new p ps t i bytes result
 
--- a vector of texts has no place left, and n places are asked for
+-- a vector of texts is full, and an array of n places is needed
 pub record IsFullVector (b : List ℕ) (p : Place) (i n : ℕ) : Type 0 where
   pub ps : List OwnedText
   pub t : BackingArray

@@ -1,5 +1,5 @@
--- A vector of texts at a place: an array of links and lengths, and a block for each text that is not empty. Every block
--- is asked for while those that it replaces are in use.
+-- A vector of texts at a place: an array of links and lengths, and a block for each text that is not empty. New blocks
+-- are allocated while the blocks that they replace are in use.
 use Rattle.std.specs.Prelude.{◌≡◌, ◌≢◌, ℕ, ◌+◌, ◌-◌, ◌*◌, ◌%◌, ◌<◌, ◌≤◌, ◌⊎◌, ⊤, ◌==◌, nat_lt, if◌then◌else◌, IsTrue}
 use Rattle.std.specs.Prelude.{Option, Some, None, Result, Ok, MatchResult, List, [], ◌∷◌, ◌++◌, length, insert, remove}
 use Rattle.std.specs.Prelude.{flat_map, slice_get, slice_set, option_map, option_to_list}
@@ -50,16 +50,16 @@ pub record IsTexts (b : List ℕ) (p : Place) (ps : List OwnedText) (t : Backing
 abbrev pub IsTextsContainer : List ℕ → Place → Type 0
 IsTextsContainer b p = (ps : List OwnedText) × ((t : BackingArray) × IsTexts b p ps t)
 
--- The vector has these texts and this array. Some blocks are gone and others came; of all blocks that stay, those of
--- the other texts among them, no byte changes but its own 24, and of gaps none if the blocks are those that they
--- were.
+-- The vector has these texts and this array. Some blocks were freed and others allocated. In the blocks that stay, also
+-- those of other texts, only the 24 bytes of the vector change; no byte of a gap changes if the blocks are the old
+-- ones.
 pub record ReplacesTexts (old new : WindowState) (p : Place) (gone come : List Extent) (ps : List OwnedText)
     (t : BackingArray) : Type 0 where
   pub change : ExchangesBlocks current old new (place_at p) 24 gone come
   pub gaps : gone ≡ come → KeepsGaps old new
   pub texts : IsTexts new.bytes p ps t
 
--- ---- what is asked for
+-- ---- requests
 
 -- the live set in which the array is grown: the old array is in use still, if it is not the new one
 abbrev pub with_array : LiveSet → BackingArray → BackingArray → LiveSet
@@ -121,20 +121,20 @@ pub record IsTextElement (b : List ℕ) (array at : ℕ) (q : OwnedText) : Type 
   pub owned : IsOwnedText (bytes_of b) q
   pub held : IsHeldText (live_of b) q
 
--- there is no space for the one block that is asked for, and nothing changes
+-- there is no space for the one block that the call needs, and nothing changes
 pub record LacksFit {A : Type 0} (old new : WindowState) (met : Option A) (e : Refusal) : Type 0 where
   pub refusal : e ≡ NoSpace
   pub none : met ≡ None
   pub same : new ≡ old
 
--- One of several blocks has no space. Those before it are given back, and an array that was lengthened is shortened:
--- the same blocks are in use as before, and nothing in them changed.
+-- One of several blocks has no space. The blocks before it are freed, and an array that was lengthened is shortened:
+-- the same blocks are in use as before, with the same bytes.
 pub record UndoesRequests {A : Type 0} (old new : WindowState) (met : Option A) (e : Refusal) : Type 0 where
   pub refusal : e ≡ NoSpace
   pub none : met ≡ None
   pub restored : KeepsLiveSet current old new
 
--- a text enters with i others before it: the array's growth is asked for first, and then the text's block
+-- a text is inserted at i: the call allocates the array first, and then the text's block
 pub record InsertsTextOk (old new : WindowState) (p : Place) (ps : List OwnedText) (t : BackingArray) (i : ℕ)
     (bytes : List ℕ) : Type 0 where
   pub table : BackingArray
@@ -150,14 +150,14 @@ requested_text live ps t bytes = elim (grown_backing live 16 (capacity_for_one (
   | Some u ↦ placed_text (with_array live t u) bytes
 ]
 
--- If the block that is asked for first has no space, nothing changes: it is the text's if there is a place, and
--- else the array's.
+-- If the first request has no space, nothing changes: the request for the text if the capacity allows one more, and
+-- otherwise for the array.
 pub record RefusesFirstBlock (old new : WindowState) (ps : List OwnedText) (t : BackingArray) (bytes : List ℕ) :
     Type 0 where
   pub text : length ps < t.capacity → placed_text (live_of old.bytes) bytes ≡ None → new ≡ old
   pub array : grown_backing (live_of old.bytes) 16 (capacity_for_one (length ps) t.capacity) t ≡ None → new ≡ old
 
--- if the first block that is asked for has no space, nothing changes
+-- if the first request has no space, nothing changes
 abbrev pub UnchangedIfFirstRefused : WindowState → WindowState → Place → List ℕ → Type 0
 UnchangedIfFirstRefused old new p bytes = (ps : List OwnedText) (t : BackingArray) → IsTexts old.bytes p ps t
     → RefusesFirstBlock old new ps t bytes
@@ -273,7 +273,7 @@ AssignsTexts old new p (bytes ∷ more) result =
     → MatchResult result (λ u. AssignsTextsOk old new p ps t (bytes ∷ more))
     (UndoesRequests old new (requested_texts (live_of old.bytes) (bytes ∷ more)))
 
--- makes a vector of texts with exactly as many places, or frees what it allocated
+-- makes a vector of texts whose capacity is its length, or frees what it allocated
 abbrev pub MakesTexts : WindowState → WindowState → Place → List (List ℕ) → Result (Unit {0}) Refusal → Type 0
 MakesTexts old new p [] result = (result ≡ Ok tt) × InitsTexts old new p
 MakesTexts old new p (bytes ∷ more) result = MatchResult result

@@ -44,7 +44,7 @@ pub record RefusesIndex (old new : WindowState) (end i : ℕ) (e : Refusal) : Ty
   pub outside : end ≤ i
   pub same : new ≡ old
 
--- ---- what is read
+-- ---- reading
 
 -- the number is the length of the vector
 abbrev pub ReadsVectorLen : {T : Type 0} → ℕ → (T → Bool) → (T → List ℕ) → List ℕ → Place → ℕ → Type 0
@@ -155,7 +155,7 @@ Assigns {T} size is_value spelling old new p ys result =
     → MatchResult result (λ u. GrowsVectorOk size is_value spelling old new p t (length ys) ys)
     (LacksSpace old new size (length ys) t)
 
--- values put after the last one, if there are places for all of them or more can be had
+-- values are appended, if the capacity is large enough or can be made so
 abbrev pub ExtendsBy : {T : Type 0} → ℕ → (T → Bool) → (T → List ℕ) → WindowState → WindowState → Place → List T
     → Result (Unit {0}) Refusal → Type 0
 ExtendsBy {T} size is_value spelling old new p ys result =

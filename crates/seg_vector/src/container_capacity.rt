@@ -27,8 +27,8 @@ pub fn set_words(heap: &mut Heap, place: Place, storage: Option<u64>, count: u64
     heap.set_word(place.handle, place.at + CAPACITY, count);
 }
 
-/// Makes the three words at a place those of a container without a place, whatever they were. Storage that they led to
-/// is not given back.
+/// Sets the three words at a place to those of an empty container without storage, whatever they were. Storage that
+/// they led to is not freed.
 pub fn init_container(heap: &mut Heap, place: Place)
     requires heap { IsHeap current heap.old.bytes }
     requires aligned { place.at % 8 ≡ 0 }
@@ -51,8 +51,8 @@ pub fn free_storage(heap: &mut Heap, place: Place, each: u64)
     }
 }
 
-/// Makes the capacity of the container at a place its length. The storage is shortened to it, as far as a block can be,
-/// and given back if there is no element.
+/// Shrinks the capacity of the container to its length, as far as a block can be shortened. Without elements the
+/// storage is freed.
 pub fn shrink_storage(heap: &mut Heap, place: Place, each: u64)
     requires container { IsStanding heap.old.bytes place each }
     requires non_empty { 1 ≤ each }

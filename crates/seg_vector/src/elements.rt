@@ -44,7 +44,9 @@ pub fn truncate(heap: &mut Heap, place: Place, each: u64, n: u64)
     heap.set_word(place.handle, place.at + LEN_OFFSET, n);
 }
 
-/// Writes `n` elements of `each` bytes after the last one, if the capacity allows.
+/// Writes `n` elements of `each` bytes after the last one, if the capacity allows. It is inlined, as is `put_at`, so
+/// that elements of a known length cost no copy of bytes.
+#[inline(always)]
 pub fn extend(heap: &mut Heap, place: Place, each: u64, n: u64, bytes: &[u8])
     requires container { IsStanding heap.old.bytes place each }
     requires space { len_at heap.old.bytes place + n ≤ capacity_at heap.old.bytes place }
@@ -86,6 +88,7 @@ pub enum WritePos {
 }
 
 /// Puts an element of `each` bytes at a spot.
+#[inline(always)]
 pub fn put_at(heap: &mut Heap, place: Place, each: u64, spot: WritePos, bytes: &[u8])
     requires container { IsStanding heap.old.bytes place each }
     requires spot { HasSpot heap.old.bytes place spot }

@@ -1,5 +1,5 @@
-//! Vectors and strings at a place in a heap: what they hold, how they grow, and the bytes that spell them. Each is the
-//! place alone: a call takes the heap anew, so that nothing is borrowed between two calls.
+//! Vectors and strings at a place in a heap: their contents, their growth, and their bytes. Each type holds the place
+//! alone; a call takes the heap as an argument, so that no borrow lasts between two calls.
 #![tactic(auto, using(crate::proofs::storage::Storage::sizes))]
 
 mod container_capacity;

@@ -1,5 +1,4 @@
-//! The blocks of the texts of a vector, and those of other texts: these are laid out while those that they replace are
-//! in use.
+//! The blocks of the texts of a vector. New blocks are allocated while the blocks that they replace are in use.
 ghost use Rattle.std.specs.Prelude.{◌*◌, ◌<◌, IsTrue, List, length, map, option_to_list};
 ghost use Rattle.raw_region.specs.Format.{current};
 ghost use Rattle.best_fit.specs.Heap.{IsHeap, has_room, live_of};
@@ -39,7 +38,7 @@ pub fn place_text(heap: &mut Heap, text: &[u8]) -> Result<Option<u64>, Refusal>
     Ok(Some(block))
 }
 
-/// Gives back the block of the text whose element stands at an offset in the block of an array. An empty text has none.
+/// Frees the block of the text whose element is at an offset in the block of an array. An empty text has no block.
 pub fn release_text(heap: &mut Heap, array: u64, at: u64)
     requires { (q : OwnedText) × IsHeldElement heap.old.bytes array at q }
     ensures { (q : OwnedText) → IsHeldElement heap.old.bytes array at q
@@ -50,7 +49,7 @@ pub fn release_text(heap: &mut Heap, array: u64, at: u64)
     }
 }
 
-/// Gives back the blocks of the first `n` texts of the array in a block.
+/// Frees the blocks of the first `n` texts of the array in a block.
 pub fn release_texts(heap: &mut Heap, array: u64, n: u64)
     requires { (ps : List OwnedText) × AreHeldElements heap.old.bytes array n ps }
     ensures { (ps : List OwnedText) → AreHeldElements heap.old.bytes array n ps
@@ -61,9 +60,8 @@ pub fn release_texts(heap: &mut Heap, array: u64, n: u64)
     }
 }
 
-/// Takes a block into use for each text that is not empty, one after another, and writes their elements from the
-/// beginning of an array on. It stops at the first text for which no gap is long enough, and returns how many there are
-/// before it.
+/// Allocates a block for each text that is not empty, in order, and writes the elements to the front of an array. It
+/// stops at the first text for which no gap is long enough, and returns the number of texts before it.
 pub fn place_texts(heap: &mut Heap, array: u64, texts: &[&[u8]]) -> u64
     requires heap { IsHeap current heap.old.bytes }
     requires room { IsTrue (has_room (live_of heap.old.bytes) array (16 * length texts.now)) }

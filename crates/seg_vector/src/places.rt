@@ -13,7 +13,7 @@ pub const LEN_OFFSET: u64 = 8;
 /// Where the capacity of a container stands after its link.
 pub const CAPACITY: u64 = 16;
 
-/// The bytes of an element of a vector of texts: the link to the block of its text, and the text's length.
+/// The length of an element of a vector of texts: the link to the block of its text, and the text's length.
 pub const ELEMENT_LEN: u64 = 16;
 
 /// Returns where the link of the container at a place leads.

@@ -132,11 +132,11 @@ impl SegString {
         container_capacity::reserve(heap, self.place, 1, n)
     }
 
-    /// Leaves these bytes in place of those that there are. If there were fewer places, there is one for each then.
+    /// Replaces the bytes. If the capacity is too small, it becomes the number of bytes.
     ///
     /// # Errors
     ///
-    /// `NoSpace` if there are fewer places and the storage cannot be regrown. Nothing changes.
+    /// `NoSpace` if the capacity is too small and the storage cannot grow. Nothing changes.
     pub fn assign(self, heap: &mut Heap, bytes: &[u8]) -> Result<(), Refusal>
         requires { IsSomeText heap.old.bytes self.place }
         ensures { AssignsText heap.old heap.new self.place bytes.now result }
@@ -169,8 +169,8 @@ impl SegString {
         Ok(())
     }
 
-    /// Makes the capacity the number of bytes. The storage is shortened to it, as far as a block can be, and given back
-    /// if there is no byte.
+    /// Shrinks the capacity to the number of bytes, as far as a block can be shortened. Without bytes the storage is
+    /// freed.
     pub fn shrink(self, heap: &mut Heap)
         requires { IsSomeText heap.old.bytes self.place }
         ensures { ShrinksText heap.old heap.new self.place }

@@ -121,7 +121,7 @@ pub fn insert_element(heap: &mut Heap, place: Place, index: u64, text: Option<u6
     }
 }
 
-/// Returns the number of bytes that the array of the vector of texts at a place has room for, or 0 if it has no block.
+/// Returns the length of the array's block, in bytes; 0 if the vector of texts has no block.
 pub fn array_room(heap: &Heap, place: Place) -> u64
     requires { IsTextsContainer heap.now.bytes place }
     ensures { HasArrayRoom heap.now.bytes place result }
@@ -132,8 +132,7 @@ pub fn array_room(heap: &Heap, place: Place) -> u64
     }
 }
 
-/// Undoes what was asked for an array: the old array is shortened again to the room that it had, or the new one is
-/// given back.
+/// Undoes a reservation of an array: shortens the old array to its former length, or frees the new one.
 pub fn undo_reserve(heap: &mut Heap, place: Place, array: u64, room: u64)
     requires { IsToBeGivenUp heap.old place array room }
     ensures { GivesUp heap.old heap.new place array room }
@@ -158,9 +157,9 @@ pub fn insert_within(heap: &mut Heap, place: Place, index: u64, text: &[u8]) -> 
     Ok(())
 }
 
-/// Puts a text where `index` others stand before it, in an array of `n` places, since there is no place for it. The
-/// array is asked for first, and then the text's block, while the old array is in use. If one of the two has no gap
-/// that is long enough, it answers `NoSpace`: then the live set is as before, and all blocks with it.
+/// Inserts a text before the one at `index`, in a new array of `n` places, since the vector is full. It allocates the
+/// array first, and then the text's block, while the old array is in use. If a gap is missing for one of the two, it
+/// returns `NoSpace`, and the live set and all blocks are as before.
 pub fn insert_growing(
     heap: &mut Heap,
     place: Place,

@@ -107,8 +107,7 @@ impl SegTexts {
         }
     }
 
-    /// Puts another text in the place of the one with `index` others before it, whose block is given back once there is
-    /// the new one.
+    /// Replaces the text at `index`. Frees its block once the new block is allocated.
     ///
     /// # Errors
     ///
@@ -130,14 +129,13 @@ impl SegTexts {
         Ok(())
     }
 
-    /// Puts a text where `index` others stand before it. Those from there on move up. A full vector gets twice its
-    /// places first, and at least 4.
+    /// Inserts a text before the one at `index`. A full vector first gets twice its places, and at least 4.
     ///
     /// # Errors
     ///
-    /// `OutOfRange` if `index` is above the length: nothing changes. Otherwise `NoSpace` if the array or the text has
-    /// no gap that is long enough: the same blocks are in use as before, with the same bytes. Nothing changes if it is
-    /// the block that is asked for first: the text's, or the array's if the vector is full.
+    /// `OutOfRange` if `index` is above the length: nothing changes. Otherwise `NoSpace` if no gap is long enough for
+    /// the array or the text: the same blocks are in use as before, with the same bytes. Nothing changes at all if the
+    /// first request fails: the request for the text, or for the array if the vector is full.
     pub fn insert(self, heap: &mut Heap, index: u64, text: &[u8]) -> Result<(), Refusal>
         requires { IsTextsContainer heap.old.bytes self.place }
         ensures changes { InsertsText heap.old heap.new self.place index text.now result }
@@ -156,12 +154,12 @@ impl SegTexts {
         }
     }
 
-    /// Puts a text after the last one. A full vector gets twice its places first, and at least 4.
+    /// Appends a text. A full vector first gets twice its places, and at least 4.
     ///
     /// # Errors
     ///
-    /// `NoSpace` if the array or the text has no gap that is long enough: the same blocks are in use as before, with
-    /// the same bytes. Nothing changes if it is the block that is asked for first: the text's, or the array's if the
+    /// `NoSpace` if no gap is long enough for the array or the text: the same blocks are in use as before, with the
+    /// same bytes. Nothing changes at all if the first request fails: the request for the text, or for the array if the
     /// vector is full.
     pub fn push(self, heap: &mut Heap, text: &[u8]) -> Result<(), Refusal>
         requires { IsTextsContainer heap.old.bytes self.place }
@@ -172,8 +170,7 @@ impl SegTexts {
         self.insert(heap, len, text)
     }
 
-    /// Leaves out the text with `index` others before it, and gives back its block. Those after it move down, and the
-    /// array stays.
+    /// Removes the text at `index`, and frees its block. The texts after it move down; the array stays.
     ///
     /// # Errors
     ///
@@ -196,11 +193,11 @@ impl SegTexts {
         Ok(())
     }
 
-    /// Leaves out the last text, and gives back its block. The array stays.
+    /// Removes the last text, and frees its block. The array stays.
     ///
     /// # Errors
     ///
-    /// `OutOfRange` if there is none. Nothing changes.
+    /// `OutOfRange` if the vector is empty. Nothing changes.
     pub fn pop(self, heap: &mut Heap) -> Result<(), Refusal>
         requires { IsTextsContainer heap.old.bytes self.place }
         ensures { PopsText heap.old heap.new self.place result }
@@ -231,14 +228,13 @@ impl SegTexts {
         Ok(())
     }
 
-    /// Leaves these texts in place of those that there are. One or more get a new array with just a place for each, and
-    /// then their blocks, all while the old ones are in use, which are given back then. If there are none, the array
-    /// stays.
+    /// Replaces all texts. One or more texts get a new array with exactly one place for each, and then their blocks;
+    /// the old blocks are freed after that. If there are no texts, the array stays.
     ///
     /// # Errors
     ///
-    /// `NoSpace` if the array or a text has no gap that is long enough: the same blocks are in use as before, with the
-    /// same bytes. Nothing changes if it is the array.
+    /// `NoSpace` if no gap is long enough for the array or a text: the same blocks are in use as before, with the same
+    /// bytes. Nothing changes at all if the array has no gap.
     pub fn assign(self, heap: &mut Heap, texts: &[&[u8]]) -> Result<(), Refusal>
         requires { IsTextsContainer heap.old.bytes self.place }
         ensures changes { AssignsTexts heap.old heap.new self.place (map (λ text. text.now) texts.now) result }
@@ -254,8 +250,8 @@ impl SegTexts {
         Ok(())
     }
 
-    /// Makes the capacity the number of texts. The array is shortened to it, as far as a block can be, and given back
-    /// if there is no text.
+    /// Shrinks the capacity to the number of texts, as far as a block can be shortened. Without texts the array is
+    /// freed.
     pub fn shrink(self, heap: &mut Heap)
         requires { IsTextsContainer heap.old.bytes self.place }
         ensures { ShrinksTexts heap.old heap.new self.place }
@@ -263,7 +259,7 @@ impl SegTexts {
         shrink_storage(heap, self.place, ELEMENT_LEN);
     }
 
-    /// Leaves no text, and gives back the blocks of those that there are. The array stays.
+    /// Removes all texts, and frees their blocks. The array stays.
     pub fn clear(self, heap: &mut Heap)
         requires { IsTextsContainer heap.old.bytes self.place }
         ensures { ClearsTexts heap.old heap.new self.place }
@@ -275,7 +271,7 @@ impl SegTexts {
         heap.set_word(self.place.handle, self.place.at + LEN_OFFSET, 0);
     }
 
-    /// Gives back the array and the blocks of all texts. There is no text and no place then.
+    /// Frees the array and the blocks of all texts. The vector is empty then, with capacity 0.
     pub fn release(self, heap: &mut Heap)
         requires { IsTextsContainer heap.old.bytes self.place }
         ensures { ReleasesTexts heap.old heap.new self.place }

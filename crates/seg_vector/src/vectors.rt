@@ -1,4 +1,4 @@
-//! Vectors of values of a fixed number of bytes.
+//! Vectors whose values all have the same number of bytes.
 ghost use Rattle.std.specs.Prelude.{◌≡◌, ◌+◌, ◌%◌, IsTrue, length};
 ghost use Rattle.raw_region.specs.Format.{current};
 ghost use Rattle.best_fit.specs.{Heap.ChangesBytes, Heap.IsHeap, Heap.has_room, Heap.live_of};
@@ -226,11 +226,11 @@ impl<T: Plain> SegVec<T> {
         container_capacity::reserve(heap, self.place, T::SIZE, n)
     }
 
-    /// Leaves these values in place of those that there are. If there were fewer places, there is one for each then.
+    /// Replaces the values. If the capacity is too small, it becomes the number of values.
     ///
     /// # Errors
     ///
-    /// `NoSpace` if there are fewer places and the storage cannot be regrown. Nothing changes.
+    /// `NoSpace` if the capacity is too small and the storage cannot grow. Nothing changes.
     pub fn assign(self, heap: &mut Heap, values: &[T]) -> Result<(), Refusal>
         requires { IsSomeVector T.SIZE T.is_value T.spelling heap.old.bytes self.place }
         ensures { Assigns T.SIZE T.is_value T.spelling heap.old heap.new self.place values.now result }
@@ -241,8 +241,8 @@ impl<T: Plain> SegVec<T> {
         Ok(())
     }
 
-    /// Makes the capacity the number of values. The storage is shortened to it, as far as a block can be, and given
-    /// back if there is no value.
+    /// Shrinks the capacity to the number of values, as far as a block can be shortened. Without values the storage is
+    /// freed.
     pub fn shrink(self, heap: &mut Heap)
         requires { IsSomeVector T.SIZE T.is_value T.spelling heap.old.bytes self.place }
         ensures { ShrinksVector T.SIZE T.is_value T.spelling heap.old heap.new self.place }

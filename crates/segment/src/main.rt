@@ -8,7 +8,7 @@ mod requests;
 
 use raw_region::std_io::{ReadOnce, StdSink, StdSource};
 use raw_region::{DeviceFault, Source};
-use requests::{NoAnswerMemory, as_strs, buffered_writer, command_words, read_invocation};
+use requests::{NoAnswerMemory, as_strs, buffered_writer, command_words, read_request};
 use segment_answers::{LineOutput, NumberedOutput};
 use segment_cli::{ProgramFault, SessionFault};
 use segment_commands::{
@@ -17,8 +17,7 @@ use segment_commands::{
 };
 use segment_disk::{Disk, FileProblem, HostDisk, OpenedFile, StdOutput};
 use segment_invocation::{
-    FileChange, FileOptions, Invocation, ModeName, Report, RunOptions, SaveMode, Script, VERSION,
-    is_verbose, script_text,
+    FileChange, Invocation, ModeName, Options, Request, SaveMode, Script, VERSION, script_text,
 };
 use segment_scripts::{Until, command_rows};
 use std::env::var;
@@ -56,12 +55,8 @@ fn obey(rt: &HostRuntime) -> Result<u8, NoAnswerMemory> {
         return Ok(tell(rt, USAGE));
     };
     let words = as_strs(rt.alloc(), owned.as_slice())?;
-    match read_invocation(rt.alloc(), words.as_slice())? {
-        Ok(asked) if has_both(&asked, words.as_slice()) => {
-            let _ = eprintln!(rt; "error: --json tells no capacities; leave --capacities out");
-            Ok(tell(rt, USAGE))
-        }
-        Ok(asked) => perform(rt, &asked, is_verbose(words.as_slice())),
+    match read_request(rt.alloc(), words.as_slice())? {
+        Ok(asked) => perform(rt, &asked),
         Err(wrong) => {
             let _ = eprint!(rt; "{wrong}");
             Ok(tell(rt, USAGE))
@@ -69,31 +64,17 @@ fn obey(rt: &HostRuntime) -> Result<u8, NoAnswerMemory> {
     }
 }
 
-/// Tells whether a dump as JSON is asked for, and its capacities, which JSON has no place for.
-fn has_both(asked: &Invocation<'_>, words: &[&str]) -> bool {
-    match asked {
-        Invocation::Tell(file, Report::Json) => {
-            *file != "--capacities" && words.iter().any(|word| *word == "--capacities")
-        }
-        _ => false,
-    }
-}
-
 /// Does what the command line asks for, with the files of the system, standard input and standard output, and returns
 /// the status. If a person reads standard error, `--verbose` is given or `SEGMENT_VERBOSE` is set, a second line says
 /// why the command failed, as far as that is known.
-fn perform(
-    rt: &HostRuntime,
-    asked: &Invocation<'_>,
-    is_verbose: bool,
-) -> Result<u8, NoAnswerMemory> {
+fn perform(rt: &HostRuntime, asked: &Request<'_>) -> Result<u8, NoAnswerMemory> {
     let out = StdOutput::new(buffered_writer(rt.alloc(), io::writer(rt))?);
-    let keeping = keeping_of(asked);
+    let options = &asked.options;
     let mut host = Host {
         rt,
-        disk: HostDisk::with_options(rt, keeping.wait, keeping.saving),
+        disk: HostDisk::with_options(rt, options.keeping.wait, options.keeping.saving),
         scripts: HostDisk::new(rt),
-        is_verbose: is_verbose || rt.stderr().is_terminal() || var(rt, VERBOSE).is_ok(),
+        is_verbose: options.verbose || rt.stderr().is_terminal() || var(rt, VERBOSE).is_ok(),
     };
     let answer = host.command(asked, out);
     let status = match answer {
@@ -101,7 +82,7 @@ fn perform(
         Err(fault) => tell(rt, host.told_as(fault)),
     };
     if host.is_verbose {
-        host.explain(asked, answer);
+        host.explain(options, answer);
     }
     Ok(status)
 }
@@ -123,10 +104,10 @@ struct Host<'a> {
 
 impl<'a> Host<'a> {
     /// Returns what the system said of the script that was to be opened, or else of the file, and its path.
-    fn trouble_of<'b>(&self, asked: &Invocation<'b>) -> Option<(&'b str, FileProblem)> {
-        match (script_of(asked), self.scripts.trouble()) {
-            (Some(path), Some(trouble)) => Some((path, trouble)),
-            _ => Some((file_of(asked)?, self.disk.trouble()?)),
+    fn trouble_of<'b>(&self, options: &Options<'b>) -> Option<(&'b str, FileProblem)> {
+        match (&options.script, self.scripts.trouble()) {
+            (Script::File(path), Some(trouble)) => Some((*path, trouble)),
+            _ => Some((file_of(options)?, self.disk.trouble()?)),
         }
     }
 
@@ -142,8 +123,8 @@ impl<'a> Host<'a> {
 
     /// Says in a second line why a command failed, as far as that is known, and of one that is done if the file has
     /// another owner since.
-    fn explain(&self, asked: &Invocation<'_>, answer: Result<u8, CommandFault>) {
-        if let Some((path, trouble)) = self.trouble_of(asked) {
+    fn explain(&self, options: &Options<'_>, answer: Result<u8, CommandFault>) {
+        if let Some((path, trouble)) = self.trouble_of(options) {
             if is_told(answer, trouble) {
                 let _ = put_trouble(path, Some(trouble), &mut StdSink::new(self.rt.stderr()));
                 return;
@@ -174,58 +155,41 @@ impl<'a> Host<'a> {
     /// Does what the command line asks for, and returns the status.
     fn command<W: Write + Drop>(
         &mut self,
-        asked: &Invocation<'_>,
+        asked: &Request<'_>,
         out: StdOutput<W>,
     ) -> Result<u8, CommandFault>
         requires { out.history ≡ nothing_taken }
     {
         let alloc = self.rt.alloc();
         let disk = &mut self.disk;
+        let how = &asked.options;
         let mut out = out;
-        let answer = match asked {
+        let answer = match &asked.command {
             Invocation::Create(file, size) => create(alloc, disk, file, *size),
             Invocation::Run(file, mode, size) => {
-                return self.answer((file, *mode, *size), &RunOptions::plain(), out);
-            }
-            Invocation::RunWith(file, mode, size, how) => {
                 return self.answer((file, *mode, *size), how, out);
             }
-            Invocation::Check(file) => check(alloc, disk, file, &mut out),
-            Invocation::CheckAll(files, is_quiet) => {
-                let is_verbose = self.is_verbose;
-                let trouble_of = |disk: &HostDisk<'_, HostRuntime>| {
-                    if is_verbose { disk.trouble() } else { None }
-                };
-                let mut err = StdSink::new(self.rt.stderr());
-                let files = files.as_slice();
-                return check_all(
-                    alloc, disk, files, *is_quiet, trouble_of, &mut out, &mut err,
-                );
+            Invocation::Check(file) if how.explain => explain(alloc, disk, file, &mut out),
+            Invocation::Check(file) if how.files.len() < 2 && !how.quiet => {
+                check(alloc, disk, file, &mut out)
             }
-            Invocation::Explain(file) => explain(alloc, disk, file, &mut out),
-            Invocation::Grow(file, bytes) => {
-                let by = FileChange::Grow(*bytes);
-                change(alloc, disk, file, by, SaveMode::InPlace, &mut out)
-            }
-            Invocation::Shrink(file) => {
-                let by = FileChange::Shrink;
-                change(alloc, disk, file, by, SaveMode::InPlace, &mut out)
-            }
-            Invocation::Migrate(file) => {
-                let by = FileChange::Migrate;
-                change(alloc, disk, file, by, SaveMode::InPlace, &mut out)
-            }
-            Invocation::ChangeWith(file, by, keeping) => {
-                change(alloc, disk, file, *by, keeping.saving, &mut out)
-            }
+            Invocation::Check(_) => return self.check_files(how, &mut out),
+            Invocation::Grow(file, bytes) => self.change(
+                file,
+                FileChange::Grow(*bytes),
+                how,
+                &mut out,
+            ),
+            Invocation::Shrink(file) => self.change(file, FileChange::Shrink, how, &mut out),
+            Invocation::Migrate(file) => self.change(file, FileChange::Migrate, how, &mut out),
             Invocation::Tell(file, what) => tell_segment(alloc, disk, file, &mut out, *what),
             Invocation::Names(file, prefix, most) => {
                 let most = most.unwrap_or(u64::MAX);
                 names(alloc, disk, file, prefix, most, &mut out)
             }
-            Invocation::Load(file, size, keeping) => {
+            Invocation::Load(file, size) => {
                 let mut text = StdSource::new(self.rt.reader());
-                match keeping.saving {
+                match how.keeping.saving {
                     SaveMode::InPlace => load(alloc, disk, file, *size, &mut text),
                     SaveMode::Replacing => load_over(alloc, disk, file, *size, &mut text),
                 }
@@ -244,12 +208,51 @@ impl<'a> Host<'a> {
         }
     }
 
+    /// Checks the files of the command line, and returns the worst of their statuses.
+    fn check_files<W: Write + Drop>(
+        &mut self,
+        how: &Options<'_>,
+        out: &mut StdOutput<W>,
+    ) -> Result<u8, CommandFault>
+        requires { out.old.history ≡ nothing_taken }
+    {
+        let is_verbose = self.is_verbose;
+        let trouble_of = |disk: &HostDisk<'_, HostRuntime>| {
+            if is_verbose { disk.trouble() } else { None }
+        };
+        let mut err = StdSink::new(self.rt.stderr());
+        let (alloc, disk) = (self.rt.alloc(), &mut self.disk);
+        check_all(
+            alloc,
+            disk,
+            how.files.as_slice(),
+            how.quiet,
+            trouble_of,
+            out,
+            &mut err,
+        )
+    }
+
+    /// Changes the segment in a file without a script.
+    fn change<W: Write + Drop>(
+        &mut self,
+        file: &str,
+        by: FileChange,
+        how: &Options<'_>,
+        out: &mut StdOutput<W>,
+    ) -> Result<(), CommandFault>
+        requires { out.old.history ≡ nothing_taken }
+    {
+        let (alloc, disk) = (self.rt.alloc(), &mut self.disk);
+        change(alloc, disk, file, by, how.keeping.saving, out)
+    }
+
     /// Runs the script that the command line asks for, and returns the status. Its answers go out as they are, or
     /// numbered.
     fn answer<O: LineOutput + Drop>(
         &mut self,
         run: Run<'_>,
-        how: &RunOptions<'_>,
+        how: &Options<'_>,
         out: O,
     ) -> Result<u8, CommandFault>
         requires { O.history out ≡ nothing_taken }
@@ -265,7 +268,7 @@ impl<'a> Host<'a> {
     fn answer_to<O: LineOutput>(
         &mut self,
         run: Run<'_>,
-        how: &RunOptions<'_>,
+        how: &Options<'_>,
         out: &mut O,
     ) -> Result<u8, CommandFault>
         requires { O.history out.old ≡ nothing_taken }
@@ -295,7 +298,7 @@ impl<'a> Host<'a> {
     fn run<S: Source, O: LineOutput>(
         &mut self,
         run: Run<'_>,
-        how: &RunOptions<'_>,
+        how: &Options<'_>,
         script: &mut S,
         out: &mut O,
     ) -> Result<u8, CommandFault>
@@ -315,7 +318,7 @@ impl<'a> Host<'a> {
     }
 }
 
-/// Tells whether a file's trouble is why a command failed, or is said of one that is done.
+/// Returns true if the problem of the file explains the answer.
 fn is_told(answer: Result<u8, CommandFault>, trouble: FileProblem) -> bool {
     match answer {
         Ok(_) => trouble == FileProblem::Owner,
@@ -332,28 +335,19 @@ fn is_told(answer: Result<u8, CommandFault>, trouble: FileProblem) -> bool {
     }
 }
 
-/// Returns how the file that the command line names is taken and saved.
-fn keeping_of(asked: &Invocation<'_>) -> FileOptions {
-    match asked {
-        Invocation::ChangeWith(_, _, keeping) | Invocation::Load(_, _, keeping) => *keeping,
-        Invocation::RunWith(_, _, _, how) => how.keeping,
-        _ => FileOptions::plain(),
-    }
-}
-
 /// Tells whether a command says nothing if the reader of standard output ended first, as other tools have it.
-fn ends_quietly(asked: &Invocation<'_>) -> bool {
-    matches!(
-        asked,
-        Invocation::Explain(_)
-            | Invocation::Tell(_, _)
+fn ends_quietly(asked: &Request<'_>) -> bool {
+    let prints = matches!(
+        asked.command,
+        Invocation::Tell(_, _)
             | Invocation::Names(_, _, _)
             | Invocation::Lint
             | Invocation::Language
-    )
+    );
+    prints || asked.options.explain
 }
 
-/// Tells whether a line is a word by which a person asks a program for help, or to end.
+/// Returns true for the lines by which people ask a program for help, or leave it.
 fn is_plea(line: &[u8]) -> bool {
     let words = [
         b"help\n".as_slice(),
@@ -398,32 +392,10 @@ impl<'a, R: Read> ReadOnce for Prompted<'a, R> {
     }
 }
 
-/// Returns the file with the script that the command line names, if there is one.
-fn script_of<'a>(asked: &Invocation<'a>) -> Option<&'a str> {
-    let Invocation::RunWith(_, _, _, how) = asked else {
-        return None;
-    };
-    match how.script {
-        Script::File(path) => Some(path),
-        _ => None,
-    }
-}
-
 /// Returns the file that the command line names, if there is one alone.
-fn file_of<'a>(asked: &Invocation<'a>) -> Option<&'a str> {
-    match asked {
-        Invocation::Create(file, _)
-        | Invocation::Run(file, _, _)
-        | Invocation::RunWith(file, _, _, _)
-        | Invocation::Check(file)
-        | Invocation::Explain(file)
-        | Invocation::Grow(file, _)
-        | Invocation::Shrink(file)
-        | Invocation::Migrate(file)
-        | Invocation::ChangeWith(file, _, _)
-        | Invocation::Tell(file, _)
-        | Invocation::Names(file, _, _)
-        | Invocation::Load(file, _, _) => Some(*file),
+fn file_of<'a>(options: &Options<'a>) -> Option<&'a str> {
+    match options.files.as_slice() {
+        [file] => Some(*file),
         _ => None,
     }
 }

@@ -1,7 +1,7 @@
 //! The requests for memory of the program itself, for its command line and its answers: each in a function that alone
 //! makes the token of its refusal.
 
-use segment_invocation::{Invocation, InvocationFault, UsageError, invocation};
+use segment_invocation::{InvocationFault, Request, UsageError, request};
 use std::alloc::Global;
 use std::io::{BufWriter, ErrorKind, Write};
 
@@ -40,11 +40,11 @@ pub fn as_strs<'a>(alloc: Global, words: &'a [String]) -> Result<Vec<&'a str>, N
 }
 
 /// Returns what the words ask for, or what is wrong with them.
-pub fn read_invocation<'a>(
+pub fn read_request<'a>(
     alloc: Global,
     words: &'a [&'a str],
-) -> Result<Result<Invocation<'a>, UsageError>, NoAnswerMemory> {
-    match invocation(alloc, words) {
+) -> Result<Result<Request<'a>, UsageError>, NoAnswerMemory> {
+    match request(alloc, words) {
         Ok(asked) => Ok(Ok(asked)),
         Err(InvocationFault::Usage(wrong)) => Ok(Err(wrong)),
         Err(InvocationFault::OutOfMemory) => Err(REFUSED),

@@ -1,4 +1,4 @@
--- Lines after their numbers: what stands in front of each line, up to a blank, is its number.
+-- Numbered lines: the number stands in front of each line, up to a blank.
 use Rattle.std.specs.Prelude.{◌≡◌, ◌==◌, ◌++◌, ℕ, Bool, true, false, not, List, [], ◌∷◌, codes, decimal, fold}
 use Rattle.std.specs.Prelude.{if◌then◌else◌}
 use Rattle.segment_answers.specs.declared.numbered_output.LineSpot.{LineSpot}

@@ -6,7 +6,7 @@ use std::io::Write;
 
 /// An output of answers, line by line of a script.
 pub trait LineOutput: Output {
-    // What the output is when the next line is answered.
+    // The effect of `next_line` on the output.
     ghost turns: { Self → Self → Type 0 };
 
     /// Notes that answers belong to the next line of the script from here on. It writes nothing.

@@ -15,7 +15,7 @@ use segment_lang::{Piece, put_pieces};
 /// Where the next byte stands.
 #[derive(Clone, Copy, Debug, PartialEq, Eq)]
 pub enum LineSpot {
-    /// The byte begins a line, whose number is to be written first.
+    /// The byte begins a line, whose number must be written first.
     Front,
     /// The byte begins a line, whose number is written.
     Ahead,
@@ -25,7 +25,7 @@ pub enum LineSpot {
     Broken,
 }
 
-/// Returns how many of the bytes stand up to the end of their first line.
+/// Returns the length of the first line in the bytes, with its end.
 fn line_length(bytes: &[u8]) -> usize
     ensures count { result ≤ length bytes.now }
     ensures non_empty { 0 < length bytes.now → 0 < result }

@@ -1,31 +1,57 @@
 /* The one file layer, for C, C++ and Python: zaluxhoni_files.h says what each call does. It is tested, not proved.
 
-   It is one unit of four parts, in this order, so that no name of theirs is seen outside. */
+   It is one unit of these parts, in this order, so that no name of theirs is seen outside. */
 #define _GNU_SOURCE
 #include "zaluxhoni_files.h"
 
 #include "files/held.h"
 #include "files/found.h"
 #include "files/saved.h"
+#include "files/log.h"
 #include "files/mapped.h"
+#include "files/pages.h"
+#include "files/durable.h"
+#include "files/recovered.h"
 
 /* ---- a file opened */
 
+/* How often a file is read beside its log, until the two belong together. */
+enum { READINGS = 8 };
+
+/* Opens what a path leads to, and its segment with what the log says that was read before. */
+static zx_code read_path(zx_file *file, const char *path, const struct image *log, uint32_t how) {
+    int from = open(path, O_RDONLY | O_NONBLOCK | O_NOCTTY | O_CLOEXEC);
+    if (from < 0) return errno == ENOENT || errno == EINTR ? (zx_code)AGAIN : fault(file);
+    zx_code code = log->bytes ? read_with_log(file, from, log, how) : read_segment(file, from, how);
+    close(from);
+    return code;
+}
+
+/* Reads the log of a path, which may be a link, and then the file. */
+static zx_code read_both(zx_file *file, const char *path, const struct sight *sight, uint32_t how) {
+    struct image log;
+    char *real = sight->is_link ? realpath(path, NULL) : NULL;
+    if (sight->is_link && !real)
+        return errno == ENOENT ? (zx_code)AGAIN : errno == ENOMEM ? (zx_code)ZX_NO_MEMORY : fault(file);
+    zx_code code = log_of(file, real ? real : path, &log);
+    if (code == ZX_DONE) code = read_path(file, real ? real : path, &log, how);
+    free(log.bytes);
+    free(real);
+    return code;
+}
+
 static zx_code open_unheld(zx_file *file, const char *path, uint32_t how) {
+    zx_code code = AGAIN;
+    int readings = 0;
     for (int tries = 0; tries < TRIES; tries++) {
         struct sight sight;
-        zx_code code = look(file, path, &sight);
+        code = look(file, path, &sight);
         if (code != ZX_DONE) return code;
-        int from = open(path, O_RDONLY | O_NONBLOCK | O_NOCTTY | O_CLOEXEC);
-        if (from >= 0) {
-            code = read_segment(file, from, how);
-            close(from);
-            return code;
-        }
+        code = read_both(file, path, &sight, how);
         // the name led to a file when it was looked at, and is looked at once more
-        if (errno != ENOENT && errno != EINTR) break;
+        if (code != AGAIN && (code != ZX_FILE_LOG_FOREIGN || ++readings == READINGS)) return code;
     }
-    return errno == ENOENT ? faulty(file, ZX_FILE_MISSING, ENOENT) : fault(file);
+    return faulty(file, ZX_FILE_MISSING, ENOENT);
 }
 
 /* Creates the file with an empty segment. */
@@ -34,29 +60,44 @@ static zx_code make_empty(zx_file *file, struct zx_held_file *held, uint64_t siz
     zx_code code = zx_create(&file->segment, size);
     if (code == ZX_DONE) code = image_of(&file->segment, &image);
     if (code != ZX_DONE) return code;
-    code = make_held(file, held, &image);
+    code = drop_log(file, held);
+    if (code == ZX_DONE) code = make_held(file, held, &image);
     free(image.bytes);
     return code;
 }
 
-/* Opens the segment of the file that is held, and is what was found; or creates both. */
-static zx_code open_found(zx_file *file, struct zx_held_file *held, const struct stat *found, uint32_t how,
-                          uint64_t size, bool is_mapped) {
-    if (held->file >= 0) return is_mapped ? map(file, held, found, how) : read_segment(file, held->file, how);
-    zx_code code = make_empty(file, held, size);
-    if (code != ZX_DONE || !is_mapped) return code;
-    zx_close(&file->segment);
-    return map_anew(file, held, how);
+/* How a file that is held is opened. */
+enum way { BY_COPY, MAPPED, DURABLE };
+
+/* Opens the segment of a file that exists. */
+static zx_code open_existing(zx_file *file, struct zx_held_file *held, struct stat *found, uint32_t how, enum way way) {
+    if (way == DURABLE) return open_durable(file, held, found);
+    zx_code code = held->state == READ ? open_log(file, held) : settle_log(file, held, found);
+    if (code != ZX_DONE) return code;
+    uint64_t len = (uint64_t)found->st_size;
+    if (held->log >= 0 && len > 0) return read_recovered(file, held, len, how);
+    return way == MAPPED ? map(file, held, found, how) : read_segment(file, held->file, how);
 }
 
-static zx_code open_held(zx_file *file, const char *path, uint32_t mode, uint64_t size, bool is_mapped) {
+/* Opens the segment of the file that is held, and is what was found; or creates both. */
+static zx_code open_found(zx_file *file, struct zx_held_file *held, struct stat *found, uint32_t how, uint64_t size,
+                          enum way way) {
+    if (held->file >= 0) return open_existing(file, held, found, how, way);
+    zx_code code = make_empty(file, held, size);
+    if (code != ZX_DONE || way == BY_COPY) return code;
+    zx_close(&file->segment);
+    if (way == MAPPED) return map_anew(file, held, how);
+    return fstat(held->file, found) == 0 ? open_durable(file, held, found) : fault(file);
+}
+
+static zx_code open_held(zx_file *file, const char *path, uint32_t mode, uint64_t size, enum way way) {
     uint32_t how = mode == ZX_OPEN_READ_ONLY ? ZX_READ : mode == ZX_OPEN_COPY_ON_WRITE ? ZX_COPY_ON_WRITE : ZX_WRITE;
     for (int tries = 0; tries < TRIES; tries++) {
         struct zx_held_file *held;
         struct stat found;
-        zx_code code = hold(file, path, mode, is_mapped, &held, &found);
+        zx_code code = hold(file, path, mode, way == MAPPED, &held, &found);
         if (code != ZX_DONE) return code;
-        code = open_found(file, held, &found, how, size, is_mapped);
+        code = open_found(file, held, &found, how, size, way);
         if (code == ZX_DONE) {
             held->saved = file->segment.changes;
             file->held = held;
@@ -72,12 +113,12 @@ static zx_code open_held(zx_file *file, const char *path, uint32_t mode, uint64_
 zx_code zx_file_open(zx_file *file, const char *path, uint32_t mode, uint64_t size) {
     file->error = 0;
     if (!path) return ZX_NULL_SLICE;
-    bool is_mapped = (mode & ZX_MAPPED) != 0;
-    mode &= ~(uint32_t)ZX_MAPPED;
-    if (mode < ZX_CREATE_ONLY || mode > ZX_OPEN_COPY_ON_WRITE) return ZX_BAD_MODE;
+    enum way way = (mode & ZX_DURABLE) != 0 ? DURABLE : (mode & ZX_MAPPED) != 0 ? MAPPED : BY_COPY;
+    mode &= ~(uint32_t)(ZX_MAPPED | ZX_DURABLE);
+    if (mode < ZX_CREATE_ONLY || mode > (way == DURABLE ? ZX_OPEN_OR_CREATE : ZX_OPEN_COPY_ON_WRITE)) return ZX_BAD_MODE;
     if (file->segment.at || file->held) return ZX_FILE_IS_OPEN;
-    bool is_held = is_mapped || mode < ZX_OPEN_READ_ONLY;
-    return answered(file, is_held                     ? open_held(file, path, mode, size, is_mapped)
+    bool is_held = way != BY_COPY || mode < ZX_OPEN_READ_ONLY;
+    return answered(file, is_held                     ? open_held(file, path, mode, size, way)
                           : mode == ZX_OPEN_READ_ONLY ? open_unheld(file, path, ZX_READ)
                                                       : open_unheld(file, path, ZX_COPY_ON_WRITE));
 }
@@ -93,6 +134,10 @@ zx_code zx_file_save(zx_file *file) {
     if (how != ZX_WRITE) return ZX_READ_ONLY;
     if (!file->held) return ZX_FILE_NONE;
     if (!is_own(file->held)) return faulty(file, ZX_FILE_FORKED, EPERM);
+    if (is_durable(file->held)) {
+        if (file->held->steps > 0) return faulty(file, ZX_FILE_IN_STEP, EBUSY);
+        return answered(file, save_durable(file, file->held));
+    }
     if (file->held->mapped) return zx_file_flush(file);
     if (is_saved(&file->segment, file->held)) return still_named(file, file->held);
     code = image_of(&file->segment, &image);
@@ -116,7 +161,7 @@ static bool leads_home(zx_file *file, const char *path) {
     struct zx_held_file *other;
     struct stat named, own;
     if (stat(path, &named) != 0 || fstat(file->held->file, &own) != 0 || !is_same(&named, &own)) return false;
-    if (file->held->mapped) return true;
+    if (file->held->mapped && !is_durable(file->held)) return true;
     char *real = realpath(path, NULL);
     bool is_found = real && find(file, real, &other) == ZX_DONE;
     free(real);
@@ -138,10 +183,13 @@ static zx_code put(zx_file *file, const char *path, uint32_t mode, const struct 
             bool is_there = held->file >= 0 && fstat(file->held->file, &own) == 0 && is_same(&own, &found);
             code = is_there ? zx_file_save(file) : faulty(file, ZX_FILE_REPLACED, ESTALE);
         } else if (held->file < 0) {
-            code = make_held(file, held, image);
+            code = drop_log(file, held);
+            if (code == ZX_DONE) code = make_held(file, held, image);
             if (code == ZX_DONE) code = sync_name(file, held);
         } else {
-            code = save_held(file, held, image);
+            code = settle_log(file, held, &found);
+            if (code == ZX_FILE_LOG_FOREIGN) code = drop_log(file, held);
+            if (code == ZX_DONE) code = save_held(file, held, image);
         }
         release(held);
         if (code != AGAIN) return code;
@@ -172,6 +220,7 @@ static void let_go(zx_file *file) {
     struct zx_held_file *held = file->held;
     file->error = 0;
     file->held = NULL;
+    if (is_durable(held)) leave_log(held);
     if (held && held->mapped) unmap(file, held);
     zx_close(&file->segment);
     if (held) abandon(held);
@@ -182,17 +231,31 @@ static zx_code end_mapped(zx_file *file, struct zx_held_file *held) {
     struct stat own;
     uint64_t size;
     if (held->state == READ || !is_own(held)) return ZX_DONE;
+    if (held->steps > 0) {
+        zx_code code = share_own(file, held);
+        if (code != ZX_DONE) return code;
+        held->steps = 0;
+    }
     if (fstat(held->file, &own) != 0) return fault(file);
     bool is_long = file->segment.lent && zx_size(&file->segment, &size) == ZX_DONE && (uint64_t)own.st_size != size;
     if (is_long && !set_length(held->file, size)) return fault(file);
     return own.st_nlink > 0 ? (zx_code)ZX_DONE : faulty(file, ZX_FILE_REPLACED, ESTALE);
 }
 
+/* What a close does first for a file that is durable: it saves it. */
+static zx_code end_durable(zx_file *file, struct zx_held_file *held) {
+    if (!is_own(held) || !file->segment.at) return ZX_DONE;
+    if (held->steps > 0) return faulty(file, ZX_FILE_IN_STEP, EBUSY);
+    return save_durable(file, held);
+}
+
 zx_code zx_file_close(zx_file *file) {
     struct zx_held_file *held = file->held;
     zx_code code = ZX_DONE;
     file->error = 0;
-    if (held && held->mapped)
+    if (is_durable(held))
+        code = end_durable(file, held);
+    else if (held && held->mapped)
         code = end_mapped(file, held);
     else if (held && file->segment.at)
         code = zx_file_save(file);

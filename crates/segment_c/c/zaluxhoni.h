@@ -454,6 +454,27 @@ static inline void *zx_elements_mut(const zx_segment *segment, const zx_elements
 #endif
 }
 
+/* An array, a vector of scalars or a string that was looked up: its handle, and where its elements are. Reading an
+   element costs four comparisons and a load. Only the first read after a call that changed the segment looks the elements
+   up again. */
+typedef struct {
+    uint64_t handle;
+    zx_elements there;
+} zx_object;
+
+/* Looks up the object of a key. Errors: ZX_NOT_FOUND, ZX_WRONG_KIND. */
+static inline zx_code zx_look_up(zx_segment *segment, const zx_key *key, zx_object *object);
+/* Returns ZX_DONE if an element of a kind is at `index`. Looks the elements up again if a call has changed the segment.
+   Errors: those of the calls below. */
+static inline zx_code zx_is_at(zx_segment *segment, zx_object *object, uint64_t index, uint32_t kind);
+/* Reads the element at `index`. The name of the call says the kind. Errors: ZX_NOT_FOUND if the object was destroyed,
+   ZX_WRONG_KIND, ZX_OUT_OF_RANGE. */
+static inline zx_code zx_bool_at(zx_segment *segment, zx_object *object, uint64_t index, bool *element);
+static inline zx_code zx_u8_at(zx_segment *segment, zx_object *object, uint64_t index, uint8_t *element);
+static inline zx_code zx_i32_at(zx_segment *segment, zx_object *object, uint64_t index, int32_t *element);
+static inline zx_code zx_i64_at(zx_segment *segment, zx_object *object, uint64_t index, int64_t *element);
+static inline zx_code zx_u64_at(zx_segment *segment, zx_object *object, uint64_t index, uint64_t *element);
+
 /* ---- strings
 
    A read copies the bytes to the start of the buffer. With ZX_SHORT_BUFFER `len` is the room that it needs. */
@@ -686,6 +707,55 @@ static inline zx_code zx_named_from(zx_segment *segment, const uint8_t *text, si
     if (!text) return ZX_NULL_SLICE;
     return zx_named_from_proved(segment, text, len, index);
 }
+
+static inline zx_code zx_look_up(zx_segment *segment, const zx_key *key, zx_object *object) {
+    uint8_t name[255];
+    zx_info info;
+    const zx_code code = zx_tell(segment, key, &info, name, sizeof name);
+    if (code != ZX_DONE) return code;
+    object->handle = info.handle;
+    return zx_view(segment, key, &object->there);
+}
+#ifdef __cplusplus
+#define ZX_AS(type, at) static_cast<type>(at)
+#else
+#define ZX_AS(type, at) ((type)(at))
+#endif
+static inline zx_code zx_is_at(zx_segment *segment, zx_object *object, uint64_t index, uint32_t kind) {
+    if (!zx_is_current(segment, &object->there)) {
+        const zx_key key = zx_handle(object->handle);
+        const zx_code code = zx_view(segment, &key, &object->there);
+        if (code != ZX_DONE) return code;
+    }
+    if (object->there.kind != kind) return ZX_WRONG_KIND;
+    return index < object->there.count ? ZX_DONE : ZX_OUT_OF_RANGE;
+}
+static inline zx_code zx_bool_at(zx_segment *segment, zx_object *object, uint64_t index, bool *element) {
+    const zx_code code = zx_is_at(segment, object, index, ZX_BOOL);
+    if (code == ZX_DONE) *element = ZX_AS(const bool *, object->there.at)[index];
+    return code;
+}
+static inline zx_code zx_u8_at(zx_segment *segment, zx_object *object, uint64_t index, uint8_t *element) {
+    const zx_code code = zx_is_at(segment, object, index, ZX_U8);
+    if (code == ZX_DONE) *element = ZX_AS(const uint8_t *, object->there.at)[index];
+    return code;
+}
+static inline zx_code zx_i32_at(zx_segment *segment, zx_object *object, uint64_t index, int32_t *element) {
+    const zx_code code = zx_is_at(segment, object, index, ZX_I32);
+    if (code == ZX_DONE) *element = ZX_AS(const int32_t *, object->there.at)[index];
+    return code;
+}
+static inline zx_code zx_i64_at(zx_segment *segment, zx_object *object, uint64_t index, int64_t *element) {
+    const zx_code code = zx_is_at(segment, object, index, ZX_I64);
+    if (code == ZX_DONE) *element = ZX_AS(const int64_t *, object->there.at)[index];
+    return code;
+}
+static inline zx_code zx_u64_at(zx_segment *segment, zx_object *object, uint64_t index, uint64_t *element) {
+    const zx_code code = zx_is_at(segment, object, index, ZX_U64);
+    if (code == ZX_DONE) *element = ZX_AS(const uint64_t *, object->there.at)[index];
+    return code;
+}
+#undef ZX_AS
 
 #ifdef __cplusplus
 }

@@ -20,6 +20,7 @@
 
 #include <algorithm>
 #include <cerrno>
+#include <chrono>
 #include <cstddef>
 #include <cstdint>
 #include <cstring>
@@ -36,6 +37,7 @@
 #include <string>
 #include <string_view>
 #include <system_error>
+#include <thread>
 #include <type_traits>
 #include <utility>
 #include <vector>
@@ -191,6 +193,11 @@ using file_replaced = file_error_of<ZX_FILE_REPLACED>;
 /// The file is saved, but its folder is not synced.
 using file_unsynced = file_error_of<ZX_FILE_UNSYNCED>;
 using file_forked = file_error_of<ZX_FILE_FORKED>;
+/// The log beside the file belongs to another file, or is damaged.
+using file_log_foreign = file_error_of<ZX_FILE_LOG_FOREIGN>;
+/// A commit failed while the system synced it, and may be on the disk or not; only `save_file` may follow.
+using file_unsure = file_error_of<ZX_FILE_UNSURE>;
+using file_in_step = file_error_of<ZX_FILE_IN_STEP>;
 
 /// Throws the error of a code that a file call returned.
 [[noreturn]] inline void throw_file_code(zx_code code, const zx_file &file, const std::string &path) {
@@ -202,8 +209,11 @@ using file_forked = file_error_of<ZX_FILE_FORKED>;
     case ZX_FILE_REPLACED: throw file_replaced(error, path);
     case ZX_FILE_UNSYNCED: throw file_unsynced(error, path);
     case ZX_FILE_FORKED: throw file_forked(error, path);
+    case ZX_FILE_LOG_FOREIGN: throw file_log_foreign(error, path);
+    case ZX_FILE_UNSURE: throw file_unsure(error, path);
+    case ZX_FILE_IN_STEP: throw file_in_step(error, path);
     default:
-        if (ZX_FILE_IN_USE <= code && code <= ZX_FILE_FORKED) throw file_error(code, error, path);
+        if (ZX_FILE_IN_USE <= code && code <= ZX_FILE_IN_STEP) throw file_error(code, error, path);
         throw_code(code, file.place);
     }
 }
@@ -405,9 +415,12 @@ template <class T> using value_of = std::conditional_t<std::is_arithmetic_v<T>, 
 namespace detail {
 
 template <class T, class R, class = void> inline constexpr bool is_row = false;
+/// The base of what reads elements of a segment. A call copies them: it may move what `data()` refers to.
+struct in_segment {};
 template <class T, class R>
 inline constexpr bool
     is_row<T, R, std::void_t<decltype(std::data(std::declval<R &>())), decltype(std::size(std::declval<R &>()))>> =
+        !std::is_base_of_v<in_segment, R> &&
         std::is_convertible_v<decltype(std::data(std::declval<R &>())), const T *> &&
         std::is_same_v<std::decay_t<decltype(*std::begin(std::declval<R &>()))>, T>;
 
@@ -680,22 +693,24 @@ struct state {
     }
 };
 
-/// A copy of a segment, from which the destructor restores it, unless the change is committed.
+/// What a transaction keeps of a segment. The destructor restores it, unless the change is kept.
 class snapshot {
   public:
-    explicit snapshot(state &of) : of_(of) { check_code(zx_begin(of_.raw(), &before_)); }
+    explicit snapshot(state &of) : of_(of) { of_.check(zx_file_begin(&of_.file, &before_)); }
     snapshot(const snapshot &) = delete;
     ~snapshot() {
-        if (before_.at == nullptr || zx_file_rollback(&of_.file, &before_) == ZX_DONE) return;
+        if (before_.copy.at == nullptr && before_.kept == nullptr) return;
+        if (zx_file_undo(&of_.file, &before_) == ZX_DONE) return;
         // closes a segment that cannot be restored, so that nobody takes it for the old one
-        zx_commit(&before_);
         zx_file_discard(&of_.file);
+        zx_file_leave(&of_.file, &before_);
     }
-    void commit() noexcept { zx_commit(&before_); }
+    /// Keeps the change. The outermost transaction of a durable file commits it.
+    void keep() { of_.check(zx_file_keep(&of_.file, &before_)); }
 
   private:
     state &of_;
-    zx_segment before_{};
+    zx_step before_{};
 };
 
 /// An object by its handle. It stays valid as long as the segment, or anything that was asked of it.
@@ -719,7 +734,8 @@ struct spot {
 struct placed_spot : spot {
     void *at = nullptr;
     std::uint64_t count = 0;
-    std::uint64_t changes = 0;
+    // a number that no segment counts to: nothing is known to be in place
+    std::uint64_t changes = std::numeric_limits<std::uint64_t>::max();
 
     placed_spot() = default;
     placed_spot(const spot &object) : spot(object) {}
@@ -820,6 +836,13 @@ template <class T> struct values {
     }
 
     /// Finds where the values are. Nothing is known of an object that no view can have: its calls say why.
+    [[gnu::always_inline]] static bool is_located(const placed_spot &of, state *in) noexcept {
+        return in->raw()->changes == of.changes;
+    }
+    /// Reads a value by a target that `is_located`, or that was located just now.
+    [[gnu::always_inline]] static T get_here(const placed_spot &of, std::uint64_t index) {
+        return __builtin_expect(index < of.count, true) ? read(of.at, index) : away(of, index);
+    }
     static placed_spot located(const spot &of) noexcept {
         placed_spot found(of);
         zx_elements there{};
@@ -832,7 +855,7 @@ template <class T> struct values {
         return found;
     }
     template <class Row> static std::uint64_t size(const placed_spot &of, const Row &row) {
-        return of.at != nullptr ? of.count : row.size();
+        return of.at != nullptr ? of.count : row.measure().len;
     }
 
   private:
@@ -890,8 +913,10 @@ struct lines {
     using passed_type = std::string_view;
     using target = spot;
 
+    static bool is_located(const spot &of, state *) noexcept { return of.of != nullptr; }
+    static std::string get_here(const spot &of, std::uint64_t index) { return get(of, index); }
     static spot located(const spot &of) noexcept { return of; }
-    template <class Row> static std::uint64_t size(const spot &, const Row &row) { return row.size(); }
+    template <class Row> static std::uint64_t size(const spot &, const Row &row) { return row.measure().len; }
     static std::string get(const spot &of, std::uint64_t index) {
         return text_by([&](std::uint8_t *text, std::size_t room, std::uint64_t *len) {
             return of.code_of(zx_read_text, index, text, room, len);
@@ -1128,6 +1153,9 @@ template <class Access, class R> class iterator {
 
     iterator() = default;
     iterator(const typename Access::target &of, std::uint64_t index) : of_(of), index_(index) {}
+    /// An iterator that writes converts to one that reads.
+    template <class Other, std::enable_if_t<std::is_same_v<R, value_type> && !std::is_same_v<Other, R>, int> = 0>
+    iterator(const iterator<Access, Other> &other) : of_(other.of_), index_(other.index_) {}
 
     R operator*() const { return (*this)[0]; }
     pointer operator->() const { return pointer(Access::get(of_, index_)); }
@@ -1161,7 +1189,12 @@ template <class Access, class R> class iterator {
     friend bool operator<=(const iterator &a, const iterator &b) { return a.index_ <= b.index_; }
     friend bool operator>=(const iterator &a, const iterator &b) { return a.index_ >= b.index_; }
 
+    /// Returns the index of the element.
+    [[nodiscard]] std::uint64_t index() const noexcept { return index_; }
+
   private:
+    template <class, class> friend class iterator;
+
     std::uint64_t moved(difference_type by) const { return index_ + static_cast<std::uint64_t>(by); }
 
     typename Access::target of_;
@@ -1245,13 +1278,16 @@ class segment {
         return made;
     }
 
-    /// Opens the segment of a file that exists. Throws `file_error` if the file is refused.
-    [[nodiscard]] static segment open_file(const std::string &path, zaluxhoni::mode how = zaluxhoni::mode::write) {
-        return of_file(path, file_mode(how), 0);
+    /// Opens the segment of a file that exists. Throws `file_error` if the file is refused. While a writer holds the
+    /// file it tries again, for as long as `wait`, before it throws `file_in_use`.
+    [[nodiscard]] static segment open_file(const std::string &path, zaluxhoni::mode how = zaluxhoni::mode::write,
+                                           std::chrono::milliseconds wait = {}) {
+        return of_file(path, file_mode(how), 0, wait);
     }
     /// Opens a file for writing, or creates it with an empty segment of `size` bytes.
-    [[nodiscard]] static segment open_or_create_file(const std::string &path, std::uint64_t size) {
-        return of_file(path, ZX_OPEN_OR_CREATE, size);
+    [[nodiscard]] static segment open_or_create_file(const std::string &path, std::uint64_t size,
+                                                     std::chrono::milliseconds wait = {}) {
+        return of_file(path, ZX_OPEN_OR_CREATE, size, wait);
     }
     /// Creates a file with an empty segment of `size` bytes. Throws `file_exists` if something exists at the path.
     [[nodiscard]] static segment create_file(const std::string &path, std::uint64_t size) {
@@ -1260,14 +1296,29 @@ class segment {
 
     /// Opens the segment of a file, and maps the file: opening copies nothing, and each change is in the file at once.
     /// zaluxhoni_files.h says what that costs.
-    [[nodiscard]] static segment map_file(const std::string &path, zaluxhoni::mode how = zaluxhoni::mode::write) {
-        return of_file(path, file_mode(how) | ZX_MAPPED, 0);
+    [[nodiscard]] static segment map_file(const std::string &path, zaluxhoni::mode how = zaluxhoni::mode::write,
+                                          std::chrono::milliseconds wait = {}) {
+        return of_file(path, file_mode(how) | ZX_MAPPED, 0, wait);
     }
-    [[nodiscard]] static segment map_or_create_file(const std::string &path, std::uint64_t size) {
-        return of_file(path, ZX_OPEN_OR_CREATE | ZX_MAPPED, size);
+    [[nodiscard]] static segment map_or_create_file(const std::string &path, std::uint64_t size,
+                                                    std::chrono::milliseconds wait = {}) {
+        return of_file(path, ZX_OPEN_OR_CREATE | ZX_MAPPED, size, wait);
     }
     [[nodiscard]] static segment create_mapped_file(const std::string &path, std::uint64_t size) {
         return of_file(path, ZX_CREATE_ONLY | ZX_MAPPED, size);
+    }
+
+    /// Opens the segment of a file whose changes are private until `commit` puts them into the log beside the file.
+    /// Whenever the process is killed or the power fails, the next opening finds the last commit that was done, or the
+    /// one under way.
+    [[nodiscard]] static segment open_durable_file(const std::string &path) {
+        return of_file(path, ZX_OPEN_ONLY | ZX_DURABLE, 0);
+    }
+    [[nodiscard]] static segment open_or_create_durable_file(const std::string &path, std::uint64_t size) {
+        return of_file(path, ZX_OPEN_OR_CREATE | ZX_DURABLE, size);
+    }
+    [[nodiscard]] static segment create_durable_file(const std::string &path, std::uint64_t size) {
+        return of_file(path, ZX_CREATE_ONLY | ZX_DURABLE, size);
     }
 
     /// Frees the segment without saving, and removes a file that it created and never saved. Everything that was asked
@@ -1293,6 +1344,9 @@ class segment {
     /// is wholly on the disk. Whatever fails, the name leads to the whole old image or the whole new one. Throws
     /// `file_error` if the file is refused; only after `file_unsynced` it is saved.
     void save_file() const { state().check(zx_file_save(&state().file)); }
+    /// Commits the changes of a durable file: when it returns, they are on the disk. It costs what was changed. For any
+    /// other file it is `flush_file`. Throws `file_unsure` if nobody knows whether they are there.
+    void commit() const { state().check(zx_file_commit(&state().file)); }
     /// Waits until the changes of a mapped file are on the disk; saves any other file.
     void flush_file() const { state().check(zx_file_flush(&state().file)); }
     /// Saves as `save_file` does, and frees the segment. For a mapped file it does not wait for the disk.
@@ -1330,17 +1384,18 @@ class segment {
         }
     }
 
-    /// Runs `call` as one step: if it throws, restores the segment and passes the exception on. Steps may nest. It
-    /// copies the segment, and saves no file. If memory, or room in a mapped file, is missing to restore the segment,
-    /// it is closed.
+    /// Runs `call` as one step: if it throws, restores the segment and passes the exception on. Steps may nest. Of a
+    /// durable file the outermost step is committed; if that throws anything but `file_unsure`, the segment is restored.
+    /// Otherwise it saves no file. Of a mapped or durable file it costs what is changed; any other segment is copied. If
+    /// memory, or room in a mapped file, is missing to restore the segment, it is closed.
     template <class Call> auto transaction(Call call) -> decltype(call()) {
         detail::snapshot before(state());
         if constexpr (std::is_void_v<decltype(call())>) {
             call();
-            before.commit();
+            before.keep();
         } else {
             auto result = call();
-            before.commit();
+            before.keep();
             return result;
         }
     }
@@ -1562,10 +1617,18 @@ class segment {
         throw bad_mode();
     }
 
-    static segment of_file(const std::string &path, std::uint32_t how, std::uint64_t size) {
+    static segment of_file(const std::string &path, std::uint32_t how, std::uint64_t size,
+                           std::chrono::milliseconds wait = {}) {
+        using clock = std::chrono::steady_clock;
         segment made = allotted();
         made.state_->path = path;
-        made.state_->check(zx_file_open(&made.state_->file, whole(path).c_str(), how, size));
+        const clock::time_point first = clock::now();
+        zx_code code = zx_file_open(&made.state_->file, whole(path).c_str(), how, size);
+        while (code == ZX_FILE_IN_USE && clock::now() - first < wait) {
+            std::this_thread::sleep_for(std::chrono::milliseconds(10));
+            code = zx_file_open(&made.state_->file, path.c_str(), how, size);
+        }
+        made.state_->check(code);
         return made;
     }
 
@@ -1748,31 +1811,44 @@ template <class T> class view {
 namespace detail {
 
 /// Elements from index 0 on, for reading. `Of` is the derived class, which tells its size.
-template <class Of, class Access> class const_row : public object {
+template <class Of, class Access> class const_row : public object, public in_segment {
   public:
     using value_type = typename Access::value_type;
     using size_type = std::uint64_t;
     using const_iterator = detail::iterator<Access, value_type>;
+    using const_reverse_iterator = std::reverse_iterator<const_iterator>;
 
     using object::object;
 
-    [[nodiscard]] bool empty() const { return of().size() == 0; }
-    [[nodiscard]] value_type get(std::uint64_t index) const { return Access::get(spot(), index); }
+    [[nodiscard]] std::uint64_t size() const { return Access::size(here(), static_cast<const Of &>(*this)); }
+    [[nodiscard]] bool empty() const { return size() == 0; }
+    [[nodiscard]] value_type get(std::uint64_t index) const { return Access::get_here(here(), index); }
     [[nodiscard]] value_type at(std::uint64_t index) const { return get(index); }
     [[nodiscard]] value_type operator[](std::uint64_t index) const { return get(index); }
     /// Return the first and the last element. Throw `out_of_range` if there is none.
     [[nodiscard]] value_type front() const { return get(0); }
-    [[nodiscard]] value_type back() const { return get(of().size() - 1); }
-    [[nodiscard]] const_iterator begin() const { return {Access::located(spot()), 0}; }
-    [[nodiscard]] const_iterator end() const {
-        const auto target = Access::located(spot());
-        return {target, Access::size(target, of())};
-    }
+    [[nodiscard]] value_type back() const { return get(size() - 1); }
+    [[nodiscard]] const_iterator begin() const { return {here(), 0}; }
+    [[nodiscard]] const_iterator end() const { return {here(), size()}; }
     [[nodiscard]] const_iterator cbegin() const { return begin(); }
     [[nodiscard]] const_iterator cend() const { return end(); }
+    [[nodiscard]] const_reverse_iterator rbegin() const { return const_reverse_iterator(end()); }
+    [[nodiscard]] const_reverse_iterator rend() const { return const_reverse_iterator(begin()); }
+    [[nodiscard]] const_reverse_iterator crbegin() const { return rbegin(); }
+    [[nodiscard]] const_reverse_iterator crend() const { return rend(); }
+
+  protected:
+    /// Tells where the elements are. It asks again only after a call that changed the segment.
+    const typename Access::target &here() const noexcept {
+        if (__builtin_expect(!Access::is_located(here_, state().get()), false)) locate();
+        return here_;
+    }
 
   private:
-    const Of &of() const noexcept { return static_cast<const Of &>(*this); }
+    // not inlined, so that a loop keeps its own in registers
+    [[gnu::noinline, gnu::cold]] void locate() const noexcept { here_ = Access::located(spot()); }
+
+    mutable typename Access::target here_;
 };
 
 /// Elements from index 0 on, for reading and writing.
@@ -1780,18 +1856,22 @@ template <class Reader, class Access> class row : public Reader {
   public:
     using reference = element<Access>;
     using iterator = detail::iterator<Access, reference>;
+    using reverse_iterator = std::reverse_iterator<iterator>;
 
     using Reader::Reader;
 
-    void set(std::uint64_t index, typename Access::passed_type value) const { Access::set(this->spot(), index, value); }
-    [[nodiscard]] reference operator[](std::uint64_t index) const { return {this->spot(), index}; }
+    void set(std::uint64_t index, typename Access::passed_type value) const { Access::set(this->here(), index, value); }
+    [[nodiscard]] reference operator[](std::uint64_t index) const { return {this->here(), index}; }
     [[nodiscard]] reference front() const { return (*this)[0]; }
     [[nodiscard]] reference back() const { return (*this)[this->size() - 1]; }
-    [[nodiscard]] iterator begin() const { return {Access::located(this->spot()), 0}; }
-    [[nodiscard]] iterator end() const {
-        const auto target = Access::located(this->spot());
-        return {target, Access::size(target, *this)};
-    }
+    [[nodiscard]] iterator begin() const { return {this->here(), 0}; }
+    [[nodiscard]] iterator end() const { return {this->here(), this->size()}; }
+    [[nodiscard]] reverse_iterator rbegin() const { return reverse_iterator(end()); }
+    [[nodiscard]] reverse_iterator rend() const { return reverse_iterator(begin()); }
+
+  protected:
+    /// Returns an iterator to the element at `index`.
+    iterator at_index(std::uint64_t index) const { return {this->here(), index}; }
 };
 
 /// Reads the first `count` values by one call.
@@ -1830,7 +1910,7 @@ template <class Of, class T> class const_values : public const_row<Of, values<T>
     void read(std::uint64_t first, std::span<T> row) const { read(first, row.data(), row.size()); }
 #endif
     [[nodiscard]] std::vector<T> to_vector() const {
-        return row_of<T>(this->spot(), static_cast<const Of &>(*this).size());
+        return row_of<T>(this->spot(), this->size());
     }
     /// Returns a view of its values.
     [[nodiscard]] zaluxhoni::view<const T> view() const {
@@ -1838,6 +1918,9 @@ template <class Of, class T> class const_values : public const_row<Of, values<T>
     }
     /// Returns a view for reading, even of what may change.
     [[nodiscard]] zaluxhoni::view<const T> cview() const { return view(); }
+    /// Returns the address of the first value. It holds until the next call that changes the segment, and nothing
+    /// checks it after that; a `view` does.
+    [[nodiscard]] const T *data() const { return view().data(); }
 };
 
 template <class T> void write_row(const spot &of, std::uint64_t first, const slice<T> &values) {
@@ -1854,16 +1937,16 @@ template <class T> class const_array : public detail::const_values<const_array<T
   public:
     using base::base;
     const_array(const segment &of, const key &at) : base(of, at, kind_of<T>) {
-        if constexpr (!is_scalar<T>) static_cast<void>(size());
+        if constexpr (!is_scalar<T>) static_cast<void>(measure());
     }
 
-    [[nodiscard]] std::uint64_t size() const {
+    [[nodiscard]] measures measure() const {
         std::uint64_t handle = 0;
         std::uint32_t count = 0;
         if (!is_there(this->spot().code_of(zx_find, kind_of<T>, &handle, &count))) throw not_found();
-        return detail::whole<T>(count);
+        const std::uint64_t values = detail::whole<T>(count);
+        return {values, values};
     }
-    [[nodiscard]] measures measure() const { return {size(), size()}; }
 };
 
 /// An array. Its length never changes.
@@ -1877,6 +1960,8 @@ template <class T> class array : public detail::row<const_array<T>, detail::valu
     [[nodiscard]] zaluxhoni::view<T> view() const {
         return {this->state(), detail::elements_by<T>(zx_view_mut, this->spot())};
     }
+    /// Returns the address of the first value, for writing too, as `view` does.
+    [[nodiscard]] T *data() const { return view().data(); }
 };
 
 /// A vector, for reading.
@@ -1892,14 +1977,16 @@ template <class T> class const_vector : public detail::const_values<const_vector
         const measures bytes = this->measured();
         return {detail::whole<T>(bytes.len), bytes.places / stored<T>::width};
     }
-    [[nodiscard]] std::uint64_t size() const { return measure().len; }
     [[nodiscard]] std::uint64_t capacity() const { return measure().places; }
 };
 
 /// A vector.
 template <class T> class vector : public detail::row<const_vector<T>, detail::values<T>> {
+    using base = detail::row<const_vector<T>, detail::values<T>>;
+
   public:
     using detail::row<const_vector<T>, detail::values<T>>::row;
+    using typename base::iterator, typename base::const_iterator, typename base::reference;
 
     void push_back(value_of<T> value) const {
         const T of = value;
@@ -1909,6 +1996,11 @@ template <class T> class vector : public detail::row<const_vector<T>, detail::va
         } else {
             append_range(slice<T>(&of, 1));
         }
+    }
+    /// Constructs a value of the arguments and appends it.
+    template <class... Args> reference emplace_back(Args &&...args) const {
+        push_back(T(std::forward<Args>(args)...));
+        return this->back();
     }
     /// Removes the last value, and returns it. Throws `out_of_range` for an empty vector.
     T pop_back() const {
@@ -1942,6 +2034,15 @@ template <class T> class vector : public detail::row<const_vector<T>, detail::va
         all.insert(all.begin() + static_cast<std::ptrdiff_t>(index), values.begin(), values.end());
         assign(all);
     }
+    /// Inserts a value, or several, before the element of an iterator. Returns an iterator to the first of them.
+    iterator insert(const_iterator at, value_of<T> value) const {
+        insert(at.index(), value);
+        return this->at_index(at.index());
+    }
+    iterator insert(const_iterator at, slice<T> values) const {
+        insert_range(at.index(), std::move(values));
+        return this->at_index(at.index());
+    }
     /// Appends values by one call: all of them or none.
     void append_range(slice<T> values) const {
         const zx_values passed = stored<T>::values(values.data(), values.size());
@@ -1958,6 +2059,16 @@ template <class T> class vector : public detail::row<const_vector<T>, detail::va
         all.erase(all.begin() + static_cast<std::ptrdiff_t>(first), all.begin() + static_cast<std::ptrdiff_t>(last));
         assign(all);
     }
+    /// Removes the element of an iterator, or the elements from `first` on and before `last`. Returns an iterator to
+    /// the element after them.
+    iterator erase(const_iterator at) const {
+        erase(at.index());
+        return this->at_index(at.index());
+    }
+    iterator erase(const_iterator first, const_iterator last) const {
+        erase(first.index(), last.index());
+        return this->at_index(first.index());
+    }
     void assign(slice<T> values) const {
         const zx_values passed = stored<T>::values(values.data(), values.size());
         this->spot().change(zx_assign, &passed);
@@ -1968,6 +2079,8 @@ template <class T> class vector : public detail::row<const_vector<T>, detail::va
     [[nodiscard]] zaluxhoni::view<T> view() const {
         return {this->state(), detail::elements_by<T>(zx_view_mut, this->spot())};
     }
+    /// Returns the address of the first value, for writing too, as `view` does.
+    [[nodiscard]] T *data() const { return view().data(); }
     void reserve(std::uint64_t places) const {
         this->spot().change(zx_reserve, detail::product(places, stored<T>::width));
     }
@@ -1982,6 +2095,21 @@ template <class T> class vector : public detail::row<const_vector<T>, detail::va
     void clear() const { this->spot().ask(zx_clear); }
 };
 
+/// Removes the values for which `is_unwanted` returns true, by one call. Returns the number of values that it removed.
+template <class T, class Test> std::uint64_t erase_if(const vector<T> &of, Test is_unwanted) {
+    std::vector<T> all = of.to_vector();
+    const auto end = std::remove_if(all.begin(), all.end(), is_unwanted);
+    const std::uint64_t count = static_cast<std::uint64_t>(all.end() - end);
+    if (count == 0) return 0;
+    all.erase(end, all.end());
+    of.assign(all);
+    return count;
+}
+/// Removes the values that are equal to `value`.
+template <class T, class U> std::uint64_t erase(const vector<T> &of, const U &value) {
+    return erase_if(of, [&](const T &each) { return each == value; });
+}
+
 /// A string, for reading: bytes, in any encoding.
 class const_string : public detail::const_row<const_string, detail::values<std::uint8_t>>, public detail::read_as_text {
   public:
@@ -1989,7 +2117,6 @@ class const_string : public detail::const_row<const_string, detail::values<std::
     const_string(const segment &of, const key &at) : const_row(of, at, ZX_STRING) {}
 
     [[nodiscard]] measures measure() const { return measured(); }
-    [[nodiscard]] std::uint64_t size() const { return measure().len; }
     [[nodiscard]] std::uint64_t capacity() const { return measure().places; }
     [[nodiscard]] std::string str() const {
         return detail::text_by([&](std::uint8_t *text, std::size_t room, std::uint64_t *len) {
@@ -2001,6 +2128,26 @@ class const_string : public detail::const_row<const_string, detail::values<std::
     [[nodiscard]] std::string_view view() const {
         const zx_elements there = detail::elements_by<std::uint8_t>(zx_view, spot());
         return {static_cast<const char *>(there.at), there.count};
+    }
+    static constexpr std::size_t npos = std::string_view::npos;
+    /// Returns the index of the first, or of the last, occurrence of a text that begins at `from` or after it, or at
+    /// `from` or before it; `npos` if there is none.
+    [[nodiscard]] std::size_t find(std::string_view text, std::size_t from = 0) const {
+        return view().find(text, from);
+    }
+    [[nodiscard]] std::size_t rfind(std::string_view text, std::size_t from = npos) const {
+        return view().rfind(text, from);
+    }
+    [[nodiscard]] bool contains(std::string_view text) const { return find(text) != npos; }
+    [[nodiscard]] bool starts_with(std::string_view text) const { return view().substr(0, text.size()) == text; }
+    [[nodiscard]] bool ends_with(std::string_view text) const {
+        const std::string_view all = view();
+        return all.size() >= text.size() && all.substr(all.size() - text.size()) == text;
+    }
+    [[nodiscard]] std::string substr(std::size_t from, std::size_t count = npos) const {
+        const std::string_view all = view();
+        if (from > all.size()) throw out_of_range();
+        return std::string(all.substr(from, count));
     }
 };
 
@@ -2015,6 +2162,7 @@ class string : public detail::row<const_string, detail::values<std::uint8_t>> {
         append(text);
         return *this;
     }
+    void push_back(char byte) const { append({&byte, 1}); }
     void reserve(std::uint64_t places) const { spot().change(zx_reserve, places); }
     void shrink_to_fit() const { spot().ask(zx_trim); }
     void clear() const { spot().ask(zx_clear); }
@@ -2027,7 +2175,6 @@ class const_strings : public detail::const_row<const_strings, detail::lines> {
     const_strings(const segment &of, const key &at) : const_row(of, at, ZX_STRINGS) {}
 
     [[nodiscard]] measures measure() const { return measured(); }
-    [[nodiscard]] std::uint64_t size() const { return measure().len; }
     [[nodiscard]] std::uint64_t capacity() const { return measure().places; }
     [[nodiscard]] std::vector<std::string> to_vector() const { return std::vector<std::string>(begin(), end()); }
 };
@@ -2036,6 +2183,7 @@ class const_strings : public detail::const_row<const_strings, detail::lines> {
 class strings : public detail::row<const_strings, detail::lines> {
   public:
     using row::row;
+    using row::iterator, row::const_iterator, row::reference;
 
     void push_back(std::string_view text) const { spot().change(zx_push_text, bytes_of(text), text.size()); }
     void push_back(const reference &element) const { push_back(std::string_view(element.value())); }
@@ -2068,11 +2216,39 @@ class strings : public detail::row<const_strings, detail::lines> {
         all.erase(all.begin() + static_cast<std::ptrdiff_t>(first), all.begin() + static_cast<std::ptrdiff_t>(last));
         assign(all);
     }
+    /// As those of a vector.
+    reference emplace_back(std::string_view text) const {
+        push_back(text);
+        return back();
+    }
+    iterator insert(const_iterator at, std::string_view text) const {
+        insert(at.index(), text);
+        return at_index(at.index());
+    }
+    iterator erase(const_iterator at) const {
+        erase(at.index());
+        return at_index(at.index());
+    }
+    iterator erase(const_iterator first, const_iterator last) const {
+        erase(first.index(), last.index());
+        return at_index(first.index());
+    }
     void assign(const texts &list) const { spot().change(zx_assign_texts, list.data(), list.size()); }
     void reserve(std::uint64_t places) const { spot().change(zx_reserve, places); }
     void shrink_to_fit() const { spot().ask(zx_trim); }
     void clear() const { spot().ask(zx_clear); }
 };
+
+/// Removes the strings for which `is_unwanted` returns true, by one call. Returns the number of strings that it removed.
+template <class Test> std::uint64_t erase_if(const strings &of, Test is_unwanted) {
+    std::vector<std::string> all = of.to_vector();
+    const auto end = std::remove_if(all.begin(), all.end(), is_unwanted);
+    const std::uint64_t count = static_cast<std::uint64_t>(all.end() - end);
+    if (count == 0) return 0;
+    all.erase(end, all.end());
+    of.assign(all);
+    return count;
+}
 
 /// A map from scalars to scalars, in the order of its keys, for reading.
 template <class K, class V> class const_map : public object {
@@ -2130,6 +2306,8 @@ template <class K, class V> class const_map : public object {
     [[nodiscard]] V at(number<K> wanted) const { return get(wanted); }
     [[nodiscard]] V operator[](number<K> wanted) const { return get(wanted); }
     [[nodiscard]] bool contains(number<K> wanted) const { return find(wanted).has_value(); }
+    /// Returns 1 if the key is there, and 0 otherwise.
+    [[nodiscard]] size_type count(number<K> wanted) const { return contains(wanted) ? 1 : 0; }
 
     /// Returns the pair with the least key; with the least key above another.
     [[nodiscard]] std::optional<value_type> first() const {
@@ -2183,10 +2361,25 @@ template <class K, class V> class const_map : public object {
 template <class K, class V> class map : public const_map<K, V> {
   public:
     using const_map<K, V>::const_map;
+    using typename const_map<K, V>::iterator, typename const_map<K, V>::value_type;
 
     /// Puts a value at a key, and returns whether the key is new.
     bool put(number<K> at, number<V> value) const { return detail::pairs<K, V>::put(this->spot(), at, value); }
     void set(number<K> at, number<V> value) const { put(at, value); }
+    /// Puts the pair unless the key is there. Returns an iterator to the pair of the key, and whether the key is new.
+    std::pair<iterator, bool> insert(const value_type &pair) const { return try_emplace(pair.first, pair.second); }
+    std::pair<iterator, bool> try_emplace(number<K> at, number<V> value) const {
+        const K wanted = at;
+        const std::optional<V> had = this->find(wanted);
+        if (!had) put(wanted, value);
+        return {iterator(this->spot(), value_type(wanted, had ? *had : V(value))), !had};
+    }
+    std::pair<iterator, bool> emplace(number<K> at, number<V> value) const { return try_emplace(at, value); }
+    /// Puts the pair. Returns an iterator to it, and whether the key is new.
+    std::pair<iterator, bool> insert_or_assign(number<K> at, number<V> value) const {
+        const bool is_new = put(at, value);
+        return {iterator(this->spot(), value_type(at, value)), is_new};
+    }
     /// Puts each pair of a range, such as a `std::map`, one after another.
     template <class R> void put_range(const R &range) const {
         for (const auto &[at, value] : range) put(at, value);
@@ -2202,11 +2395,29 @@ template <class K, class V> class map : public const_map<K, V> {
         this->spot().ask(zx_map_erase, &passed, &was_there);
         return was_there;
     }
+    /// Removes the pair of an iterator. Returns an iterator to the pair after it.
+    iterator erase(iterator at) const {
+        const K removed = at->first;
+        ++at;
+        erase(removed);
+        return at;
+    }
     /// Removes all keys, one after another.
     void clear() const {
         while (const auto pair = this->first()) erase(pair->first);
     }
 };
+
+/// Removes the pairs for which `is_unwanted` returns true, one after another. Returns their number.
+template <class K, class V, class Test> std::uint64_t erase_if(const map<K, V> &of, Test is_unwanted) {
+    std::uint64_t count = 0;
+    for (auto pair = of.first(); pair; pair = of.next(pair->first)) {
+        if (!is_unwanted(*pair)) continue;
+        of.erase(pair->first);
+        count++;
+    }
+    return count;
+}
 
 // ---- comparing whole objects
 

@@ -11,7 +11,7 @@
      killed, the name leads to the whole old image or the whole new one.
 
    Each call returns a code, and 0 means done. Any other code leaves segment and file as they were, unless the call says
-   otherwise. With ZX_FILE_IN_USE to ZX_FILE_FORKED, `error` holds an errno; otherwise it is 0. */
+   otherwise. With ZX_FILE_IN_USE to ZX_FILE_IN_STEP, `error` holds an errno; otherwise it is 0. */
 #ifndef ZALUXHONI_FILES_H
 #define ZALUXHONI_FILES_H
 
@@ -35,7 +35,10 @@ enum {
     ZX_FILE_FAULT = 50,     /* the system refused, for the reason in `error` */
     ZX_FILE_REPLACED = 51,  /* the name leads to another file now, which is left alone, or to none */
     ZX_FILE_UNSYNCED = 52,  /* saved, but the folder is not synced: a power failure may restore the old file */
-    ZX_FILE_FORKED = 53     /* the file belongs to the parent of this forked process */
+    ZX_FILE_FORKED = 53,    /* the file belongs to the parent of this forked process */
+    ZX_FILE_LOG_FOREIGN = 54, /* the log beside the file belongs to another file, or is damaged */
+    ZX_FILE_UNSURE = 55,    /* a commit failed, and may be in the log or not: only zx_file_save may follow */
+    ZX_FILE_IN_STEP = 56    /* a transaction is open */
 };
 
 /* How zx_file_open opens a file: the modes of the program `segment`. */
@@ -51,7 +54,13 @@ enum {
        power failure may leave bytes that are no image. While one process maps a file for writing, no other opens it.
        While one maps it read-only or copy-on-write, none opens it for writing. Whoever writes the file without the lock
        breaks the segment of this process, so map only your own files. */
-    ZX_MAPPED = 256
+    ZX_MAPPED = 256,
+
+    /* Added to a mode that saves: the file is mapped, and changes are private until zx_file_commit or zx_file_keep puts
+       them into the log beside the file, FILE-log. A commit costs what was changed. Whenever the process is killed or
+       the power fails, the next opening finds the last commit that was done, or the one under way, whole. The file
+       itself is a whole image at each moment: the one of the last zx_file_save, or of a time when the log was long. */
+    ZX_DURABLE = 512
 };
 
 struct zx_held_file;
@@ -77,11 +86,18 @@ typedef struct {
 zx_code zx_file_open(zx_file *file, const char *path, uint32_t mode, uint64_t size);
 
 /* Saves the segment in its file, unless the file has these bytes already. If no call and no view can have changed a
-   byte, it compares none. For a mapped file it is zx_file_flush. The new file gets the rights, the access
+   byte, it compares none. For a mapped file it is zx_file_flush. Of a file that was opened with ZX_DURABLE it commits
+   the changes, and then the log becomes empty. The new file gets the rights, the access
    control list and the user attributes of the old one, and its owner and group if the process may set them. Other names
    of the old file (hard links) keep the old image. Errors: ZX_CLOSED, ZX_READ_ONLY (opened read-only or copy-on-write),
    ZX_FILE_NONE, ZX_NO_MEMORY, ZX_FILE_FORKED, ZX_FILE_REPLACED, ZX_FILE_FAULT; after ZX_FILE_UNSYNCED it is saved. */
 zx_code zx_file_save(zx_file *file);
+
+/* Commits the changes of a file that was opened with ZX_DURABLE. For any other file it is zx_file_flush. When it is
+   done, the changes are on the disk. Errors: those of zx_file_save; ZX_FILE_IN_STEP; ZX_FILE_UNSURE, if the system failed
+   while it synced: then the next opening finds this commit or the one before, and each further zx_file_commit returns
+   ZX_FILE_UNSURE, until zx_file_save is done. After any other error nothing is committed. */
+zx_code zx_file_commit(zx_file *file);
 
 /* Saves the image to the file at another path, and closes that file. ZX_CREATE_ONLY creates it, ZX_OPEN_ONLY replaces
    an existing file, whatever its bytes, and ZX_OPEN_OR_CREATE does either. With the last two, a path to the name of
@@ -109,8 +125,63 @@ zx_code zx_file_shrink(zx_file *file);
    Errors: ZX_FILE_FAULT, and ZX_NO_MEMORY as for zx_file_grow. */
 zx_code zx_file_rollback(zx_file *file, zx_segment *before);
 
-/* Waits until the changes of a mapped file are on the disk. For another file it is zx_file_save. */
+/* What a transaction keeps. It starts as ZX_NO_STEP, and zx_file_keep or zx_file_undo ends it. */
+typedef struct {
+    zx_segment copy;      /* the segment as it was; closed where pages are kept */
+    struct zx_kept *kept; /* what pages held; null where the segment is copied */
+} zx_step;
+
+#ifdef __cplusplus
+#define ZX_NO_STEP (zx_step{})
+#else
+#define ZX_NO_STEP ((zx_step){ { 0, 0, false, false }, 0 })
+#endif
+
+/* Groups several calls into one step. Of a file that is mapped or durable it costs what is changed: zx_file_begin keeps
+   the pages that were changed before, and finds them by the system's map of pages, or where there is none by a
+   comparison. Any other segment is copied, as by zx_begin. Steps may nest, each with its own zx_step.
+
+   zx_file_keep ends the step and keeps its changes. The outermost step of a file that was opened with ZX_DURABLE is
+   committed, with the errors of zx_file_commit; that of another mapped file puts its changes into the file, with the
+   errors ZX_FILE_FAULT and ZX_NO_MEMORY. After ZX_FILE_UNSURE the step is ended; after any other error it is still
+   open. zx_file_undo restores the segment and ends the step. Its errors are those of zx_file_rollback.
+
+   While a step is open, its changes are in no file, and zx_file_commit, zx_file_save and zx_file_close of a durable
+   file return ZX_FILE_IN_STEP. Errors of zx_file_begin: those of zx_begin, and ZX_FILE_FAULT. */
+zx_code zx_file_begin(zx_file *file, zx_step *before);
+zx_code zx_file_keep(zx_file *file, zx_step *before);
+zx_code zx_file_undo(zx_file *file, zx_step *before);
+
+/* Ends a step that cannot be undone: its changes stay in the segment, and nothing is committed. */
+void zx_file_leave(zx_file *file, zx_step *before);
+
+/* Waits until the changes of a mapped file are on the disk. For a file that was opened with ZX_DURABLE it is
+   zx_file_commit, and for another file zx_file_save. */
 zx_code zx_file_flush(zx_file *file);
+
+/* The bytes of a log (docs/FORMAT.md). The calls above make these calls, which are proved. A program needs them only if
+   it reads or writes logs itself. No pointer is null. Each writes to the front of a buffer, and returns
+   ZX_SHORT_BUFFER if that has too little room, or ZX_NO_MEMORY; then the buffer is unchanged. */
+
+/* Returns the fingerprint of an image, and the share that a page of 4096 bytes, or the last one, has in it. */
+uint64_t zx_log_fingerprint(const uint8_t *image, size_t len);
+uint64_t zx_log_page_mark(uint64_t index, const uint8_t *page, size_t len);
+
+/* Write the front of a payload, of 40 bytes, and one of its edits, of 16 bytes and those that the image gets. */
+zx_code zx_log_front(uint64_t len, uint64_t base, uint64_t after, uint8_t *front, size_t room);
+zx_code zx_log_edit(uint64_t offset, const uint8_t *bytes, size_t len, uint8_t *edit, size_t room);
+
+/* Writes what stands behind the gate of a record: the length of the payload, the payload, and the next gate, shut.
+   Errors: ZX_TOO_LARGE, if the payload has more than 2^40 bytes. */
+zx_code zx_log_body(const uint8_t *payload, size_t len, uint8_t *body, size_t room);
+
+/* Writes a gate, of 4096 bytes. */
+zx_code zx_log_gate(bool is_open, uint8_t *gate, size_t room);
+
+/* Writes the image that a file stands for with its log, and returns its length, where the records end, and the file's
+   fingerprint. Errors: ZX_FILE_LOG_FOREIGN. */
+zx_code zx_log_recover(const uint8_t *base, size_t base_len, const uint8_t *log, size_t log_len, uint8_t *image,
+                       size_t room, uint64_t *len, uint64_t *end, uint64_t *mark);
 
 /* Gives the words for a code of this header or of zaluxhoni.h, as zx_words does. */
 void zx_file_words(zx_code code, zx_text *words);

@@ -8,6 +8,7 @@ pub mod Held
 pub mod Images
 pub mod Lending
 pub mod Lists
+pub mod Logs
 pub mod Making
 pub mod Marked
 pub mod Opening

@@ -4,7 +4,7 @@ use Rattle.seg_types.specs.{declared.kinds.Kind.Kind, declared.kinds.Kind.TheVar
 use Rattle.seg_types.specs.{declared.kinds.ScalarKind.ScalarKind, Commands.Literal, Commands.Whole, Commands.literal_of}
 use Rattle.seg_types.specs.declared.kinds.ScalarKind.TheVariants.{Bool as BoolKind, U8, I32, I64, U64}
 use Rattle.segment_manager.specs.Answers.{Answer, Done, Element}
-use Rattle.seg_types.specs.Kinds.{code_of, is_value, kind_of_code, truth_number}
+use Rattle.seg_types.specs.Kinds.{code_of, is_value, kind_of_code, scalar_of_code, truth_number}
 use Rattle.seg_types.specs.Names.{Key, ByName, ByKind, ByHandle, NoKey, is_text_name}
 use Rattle.segment_c.specs.declared.keys.ObjectKey.{ObjectKey}
 use Rattle.segment_c.specs.{declared.values.CScalar.CScalar, declared.rows.CScalars.CScalars}
@@ -66,19 +66,9 @@ new_of k kind = if k.how == 3 then NoKey else entry_of k kind
 
 -- ---- values
 
--- the kind of scalars that a code says
-unfoldable pub scalar_kind_of : ℕ → Option ScalarKind
-scalar_kind_of code =
-    if code == 1 then Some BoolKind
-    else if code == 2 then Some U8
-    else if code == 3 then Some I32
-    else if code == 4 then Some I64
-    else if code == 5 then Some U64
-    else None
-
 -- the code of a wrong scalar kind
 abbrev pub scalar_kind_wrong : ℕ → ℕ
-scalar_kind_wrong code = elim (scalar_kind_of code) [ None ↦ 19 | Some k ↦ 0 ]
+scalar_kind_wrong code = elim (scalar_of_code code) [ None ↦ 19 | Some k ↦ 0 ]
 
 -- the number of a value of a kind: the signed ones have a field of their own
 abbrev pub number_in : CScalar → ScalarKind → ℤ
@@ -90,7 +80,7 @@ number_in v U64 = pos v.natural
 
 -- a kind and a number in its range, if it is one
 unfoldable pub scalar_in : CScalar → Option (ScalarKind × ℤ)
-scalar_in v = elim (scalar_kind_of v.kind) as (λ _. Option (ScalarKind × ℤ)) [
+scalar_in v = elim (scalar_of_code v.kind) as (λ _. Option (ScalarKind × ℤ)) [
   | None ↦ None
   | Some k ↦ if is_value k (number_in v k) then Some (k, number_in v k) else None
 ]
@@ -130,7 +120,7 @@ row_wrong v = row_kind_wrong v.kind
 
 -- the kind of scalars that a code says, if it says one
 abbrev pub scalar_kind_in : ℕ → ScalarKind
-scalar_kind_in code = elim (scalar_kind_of code) as (λ _. ScalarKind) [ None ↦ BoolKind | Some k ↦ k ]
+scalar_kind_in code = elim (scalar_of_code code) as (λ _. ScalarKind) [ None ↦ BoolKind | Some k ↦ k ]
 
 -- the whole numbers of the slice of a kind
 abbrev pub numbers_of : CScalars → ScalarKind → List ℤ

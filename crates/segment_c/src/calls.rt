@@ -29,6 +29,22 @@ macro_rules! passed {
 
 pub(crate) use passed;
 
+/// Takes the segment out of its handle for a call on the object of a key. The handle of an object is noted, so that the
+/// next call finds it at once.
+#[inline(always)]
+fn take_for(alloc: Global, h: &mut SegmentSlot, key: &Key<'_>) -> Result<Box<Segment>, u32>
+    ensures transfer { MatchResult result (λ segment. (h.old.segment.value ≡ Some segment.value)
+        × (h.new.segment.value ≡ None)) (λ code.
+        RefusesCall 0 code h.old.segment.value h.new.segment.value) }
+    ensures marks { h.new.marks ≡ h.old.marks }
+{
+    let mut segment = take(alloc, h)?;
+    if let Key::Handle(handle) = key {
+        segment.remember(*handle);
+    }
+    Ok(segment)
+}
+
 /// Returns the key of an object that is there, and the segment.
 #[inline(always)]
 pub fn enter<'a>(
@@ -42,7 +58,8 @@ pub fn enter<'a>(
     ensures marks { h.new.marks ≡ h.old.marks }
 {
     let which = key.key()?;
-    Ok((which, take(alloc, h)?))
+    let segment = take_for(alloc, h, &which)?;
+    Ok((which, segment))
 }
 
 /// Returns the key of an object that is there, the segment, and a value that is passed.
@@ -62,10 +79,12 @@ pub fn enter_with<'a>(
 {
     let which = key.key()?;
     let scalar = value.scalar()?;
-    Ok((which, scalar, take(alloc, h)?))
+    let segment = take_for(alloc, h, &which)?;
+    Ok((which, scalar, segment))
 }
 
 /// Returns the key of an object that is there, the segment, and two values.
+#[inline(always)]
 pub fn enter_pair<'a>(
     alloc: Global,
     h: &mut SegmentSlot,
@@ -84,7 +103,8 @@ pub fn enter_pair<'a>(
 {
     let which = key.key()?;
     let scalars = (at.scalar()?, value.scalar()?);
-    Ok((which, scalars.0, scalars.1, take(alloc, h)?))
+    let segment = take_for(alloc, h, &which)?;
+    Ok((which, scalars.0, scalars.1, segment))
 }
 
 /// Returns the key, the kind of a row of values, and the segment.
@@ -103,7 +123,8 @@ pub fn enter_row<'a>(
 {
     let which = key.key()?;
     let kind = values.scalar_kind()?;
-    Ok((which, kind, take(alloc, h)?))
+    let segment = take_for(alloc, h, &which)?;
+    Ok((which, kind, segment))
 }
 
 /// Returns the key under which a new object of a kind is made, and the segment.

@@ -52,13 +52,15 @@ pub const SHORT_BUFFER: u32 = 24;
 /// A slice is null.
 pub const NULL_SLICE: u32 = 25;
 /// No memory. [`no_memory`] tells it of a request that was refused, and [`boxed_or_region`] of its own.
-const NO_MEMORY: u32 = 26;
+pub const NO_MEMORY: u32 = 26;
 /// The region has too little room.
 pub const SHORT_REGION: u32 = 27;
 /// No segment grows by this number of bytes.
 pub const BAD_GROWTH: u32 = 28;
 /// No segment may be this long.
 pub const TOO_LARGE: u32 = 29;
+/// The log beside a file belongs to another one.
+pub const LOG_FOREIGN: u32 = 54;
 /// The bytes are no image: to this the number of its class is added.
 pub const BAD_IMAGE: u32 = 100;
 

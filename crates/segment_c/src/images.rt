@@ -29,8 +29,7 @@ use crate::segment_slot::{HeldSegment, SegmentSlot, put, put_new, take};
 use block_tags::is_legal_size;
 use grow_shrink::region_for;
 use image_check::{
-    AcceptedVersions, ExamineError, FRONT, ImageClass, MemoryFault, OpenError, examine_bytes,
-    open_bytes, size_in,
+    AcceptedVersions, FRONT, ImageClass, MemoryFault, OpenError, open_bytes, size_in,
 };
 use raw_region::{RawRegion, Steps};
 use segment_manager::{Mode, Segment};
@@ -239,23 +238,18 @@ fn examine_in(alloc: Global, image: &[u8], region: RawRegion, place: &mut u64) -
     ensures cause { 1 ≤ result → IsExplained image.now result place.old place.new }
     ensures unchanged_on_error { result ≡ 0 → place.new ≡ place.old }
 {
-    match examine_bytes(
-        AcceptedVersions::Current,
-        alloc,
-        image,
-        region,
-        0,
-        &mut Steps::new(),
-    ) {
+    let steps = &mut Steps::new();
+    let versions = AcceptedVersions::Current;
+    match open_bytes(alloc, versions, image, region, 0, Mode::ReadOnly, steps) {
         Ok(_) => DONE,
         Err(refused) => match refused.cause {
-            ExamineError::Image(verdict) => {
+            OpenError::Image(verdict) => {
                 *place = verdict.place;
                 class_code(verdict.class)
             }
-            ExamineError::OutOfMemory(refusal) => no_memory(MemoryFault::BlockMap(refusal)),
-            ExamineError::RegionTooSmall => unreachable!(),
-            ExamineError::ReadFault => unreachable!(),
+            OpenError::OutOfMemory(refusal) => no_memory(refusal),
+            OpenError::RegionTooSmall => unreachable!(),
+            OpenError::ReadFault => unreachable!(),
         },
     }
 }
@@ -305,12 +299,13 @@ fn open_in(alloc: Global, image: &[u8], region: RawRegion, mode: Mode) -> Result
     ensures { MatchResult result (IsImageOpened image.now (length region) mode) (λ code. (1 ≤ code)
         × IsWhyNotOpened image.now (length region) code) }
 {
-    match open_bytes(alloc, image, region, 0, mode, &mut Steps::new()) {
+    let versions = AcceptedVersions::Current;
+    match open_bytes(alloc, versions, image, region, 0, mode, &mut Steps::new()) {
         Ok(segment) => Ok(segment),
         Err(refused) => match refused.cause {
-            OpenError::Image(class) => Err(class_code(class)),
+            OpenError::Image(verdict) => Err(class_code(verdict.class)),
             OpenError::RegionTooSmall => Err(SHORT_REGION),
-            OpenError::OutOfMemory(refusal) => Err(no_memory(MemoryFault::BlockMap(refusal))),
+            OpenError::OutOfMemory(refusal) => Err(no_memory(refusal)),
             OpenError::ReadFault => unreachable!(),
         },
     }

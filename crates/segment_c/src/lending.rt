@@ -16,7 +16,7 @@ use crate::codes::{BAD_MODE, BAD_SIZE, DONE, SHORT_REGION, boxed_or_region, no_m
 use crate::images::{class_code, mode_for};
 use crate::resizing::is_capacity;
 use crate::segment_slot::{SegmentSlot, put_new, take};
-use image_check::{MemoryFault, OpenError, open_here};
+use image_check::{OpenError, open_here};
 use raw_region::{LentMemory, RawRegion, Steps};
 use segment_manager::{Mode, Segment};
 use std::alloc::Global;
@@ -96,9 +96,9 @@ fn open_over(
         Ok(segment) => boxed_or_region(alloc, segment),
         Err(refused) => {
             let code = match refused.cause {
-                OpenError::Image(class) => class_code(class),
+                OpenError::Image(verdict) => class_code(verdict.class),
                 OpenError::RegionTooSmall => SHORT_REGION,
-                OpenError::OutOfMemory(refusal) => no_memory(MemoryFault::BlockMap(refusal)),
+                OpenError::OutOfMemory(refusal) => no_memory(refusal),
                 OpenError::ReadFault => unreachable!(),
             };
             Err((code, refused.region))

@@ -11,6 +11,7 @@ mod images;
 mod keys;
 mod lending;
 mod lists;
+mod logs;
 mod maps;
 mod objects;
 mod ranges;

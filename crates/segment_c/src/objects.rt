@@ -1,7 +1,7 @@
 //! Objects made, found and destroyed.
 ghost use Rattle.std.specs.Prelude.{◌≡◌, ◌≤◌, ◌≢◌, MatchResult, OnErr, Some, map, replicate, ℕ};
 ghost use Rattle.seg_types.specs.Commands.{Bytes, Construct, Find, NoPairs, Numbers, Strings};
-ghost use Rattle.seg_types.specs.Keys.{key_seen};
+ghost use Rattle.seg_types.specs.{Keys.key_seen, Kinds.scalar_of_code};
 ghost use Rattle.seg_types.specs.Names.{NoKey};
 ghost use Rattle.seg_types.specs.Values.{kind_of_scalar, value_of_scalar};
 ghost use Rattle.seg_types.specs.declared.kinds.Kind.TheVariants.{Map as MapOf, Scalar as ScalarOf};
@@ -12,7 +12,7 @@ ghost use Rattle.segment_c.specs.{Codes.answer_for, Making.FindsOrMakesObject};
 ghost use Rattle.segment_c.specs.Destroying.{destroy_command};
 ghost use Rattle.segment_c.specs.Passed.{count_wrong, entry_of, entry_wrong, key_of, key_wrong, kind_in, kind_wrong};
 ghost use Rattle.segment_c.specs.Passed.{new_of, new_wrong, object_kind_in, or_else, scalar_in};
-ghost use Rattle.segment_c.specs.Passed.{scalar_kind_in, scalar_kind_of, scalar_kind_wrong, value_wrong, whole_in};
+ghost use Rattle.segment_c.specs.Passed.{scalar_kind_in, scalar_kind_wrong, value_wrong, whole_in};
 ghost use Rattle.segment_manager.specs.Answers.{Found, Made, Truth};
 ghost use Rattle.segment_manager.specs.Keeping.{UnchangedWhere, LacksKey};
 ghost use Rattle.segment_manager.specs.State.{AnswersQuery, TakesStep, truth_answer};
@@ -22,7 +22,7 @@ use crate::codes::{BAD_COUNT, BAD_KIND, found, found_or_absent, made, truth};
 use crate::keys::ObjectKey;
 use crate::rows::CScalars;
 use crate::segment_slot::{SegmentSlot, take};
-use crate::values::{CScalar, scalar_kind};
+use crate::values::CScalar;
 use seg_types::{IndexKey, Key, Kind, MAX_ARRAY_LEN, Refusal, ScalarKind, ScalarValue};
 use segment_manager::Segment;
 use std::alloc::Global;
@@ -46,12 +46,12 @@ fn scalars(value: &CScalar, count: u32) -> Result<ScalarValue, u32>
 
 /// Returns the kinds of a map's keys and values.
 fn map_kinds(keys: u32, values: u32) -> Result<(ScalarKind, ScalarKind), u32>
-    ensures { MatchResult result (λ kinds. (scalar_kind_of keys ≡ Some kinds.0)
-        × (scalar_kind_of values ≡ Some kinds.1))
+    ensures { MatchResult result (λ kinds. (scalar_of_code keys ≡ Some kinds.0)
+        × (scalar_of_code values ≡ Some kinds.1))
         (λ code. (1 ≤ code) × ((next : ℕ)
         → code ≡ or_else (scalar_kind_wrong keys) (or_else (scalar_kind_wrong values) next))) }
 {
-    match (scalar_kind(keys), scalar_kind(values)) {
+    match (ScalarKind::from_code(keys), ScalarKind::from_code(values)) {
         (Some(of_keys), Some(of_values)) => Ok((of_keys, of_values)),
         _ => Err(BAD_KIND),
     }

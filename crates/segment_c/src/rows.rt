@@ -3,7 +3,6 @@ ghost use Rattle.std.specs.Prelude.{◌≡◌, ◌≤◌, MatchResult};
 ghost use Rattle.segment_c.specs.Passed.{many_of, row_wrong, scalar_kind_in};
 
 use crate::codes::{BAD_KIND, NULL_SLICE};
-use crate::values::scalar_kind;
 use seg_types::ScalarKind;
 
 /// Scalars for an array, a vector or a range of one: those of the slice of the kind, 1 to 5. The other slices are
@@ -61,7 +60,7 @@ impl CScalars<'_> {
         if self.kind == 0 {
             return Err(NULL_SLICE);
         }
-        scalar_kind(self.kind).ok_or(BAD_KIND)
+        ScalarKind::from_code(self.kind).ok_or(BAD_KIND)
     }
 
     /// Returns how many values the slice of a kind has.

@@ -1,10 +1,10 @@
 //! The values that C passes and is given.
 ghost use Rattle.std.specs.Prelude.{◌≡◌, Some, None, MatchResult, option_map};
 ghost use Rattle.seg_types.specs.Values.{kind_of_scalar, value_of_scalar};
-ghost use Rattle.segment_c.specs.Passed.{scalar_in, scalar_kind_of};
+ghost use Rattle.segment_c.specs.Passed.{scalar_in};
 
 use crate::codes::BAD_VALUE;
-use seg_types::{ScalarKind, ScalarValue};
+use seg_types::ScalarValue;
 
 /// A scalar with its kind: 1 to 5 for `bool`, `u8`, `i32`, `i64` and `u64`. The signed kinds have it in `number`, the
 /// others in `natural`, where 0 is false.
@@ -17,21 +17,6 @@ pub struct CScalar {
     pub number: i64,
     /// The value of an unsigned kind or of a truth.
     pub natural: u64,
-}
-
-/// Returns the kind of scalars that a code says.
-#[tactic(auto, unfolding(crate::specs::Passed::scalar_kind_of))]
-pub fn scalar_kind(code: u32) -> Option<ScalarKind>
-    ensures { result ≡ scalar_kind_of code }
-{
-    match code {
-        1 => Some(ScalarKind::Bool),
-        2 => Some(ScalarKind::U8),
-        3 => Some(ScalarKind::I32),
-        4 => Some(ScalarKind::I64),
-        5 => Some(ScalarKind::U64),
-        _ => None,
-    }
 }
 
 impl CScalar {
@@ -49,7 +34,7 @@ impl CScalar {
     }
 
     /// Returns the scalar that is passed, if there is one.
-    #[tactic(auto, unfolding(crate::specs::Passed::scalar_in, crate::specs::Passed::scalar_kind_of))]
+    #[tactic(auto, unfolding(crate::specs::Passed::scalar_in, seg_types::specs::Kinds::scalar_of_code))]
     fn read(&self) -> Option<ScalarValue>
         ensures { option_map (λ value. (kind_of_scalar value, value_of_scalar value)) result ≡ scalar_in self.now }
     {
@@ -73,7 +58,7 @@ impl CScalar {
     }
 
     /// Returns the scalar as it is given.
-    #[tactic(auto, unfolding(crate::specs::Passed::scalar_in, crate::specs::Passed::scalar_kind_of))]
+    #[tactic(auto, unfolding(crate::specs::Passed::scalar_in, seg_types::specs::Kinds::scalar_of_code))]
     pub fn of(value: ScalarValue) -> CScalar
         ensures { scalar_in result ≡ Some (kind_of_scalar value, value_of_scalar value) }
     {

@@ -8,7 +8,6 @@ use Rattle.segment_manager.specs.declared.errors.CreateError.TheVariants.{BadSiz
 use Rattle.segment_manager.specs.Directory.{Directory}
 use Rattle.segment_manager.specs.State.{SegmentState, DenotesCurrent}
 use Rattle.segment_manager.specs.Calls.{HasZeroGaps}
-use Rattle.image_check.specs.declared.errors.MemoryFault.TheVariants.{BlockMap}
 use Rattle.image_check.specs.declared.errors.OpenError.{OpenError}
 use Rattle.image_check.specs.declared.errors.OpenError.TheVariants.{Image as NoImage, RegionTooSmall as NoRoomForImage}
 use Rattle.image_check.specs.declared.errors.OpenError.TheVariants.{OutOfMemory as NoMemory, ReadFault as NotRead}
@@ -32,9 +31,9 @@ created_fault NoSize = BadSize
 created_fault NoRoom = RegionTooSmall
 
 abbrev pub opened_fault : OpenError → SessionFault
-opened_fault (NoImage c) = Refused c
+opened_fault (NoImage v) = Refused v.class
 opened_fault NoRoomForImage = RegionTooSmall
-opened_fault (NoMemory refusal) = OutOfMemory (BlockMap refusal)
+opened_fault (NoMemory refusal) = OutOfMemory refusal
 opened_fault NotRead = ReadFault
 
 abbrev pub run_fault : RunFault → SessionFault

@@ -4,8 +4,8 @@ use Rattle.raw_region.specs.Device.{ReadDelta, WriteDelta, IsProperPrefix}
 use Rattle.raw_region.specs.Format.{current}
 use Rattle.image_check.specs.Classes.{class_of}
 use Rattle.image_check.specs.Formats.{format_of}
-use Rattle.image_check.specs.Opening.{IsImage, IsOutOfMemory, IsReadToEnd, IsTooSmallFor}
-use Rattle.image_check.specs.OpeningAny.{IsRefusedAsAny, UpgradesFormat, IsUndecidedAny}
+use Rattle.image_check.specs.Opening.{IsImage, IsOutOfMemory, IsReadToEnd, IsRefusedAs, IsTooSmallFor, IsUndecided}
+use Rattle.image_check.specs.Upgrading.{UpgradesFormat}
 use Rattle.image_check.specs.Passes.{IsMapRefused}
 use Rattle.segment_cli.specs.declared.faults.SessionFault.{SessionFault}
 use Rattle.segment_cli.specs.declared.faults.SessionFault.TheVariants.{Image as Refused, BadSize, RegionTooSmall}
@@ -41,13 +41,14 @@ pub record IsNothingSaved (saved : WriteDelta) (cause : Type 0) : Type 0 where
 
 -- a migration ended with this fault, for the reason that the fault names
 abbrev pub IsMigrationFault : ℕ → ℕ → ReadDelta → WriteDelta → SessionFault → Type 0
-IsMigrationFault base capacity image saved (Refused c) = IsNothingSaved saved (IsRefusedAsAny image c)
+IsMigrationFault base capacity image saved (Refused c) = IsNothingSaved saved
+    (IsRefusedAs (format_of image.bytes) image c)
 IsMigrationFault base capacity image saved BadSize = ⊥
 IsMigrationFault base capacity image saved RegionTooSmall = IsNothingSaved saved
     (IsTooSmallFor (format_of image.bytes) image base capacity)
 IsMigrationFault base capacity image saved (OutOfMemory refusal) = IsNothingSaved saved
     (IsOutOfMemory (format_of image.bytes) image × IsMapRefused image.bytes refusal)
-IsMigrationFault base capacity image saved ReadFault = IsNothingSaved saved (IsUndecidedAny image)
+IsMigrationFault base capacity image saved ReadFault = IsNothingSaved saved (IsUndecided (format_of image.bytes) image)
 IsMigrationFault base capacity image saved WriteFault = MigrateWriteFails image saved
 IsMigrationFault base capacity image saved ScriptTooLong = ⊥
 

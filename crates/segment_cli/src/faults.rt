@@ -2,7 +2,6 @@
 ghost use Rattle.std.specs.Prelude.{◌≡◌};
 ghost use Rattle.image_check.specs.declared.errors.MemoryFault.TheVariants.{Bytes};
 ghost use Rattle.segment_cli.specs.Beginning.{created_fault, opened_fault, run_fault};
-ghost use Rattle.segment_cli.specs.declared.faults.ProgramFault.TheVariants.{Growth, Session};
 ghost use Rattle.segment_cli.specs.declared.faults.SessionFault.TheVariants.{OutOfMemory as NoMemory};
 ghost use Rattle.segment_cli.specs.declared.faults.SessionFault.TheVariants.{WriteFault as NotWritten};
 
@@ -64,11 +63,9 @@ impl From<OpenRefused> for SessionFault {
 
     fn from(refused: OpenRefused) -> SessionFault {
         match refused.cause {
-            OpenError::Image(class) => SessionFault::Image(class),
+            OpenError::Image(verdict) => SessionFault::Image(verdict.class),
             OpenError::RegionTooSmall => SessionFault::RegionTooSmall,
-            OpenError::OutOfMemory(refusal) => {
-                SessionFault::OutOfMemory(MemoryFault::BlockMap(refusal))
-            }
+            OpenError::OutOfMemory(refusal) => SessionFault::OutOfMemory(refusal),
             OpenError::ReadFault => SessionFault::ReadFault,
         }
     }
@@ -118,20 +115,4 @@ pub enum ProgramFault {
     /// A session fails.
     #[error("{0}")]
     Session(SessionFault),
-}
-
-impl From<GrowError> for ProgramFault {
-    ghost from_gives = { λ error fault. fault ≡ Growth error };
-
-    fn from(error: GrowError) -> ProgramFault {
-        ProgramFault::Growth(error)
-    }
-}
-
-impl From<SessionFault> for ProgramFault {
-    ghost from_gives = { λ failed fault. fault ≡ Session failed };
-
-    fn from(failed: SessionFault) -> ProgramFault {
-        ProgramFault::Session(failed)
-    }
 }

@@ -12,8 +12,8 @@ pub use image_check::{ImageClass, MemoryFault, save};
 pub use migrations::migrate;
 pub use reports::{report, session_line, session_status};
 pub use segment_invocation::{
-    AnswerOptions, FileChange, FileOptions, Invocation, InvocationFault, ModeName, Report,
-    RunOptions, SaveMode, Script, UsageError, invocation,
+    AnswerOptions, FileChange, FileOptions, Invocation, InvocationFault, ModeName, Options, Report,
+    Request, SaveMode, Script, UsageError, invocation, request,
 };
 pub use segment_scripts::{
     Answered, End, Machine, NoObserver, RunFault, RunObserver, Scratch, Until, run, run_until,

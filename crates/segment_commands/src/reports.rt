@@ -126,6 +126,7 @@ fn trouble_words(trouble: FileProblem) -> &'static [u8]
         FileProblem::Exists => b": another file is there\n",
         FileProblem::Owner => b": had another owner, who could not be kept\n",
         FileProblem::Writer => b": a writer holds it\n",
+        FileProblem::Log => b": has a log, which only the library for C, C++ and Python reads\n",
         FileProblem::Unwritten => b": could not be written whole\n",
     }
 }

@@ -210,6 +210,17 @@ impl<'a, R: Files<File = File> + AllocGlobal + Clock> HostDisk<'a, R> {
         is_written(file)
     }
 
+    /// Returns true if the library for C left a log beside the file of a path: commits that the file does not have yet.
+    fn has_log(&self, path: &str) -> bool {
+        let Ok(real) = fs::canonicalize(self.files, path) else {
+            return false;
+        };
+        match format!(in self.files.alloc(); "{}-log", real.as_str()) {
+            Ok(log) => fs::symlink_metadata(self.files, log.as_str()).is_ok(),
+            Err(_) => false,
+        }
+    }
+
     /// Tells whether another file has taken the name of the one that is locked, or one has come where nothing was.
     fn is_taken(&self, path: &str, hold: &HostLock) -> bool {
         are_different(hold.lock.identity(), Identity::at(self.files, path).ok())
@@ -244,6 +255,10 @@ impl<'a, R: Files<File = File> + AllocGlobal + Clock> Disk for HostDisk<'a, R> {
         }
         self.trouble = found.is_err().then_some(FileProblem::Writer);
         let lock = found?;
+        if self.has_log(path) {
+            self.trouble = Some(FileProblem::Log);
+            return Err(AlreadyLocked);
+        }
         self.held = lock.identity();
         Ok(HostLock::new(lock))
     }

@@ -57,6 +57,8 @@ pub enum FileProblem {
     Owner,
     /// Another has the right to write it.
     Writer,
+    /// A log beside it has commits that it has not.
+    Log,
     /// It took not all, or need not last.
     Unwritten,
 }

@@ -3,3 +3,4 @@ pub mod Success
 pub mod Judgement
 pub mod Portable
 pub mod DumpObjects
+pub mod Placed

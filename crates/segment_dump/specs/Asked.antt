@@ -1,5 +1,5 @@
--- What the lines of a text ask for, dump or not, as far as they are counted: objects and their elements, up to the line
--- `end`.
+-- The objects and elements in the lines of a text up to the line `end`, whether or not it is a dump, as far as they are
+-- counted.
 use Rattle.seg_types.specs.declared.kinds.Kind.TheVariants as kinds
 use Rattle.std.specs.Prelude.{◌≡◌, ◌≤◌, ℕ, List, [], ◌∷◌, ◌++◌, Some, length, flat_map}
 use Rattle.std.specs.List.{AllByRecursion}
@@ -23,7 +23,7 @@ pub record AreAtMost (some most : Needs) : Type 0 where
 
 -- ---- the parts of a line, and lines
 
--- among the bytes this many can be those of a name
+-- the bytes can hold a name of this length
 abbrev pub CanName : List ℕ → ℕ → Type 0
 CanName bytes len = len ≤ length bytes
 
@@ -51,7 +51,7 @@ pub record IsDumpText (bytes : List ℕ) (len : ℕ) : Type 0 where
 
 -- ---- what asks
 
--- some bytes, and what they ask for
+-- some bytes, and the objects in them
 pub record Asking : Type 0 where
   pub bytes : List ℕ
   pub needs : Needs

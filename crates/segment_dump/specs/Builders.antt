@@ -1,4 +1,4 @@
--- What the calls promise that build a segment of a text.
+-- The promises of the calls that build a segment from a text.
 use Rattle.seg_types.specs.declared.kinds.Kind.TheVariants as kinds
 use Rattle.seg_types.specs.Commands as asked
 use Rattle.std.specs.Prelude.{◌≡◌, ℕ, ◌+◌, ◌<◌, ◌≤◌, ℤ, pos, true, false, List, [], ◌∷◌, ◌++◌, Some, Result, Ok, length}
@@ -72,7 +72,7 @@ pub record FillsElements {E : Type 0} (old new : SegmentState) (h : ℕ) (kind :
   pub fills : (p : FillState) → IsFillable p kind room → count ≡ count_of_content p.content → FillsAt old text p h 0
       → (result ≡ Ok tt) × IsFilled new rest p
 
--- what an object is made with: zeros, or nothing yet
+-- the first contents of an object: zeros, or nothing yet
 abbrev pub first_content : Kind → ℕ → Asked
 first_content (kinds.Scalar k) n = asked.Numbers k (replicate n (pos 0))
 first_content kinds.String n = asked.Bytes []

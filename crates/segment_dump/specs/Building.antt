@@ -40,7 +40,7 @@ IsRest n = (n ≡ 0) ⊎ (32 ≤ n)
 
 -- ---- a directory that is being built
 
--- how many places its indexes have at least, and how many bytes it has
+-- the least capacities of the indexes, and the size in bytes
 pub record Site : Type 0 where
   pub named : ℕ
   pub unique : ℕ
@@ -76,7 +76,7 @@ pub record IsFilling (d : Directory) (site : Site) (done : List DumpItem) (head 
   pub value_is : object.value ≡ v
   pub room : HasExactRoom (all_extents d) d.size rest
 
--- ---- the items that are to be made
+-- ---- the items that are still to be built
 
 -- by which key an item is made
 abbrev pub key_in : Class → List ℕ → Kind → Key
@@ -94,7 +94,7 @@ has_item_key (ByKind k) i = (class_code Unique == class_code i.class) && same_ki
 has_item_key (ByHandle h) i = false
 has_item_key NoKey i = false
 
--- no object that is done has the key of one that is to come
+-- no object that is built has the key of an object still to be built
 abbrev pub AreNew : List DumpItem → List DumpItem → Type 0
 AreNew done [] = ⊤
 AreNew done (i ∷ is) = AllByRecursion (λ j. has_item_key (item_key i) j ≡ false) done × AreNew (done ++ i ∷ []) is

@@ -10,18 +10,18 @@ use Rattle.segment_dump.specs.{Building.class_words, Items.anonymous_objects}
 
 -- ---- which there are
 
--- what has a capacity: the index of names, that of kinds, or an object, by its class, its name and its kind
+-- the holder of a capacity: the index of names, the index of kinds, or an object, by its class, its name and its kind
 pub data CapacityHolder : Type 0 where
   Names : CapacityHolder
   Kinds : CapacityHolder
   Holds : Class → List ℕ → Kind → CapacityHolder
 
--- for how many entries, elements or bytes it has places
+-- a capacity, in entries, elements or bytes
 pub record Capacity : Type 0 where
   pub holder : CapacityHolder
   pub places : ℕ
 
--- the places of a vector, of a string or of a vector of strings
+-- the capacity of a vector, of a string or of a vector of strings
 abbrev pub places_of : Value → Option ℕ
 places_of (Numbers k zs) = None
 places_of (Elements k zs t) = Some t.capacity
@@ -36,7 +36,7 @@ holder_of o = Holds o.class o.name (kind_of o.value)
 abbrev pub object_capacities : Object → List Capacity
 object_capacities o = map (λ n. record { holder = holder_of o; places = n }) (option_to_list (places_of o.value))
 
--- the capacities of the indexes, and then those of the objects in the order of the dump
+-- the capacities of the indexes, and then of the objects in the order of the dump
 abbrev pub capacities : Directory → List Capacity
 capacities d =
     record { holder = Names; places = d.named.capacity } ∷ record { holder = Kinds; places = d.unique.capacity }
@@ -81,7 +81,7 @@ places_in (Some o) = places_of o.value
 abbrev pub places_at : Directory → Key → Option ℕ
 places_at d key = places_in (object_at d key)
 
--- the places in what was measured of an object
+-- the capacity in an object's measures
 abbrev pub measured_places : Result (ℕ × ℕ) Refusal → Option ℕ
 measured_places (Ok (len, places)) = Some places
 measured_places (Err r) = None

@@ -5,18 +5,18 @@ use Rattle.raw_region.specs.Device.{WriterHistory}
 use Rattle.segment_manager.specs.{Directory.Directory, State.SegmentState, State.DenotesCurrent}
 use Rattle.segment_dump.specs.{Items.portable, Texts.dump_text}
 
--- the text, how many bytes of it were written, then the first byte that was another, and how many writes were refused
+-- the text, the number of its bytes that were written, then the first other byte, and the number of refused writes
 pub record Compared : Type 0 where
   pub text : List ℕ
   pub at : ℕ
   pub other : Option ℕ
   pub failures : ℕ
 
--- what was taken
+-- the bytes that were written
 abbrev pub taken : Compared → List ℕ
 taken a = take a.at a.text ++ option_to_list a.other
 
--- What it did so far, said after its text: so whoever writes to it leaves it its text.
+-- The history of the sink, as a function of its text: so a writer leaves the text unchanged.
 abbrev pub compared : Compared → WriterHistory
 compared a = record { bytes = length a.text ∷ a.text ++ taken a; failures = a.failures }
 

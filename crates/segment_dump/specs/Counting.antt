@@ -1,4 +1,4 @@
--- What is counted of a text, and of which texts it is said.
+-- The counts of a text, and their meaning for a dump.
 use Rattle.std.specs.Prelude.{◌≡◌, ◌≢◌, ◌<◌, ◌^◌, ◌++◌, ℕ, List, [], Option, Some, Result, Ok, length}
 use Rattle.std.specs.List.{AllByRecursion}
 use Rattle.seg_types.specs.{declared.kinds.Class.TheVariants.Named, declared.kinds.Kind.Kind}
@@ -8,7 +8,7 @@ use Rattle.segment_dump.specs.Items.{ValueContent, DumpItem, Items, kind_of_cont
 use Rattle.segment_dump.specs.Need.{all_needs, both, front_room, item_needs, items_needs, only_room, text_needs}
 use Rattle.segment_dump.specs.Texts.{dump_text, end_text, front_text, items_text}
 
--- ---- what it has
+-- ---- counts of a segment
 
 -- this many texts fit a segment
 pub record AreTexts (count : ℕ) (ts : List (List ℕ)) : Type 0 where
@@ -59,8 +59,8 @@ pub record CountsDump (text : List ℕ) (result : Result Count ℕ) : Type 0 whe
   pub counts : (n : ℕ) (items : Items) → n < 2 ^ 64 → AreCountable items → text ≡ dump_text n items
       → result ≡ Ok (record { size = n; needs = items_needs items })
 
--- whatever the text is, it begins with the three first lines of a dump, where this size was read, and with objects in
--- front of the line `end`, and these ask for at least what was counted
+-- for any text: it begins with the three first lines of a dump, with this size, and with objects before the line `end`,
+-- whose needs are at least the counts
 pub record IsCounted (text : List ℕ) (count : Count) : Type 0 where
   pub front : Front
   pub behind : List ℕ

@@ -1,4 +1,4 @@
--- What a call writes of a segment: of each directory that its bytes denote.
+-- The output of a call about a segment, for each directory that its bytes denote.
 use Rattle.std.specs.Prelude.{◌++◌, List, [], ℕ, Result, if◌then◌else◌}
 use Rattle.std.specs.List.{flat_map}
 use Rattle.raw_region.specs.Device.{WriterHistory}

@@ -1,4 +1,4 @@
--- An object that is being filled: what of its content it has, and what is left in the text and of the room.
+-- An object during its filling: its contents so far, and the rest of the text and of the room.
 use Rattle.std.specs.Prelude.{◌≡◌, ℕ, ◌+◌, ◌*◌, ◌^◌, ◌<◌, ◌≤◌, ℤ, pos, ⊤, true, int_lt, List, [], ◌∷◌, ◌++◌, length}
 use Rattle.std.specs.{Prelude.map, Prelude.replicate, Prelude.flat_map, List.AllByRecursion}
 use Rattle.best_fit.specs.Table.{BackingArray}
@@ -67,7 +67,7 @@ pub record StandsBuilt (s : SegmentState) (site : Site) (done : List DumpItem) (
   pub mode : s.mode ≡ Write
   pub built : HasBuiltItems directory site done rest
 
--- the segment has these objects so far, and one that is being filled
+-- the segment has these objects so far, and one object during its filling
 pub record StandsFilling (s : SegmentState) (site : Site) (done : List DumpItem) (head : Head) (v : Value)
     (rest : ℕ) : Type 0 where
   pub directory : Directory
@@ -130,7 +130,7 @@ strings_course t = record {
   need = λ back. (all_needs text_needs back).room;
 }
 
--- a value has places for all elements that are to come
+-- the value has capacity for all elements that are still to come
 pub record HasReservedPlaces {X Y : Type 0} (way : BackingArray → FillCourse X Y) (all : List Y) (n : ℕ) (v : Value)
     (text : List ℕ) (need : ℕ) : Type 0 where
   pub table : BackingArray
@@ -145,7 +145,7 @@ IsPartialValue (String bs) = λ n v text need. ⊥
 IsPartialValue (Map k w ps) = HasFirstElements (map_course k w) ps
 IsPartialValue (Strings ts) = HasReservedPlaces strings_course ts
 
--- what is being filled, what the objects after it need, and the text after it
+-- the contents to fill, the needs of the objects after it, and the text after it
 pub record FillState : Type 0 where
   pub site : Site
   pub done : List DumpItem

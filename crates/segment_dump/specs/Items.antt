@@ -1,5 +1,4 @@
--- What a dump says of a segment's objects: class, name, kind and value of each, and nothing of blocks, handles and
--- capacities.
+-- The objects of a segment in a dump: class, name, kind and value of each, without blocks, handles and capacities.
 use Rattle.seg_types.specs.declared.kinds.Kind.TheVariants as kinds
 use Rattle.std.specs.Prelude.{ℕ, List, map, filter}
 use Rattle.seg_types.specs.{declared.kinds.Class.Class, declared.kinds.Kind.Kind}

@@ -55,7 +55,7 @@ json_bytes bs = if is_utf8 bs then json_string bs else json_coded bs
 abbrev pub json_pair : ScalarKind → ScalarKind → ℤ × ℤ → List ℕ
 json_pair k v (x, y) = 0x5B ∷ value_text k x ++ 0x2C ∷ value_text v y ++ 0x5D ∷ []
 
--- what stands in front of an element of a list
+-- the separator before an element of a list
 abbrev pub comma_before : ℕ → List ℕ
 comma_before zero = []
 comma_before (suc i) = codes ","
@@ -111,7 +111,7 @@ opening (kinds.Vector k) = codes "["
 opening (kinds.Map k v) = codes "["
 opening kinds.Strings = codes "["
 
--- what is after the elements
+-- the text after the elements
 abbrev pub closing : Kind → List ℕ
 closing kinds.String = codes "}\n"
 closing (kinds.Scalar k) = codes "]}\n"

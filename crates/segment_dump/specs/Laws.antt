@@ -1,4 +1,4 @@
--- What a dump tells.
+-- Laws of dumps.
 use Rattle.std.specs.Prelude.{◌≡◌, ◌≤◌, ℕ, true, List, ◌∷◌, ◌++◌}
 use Rattle.std.specs.List.{AllByRecursion}
 use Rattle.segment_manager.specs.{Directory.Directory, State.DenotesCurrent}
@@ -29,7 +29,7 @@ pub record IsNote (line : List ℕ) : Type 0 where
   pub begins : line ≡ 0x23 ∷ words
   pub one : HasNoEnd words
 
--- whatever notes stand after a dump, the dump is what is left without them
+-- for all notes after a dump, the text without notes is the dump
 abbrev pub NotesAreLeftOut : Type 0
 NotesAreLeftOut = (n : ℕ) (items : Items) (notes : List (List ℕ)) → AllByRecursion IsNote notes
     → without_notes (dump_text n items ++ lines_text notes) ≡ dump_text n items
@@ -43,12 +43,12 @@ CapacitiesAreLeftOut = (n : ℕ) (d : Directory)
 abbrev pub DumpsHaveNoNotes : Type 0
 DumpsHaveNoNotes = (n : ℕ) (items : Items) → without_notes (dump_text n items) ≡ dump_text n items
 
--- what is left out of a text are notes, at its end
+-- the removed part is notes, at the end of the text
 pub record HasTrailingNotes (text : List ℕ) : Type 0 where
   pub notes : List ℕ
   pub whole : text ≡ without_notes text ++ notes
   pub are : are_notes true notes ≡ true
 
--- the law: what is cut from the end of a text are notes
+-- the law: only notes are cut from the end of a text
 abbrev pub NotesAreCut : Type 0
 NotesAreCut = (text : List ℕ) → HasTrailingNotes text

@@ -2,7 +2,7 @@
 use Rattle.segment_dump.specs.Texts.{element_line, pair_line, text_lines}
 pub use Rattle.segment_values.specs.Layouts.{Spelling, laid_at, laid_from, laid_object, laid_out}
 
--- as a dump has them: lines, wherever they stand
+-- the layout of a dump: lines, at any offset
 abbrev pub in_lines : Spelling
 in_lines = record {
   scalar = λ i k z. element_line k z;

@@ -32,7 +32,7 @@ measured (kind, n) = kind_and_count_text kind n
 abbrev pub IsMeasure : Kind × ℕ → Type 0
 IsMeasure (kind, n) = IsSmall n
 
--- how many entries the two indexes have, up to the end of the line
+-- the numbers of entries of both indexes, up to the end of the line
 abbrev pub entries_text : ℕ × ℕ → List ℕ
 entries_text (named, unique) = number_text named ++ 0x20 ∷ number_text unique ++ 0x0A ∷ []
 

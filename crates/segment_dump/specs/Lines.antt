@@ -1,4 +1,4 @@
--- A text that is read line by line, and a line word by word: what is read if it stands there as it is written.
+-- Reading a text line by line, and a line word by word: whatever is spelled in front is read.
 use Rattle.std.specs.Prelude.{◌≡◌, ◌≤◌, ℕ, List, [], ◌++◌, Option, Some, None, Result, Ok, Err, length, option_map}
 use Rattle.std.specs.Borrow.{Bor}
 use Rattle.seg_types.specs.{declared.kinds.ScalarKind.ScalarKind, Values.scalar_of}
@@ -11,17 +11,17 @@ use Rattle.segment_dump.specs.Reads.{HasNoEnd, ended}
 abbrev pub IsShortLine : List ℕ → Type 0
 IsShortLine line = length line ≤ 4096
 
--- a line in front is read, and what is after its end is left
+-- a leading line is read, and the rest after its end is left
 pub record ReadsLine {E : Type 0} (text rest : List ℕ) (result : Result (List ℕ) E) : Type 0 where
   pub reads : (line a : List ℕ) → HasNoEnd line → IsShortLine line → text ≡ ended line ++ a
       → (result ≡ Ok line) × (rest ≡ a)
 
--- what the next word is the spelling of is read, and what is after the word is left
+-- the value of the next word is read, and the rest after the word is left
 pub record ReadsWord {X E : Type 0} (value : Word → Option X) (text rest : List ℕ) (result : Result X E) : Type 0 where
   pub reads : (w : Word) (a : List ℕ) (x : X) → next_word text ≡ Some (w, a) → value w ≡ Some x
       → (result ≡ Ok x) × (rest ≡ a)
 
--- ---- what a word is
+-- ---- values of words
 
 -- a word as itself
 abbrev pub any_word : Word → Option Word

@@ -2,7 +2,8 @@
 use Rattle.std.specs.Prelude.{◌≡◌, ◌+◌, ◌^◌, ◌<◌, ◌≤◌, ⊤, ℕ, false, Option, Some, None, Result, Ok, Err, List, length}
 use Rattle.std.specs.Prelude.{take, IsTrue, not, nat_lt, if◌then◌else◌}
 use Rattle.block_tags.specs.Format.{is_legal_size}
-use Rattle.best_fit.specs.Extents.{free_bytes}
+use Rattle.best_fit.specs.{Ends.EndsAt, Extents.free_bytes}
+use Rattle.raw_region.specs.Memory.{cut_at}
 use Rattle.segment_manager.specs.declared.modes.Mode.TheVariants.{Write}
 use Rattle.segment_manager.specs.{Directory.Directory, Directory.live, State.SegmentState, State.DenotesCurrent}
 use Rattle.segment_dump.specs.{Items.portable, Texts.dump_text, Need.items_needs, Comparing.IsDumpOf}
@@ -34,6 +35,17 @@ pub record IsLoaded (text : List ℕ) (size : Option ℕ) (s : SegmentState) : T
   pub judged : IsJudged text size s
   pub objects : HasObjectsOf text s
 
+-- the size that was asked for, or otherwise that of the text
+abbrev pub asked_of : Option ℕ → ℕ → ℕ
+asked_of None said = said
+asked_of (Some size) said = size
+
+-- Whatever segment the text is the dump of, the loaded one lies in the region from the base on. It was given the size
+-- that was asked for, and may end before that. What lies before and after what it was given is as before.
+pub record LiesIn (text region : List ℕ) (base : ℕ) (size : Option ℕ) (s : SegmentState) : Type 0 where
+  pub lies : (b : List ℕ) (d : Directory) (n : ℕ) → DenotesCurrent b d → n < 2 ^ 64 → text ≡ dump_text n (portable d)
+      → EndsAt (cut_at region base (asked_of size n)) s.cut (length s.cut.bytes)
+
 -- ---- no segment is made
 
 -- some place of the text
@@ -47,13 +59,8 @@ abbrev pub IsRequestedSize : Option ℕ → ℕ → Type 0
 IsRequestedSize None n = ⊤
 IsRequestedSize (Some size) n = n ≡ size
 
--- the size that was asked for
-abbrev pub asked_of : Option ℕ → ℕ → ℕ
-asked_of None said = said
-asked_of (Some size) said = size
-
--- Whatever segment the text is the dump of, its objects need more bytes than the size, and it has more itself. So there
--- is none of at most this size.
+-- For every segment with this dump: its objects need more bytes than the size, and its own size is larger. So no such
+-- segment has at most this size.
 pub record HasNoSpace (text : List ℕ) (size : Option ℕ) : Type 0 where
   pub needed : (b : List ℕ) (d : Directory) (n : ℕ) → DenotesCurrent b d → n < 2 ^ 64
       → text ≡ dump_text n (portable d) → asked_of size n < (items_needs (portable d)).room

@@ -1,4 +1,4 @@
--- What the objects of a dump need: bytes of blocks in a segment, and of the room for a text while they are made.
+-- The needs of a dump's objects: bytes of blocks in a segment, and of the buffer for a text during the build.
 use Rattle.seg_types.specs.declared.kinds.Kind.TheVariants as kinds
 use Rattle.std.specs.Prelude.{ℕ, ◌+◌, ◌*◌, max, List, [], ◌∷◌, length, ◌==◌, if◌then◌else◌}
 use Rattle.best_fit.specs.Fit.{room}
@@ -14,7 +14,7 @@ use Rattle.segment_dump.specs.Items.{ValueContent, Scalars, Vector, String, Map,
 unfoldable pub block_room : ℕ → ℕ
 block_room n = if n == 0 then 0 else room n
 
--- the bytes of the value of an object of a kind: the spellings of this many scalars, or the three words of a container
+-- the length of the value of an object of a kind: this many scalars, or the three words of a container
 abbrev pub body_len : Kind → ℕ → ℕ
 body_len (kinds.Scalar k) n = size_of k * n
 body_len kinds.String n = 24
@@ -30,7 +30,7 @@ elements_room (kinds.Vector k) n = block_room (size_of k * n)
 elements_room (kinds.Map k v) n = n * block_room (node_len (size_of k) (size_of v))
 elements_room kinds.Strings n = block_room (16 * n)
 
--- the block of an object, with its head, its name and its value, and with it that of its elements
+-- the bytes of an object's block, with its head, its name and its value, and of the blocks of its elements
 unfoldable pub object_room : ℕ → Kind → ℕ → ℕ
 object_room name_len kind n = block_room (head_len + padded name_len + body_len kind n) + elements_room kind n
 

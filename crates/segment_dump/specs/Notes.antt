@@ -14,7 +14,7 @@ before_notes start [] = []
 before_notes true (c ∷ cs) = if are_notes true (c ∷ cs) then [] else c ∷ before_notes (c == 0x0A) cs
 before_notes false (c ∷ cs) = c ∷ before_notes (c == 0x0A) cs
 
--- what is left of a text when the lines at its end are gone that begin with '#'
+-- the text without the lines at its end that begin with '#'
 abbrev pub without_notes : List ℕ → List ℕ
 without_notes text = before_notes true text
 

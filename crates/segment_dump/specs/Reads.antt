@@ -1,4 +1,4 @@
--- What is read from the front of a text, if it stands there as it is written.
+-- Reading from the front of a text: whatever is spelled there is read.
 use Rattle.std.specs.Prelude.{◌≡◌, ◌≢◌, ◌<◌, ◌≤◌, ⊤, ℕ, List, [], ◌∷◌, ◌++◌, Option, Some, length, option_map}
 use Rattle.std.specs.{Borrow.Bor, List.AllByRecursion, List.flat_map}
 
@@ -31,7 +31,7 @@ pub record ParsesPrefix {X Y : Type 0} (say : X → List ℕ) (IsSaid : X → Ty
     → Type 0) (value : X → Y) (text : List ℕ) (result : Option (Y × List ℕ)) : Type 0 where
   pub reads : (x : X) (rest : List ℕ) → IsSaid x → Follows rest → text ≡ say x ++ rest → result ≡ Some (value x, rest)
 
--- the reader goes past a line, if no value is asked for
+-- the reader skips a line whose value is not needed
 pub record Skips {X : Type 0} (say : X → List ℕ) (IsSaid : X
     → Type 0) (text : List ℕ) (result : Option (List ℕ)) : Type 0 where
   pub skips : (x : X) (rest : List ℕ) → IsSaid x → text ≡ say x ++ rest → result ≡ Some rest
@@ -44,10 +44,10 @@ Any x = ⊤
 abbrev pub itself : {X : Type 0} → X → X
 itself x = x
 
--- a value and what is left, and what is left alone, as the bytes that a slice has
+-- a value and the rest, by the bytes of its slice
 abbrev pub seen : {Y : Type 0} → Option (Y × Bor (List ℕ)) → Option (Y × List ℕ)
 seen o = option_map (λ r. (r.0, r.1.now)) o
 
--- what a reading left, by the bytes of its slice
+-- the rest after a reading, by the bytes of its slice
 abbrev pub seen_rest : Option (Bor (List ℕ)) → Option (List ℕ)
 seen_rest o = option_map (λ r. r.now) o

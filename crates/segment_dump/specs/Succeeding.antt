@@ -1,8 +1,9 @@
--- What the calls promise that make a segment of a dump, if nothing is lacking for its objects.
+-- The promises of the calls that build a segment from a dump, if its objects lack nothing.
 use Rattle.std.specs.Prelude.{◌≡◌, ◌<◌, ◌≤◌, ◌+◌, ◌^◌, ⊤, ℕ, Bool, true, List, [], ◌∷◌, ◌++◌, codes, decimal, Option}
-use Rattle.std.specs.Prelude.{Some, None, Result, Ok, length, MatchResult}
+use Rattle.std.specs.Prelude.{Some, None, Result, Ok, length, IfOk, MatchResult}
 use Rattle.std.specs.List.{AllByRecursion}
-use Rattle.best_fit.specs.Extents.{free_bytes}
+use Rattle.best_fit.specs.{Ends.EndsAt, Extents.free_bytes}
+use Rattle.raw_region.specs.Memory.{cut_at}
 use Rattle.seg_types.specs.declared.kinds.Class.{Class}
 use Rattle.seg_types.specs.declared.kinds.Class.TheVariants.{Anonymous, Named, Unique}
 use Rattle.segment_lang.specs.{Tokens.next_word, Words.Bare}
@@ -11,8 +12,8 @@ use Rattle.segment_manager.specs.{Directory.live, blocks.Resized.shrunk, State.S
 use Rattle.segment_dump.specs.{declared.counting.Count.Count, declared.counting.Front.Front}
 use Rattle.segment_dump.specs.{declared.faults.LoadRefused.LoadRefused, Builders.AreLeft, Filling.StandsBuilt}
 use Rattle.segment_dump.specs.{Items.DumpItem, Items.Items, Items.portable, Lines.IsShortLine, Loading.IsRequestedSize}
-use Rattle.segment_dump.specs.{Loading.refusal_for, Order.all_items, Reads.HasNoEnd, Reads.ended, Texts.dump_text}
-use Rattle.segment_dump.specs.{Texts.end_text, Texts.items_text}
+use Rattle.segment_dump.specs.{Loading.asked_of, Loading.refusal_for, Order.all_items, Reads.HasNoEnd, Reads.ended}
+use Rattle.segment_dump.specs.{Texts.dump_text, Texts.end_text, Texts.items_text}
 use Rattle.segment_dump.specs.Building.{AreSortedItems, Site, kind_less, name_less}
 use Rattle.segment_dump.specs.Need.{all_needs, front_room, item_needs, items_needs}
 
@@ -54,7 +55,7 @@ entries_said p = ended (entries_line p)
 abbrev pub IsNumber : ℕ → Type 0
 IsNumber n = n < 2 ^ 64
 
--- what is left of a text whose first two lines are a dump's is what stands after them
+-- the rest of a text after the first two lines of a dump
 pub record LeavesThird (text : List ℕ) (left : ℕ) : Type 0 where
   pub leaves : (n : ℕ) (rest : List ℕ) → IsNumber n → text ≡ version_said tt ++ (size_said n ++ rest)
       → left ≡ length rest
@@ -76,7 +77,7 @@ pub record MakesObjects {E : Type 0} (old new : SegmentState) (front : Front) (t
       → AreLeft (site_of front size) room [] items → text ≡ items_text items ++ end_text
       → length text ≤ most → (result ≡ Ok tt) × StandsBuilt new (site_of front size) items 0
 
--- ---- what was made is judged
+-- ---- the test of the built segment
 
 -- all items are of one class
 abbrev pub AreOf : Class → List DumpItem → Type 0
@@ -94,12 +95,12 @@ pub record AreOrderedItems (items : Items) : Type 0 where
 abbrev pub IsOk : {A E : Type 0} → Result A E → Type 0
 IsOk result = MatchResult result (λ a. ⊤) (λ e. ⊥)
 
--- the size that was asked for, or, if none was, nothing free
+-- the requested size, or no free bytes if none is requested
 abbrev pub HasRequestedSize : Directory → Option ℕ → Type 0
 HasRequestedSize d None = free_bytes (live d) ≡ 0
 HasRequestedSize d (Some size) = d.size ≡ size
 
--- the test says yes if the segment has the size that was asked for
+-- the test succeeds for a segment of the requested size
 pub record Sizes (s : SegmentState) (size : Option ℕ) (result : Bool) : Type 0 where
   pub sizes : (d : Directory) → DenotesCurrent s.cut.bytes d → HasRequestedSize d size → result ≡ true
 
@@ -125,7 +126,15 @@ pub record SucceedsOf (text : List ℕ) (capacity base : ℕ) (size : Option ℕ
       → text ≡ dump_text n (portable d) → counted ≡ Ok (record { size = n; needs = items_needs (portable d) })
       → refusal_for capacity base size room (record { size = n; needs = items_needs (portable d) }) ≡ None → IsOk result
 
--- without the gap at the end, if no size was asked for
+-- a load of counted objects lies in the region, as `LiesIn` says, if nothing is lacking
+pub record LiesOf (text region : List ℕ) (base : ℕ) (size : Option ℕ) (room : ℕ) (counted : Result Count ℕ)
+    (result : Result SegmentState LoadRefused) : Type 0 where
+  pub lies : (b : List ℕ) (d : Directory) (n : ℕ) → DenotesCurrent b d → n < 2 ^ 64 → text ≡ dump_text n (portable d)
+      → counted ≡ Ok (record { size = n; needs = items_needs (portable d) })
+      → refusal_for (length region) base size room (record { size = n; needs = items_needs (portable d) }) ≡ None
+      → IfOk result (λ s. EndsAt (cut_at region base (asked_of size n)) s.cut (length s.cut.bytes))
+
+-- without the gap at the end, if no size is requested
 abbrev pub trimmed : Directory → Option ℕ → Directory
 trimmed d None = shrunk d
 trimmed d (Some size) = d

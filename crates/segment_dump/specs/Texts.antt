@@ -19,7 +19,7 @@ pair_line k v (x, y) = 0x20 ∷ 0x20 ∷ value_text k x ++ 0x20 ∷ value_text v
 -- ---- a text: its length, and its bytes in pieces of 1000, of which the first stands in the same line and each other
 -- in its own
 
--- how many pieces this many bytes are: one if there are none
+-- the number of pieces of this many bytes: one for no bytes
 abbrev pub pieces_in : ℕ → ℕ
 pieces_in n = 1 + (n - 1) / 1000
 
@@ -27,7 +27,7 @@ pieces_in n = 1 + (n - 1) / 1000
 abbrev pub piece_of : List ℕ → ℕ → List ℕ
 piece_of bs i = take 1000 (drop (i * 1000) bs)
 
--- what stands in front of a piece
+-- the text before a piece
 abbrev pub piece_lead : ℕ → List ℕ
 piece_lead zero = codes " "
 piece_lead (suc i) = codes "    "
@@ -62,7 +62,7 @@ content_text (Strings ts) = flat_map text_lines ts
 abbrev pub kind_and_count_text : Kind → ℕ → List ℕ
 kind_and_count_text kind n = kind_text kind ++ 0x20 ∷ number_text n ++ 0x0A ∷ []
 
--- the line of an object: its class, its name if it has one, its kind, and how many elements there are
+-- the line of an object: its class, its name if it has one, its kind, and its number of elements
 abbrev pub head_line : Class → List ℕ → Kind → ℕ → List ℕ
 head_line Named name kind n = codes "named " ++ name_text name ++ 0x20 ∷ kind_and_count_text kind n
 head_line Unique name kind n = codes "unique " ++ kind_and_count_text kind n
@@ -82,7 +82,7 @@ item_text i = head_line i.class i.name (kind_of_content i.content) (count_of_con
 
 -- ---- all of it
 
--- the version of the form, the size in bytes, and how many entries the two indexes have
+-- the version of the form, the size in bytes, and the numbers of entries of both indexes
 abbrev pub front_text : ℕ → ℕ → ℕ → List ℕ
 front_text size named unique =
     codes "segment dump 1" ++ 0x0A ∷ codes "size " ++ number_text size ++ 0x0A ∷ codes "indexes "

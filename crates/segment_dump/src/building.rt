@@ -1,7 +1,7 @@
 //! Objects made of the lines of a dump. Nothing here is believed: the segment that comes out is compared with the whole
 //! text.
 ghost use Rattle.std.specs.Prelude.{◌≡◌, ⊤, length, option_map, IfOk, Some, None, if◌then◌else◌};
-ghost use Rattle.raw_region.specs.Format.{current};
+ghost use Rattle.raw_region.specs.{Format.current, Memory.SameSurroundings};
 ghost use Rattle.seg_types.specs.Commands.{Construct};
 ghost use Rattle.seg_types.specs.Keys.{name_seen};
 ghost use Rattle.seg_types.specs.Names.{is_name};
@@ -26,9 +26,9 @@ use segment_manager::{AnonymousInstance, ConstructKey, Segment, UniqueInstance};
 pub enum BuildError {
     /// The text is no dump.
     Syntax(SyntaxError),
-    /// From here on the objects ask for more than what was counted of them.
+    /// From this offset on, objects need more than was counted for them.
     NoSpace(usize),
-    /// The text that begins here is longer than what was counted of it.
+    /// The text at this offset is longer than was counted for it.
     LongText(usize),
 }
 
@@ -40,12 +40,12 @@ impl From<SyntaxError> for BuildError {
     }
 }
 
-/// What stands in the line of an object after its key.
+/// The part of an object's line after its key.
 #[derive(Clone, Copy)]
 pub struct ObjectLine {
     /// The kind.
     pub kind: Kind,
-    /// How many elements there are.
+    /// The number of elements.
     pub count: u64,
     /// Where the text says so.
     pub at: usize,
@@ -58,7 +58,8 @@ pub fn build(
     room: &mut [u8],
     most: usize,
 ) -> Result<(), BuildError>
-    ensures { BuildsAllObjects segment.old segment.new lines.old most (length room.old) result }
+    ensures objects { BuildsAllObjects segment.old segment.new lines.old most (length room.old) result }
+    ensures place { SameSurroundings segment.old.cut segment.new.cut }
 {
     let mut scratch = LineBuffer::new();
     'objects: for _ in 0..most {
@@ -81,7 +82,7 @@ fn finish(lines: &Lines<'_>) -> Result<(), BuildError>
     Err(syntax_error(lines.at(), DumpFault::More))
 }
 
-/// Makes the object of a line, and of those that follow.
+/// Builds the object of a line, and the objects after it.
 fn build_object(
     segment: &mut Segment,
     words: &mut Words<'_>,
@@ -89,20 +90,22 @@ fn build_object(
     room: &mut [u8],
     scratch: &mut LineBuffer,
 ) -> Result<(), BuildError>
-    ensures { BuildsObject segment.old segment.new words.old lines.old lines.new (length room.old) result }
+    ensures object { BuildsObject segment.old segment.new words.old lines.old lines.new (length room.old) result }
+    ensures place { SameSurroundings segment.old.cut segment.new.cut }
 {
     let (handle, shape) = start_next(segment, words, scratch)?;
     let object = object_here(segment, handle);
     fill(segment, object, shape, lines, room, scratch)
 }
 
-/// Makes the object of a line, with room for its elements and none of them yet, or zeros.
+/// Constructs the object of a line, with capacity for its elements: empty, or with zeros.
 fn start_next(
     segment: &mut Segment,
     words: &mut Words<'_>,
     scratch: &mut LineBuffer,
 ) -> Result<(Handle, ObjectLine), BuildError>
     ensures start { StartsNext segment.old segment.new words.old result }
+    ensures place { SameSurroundings segment.old.cut segment.new.cut }
     ensures in_place { IfOk result (λ made. HasObjectAt segment.new made.0) }
 {
     match next_class(words)? {
@@ -144,6 +147,7 @@ fn start_named(
     scratch: &mut LineBuffer,
 ) -> Result<(Handle, ObjectLine), BuildError>
     ensures start { StartsNamed segment.old segment.new words.old result }
+    ensures place { SameSurroundings segment.old.cut segment.new.cut }
     ensures in_place { IfOk result (λ made. HasObjectAt segment.new made.0) }
 {
     texts_are_spelled();
@@ -166,7 +170,7 @@ fn name_of<'a>(word: Word<'a>, scratch: &'a mut LineBuffer) -> Option<Name<'a>>
     }
 }
 
-/// Makes an object of the kind and the count that come next, with room for its elements and none of them yet, or zeros.
+/// Reads a kind and a count, and constructs such an object with capacity for its elements: empty, or with zeros.
 fn start_under<D: ConstructKey>(
     segment: &mut Segment,
     words: &mut Words<'_>,
@@ -174,10 +178,11 @@ fn start_under<D: ConstructKey>(
 ) -> Result<(Handle, ObjectLine), BuildError>
     requires { (kind : AnyKind) → D.suits under.now kind }
     ensures start { StartsUnder segment.old segment.new (D.key under.now) words.old result }
+    ensures place { SameSurroundings segment.old.cut segment.new.cut }
     ensures in_place { IfOk result (λ made. HasObjectAt segment.new made.0) }
 {
     let shape = next_shape(words)?;
-    // The bytes are those of a segment, and so what is made in it is there.
+    // The bytes are the bytes of a segment, so the objects constructed in it are there.
     let _ = segment.as_bytes();
     match construct(segment, under, shape) {
         Ok(handle) => Ok((handle, shape)),
@@ -217,6 +222,7 @@ fn construct<D: ConstructKey>(
     ensures step { IsCountOf shape.kind shape.count
         → TakesStep segment.old segment.new
         (Construct (D.key under.now shape.kind) (first_content shape.kind shape.count)) (handle_answer result) }
+    ensures place { SameSurroundings segment.old.cut segment.new.cut }
     ensures in_place { IfOk result (HasObjectAt segment.new) }
 {
     match shape.kind {
@@ -240,6 +246,7 @@ fn construct_scalars<D: ConstructKey>(
         → TakesStep segment.old segment.new
         (Construct (D.key under.now (ScalarOf kind)) (first_content (ScalarOf kind) count)) (handle_answer result) }
     ensures count { IfOk result (λ handle. IsCountOf (ScalarOf kind) count) }
+    ensures place { SameSurroundings segment.old.cut segment.new.cut }
 {
     if count < 1 || count > MAX_ARRAY_LEN {
         return Err(Refusal::OutOfRange);

@@ -106,7 +106,7 @@ fn unique_capacity(segment: &Segment) -> u64
     word_in(segment.as_bytes(), UNIQUE_AT as usize + CAPACITY)
 }
 
-/// Returns how many places an object has, if it has a capacity.
+/// Returns the capacity of an object, if its kind has one.
 fn places_of(segment: &Segment, object: Object) -> Option<u64>
     requires { IsLocated segment.now (ByHandle object.handle) object }
     ensures { AnswersWith segment.now (λ d. places_at d (ByHandle object.handle)) result }
@@ -118,7 +118,7 @@ fn places_of(segment: &Segment, object: Object) -> Option<u64>
     }
 }
 
-/// Returns how many places a vector, a string or a vector of strings has.
+/// Returns the capacity of a vector, a string or a vector of strings.
 fn count_places(segment: &Segment, object: Object) -> Option<u64>
     requires { IsObject object segment.now }
     ensures { AnswersWith segment.now (λ d. measured_places (sizes_at d (ByHandle object.handle))) result }

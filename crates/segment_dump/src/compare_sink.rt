@@ -1,4 +1,4 @@
-//! A sink that is given what it should be: it takes bytes as long as they are those of a text, and one more.
+//! A sink that compares: it accepts bytes as long as they are equal to a text, and one byte more.
 ghost use Rattle.std.specs.Prelude.{◌≡◌, ◌+◌, ◌-◌, ◌^◌, ◌<◌, ◌≤◌, ◌++◌, ◌↔◌, length, take, drop, true, IsTrue};
 ghost use Rattle.std.specs.Prelude.{slice_get, None, Some, OnErr};
 ghost use Rattle.std.specs.Bool.{OnTrue};
@@ -8,7 +8,7 @@ use crate::tokens::is_same;
 use raw_region::{DeviceFault, Sink};
 use std::marker::Model;
 
-/// A sink that takes what a text says, from its first byte on, and the first byte that is another. Then it fails.
+/// A sink that accepts the bytes of a text from its start on. At the first other byte it fails.
 #[derive(Drop)]
 pub struct CompareSink<'a> {
     text: &'a [u8],
@@ -46,7 +46,7 @@ impl<'a> CompareSink<'a> {
         }
     }
 
-    /// Returns how many bytes of the text, from the first on, are those that were to be written.
+    /// Returns the number of leading bytes of the text that were written.
     pub fn alike(&self) -> usize
         ensures { IsComparing self.now }
     {
@@ -115,7 +115,7 @@ fn goes_on(text: &[u8], at: usize, bytes: &[u8]) -> bool
     is_same(front, bytes)
 }
 
-/// Returns how many bytes two slices have in common, from the first on.
+/// Returns the length of the common prefix.
 fn common(some: &[u8], other: &[u8]) -> usize
     ensures first_in_bounds { result ≤ length some.now }
     ensures second_in_bounds { result ≤ length other.now }

@@ -6,11 +6,12 @@ use crate::compare_sink::CompareSink;
 use crate::dumping::dump_as;
 use segment_manager::Segment;
 
-/// Finds out whether a text is what [`dump`](crate::dump) writes of a segment, but that it says a size of its own.
+/// Compares a text with the output of [`dump`](crate::dump) for a segment, except that the text states a size of its
+/// own.
 ///
 /// # Errors
 ///
-/// If it is not: how many of its bytes, from the first on, are those of the segment. No clause says that number.
+/// The length of the prefix that is equal. No clause says this number.
 pub fn compare(segment: &Segment, size: u64, text: &[u8]) -> Result<(), usize>
     ensures on_ok { OnOk result (IsDumpOf segment.now size text.now) }
     ensures on_error { OnErr result (IsNoDumpOf segment.now size text.now) }

@@ -1,4 +1,4 @@
-//! What the objects of a dump need, counted from its text before a segment is begun.
+//! The needs of the objects of a dump, counted from its text before a segment is created.
 ghost use Rattle.std.specs.Prelude.{◌≡◌, ◌++◌, ℕ, List, true, length, flat_map, IfOk, IfSome};
 ghost use Rattle.std.specs.Bool.{OnTrue};
 ghost use Rattle.segment_dump.specs.Asked.{AskTogether, AsksContent, AsksNothing, AsksObject, AsksString, AsksText};
@@ -19,7 +19,7 @@ use crate::needs::{Needs, block_room, front_room, object_room, only_room};
 use crate::texts::pieces_in;
 use seg_types::Kind;
 
-/// What is counted of a dump.
+/// The counts of a dump.
 #[derive(Clone, Copy, Debug, PartialEq, Eq)]
 pub struct Count {
     /// The bytes of the segment that was dumped, as it says.
@@ -28,18 +28,18 @@ pub struct Count {
     pub needs: Needs,
 }
 
-/// What the first lines say.
+/// The contents of the first lines.
 #[derive(Clone, Copy)]
 pub struct Front {
     /// The bytes of the segment that was dumped.
     pub size: u64,
-    /// How many entries its index of names has.
+    /// The number of entries of the index of names.
     pub named: u64,
-    /// How many entries its index of kinds has.
+    /// The number of entries of the index of kinds.
     pub unique: u64,
 }
 
-/// Returns how many bytes a text has, and what is after its lines.
+/// Returns the length of a text, and the rest after its lines.
 fn text_len(text: &[u8]) -> Option<(u64, &[u8])>
     ensures value { ParsesPrefix text_lines (λ bytes. IsSmall (length bytes)) Any length text.now (seen result) }
     ensures text { IfSome result (λ r. Begins IsDumpText text.now r.0 r.1.now) }
@@ -49,7 +49,7 @@ fn text_len(text: &[u8]) -> Option<(u64, &[u8])>
     Some((len, behind_lines(rest, pieces_in(len as usize) as u64)?))
 }
 
-/// Returns what `count` texts need, and what is after their lines.
+/// Returns the needs of `count` texts, and the rest after their lines.
 fn count_texts(text: &[u8], count: u64) -> Option<(Needs, &[u8])>
     ensures value { ParsesPrefix (flat_map text_lines) (AreTexts count) Any (all_needs text_needs) text.now
         (seen result) }
@@ -65,7 +65,7 @@ fn count_texts(text: &[u8], count: u64) -> Option<(Needs, &[u8])>
     Some((needs, rest))
 }
 
-/// Returns what a text of `len` bytes in a vector of strings needs.
+/// Returns the needs of a text of `len` bytes in a vector of strings.
 fn text_needs(len: u64) -> Needs
     requires { IsSmall len }
     ensures { result ≡ record { room = block_room len; longest = len } }
@@ -76,7 +76,7 @@ fn text_needs(len: u64) -> Needs
     }
 }
 
-/// Returns what the texts among the elements of an object need, and what is after its lines.
+/// Returns the needs of the texts of an object, and the rest after its lines.
 fn count_content(text: &[u8], kind: Kind, count: u64) -> Option<(Needs, &[u8])>
     ensures value { ParsesPrefix content_text (HasContentShape kind count) Any texts_needs text.now (seen result) }
     ensures questions { IfSome result (λ r. Begins (AsksContent kind count) text.now r.0 r.1.now) }
@@ -90,7 +90,7 @@ fn count_content(text: &[u8], kind: Kind, count: u64) -> Option<(Needs, &[u8])>
     }
 }
 
-/// Returns what is after `count` lines, which need nothing.
+/// Skips `count` lines, which need nothing, and returns the rest.
 fn skip(text: &[u8], count: u64) -> Option<(Needs, &[u8])>
     ensures value { ParsesPrefix lines_text (AreLines count) Any (λ lines. nothing) text.now (seen result) }
     ensures questions { IfSome result (λ r. Begins (AsksNothing count) text.now r.0 r.1.now) }
@@ -98,7 +98,7 @@ fn skip(text: &[u8], count: u64) -> Option<(Needs, &[u8])>
     Some((only_room(0), behind_lines(text, count)?))
 }
 
-/// Returns what a string needs, and what is after its lines.
+/// Returns the needs of a string, and the rest after its lines.
 fn count_string(text: &[u8]) -> Option<(Needs, &[u8])>
     ensures value { ParsesPrefix text_lines (λ bytes. IsSmall (length bytes)) Any (λ bytes.
         only_room (block_room (length bytes))) text.now (seen result) }
@@ -108,7 +108,7 @@ fn count_string(text: &[u8]) -> Option<(Needs, &[u8])>
     Some((only_room(block_room(len)), rest))
 }
 
-/// Returns what an object needs, and what is after its lines.
+/// Returns the needs of an object, and the rest after its lines.
 fn count_object(text: &[u8]) -> Option<(Needs, &[u8])>
     ensures value { ParsesPrefix item_text IsCountable Any item_needs text.now (seen result) }
     ensures questions { IfSome result (λ r. Begins AsksObject text.now r.0 r.1.now) }
@@ -128,8 +128,8 @@ fn is_end(text: &[u8]) -> bool
     behind(text, b"end\n").is_some()
 }
 
-/// Returns what all objects need, up to the line `end`; or how many bytes are left from the first line on that cannot
-/// be read.
+/// Returns the needs of all objects up to the line `end`; otherwise the number of bytes from the first unreadable line
+/// on.
 fn count_objects(text: &[u8]) -> Result<Needs, usize>
     ensures count { CountsObjects text.now result }
     ensures questions { IfOk result (HasObjects text.now) }
@@ -149,7 +149,7 @@ fn count_objects(text: &[u8]) -> Result<Needs, usize>
     Err(rest.len())
 }
 
-/// Returns what the first lines say, and what is after them.
+/// Returns the contents of the first lines, and the rest.
 fn read_front(text: &[u8]) -> Option<(Front, &[u8])>
     ensures value { ParsesPrefix fronted IsFront Any itself text.now (seen result) }
     ensures spelled { IfSome result (λ r. text.now ≡ fronted r.0 ++ r.1.now) }
@@ -168,7 +168,7 @@ fn read_front(text: &[u8]) -> Option<(Front, &[u8])>
     ))
 }
 
-/// Returns how many bytes are left from the first of the three lines on that cannot be read.
+/// Returns the number of bytes from the first unreadable line of the three on.
 fn front_left(text: &[u8]) -> usize
     ensures { LeavesThird text.now result }
 {
@@ -181,7 +181,7 @@ fn front_left(text: &[u8]) -> usize
     }
 }
 
-/// Returns what is after the line of the size.
+/// Returns the rest after the line with the size.
 fn behind_size(text: &[u8]) -> Option<&[u8]>
     ensures { Skips size_said IsNumber text.now (seen_rest result) }
 {
@@ -189,12 +189,12 @@ fn behind_size(text: &[u8]) -> Option<&[u8]>
     behind(rest, b"\n")
 }
 
-/// Returns what the objects of a dump need, and the size that it says: in a segment of fewer bytes than `needs.room`,
-/// or with less room than `needs.longest`, [`load`](crate::load) makes none of it.
+/// Returns the needs of a dump's objects, and its size. In a segment of fewer bytes than `needs.room`, or with a
+/// shorter buffer than `needs.longest`, [`load`](crate::load) builds no segment.
 ///
 /// # Errors
 ///
-/// How many bytes are left from the first line on that cannot be read; the text is the dump of no segment then.
+/// The number of bytes from the first unreadable line on; the text is then the dump of no segment.
 pub fn count_dump(text: &[u8]) -> Result<Count, usize>
     ensures count { CountsDump text.now result }
     ensures steps_lower { IfOk result (IsCounted text.now) }

@@ -35,7 +35,7 @@ pub fn dump_as<W: Sink>(segment: &Segment, size: u64, out: &mut W) -> Result<(),
     put_objects(segment, out)
 }
 
-/// Writes the version, the size, and how many entries the indexes have.
+/// Writes the version, the size, and the number of entries of both indexes.
 fn put_front<W: Sink>(segment: &Segment, size: u64, out: &mut W) -> Result<(), DeviceFault>
     requires { (W.history out.old).failures < 2 ^ 64 - 1 }
     ensures { WritesOf segment.now (W.history out.old) (W.history out.new) result (λ d.

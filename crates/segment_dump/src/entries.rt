@@ -33,7 +33,7 @@ impl ObjectWriter for Entries {
     }
 }
 
-/// Writes the line of an object: its class, its name if it has one, its kind, and how many elements there are.
+/// Writes the line of an object: its class, its name if it has one, its kind, and its number of elements.
 fn put_head<W: Sink>(said: Instance<'_>, count: u64, out: &mut W) -> Result<(), DeviceFault>
     requires { (W.history out.old).failures < 2 ^ 64 - 1 }
     ensures { Writes (W.history out.old) (W.history out.new) result

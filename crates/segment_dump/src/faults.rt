@@ -4,7 +4,7 @@ use raw_region::RawRegion;
 use std::fmt;
 use thiserror::Error;
 
-/// What is wrong with a dump.
+/// The fault of a dump.
 #[derive(Clone, Copy, Debug, PartialEq, Eq, Error)]
 pub enum DumpFault {
     /// The text ends, and not with the line `end`.
@@ -13,7 +13,7 @@ pub enum DumpFault {
     /// Something stands after the line `end`.
     #[error("more behind the end")]
     More,
-    /// Here stands what stands there in no dump.
+    /// No dump has these bytes here.
     #[error("bad syntax")]
     BadSyntax,
     /// A line has more than 4096 bytes.
@@ -28,7 +28,7 @@ pub enum DumpFault {
     /// No object has this number of elements.
     #[error("bad count")]
     BadCount,
-    /// The value is none of the kind.
+    /// The kind does not have the value.
     #[error("no value of the kind")]
     BadValue,
     /// There is an object of this name or of this unique kind already.
@@ -48,7 +48,7 @@ pub struct BadDump {
     pub line: u64,
     /// The number of the byte in the line, from 1 on.
     pub column: u64,
-    /// What is wrong.
+    /// The fault.
     pub cause: DumpFault,
 }
 
@@ -72,12 +72,12 @@ pub enum LoadError {
     LongText,
 }
 
-/// What is wrong at a place of the text, in bytes from its start.
+/// A fault at an offset of the text, in bytes from its start.
 #[derive(Clone, Copy)]
 pub struct SyntaxError {
     /// The place.
     pub at: usize,
-    /// What is wrong there.
+    /// The fault there.
     pub cause: DumpFault,
 }
 

@@ -1,5 +1,6 @@
-//! Objects filled with what the lines of a dump say.
+//! Filling of objects with the values in the lines of a dump.
 ghost use Rattle.std.specs.Prelude.{◌≡◌, ℕ, length, Ok};
+ghost use Rattle.raw_region.specs.Memory.{SameSurroundings};
 ghost use Rattle.seg_types.specs.declared.kinds.Kind.TheVariants.{Map as MapOf, Scalar as ScalarOf};
 ghost use Rattle.seg_types.specs.declared.kinds.Kind.TheVariants.{Strings as StringsKind, Vector as VectorOf};
 ghost use Rattle.segment_dump.specs.Builders.{AddsElement, FillsElements, FillsNew, HasLocatedObject, IsVectorKind};
@@ -12,7 +13,7 @@ use seg_types::{Kind, Refusal, ScalarKind};
 use segment_lang::LineBuffer;
 use segment_manager::{Object, Segment};
 
-/// Fills an object with what the next lines say.
+/// Fills an object with the values of the next lines.
 pub fn fill(
     segment: &mut Segment,
     object: Object,
@@ -22,8 +23,9 @@ pub fn fill(
     scratch: &mut LineBuffer,
 ) -> Result<(), BuildError>
     requires { HasLocatedObject segment.old object }
-    ensures { FillsNew segment.old segment.new object.handle shape.kind shape.count lines.old lines.new
+    ensures filling { FillsNew segment.old segment.new object.handle shape.kind shape.count lines.old lines.new
         (length room.old) result }
+    ensures place { SameSurroundings segment.old.cut segment.new.cut }
 {
     match shape.kind {
         Kind::String => fill_string(segment, object, lines, scratch),
@@ -43,9 +45,10 @@ fn fill_reserved(
     scratch: &mut LineBuffer,
 ) -> Result<(), BuildError>
     requires { HasLocatedObject segment.old object }
-    ensures { IsVectorKind shape.kind
+    ensures filling { IsVectorKind shape.kind
         → FillsNew segment.old segment.new object.handle shape.kind shape.count lines.old lines.new
         (length room.old) result }
+    ensures place { SameSurroundings segment.old.cut segment.new.cut }
 {
     match segment.reserve(&object, shape.count) {
         Ok(()) => fill_elements(segment, object, shape, lines, room, scratch),
@@ -63,8 +66,9 @@ fn fill_elements(
     scratch: &mut LineBuffer,
 ) -> Result<(), BuildError>
     requires { HasLocatedObject segment.old object }
-    ensures { FillsElements segment.old segment.new object.handle shape.kind shape.count lines.old lines.new
+    ensures filling { FillsElements segment.old segment.new object.handle shape.kind shape.count lines.old lines.new
         (length room.old) result }
+    ensures place { SameSurroundings segment.old.cut segment.new.cut }
 {
     'elements: for index in 0..shape.count {
         add_element(segment, object, shape.kind, index, lines, room, scratch)?;
@@ -85,6 +89,7 @@ fn add_element(
     requires { HasLocatedObject segment.old object }
     ensures visits { AddsElement segment.old segment.new object.handle kind index lines.old lines.new
         (length room.old) result }
+    ensures place { SameSurroundings segment.old.cut segment.new.cut }
     ensures in_place { HasLocatedObject segment.new object }
 {
     match kind {
@@ -107,6 +112,7 @@ fn set_next(
     requires { HasLocatedObject segment.old object }
     ensures visits { (room : ℕ) → AddsElement segment.old segment.new object.handle (ScalarOf kind) index lines.old
         lines.new room result }
+    ensures place { SameSurroundings segment.old.cut segment.new.cut }
     ensures in_place { HasLocatedObject segment.new object }
 {
     let at = lines.at();
@@ -124,6 +130,7 @@ fn push_next(
     requires { HasLocatedObject segment.old object }
     ensures visits { (index room : ℕ)
         → AddsElement segment.old segment.new object.handle (VectorOf kind) index lines.old lines.new room result }
+    ensures place { SameSurroundings segment.old.cut segment.new.cut }
     ensures in_place { HasLocatedObject segment.new object }
 {
     let at = lines.at();
@@ -142,6 +149,7 @@ fn put_next(
     requires { HasLocatedObject segment.old object }
     ensures visits { (index room : ℕ)
         → AddsElement segment.old segment.new object.handle (MapOf keys values) index lines.old lines.new room result }
+    ensures place { SameSurroundings segment.old.cut segment.new.cut }
     ensures in_place { HasLocatedObject segment.new object }
 {
     let at = lines.at();

@@ -1,5 +1,6 @@
 //! Texts made of the lines of a dump.
 ghost use Rattle.std.specs.Prelude.{◌≡◌, ◌+◌, ◌-◌, ◌/◌, ◌≤◌, ◌++◌, ℕ, length, take, IfOk};
+ghost use Rattle.raw_region.specs.Memory.{SameSurroundings};
 ghost use Rattle.seg_types.specs.declared.kinds.Kind.TheVariants.{String as StringKind, Strings as StringsKind};
 ghost use Rattle.segment_dump.specs.Builders.{AddsElement, AppendsPiece, Collects, CopiesPiece, FillsNew};
 ghost use Rattle.segment_dump.specs.Builders.{HasLocatedObject, ReadsLength, ReadsPiece};
@@ -12,7 +13,7 @@ use crate::tokens::{Lines, Words};
 use segment_lang::{LineBuffer, Quoted, numbers_are_decimals, texts_are_spelled};
 use segment_manager::{Object, Segment};
 
-/// Makes the text of the next lines that of a string, with places for just as many bytes.
+/// Sets a string to the text of the next lines, with exactly the capacity for it.
 pub fn fill_string(
     segment: &mut Segment,
     object: Object,
@@ -20,7 +21,9 @@ pub fn fill_string(
     scratch: &mut LineBuffer,
 ) -> Result<(), BuildError>
     requires { HasLocatedObject segment.old object }
-    ensures { (room : ℕ) → FillsNew segment.old segment.new object.handle StringKind 1 lines.old lines.new room result }
+    ensures filling { (room : ℕ)
+        → FillsNew segment.old segment.new object.handle StringKind 1 lines.old lines.new room result }
+    ensures place { SameSurroundings segment.old.cut segment.new.cut }
 {
     let at = lines.at();
     let (mut words, len) = first_line(lines)?;
@@ -35,7 +38,7 @@ pub fn fill_string(
     Ok(())
 }
 
-/// Returns how many pieces of a text stand in lines of their own.
+/// Returns the number of pieces of a text that have lines of their own.
 fn pieces_behind(len: u64) -> u64
     ensures { result ≡ (len - 1) / 1000 }
 {
@@ -72,6 +75,7 @@ fn append_piece(
 ) -> Result<(), BuildError>
     requires { HasLocatedObject segment.old object }
     ensures append { AppendsPiece segment.old segment.new object.handle words.old result }
+    ensures place { SameSurroundings segment.old.cut segment.new.cut }
     ensures in_place { HasLocatedObject segment.new object }
 {
     let at = words.at();
@@ -79,7 +83,7 @@ fn append_piece(
     ended(segment.string_append(&object, piece.bytes(scratch)), at)
 }
 
-/// Puts the text of the next lines after those of a vector of strings.
+/// Appends the text of the next lines to a vector of strings.
 pub fn push_text(
     segment: &mut Segment,
     object: Object,
@@ -90,6 +94,7 @@ pub fn push_text(
     requires { HasLocatedObject segment.old object }
     ensures visits { (index : ℕ) → AddsElement segment.old segment.new object.handle StringsKind index lines.old
         lines.new (length room.old) result }
+    ensures place { SameSurroundings segment.old.cut segment.new.cut }
     ensures in_place { HasLocatedObject segment.new object }
 {
     let at = lines.at();
@@ -97,7 +102,7 @@ pub fn push_text(
     ended(segment.texts_push(&object, &room[..len]), at)
 }
 
-/// Collects the text of the next lines in the front of the room, and returns how many bytes it has.
+/// Copies the text of the next lines to the front of the buffer, and returns its length.
 fn collect(
     lines: &mut Lines<'_>,
     room: &mut [u8],

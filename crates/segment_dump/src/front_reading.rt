@@ -1,5 +1,5 @@
-//! What stands in front of a text: lines, words, numbers, kinds and names, as a dump spells them. What is spelled in
-//! another way need not be found.
+//! Reading from the front of a text: lines, words, numbers, kinds and names as a dump spells them. Other spellings need
+//! not be found.
 ghost use Rattle.std.specs.Prelude.{◌≡◌, ◌≢◌, ◌<◌, ◌≤◌, ◌^◌, ◌++◌, ℕ, List, length, IfSome, MatchOption};
 ghost use Rattle.seg_types.specs.Texts.{item_text, kind_text, name_text};
 ghost use Rattle.segment_lang.specs.Texts.{number_text};
@@ -13,7 +13,7 @@ use block_tags::MAX_SEGMENT_LEN;
 use seg_types::Kind;
 use segment_lang::{Word, kind_of_word, number_of, numbers_are_decimals};
 
-/// Returns what is after these bytes.
+/// Returns the rest of a text that begins with these bytes.
 pub fn behind<'a>(text: &'a [u8], lead: &[u8]) -> Option<&'a [u8]>
     ensures { MatchOption result ((rest : List ℕ)
         → text.now ≢ lead.now ++ rest) (λ rest. text.now ≡ lead.now ++ rest.now) }
@@ -21,7 +21,7 @@ pub fn behind<'a>(text: &'a [u8], lead: &[u8]) -> Option<&'a [u8]>
     text.strip_prefix(lead)
 }
 
-/// Returns what is after a line and its end.
+/// Returns the rest after a line and its end.
 fn behind_line(text: &[u8]) -> Option<&[u8]>
     ensures skip_count { Skips ended HasNoEnd text.now (seen_rest result) }
     ensures line { IfSome result (λ r. Begins IsLined text.now 1 r.now) }
@@ -36,7 +36,7 @@ fn behind_line(text: &[u8]) -> Option<&[u8]>
     None
 }
 
-/// Returns what is after `count` lines.
+/// Returns the rest after `count` lines.
 pub fn behind_lines(text: &[u8], count: u64) -> Option<&[u8]>
     ensures skip_count { Skips lines_text (AreLines count) text.now (seen_rest result) }
     ensures line { IfSome result (λ r. Begins IsLined text.now count r.now) }
@@ -48,7 +48,7 @@ pub fn behind_lines(text: &[u8], count: u64) -> Option<&[u8]>
     Some(rest)
 }
 
-/// Returns the word in front, which may be empty, and what is after it.
+/// Returns the leading word, which can be empty, and the rest.
 pub fn next_word(text: &[u8]) -> (&[u8], &[u8])
     ensures contents { text.now ≡ result.0.now ++ result.1.now }
     ensures word { IsWord result.0.now }
@@ -64,7 +64,7 @@ pub fn next_word(text: &[u8]) -> (&[u8], &[u8])
     text.split_at(text.len() - rest.len())
 }
 
-/// Returns the number in front, and what is after it.
+/// Returns the leading number, and the rest.
 pub fn next_number(text: &[u8]) -> Option<(u64, &[u8])>
     ensures value { ParsesPrefix number_text (λ n. n < 2 ^ 64) Breaks itself text.now (seen result) }
     ensures spelled { IfSome result (λ r. text.now ≡ number_text r.0 ++ r.1.now) }
@@ -75,7 +75,7 @@ pub fn next_number(text: &[u8]) -> Option<(u64, &[u8])>
     Some((number, rest))
 }
 
-/// Returns the number in front, of no more than a segment has bytes, and what is after it.
+/// Returns the leading number, which is at most the largest size of a segment, and the rest.
 pub fn next_count(text: &[u8]) -> Option<(u64, &[u8])>
     ensures value { ParsesPrefix number_text IsSmall Breaks itself text.now (seen result) }
     ensures spelled { IfSome result (λ r. text.now ≡ number_text r.0 ++ r.1.now) }
@@ -88,7 +88,7 @@ pub fn next_count(text: &[u8]) -> Option<(u64, &[u8])>
     Some((number, rest))
 }
 
-/// Returns the kind in front, and what is after it.
+/// Returns the leading kind, and the rest.
 fn next_kind(text: &[u8]) -> Option<(Kind, &[u8])>
     ensures value { ParsesPrefix kind_text Any Breaks itself text.now (seen result) }
     ensures named { IfSome result (λ r. Begins NamesKind text.now r.0 r.1.now) }
@@ -98,7 +98,7 @@ fn next_kind(text: &[u8]) -> Option<(Kind, &[u8])>
     Some((kind, rest))
 }
 
-/// Returns what is after the spelling of a byte of a text in quotes.
+/// Returns the rest after one byte of a text in quotes, which an escape can spell.
 fn behind_byte(text: &[u8]) -> Option<&[u8]>
     ensures skip_count { Skips item_text Any text.now (seen_rest result) }
     ensures non_empty { IfSome result (λ r. Begins CanName text.now 1 r.now) }
@@ -111,8 +111,7 @@ fn behind_byte(text: &[u8]) -> Option<&[u8]>
     }
 }
 
-/// Returns how many bytes a text in quotes has, after the quote that opens it, and what is after the quote that closes
-/// it.
+/// Returns the length of a text in quotes, and the rest after its closing quote. The opening quote is read already.
 fn quoted_len(text: &[u8]) -> Option<(u64, &[u8])>
     ensures value { ParsesPrefix closed_text (λ bytes. IsSmall (length bytes)) Any length text.now (seen result) }
     ensures min_len { IfSome result (λ r. Begins CanName text.now r.0 r.1.now) }
@@ -128,7 +127,7 @@ fn quoted_len(text: &[u8]) -> Option<(u64, &[u8])>
     None
 }
 
-/// Returns how many bytes the name in front has, and what is after it.
+/// Returns the length of the leading name, and the rest.
 fn name_len(text: &[u8]) -> Option<(u64, &[u8])>
     ensures value { ParsesPrefix name_text (λ name. IsSmall (length name)) Breaks length text.now (seen result) }
     ensures min_len { IfSome result (λ r. Begins CanName text.now r.0 r.1.now) }
@@ -145,7 +144,7 @@ fn name_len(text: &[u8]) -> Option<(u64, &[u8])>
     Some((len, rest))
 }
 
-/// Returns what is after the class of an object and its name, and how many bytes that has.
+/// Reads the class and the name of an object. Returns the length of the name, and the rest.
 pub fn behind_lead(text: &[u8]) -> Option<(u64, &[u8])>
     ensures value { ParsesPrefix lead_text IsLead Any (λ lead. length lead.1) text.now (seen result) }
     ensures min_len { IfSome result (λ r. Begins CanName text.now r.0 r.1.now) }
@@ -161,7 +160,7 @@ pub fn behind_lead(text: &[u8]) -> Option<(u64, &[u8])>
     Some((0, behind(text, b"anonymous ")?))
 }
 
-/// Returns the kind of an object and how many elements it has, and what is after the end of its line.
+/// Returns the kind of an object, its number of elements, and the rest after the line.
 pub fn next_measure(text: &[u8]) -> Option<((Kind, u64), &[u8])>
     ensures value { ParsesPrefix measured IsMeasure Any itself text.now (seen result) }
     ensures measure { IfSome result (λ r. Begins IsMeasured text.now r.0 r.1.now) }
@@ -172,7 +171,7 @@ pub fn next_measure(text: &[u8]) -> Option<((Kind, u64), &[u8])>
     Some(((kind, count), behind(rest, b"\n")?))
 }
 
-/// Returns how many entries the two indexes have, and what is after the end of the line.
+/// Returns the numbers of entries of both indexes, and the rest after the line.
 pub fn next_entries(text: &[u8]) -> Option<((u64, u64), &[u8])>
     ensures value { ParsesPrefix entries_text AreEntryCounts Any itself text.now (seen result) }
     ensures spelled { IfSome result (λ r. text.now ≡ entries_text r.0 ++ r.1.now) }

@@ -103,7 +103,7 @@ impl Layout for InJson {
     }
 }
 
-/// Returns what stands in front of an element at a place.
+/// Returns the separator before the element at an index.
 fn comma_before(index: u64) -> &'static [u8]
     ensures { result.now ≡ comma_before index }
 {
@@ -167,7 +167,7 @@ fn put_value<W: Sink>(
     write_all(out, closing(object.kind))
 }
 
-/// Returns what stands in front of the elements of a kind.
+/// Returns the text before the elements of a kind.
 fn opening(kind: Kind) -> &'static [u8]
     ensures { result.now ≡ opening kind }
 {
@@ -177,7 +177,7 @@ fn opening(kind: Kind) -> &'static [u8]
     }
 }
 
-/// Returns what stands after the elements of a kind, up to the end of the line.
+/// Returns the text after the elements of a kind, up to the end of the line.
 fn closing(kind: Kind) -> &'static [u8]
     ensures { result.now ≡ closing kind }
 {

@@ -1,16 +1,20 @@
-//! A segment made of a dump. What the lines ask for is done, and then the segment is compared with the whole text, so
-//! that no line needs to be believed.
+//! A segment built from a dump. The lines are executed, and then the segment is compared with the whole text, so that
+//! no line needs to be trusted.
 ghost use Rattle.std.specs.Prelude.{◌≡◌, ◌↔◌, ◌%◌, length, IfOk, IfSome, IsTrue, MatchResult, Some, None};
 ghost use Rattle.std.specs.Bool.{OnTrue};
+ghost use Rattle.best_fit.specs.Ends.{EndsAt};
+ghost use Rattle.raw_region.specs.Memory.{SameSurroundings};
 ghost use Rattle.segment_manager.specs.declared.modes.Mode.TheVariants.{Write};
 ghost use Rattle.segment_dump.specs.Counting.{IsFront, fronted};
 ghost use Rattle.segment_dump.specs.Notes.{without_notes};
 ghost use Rattle.segment_dump.specs.Reads.{Any};
-ghost use Rattle.segment_dump.specs.Succeeding.{AreNumbers, IsNumber, JudgesDump, MakesObjects, ReadsLead, Sizes};
+ghost use Rattle.segment_dump.specs.Succeeding.{AreNumbers, IsNumber, JudgesDump, LiesOf, MakesObjects, ReadsLead};
+ghost use Rattle.segment_dump.specs.Succeeding.{Sizes};
 ghost use Rattle.segment_dump.specs.Succeeding.{Succeeds, SucceedsOf, Takes, Trims, entries_said, size_said};
 ghost use Rattle.segment_dump.specs.Succeeding.{version_said};
 ghost use Rattle.segment_dump.specs.Loading.{HasSize, IsRequestedSize, IsExact, IsJudged, IsLacking, IsLetGo, IsLoaded};
-ghost use Rattle.segment_dump.specs.Loading.{LoadsUnlessLacking, IsNotLoaded, IsRefusalOf, IsWrong, asked_of, cause_in};
+ghost use Rattle.segment_dump.specs.Loading.{LiesIn, LoadsUnlessLacking, IsNotLoaded, IsRefusalOf, IsWrong, asked_of};
+ghost use Rattle.segment_dump.specs.Loading.{cause_in};
 ghost use Rattle.segment_dump.specs.Loading.{refusal_for};
 
 use crate::building::{BuildError, build, build_error_of};
@@ -53,6 +57,7 @@ pub fn load(
     ensures cause { IfSome (cause_in result)
         (IsLacking (without_notes text.now) (length region) base size (length room.old)) }
     ensures success { Succeeds (without_notes text.now) (length region) base size (length room.old) result }
+    ensures place { IfOk result (LiesIn (without_notes text.now) region base size) }
 {
     load_lines(without_notes(text), room, region, base, size)
 }
@@ -71,6 +76,7 @@ fn load_lines(
     ensures exact { IsExact text.now (length region) base size (length room.old) (cause_in result) }
     ensures cause { IfSome (cause_in result) (IsLacking text.now (length region) base size (length room.old)) }
     ensures success { Succeeds text.now (length region) base size (length room.old) result }
+    ensures place { IfOk result (LiesIn text.now region base size) }
 {
     let counted = count_dump(text);
     if let Some(cause) = refusal_of(counted, &region, base, size, room.len()) {
@@ -94,6 +100,7 @@ fn make(
         (IsNotLoaded text.now region base size (length room.old)) }
     ensures exact { LoadsUnlessLacking (length region) base size (length room.old) counted (cause_in result) }
     ensures success { SucceedsOf text.now (length region) base size (length room.old) counted result }
+    ensures place { LiesOf text.now region base size (length room.old) counted result }
 {
     let mut lines = Lines::new(text);
     let front = match read_front(&mut lines) {
@@ -126,7 +133,7 @@ fn declared_size(counted: Result<Count, usize>, said: u64) -> u64
     }
 }
 
-/// Returns what the first three lines say.
+/// Returns the contents of the first three lines.
 fn read_front(lines: &mut Lines<'_>) -> Result<Front, SyntaxError>
     ensures { Takes fronted IsFront lines.old lines.new result }
 {
@@ -170,7 +177,7 @@ fn read_size(lines: &mut Lines<'_>) -> Result<u64, SyntaxError>
     Ok(size)
 }
 
-/// Returns how many entries the indexes have.
+/// Returns the numbers of entries of the indexes.
 fn read_entries(lines: &mut Lines<'_>) -> Result<(u64, u64), SyntaxError>
     ensures { Takes entries_said AreNumbers lines.old lines.new result }
 {
@@ -182,7 +189,7 @@ fn read_entries(lines: &mut Lines<'_>) -> Result<(u64, u64), SyntaxError>
     Ok((named, unique))
 }
 
-/// Returns the size that is asked for, or else that of the text.
+/// Returns the requested size, or the size in the text if none is requested.
 fn asked_size(size: Option<u64>, said: u64) -> u64
     ensures request { IsRequestedSize size result }
     ensures value { result ≡ asked_of size said }
@@ -233,7 +240,7 @@ fn refusal_of(
     }
 }
 
-/// Returns why no segment is created although nothing was lacking for what was counted: some lines could not be
+/// Returns the reason for a refused creation that had enough room for the counted needs: some lines could not be
 /// counted.
 fn not_created(text: &[u8], refused: CreateRefused, counted: Result<Count, usize>) -> LoadRefused
     ensures return_path { result.region ≡ Some refused.region }
@@ -257,7 +264,7 @@ fn let_go(cause: LoadError) -> LoadRefused
     }
 }
 
-/// Returns what is wrong at a place of a text.
+/// Returns the fault at an offset of a text.
 fn bad_dump(text: &[u8], misfit: SyntaxError) -> LoadError
     ensures { IsWrong text.now result }
 {
@@ -270,8 +277,8 @@ fn bad_dump(text: &[u8], misfit: SyntaxError) -> LoadError
     })
 }
 
-/// Returns why building stopped. If objects or a text ask for more than was counted, lines are wrong: those that
-/// could not be counted, or else those that were built.
+/// Returns the reason for the end of a build. If objects or a text need more than was counted, lines are wrong: a line
+/// that could not be counted, or otherwise a line that was built.
 fn cause_of(text: &[u8], stop: BuildError, counted: Result<Count, usize>) -> LoadError
     ensures { IsWrong text.now result }
 {
@@ -302,7 +309,8 @@ fn make_objects(
     room: &mut [u8],
     most: usize,
 ) -> Result<(), BuildError>
-    ensures { MakesObjects segment.old segment.new front lines.old most (length room.old) result }
+    ensures objects { MakesObjects segment.old segment.new front lines.old most (length room.old) result }
+    ensures place { SameSurroundings segment.old.cut segment.new.cut }
 {
     let at = lines.at();
     if let Err(why) = segment.reserve_named(front.named) {
@@ -323,6 +331,7 @@ fn judge(
 ) -> Result<Segment, LoadRefused>
     ensures completion { MatchResult result (IsJudged text.now size) (IsLetGo text.now) }
     ensures success { JudgesDump segment text.now said size result }
+    ensures place { IfOk result (λ s. EndsAt segment.cut s.cut (length s.cut.bytes)) }
 {
     if !is_open(&segment) {
         return Err(unlike(text, 0));
@@ -340,10 +349,11 @@ fn judge(
     }
 }
 
-/// Cuts off what is free at the end, if no size is given.
+/// Cuts off the free bytes at the end, if no size is requested.
 fn trim(segment: &mut Segment, size: Option<u64>)
     requires writing { segment.old.mode ≡ Write }
-    ensures { Trims segment.old segment.new size }
+    ensures changes { Trims segment.old segment.new size }
+    ensures place { EndsAt segment.old.cut segment.new.cut (length segment.new.cut.bytes) }
 {
     match size {
         None => cut_end(segment),
@@ -366,7 +376,7 @@ fn is_open(segment: &Segment) -> bool
     segment.mode() == Mode::Write
 }
 
-/// Tells whether a segment has the size that was asked for, or nothing free if none was.
+/// Returns true if the segment has the requested size, or no free bytes if none is requested.
 fn has_size(segment: &Segment, size: Option<u64>) -> bool
     ensures content { OnTrue result (HasSize segment.now size) }
     ensures every { Sizes segment.now size result }

@@ -1,4 +1,4 @@
-//! What the objects of a dump need.
+//! The needs of the objects of a dump.
 ghost use Rattle.std.specs.Prelude.{◌≡◌, ◌+◌, ◌^◌, ◌<◌, ◌≤◌};
 ghost use Rattle.seg_types.specs.Kinds.{size_of};
 ghost use Rattle.seg_map.specs.Map.{node_len};
@@ -17,7 +17,7 @@ const ENDS: u64 = 144;
 pub struct Needs {
     /// The bytes of a segment, or of some of its blocks.
     pub room: u64,
-    /// The bytes of the longest text of a vector of strings.
+    /// The length of the longest text of a vector of strings.
     pub longest: u64,
 }
 
@@ -54,7 +54,7 @@ pub fn block_room(bytes: u64) -> u64
     ((bytes + 31) / 16 * 16).max(32)
 }
 
-/// Returns the bytes of the value of an object of a kind with `count` elements.
+/// Returns the length of the value of an object of a kind with `count` elements.
 fn body_len(kind: Kind, count: u64) -> u64
     requires { count ≤ 1073741824 }
     ensures value { result ≡ body_len kind count }
@@ -100,7 +100,7 @@ pub fn object_room(name_len: u64, kind: Kind, count: u64) -> u64
     block_room(16 + name + body_len(kind, count)) + elements_room(kind, count)
 }
 
-/// Returns the bytes of the ends of a segment and of the blocks of its indexes, of `named` and `unique` entries.
+/// Returns the bytes of header and end tag, and of the blocks of both indexes with these numbers of entries.
 #[tactic(auto, unfolding(crate::specs::Need::front_room))]
 pub fn front_room(named: u64, unique: u64) -> u64
     requires named { named ≤ 1073741824 }

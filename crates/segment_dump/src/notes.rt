@@ -1,9 +1,8 @@
-//! What a load leaves out: notes after a dump, lines that begin with `#`.
+//! Notes after a dump: lines that begin with `#`, which a load skips.
 ghost use Rattle.std.specs.Prelude.{◌≡◌, ◌<◌, true, false, length};
 ghost use Rattle.segment_dump.specs.Notes.{IsLastLine, are_notes, is_line, without_notes};
 
-/// Returns what is left of a text when the lines at its end are gone that begin with `#`. A line that has no end is
-/// none of these.
+/// Returns the text without the lines at its end that begin with `#`. A line without an end stays.
 pub fn without_notes(text: &[u8]) -> &[u8]
     ensures { result.now ≡ without_notes text.now }
 {

@@ -13,7 +13,7 @@ use seg_types::Class;
 use segment_manager::unchecked::{named_instance, unique_instance};
 use segment_manager::{Instance, Segment};
 
-/// What is written of each object.
+/// The writer of each object's text.
 pub(crate) trait ObjectWriter {
     ghost use Rattle.std.specs.Prelude.{List, ℕ};
     ghost use Rattle.segment_manager.specs.Directory.{Object};

@@ -4,8 +4,8 @@ ghost use Rattle.segment_dump.specs.Notes.{without_notes};
 
 use crate::front_reading::{behind, next_number};
 
-/// Returns how many bytes the segment of a dump had, as it says in its second line. Notes after the dump make no
-/// difference. `None` is said of no dump; of another text it may be any number.
+/// Returns the size of a dump's segment, in bytes, from the second line. Notes after the dump make no difference. For a
+/// dump the result is never `None`; for another text it can be any number.
 pub fn declared_size(text: &[u8]) -> Option<u64>
     ensures { SaysSize (without_notes text.now) result }
 {

@@ -38,7 +38,7 @@ fn put_all_pieces<W: Sink>(text: &[u8], out: &mut W) -> Result<(), DeviceFault>
     Ok(())
 }
 
-/// Returns how many pieces `len` bytes are. An empty text is one.
+/// Returns the number of pieces of a text of `len` bytes. An empty text is one piece.
 pub fn pieces_in(len: usize) -> usize
     requires { len < 2 ^ 63 }
     ensures { result ≡ pieces_in len }
@@ -62,7 +62,7 @@ fn put_piece<W: Sink>(text: &[u8], index: usize, out: &mut W) -> Result<(), Devi
     )
 }
 
-/// Returns what stands in front of a piece: the first one is after the length, and each other in a line of its own.
+/// Returns the text before a piece: the first piece follows the length, and each other piece has a line of its own.
 fn lead(index: usize) -> &'static [u8]
     ensures { result.now ≡ piece_lead index }
 {

@@ -1,4 +1,4 @@
-//! Laws about the definitions that the contracts cite. These functions do nothing; what they ensure is proved.
+//! Laws about the definitions of the contracts. The functions do nothing; their contracts are proved.
 ghost use Rattle.segment_dump.specs.Laws.{CapacitiesAreLeftOut, DumpsHaveNoNotes, DumpsTellObjects, DumpsTellSizes};
 ghost use Rattle.segment_dump.specs.Laws.{NotesAreCut, NotesAreLeftOut, SegmentsHaveRoom};
 
@@ -16,8 +16,8 @@ pub fn segments_have_room()
     ensures { SegmentsHaveRoom }
 {}
 
-/// States that if notes stand after a dump, what is left without them is the dump, and so it is of a dump with
-/// capacities, and of a dump alone. Of any text only notes are left out, at its end.
+/// States that a dump with notes after it, without these notes, is the dump again; so is a dump with capacities, and a
+/// dump alone. From any text only notes at its end are removed.
 pub fn notes_are_left_out()
     ensures after { NotesAreLeftOut }
     ensures capacities { CapacitiesAreLeftOut }

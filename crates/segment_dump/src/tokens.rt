@@ -18,14 +18,14 @@ use std::marker::Model;
 /// The most bytes of a line.
 const LONGEST_LINE: usize = 4096;
 
-/// What is left of a text.
+/// The rest of a text.
 #[derive(Drop)]
 pub struct Lines<'a> {
     rest: &'a [u8],
     len: usize,
 }
 
-/// What is left of a line.
+/// The rest of a line.
 #[derive(Drop)]
 pub struct Words<'a> {
     rest: &'a [u8],
@@ -61,7 +61,7 @@ impl<'a> Lines<'a> {
         }
     }
 
-    /// Returns how many bytes of the text came before what is left.
+    /// Returns the number of bytes before the rest.
     pub fn at(&self) -> usize {
         self.len.saturating_sub(self.rest.len())
     }
@@ -112,7 +112,7 @@ impl<'a> Words<'a> {
         }
     }
 
-    /// Returns what is wrong where the words stand.
+    /// Returns the fault at the current word.
     fn misfit(&self, cause: DumpFault) -> SyntaxError {
         SyntaxError {
             at: self.at(),
@@ -240,7 +240,7 @@ pub fn next_pair(
     Ok((key, value))
 }
 
-/// Returns how many bytes the line in front has, if it has an end.
+/// Returns the length of the leading line, if the line has an end.
 fn line_len(text: &[u8]) -> Option<usize>
     ensures { result ≡ position (λ b. b == 0x0A) text.now }
 {

@@ -1,5 +1,5 @@
 -- What holds of segments that are read from files, for other crates.
-use Rattle.std.proofs.Common.{◌≡◌, ◌≤◌, ℕ, ◌+◌, ◌++◌, length, drop, max, Err, sym, ap, subst, arith}
+use Rattle.std.proofs.Common.{◌≡◌, ◌≤◌, ℕ, ◌+◌, ◌++◌, length, drop, max, Err, ap, arith}
 use Rattle.std.proofs.Math.Nat.{le-max_right}
 use Rattle.std.proofs.lemmas.List.{length-append, length-drop}
 use Rattle.raw_region.specs.Device.{ReadDelta}
@@ -40,7 +40,7 @@ module _ (len extra : ℕ) (mode : Mode) (image : ReadDelta) (s : SegmentState)
     (r : OpensImageOk Current len extra mode image s) where
   -- what was opened is a segment
   pub segment-of : IsSegment s.cut.bytes
-  segment-of = subst IsSegment (sym r.opened.bytes) (r.opened.denotes.0, record { denotes = r.opened.denotes.1 })
+  segment-of = let d = r.opened.denotes in (d.0, r.opened.renewed.denotes d.0 d.1)
 
   room-is : length s.cut.bytes ≤ length r.region → room_of s.cut ≡ length r.region
   room-is fits =
@@ -48,7 +48,7 @@ module _ (len extra : ℕ) (mode : Mode) (image : ReadDelta) (s : SegmentState)
       let after : length s.cut.after ≡ length (drop (0 + length image.bytes) r.region) =
       ap length r.opened.place.after in
       let left = length-drop (0 + length image.bytes) r.region in
-      let same = ap length r.opened.bytes in
+      let same = r.opened.renewed.size in
       omega (
         arith,
         before,

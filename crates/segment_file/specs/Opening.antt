@@ -1,28 +1,23 @@
 -- How the image in a file is opened, or only checked: how much room its segment has, and why there is none.
-use Rattle.std.specs.Prelude.{◌≡◌, ◌⊎◌, ◌<◌, ◌≤◌, ⊤, ℕ, ◌+◌, false, List, length, max, Option, Some, None, Result, Ok}
+use Rattle.std.specs.Prelude.{◌≡◌, ◌⊎◌, ◌<◌, ◌≤◌, ⊤, ℕ, ◌+◌, false, List, length, max, Option, Some, None, Result}
 use Rattle.std.specs.Prelude.{Err, MatchResult}
-use Rattle.raw_region.specs.Device.{ReaderHistory, ReadDelta}
+use Rattle.raw_region.specs.Device.{ReadDelta}
 use Rattle.raw_region.specs.Format.{current}
 use Rattle.raw_region.specs.Memory.{SameSurroundings, cut_at}
 use Rattle.raw_region.specs.Refusals.{out_of_memory_of}
 use Rattle.raw_region.specs.declared.refused_memory.OutOfMemory.{OutOfMemory as NoMemory}
 use Rattle.segment_manager.specs.declared.modes.Mode.{Mode}
 use Rattle.segment_manager.specs.State.{SegmentState}
-use Rattle.image_check.specs.declared.errors.ExamineError.{ExamineError}
-use Rattle.image_check.specs.declared.errors.ExamineError.TheVariants.{Image as Judged, RegionTooSmall as TooSmall}
-use Rattle.image_check.specs.declared.errors.ExamineError.TheVariants.{OutOfMemory as NoMap, ReadFault as Unread}
 use Rattle.image_check.specs.declared.errors.MemoryFault.TheVariants.{BlockMap, Bytes}
 use Rattle.image_check.specs.declared.errors.OpenError.{OpenError}
 use Rattle.image_check.specs.declared.errors.OpenError.TheVariants.{Image as NoImage, RegionTooSmall as NoRoom}
 use Rattle.image_check.specs.declared.errors.OpenError.TheVariants.{OutOfMemory as NoBlocks, ReadFault as NotRead}
 use Rattle.image_check.specs.declared.errors.OpenRefused.{OpenRefused}
 use Rattle.image_check.specs.declared.versions.AcceptedVersions.{AcceptedVersions}
-use Rattle.image_check.specs.declared.versions.AcceptedVersions.TheVariants.{Current, All}
 use Rattle.image_check.specs.Deciding.{decided}
 use Rattle.image_check.specs.EarlyTests.{size_word}
 use Rattle.image_check.specs.Formats.{format_in}
 use Rattle.image_check.specs.Opening.{IsImage, OpensOk, IsOutOfMemory, IsReadToEnd, IsRefusedAs, IsUndecided, Opens}
-use Rattle.image_check.specs.OpeningAny.{IsOpenedAny, OpensAny}
 use Rattle.image_check.specs.Passes.{IsRefusalFor}
 use Rattle.image_check.specs.Verdicts.{IsVerdict}
 use Rattle.grow_shrink.specs.LargerRegion.{region_len}
@@ -74,8 +69,7 @@ IsWhyUnopened format most image why = ⊥
 
 -- by the current format, or by any of the three
 abbrev pub IsOpenedBy : AcceptedVersions → ReadDelta → List ℕ → Mode → SegmentState → Type 0
-IsOpenedBy Current image region mode s = OpensOk current image region 0 mode s
-IsOpenedBy All image region mode s = IsOpenedAny image region 0 mode s
+IsOpenedBy versions image region mode s = OpensOk (format_in versions image.bytes) image region 0 mode s
 
 -- the segment of the image stands at the front of a region with room for it, and for this many bytes more
 pub record OpensImageOk (versions : AcceptedVersions) (len more : ℕ) (mode : Mode) (image : ReadDelta)
@@ -148,8 +142,7 @@ ExaminesFile step old new path result = ReadsFile step old new path Unreadable E
 
 -- what a call of `image_check` answers if images of these versions are read to the front of a region
 abbrev pub OpensAt : AcceptedVersions → ReadDelta → List ℕ → Mode → Result SegmentState OpenRefused → Type 0
-OpensAt Current image region mode result = Opens current image region 0 mode result
-OpensAt All image region mode result = OpensAny image region 0 mode result
+OpensAt versions image region mode result = Opens (format_in versions image.bytes) image region 0 mode result
 
 -- a segment has no more bytes than its region was made for, and stays
 pub record KeepsRegion (len : ℕ) (old new : SegmentState) : Type 0 where
@@ -177,14 +170,14 @@ WidensIfNeeded len more old result =
 
 -- why an image is not opened, if that is not for want of room
 abbrev pub file_error : OpenError → Option FileError
-file_error (NoImage c) = Some (Image c)
+file_error (NoImage v) = Some (Image v.class)
 file_error NoRoom = None
-file_error (NoBlocks refusal) = Some (OutOfMemory (BlockMap refusal))
+file_error (NoBlocks refusal) = Some (OutOfMemory refusal)
 file_error NotRead = Some ReadFault
 
 -- the cause is no want of room
-abbrev pub unfit_for : ExamineError → Option OpenFault
-unfit_for (Judged v) = Some (Unfitting v)
-unfit_for TooSmall = None
-unfit_for (NoMap refusal) = Some (Unremembered (BlockMap refusal))
-unfit_for Unread = Some Unreadable
+abbrev pub unfit_for : OpenError → Option OpenFault
+unfit_for (NoImage v) = Some (Unfitting v)
+unfit_for NoRoom = None
+unfit_for (NoBlocks refusal) = Some (Unremembered refusal)
+unfit_for NotRead = Some Unreadable

@@ -1,4 +1,4 @@
-//! The check of the image in a file, of which no segment is made.
+//! The check of the image in a file: an opening whose segment is dropped.
 ghost use Rattle.std.specs.Prelude.{◌≡◌, ◌+◌};
 ghost use Rattle.raw_region.specs.{Device.read_delta, Format.current};
 ghost use Rattle.image_check.specs.Opening.{IsTooSmallFor};
@@ -11,22 +11,21 @@ use crate::file_errors::OpenFault;
 use crate::heading::Headed;
 use crate::opening::file_region;
 use crate::reading_on::read_on;
-use image_check::{AcceptedVersions, ExamineError, MemoryFault, examine, examine_bytes};
+use image_check::{AcceptedVersions, OpenError, open, open_bytes};
 use raw_region::{Source, Steps};
 use segment_disk::{Disk, OpenedFile};
+use segment_manager::Mode;
 use std::alloc::Global;
 
 /// Returns why there is no segment of an image. `None` is want of room.
-fn unexamined(error: ExamineError) -> Option<OpenFault>
+fn unexamined(error: OpenError) -> Option<OpenFault>
     ensures { result ≡ unfit_for error }
 {
     match error {
-        ExamineError::Image(verdict) => Some(OpenFault::Image(verdict)),
-        ExamineError::RegionTooSmall => None,
-        ExamineError::OutOfMemory(refusal) => Some(OpenFault::OutOfMemory(MemoryFault::BlockMap(
-            refusal,
-        ))),
-        ExamineError::ReadFault => Some(OpenFault::ReadFault),
+        OpenError::Image(verdict) => Some(OpenFault::Image(verdict)),
+        OpenError::RegionTooSmall => None,
+        OpenError::OutOfMemory(refusal) => Some(OpenFault::OutOfMemory(refusal)),
+        OpenError::ReadFault => Some(OpenFault::ReadFault),
     }
 }
 
@@ -44,14 +43,9 @@ fn examine_behind<S: Source>(
     let text = read_on(alloc, reader)?;
     let region = file_region(alloc, text.len() as u64, 0)?;
     let image = text.as_slice();
-    match examine_bytes(
-        AcceptedVersions::Current,
-        alloc,
-        image,
-        region,
-        0,
-        &mut Steps::new(),
-    ) {
+    let steps = &mut Steps::new();
+    let versions = AcceptedVersions::Current;
+    match open_bytes(alloc, versions, image, region, 0, Mode::ReadOnly, steps) {
         Ok(_) => Ok(()),
         Err(refused) => match unexamined(refused.cause) {
             Some(unfit) => Err(unfit),
@@ -70,7 +64,8 @@ fn examine_image<S: Source>(
     ensures { ExaminesImage len (read_delta nothing_given (S.history reader.new.inner)) result }
 {
     let region = file_region(alloc, len, 0)?;
-    match examine(alloc, reader, region, 0, &mut Steps::new()) {
+    let steps = &mut Steps::new();
+    match open(alloc, reader, region, 0, Mode::ReadOnly, steps) {
         Ok(_) => Ok(()),
         Err(refused) => match unexamined(refused.cause) {
             Some(unfit) => Err(unfit),
@@ -79,7 +74,7 @@ fn examine_image<S: Source>(
     }
 }
 
-/// Checks the image in a file. Makes no segment, and closes the file.
+/// Checks the image in a file. Keeps no segment, and closes the file.
 ///
 /// # Errors
 ///

@@ -2,7 +2,7 @@
 ghost use Rattle.std.specs.Prelude.{◌≡◌, ◌+◌, IfErr, IfOk, length};
 ghost use Rattle.raw_region.specs.{Device.read_delta, Refusals.out_of_memory_of};
 ghost use Rattle.image_check.specs.{declared.errors.OpenError.TheVariants.RegionTooSmall, Formats.format_in};
-ghost use Rattle.image_check.specs.{Opening.IsTooSmallFor, OpeningBytes.as_given};
+ghost use Rattle.image_check.specs.{Opening.IsTooSmallFor, Opening.as_given};
 ghost use Rattle.grow_shrink.specs.LargerRegion.{region_len};
 ghost use Rattle.segment_disk.specs.Events.{nothing_given};
 ghost use Rattle.segment_file.specs.Opening.{WidensIfNeeded, OpensAt, OpensFile, OpensImage, file_error};
@@ -12,10 +12,7 @@ use crate::file_errors::FileError;
 use crate::heading::Headed;
 use crate::reading_on::read_on;
 use grow_shrink::{copy_into, region_for, size_of};
-use image_check::{
-    AcceptedVersions, MemoryFault, OpenError, OpenRefused, open, open_any, open_any_bytes,
-    open_bytes,
-};
+use image_check::{AcceptedVersions, OpenError, OpenRefused, open_bytes};
 use raw_region::{OutOfMemory, RawRegion, Source, Steps};
 use segment_disk::{Disk, OpenedFile};
 use segment_manager::{Mode, Segment};
@@ -42,10 +39,8 @@ fn open_at<S: Source>(
     ensures opening { OpensAt versions (read_delta nothing_given (S.history reader.new)) region mode result }
     ensures exclusive { IfErr result (λ refused. refused.cause ≡ RegionTooSmall → IsFrontGiven (S.history reader.new)) }
 {
-    match versions {
-        AcceptedVersions::Current => open(alloc, reader, region, 0, mode, &mut Steps::new()),
-        AcceptedVersions::All => open_any(alloc, reader, region, 0, mode, &mut Steps::new()),
-    }
+    let steps = &mut Steps::new();
+    image_check::open_image(alloc, versions, reader, region, 0, mode, steps)
 }
 
 /// Opens an image that lies in memory, at the front of a region.
@@ -58,10 +53,8 @@ fn open_text(
 ) -> Result<Segment, OpenRefused>
     ensures { OpensAt versions (as_given text.now) region mode result }
 {
-    match versions {
-        AcceptedVersions::Current => open_bytes(alloc, text, region, 0, mode, &mut Steps::new()),
-        AcceptedVersions::All => open_any_bytes(alloc, text, region, 0, mode, &mut Steps::new()),
-    }
+    let steps = &mut Steps::new();
+    open_bytes(alloc, versions, text, region, 0, mode, steps)
 }
 
 /// Returns why an image is not opened. `None` is want of room.
@@ -69,11 +62,9 @@ fn unopened(cause: OpenError) -> Option<FileError>
     ensures { result ≡ file_error cause }
 {
     match cause {
-        OpenError::Image(class) => Some(FileError::Image(class)),
+        OpenError::Image(verdict) => Some(FileError::Image(verdict.class)),
         OpenError::RegionTooSmall => None,
-        OpenError::OutOfMemory(refusal) => Some(FileError::OutOfMemory(MemoryFault::BlockMap(
-            refusal,
-        ))),
+        OpenError::OutOfMemory(refusal) => Some(FileError::OutOfMemory(refusal)),
         OpenError::ReadFault => Some(FileError::ReadFault),
     }
 }

@@ -3,7 +3,6 @@ use Rattle.std.specs.Prelude.{◌≡◌, ◌⊎◌, ◌==◌, ◌∷◌, ◌++�
 use Rattle.std.specs.Prelude.{is_some, Result, MatchResult, IsTrue, option_map, option_and_then, codes, fold}
 use Rattle.std.specs.Prelude.{◌&&◌, flat_map, length, map, nat_lt, unwrap_or}
 use Rattle.std.specs.List.{list_all}
-use Rattle.std.specs.Option.{option_map_or}
 use Rattle.std.specs.Prelude.{if◌then◌else◌}
 use Rattle.std.specs.Str.{bytes_eq}
 use denote.Ref.{Bor}
@@ -16,14 +15,13 @@ use Rattle.clap.specs.declared.error.kind.ErrorKind.TheVariants.{DisplayVersion}
 use Rattle.clap.specs.declared.builder.action.ArgAction.TheVariants.{Append, Set, SetTrue}
 use Rattle.segment_lang.specs.Words.{number_of}
 use Rattle.segment_invocation.specs.declared.invocations.Invocation.{Invocation}
-use Rattle.segment_invocation.specs.declared.invocations.Invocation.TheVariants.{Create, Run, RunWith, Check, CheckAll}
-use Rattle.segment_invocation.specs.declared.invocations.Invocation.TheVariants.{Explain, Grow, Shrink, Migrate}
-use Rattle.segment_invocation.specs.declared.invocations.Invocation.TheVariants.{ChangeWith, Tell, Names, Load, Lint}
+use Rattle.segment_invocation.specs.declared.invocations.Invocation.TheVariants.{Create, Run, Check, Grow, Shrink}
+use Rattle.segment_invocation.specs.declared.invocations.Invocation.TheVariants.{Migrate, Tell, Names, Load, Lint}
 use Rattle.segment_invocation.specs.declared.invocations.Invocation.TheVariants.{Language, Version}
+use Rattle.segment_invocation.specs.declared.invocations.Options.{Options}
+use Rattle.segment_invocation.specs.declared.invocations.Request.{Request}
 use Rattle.segment_invocation.specs.declared.invocations.FileCommand.{FileCommand}
 use Rattle.segment_invocation.specs.declared.invocations.FileCommand.TheVariants as on_file
-use Rattle.segment_invocation.specs.declared.invocations.FileChange.{FileChange}
-use Rattle.segment_invocation.specs.declared.invocations.FileChange.TheVariants as change
 use Rattle.segment_invocation.specs.declared.invocations.ModeName.{ModeName}
 use Rattle.segment_invocation.specs.declared.invocations.ModeName.TheVariants.{CreateOnly, OpenOnly, OpenOrCreate}
 use Rattle.segment_invocation.specs.declared.invocations.ModeName.TheVariants.{OpenReadOnly, OpenCopyOnWrite}
@@ -36,7 +34,9 @@ use Rattle.segment_invocation.specs.declared.invocations.Script.{Script}
 use Rattle.segment_invocation.specs.declared.invocations.Script.TheVariants as script
 use Rattle.segment_invocation.specs.declared.usage.UsageError.{UsageError}
 use Rattle.segment_invocation.specs.declared.usage.UsageError.TheVariants.{Words, Command, File, Number, Mode}
+use Rattle.segment_invocation.specs.declared.usage.UsageError.TheVariants.{Modes}
 use Rattle.segment_invocation.specs.declared.usage.UsageError.TheVariants.{Size, Script as TwoScripts, Files}
+use Rattle.segment_invocation.specs.declared.usage.UsageError.TheVariants.{Capacities as JsonCapacities}
 
 -- ---- the command line, as clap reads it
 
@@ -47,6 +47,10 @@ option name = record (new_rule name) { long = Some name; action = Some Set; valu
 -- `--NAME` alone, which may be left out
 abbrev pub flag : Text → Rule
 flag name = record (new_rule name) { long = Some name; action = Some SetTrue }
+
+-- `--NAME` alone, or `-` and this letter, which may be left out
+abbrev pub switch : Text → ℕ → Rule
+switch name letter = record (flag name) { short = Some letter }
 
 -- a value after `-` and this letter, as often as there are values
 abbrev pub lines : Text → ℕ → Rule
@@ -64,9 +68,13 @@ operand name = record (new_rule name) { required = true; value_names = 1 }
 abbrev pub operands : Text → Rule
 operands name = record (operand name) { action = Some Append }
 
+-- how long a file is waited for
+abbrev pub waited : List Rule
+waited = option (codes "wait") ∷ []
+
 -- how a file is taken and saved
 abbrev pub kept : List Rule
-kept = flag (codes "replace") ∷ option (codes "wait") ∷ []
+kept = flag (codes "replace") ∷ waited
 
 -- a subcommand that takes these, and `--verbose`
 abbrev pub taking : Text → List Rule → Shape
@@ -85,10 +93,11 @@ program = record {
 }
 
 abbrev pub file_command : Text → Shape
-file_command name = taking name (operand (codes "file") ∷ [])
+file_command name = taking name (operand (codes "file") ∷ waited)
 
 abbrev pub create_command : Shape
-create_command = taking (codes "create") (operand (codes "file") ∷ operand (codes "number") ∷ [])
+create_command = taking (codes "create") (operand (codes "file") ∷ operand (codes "number")
+    ∷ flag (codes "replace") ∷ [])
 
 abbrev pub grow_command : Shape
 grow_command = taking (codes "grow") (operand (codes "file") ∷ operand (codes "number") ∷ kept)
@@ -97,16 +106,19 @@ abbrev pub kept_command : Text → Shape
 kept_command name = taking name (operand (codes "file") ∷ kept)
 
 abbrev pub check_command : Shape
-check_command = taking (codes "check") (operands (codes "file") ∷ flag (codes "explain") ∷ flag (codes "quiet") ∷ [])
+check_command = taking (codes "check")
+    (operands (codes "file") ∷ flag (codes "explain") ∷ flag (codes "quiet") ∷ waited)
 
 abbrev pub draw_command : Shape
-draw_command = taking (codes "draw") (operand (codes "file") ∷ flag (codes "html") ∷ [])
+draw_command = taking (codes "draw") (operand (codes "file") ∷ flag (codes "html") ∷ waited)
 
 abbrev pub dump_command : Shape
-dump_command = taking (codes "dump") (operand (codes "file") ∷ flag (codes "capacities") ∷ flag (codes "json") ∷ [])
+dump_command = taking (codes "dump")
+    (operand (codes "file") ∷ flag (codes "capacities") ∷ flag (codes "json") ∷ waited)
 
 abbrev pub names_command : Shape
-names_command = taking (codes "names") (operand (codes "file") ∷ option (codes "prefix") ∷ option (codes "most") ∷ [])
+names_command = taking (codes "names")
+    (operand (codes "file") ∷ option (codes "prefix") ∷ option (codes "most") ∷ waited)
 
 abbrev pub load_command : Shape
 load_command = taking (codes "load") (operand (codes "file") ∷ option (codes "size") ∷ kept)
@@ -117,7 +129,8 @@ run_options = operand (codes "file") ∷ maybe (codes "script") ∷ option (code
 
 abbrev pub run_command : Shape
 run_command = taking (codes "run") (run_options
-    ++ (flag (codes "replace") ∷ flag (codes "strict") ∷ flag (codes "numbered") ∷ option (codes "wait") ∷ []))
+    ++ (switch (codes "read-only") 114 ∷ flag (codes "replace") ∷ flag (codes "strict") ∷ flag (codes "numbered")
+    ∷ option (codes "wait") ∷ []))
 
 abbrev pub subcommands : List Shape
 subcommands = create_command ∷ run_command ∷ check_command ∷ grow_command ∷ kept_command (codes "shrink")
@@ -137,28 +150,62 @@ pub data Origin : Type 0 where
   from_file : Text → Origin
   from_lines : List Text → Origin
 
--- a file goes by its path; a file that is written may have how it is saved, and how many seconds are waited for it; a
--- run may also have a script, and whether it is strict, and its answers are numbered; a check of all says whether it is
--- quiet; names begin with a text and may be limited; a load has a size or takes the least
+-- a command: a file goes by its path; a run has a mode, and may have a size; names begin with a text and may be
+-- limited; a load has a size or takes the least
 pub data InvocationValue : Type 0 where
   create : Text → ℕ → InvocationValue
   run : Text → ModeName → Option ℕ → InvocationValue
-  run_with : Text → ModeName → Option ℕ → Origin → SaveMode → ℕ → Bool → Bool → InvocationValue
   check : Text → InvocationValue
-  check_all : List Text → Bool → InvocationValue
-  explain : Text → InvocationValue
   grow : Text → ℕ → InvocationValue
   shrink : Text → InvocationValue
   migrate : Text → InvocationValue
-  change_with : Text → FileChange → SaveMode → ℕ → InvocationValue
   tell : Text → Report → InvocationValue
   names : Text → Text → Option ℕ → InvocationValue
-  load : Text → Option ℕ → SaveMode → ℕ → InvocationValue
+  load : Text → Option ℕ → InvocationValue
   lint : InvocationValue
   language : InvocationValue
   version : InvocationValue
 
--- the script of an invocation
+-- the options of a command: its script and all its files, how a file is saved, and how many seconds are waited for it
+pub record OptionValues : Type 0 where
+  pub origin : Origin
+  pub paths : List Text
+  pub saving : SaveMode
+  pub wait : ℕ
+  pub strict : Bool
+  pub numbered : Bool
+  pub explains : Bool
+  pub quiet : Bool
+  pub verbose : Bool
+
+-- a command with its options
+pub record RequestValue : Type 0 where
+  pub command : InvocationValue
+  pub options : OptionValues
+
+-- no option says otherwise, and these are the files
+abbrev pub plain_options : List Text → OptionValues
+plain_options files = record {
+  origin = input;
+  paths = files;
+  saving = InPlace;
+  wait = 0;
+  strict = false;
+  numbered = false;
+  explains = false;
+  quiet = false;
+  verbose = false;
+}
+
+-- the options of no words
+abbrev pub no_options : OptionValues
+no_options = plain_options []
+
+-- a command without words for its options
+abbrev pub of_version : RequestValue
+of_version = record { command = version; options = no_options }
+
+-- where a script comes from
 abbrev pub origin_by : Script → Origin
 origin_by script.Input = input
 origin_by (script.File path) = from_file path.now
@@ -168,26 +215,38 @@ origin_by (script.Lines texts) = from_lines (map (λ s. s.now) texts.items)
 abbrev pub script_text : List (Bor Text) → Text
 script_text = flat_map (λ line. line.now ++ 0x0A ∷ [])
 
--- what an invocation asks for
+-- the command of an invocation
 abbrev pub asked_by : Invocation → InvocationValue
 asked_by (Create file size) = create file.now size
 asked_by (Run file mode size) = run file.now mode size
-asked_by (RunWith file mode size how) =
-    run_with file.now mode size (origin_by how.script) how.keeping.saving how.keeping.wait how.answering.strict
-    how.answering.numbered
 asked_by (Check file) = check file.now
-asked_by (CheckAll files quiet) = check_all (map (λ s. s.now) files.items) quiet
-asked_by (Explain file) = explain file.now
 asked_by (Grow file bytes) = grow file.now bytes
 asked_by (Shrink file) = shrink file.now
 asked_by (Migrate file) = migrate file.now
-asked_by (ChangeWith file change keeping) = change_with file.now change keeping.saving keeping.wait
 asked_by (Tell file what) = tell file.now what
 asked_by (Names file prefix most) = names file.now prefix.now most
-asked_by (Load file size keeping) = load file.now size keeping.saving keeping.wait
+asked_by (Load file size) = load file.now size
 asked_by Lint = lint
 asked_by Language = language
 asked_by Version = version
+
+-- what options say
+abbrev pub options_by : Options → OptionValues
+options_by how = record {
+  origin = origin_by how.script;
+  paths = map (λ s. s.now) how.files.items;
+  saving = how.keeping.saving;
+  wait = how.keeping.wait;
+  strict = how.answering.strict;
+  numbered = how.answering.numbered;
+  explains = how.explain;
+  quiet = how.quiet;
+  verbose = how.verbose;
+}
+
+-- the command and the options of a request
+abbrev pub request_by : Request → RequestValue
+request_by asked = record { command = asked_by asked.command; options = options_by asked.options }
 
 abbrev pub mode_word : ModeName → Text
 mode_word CreateOnly = codes "create_only"
@@ -212,10 +271,12 @@ wants_size CreateOnly = true
 wants_size OpenOrCreate = true
 wants_size _ = false
 
--- the mode of a word, `open_only` if there is none
-abbrev pub mode_of : Option Text → Option ModeName
-mode_of None = Some OpenOnly
-mode_of (Some word) = mode_called word
+-- the mode of a word, `open_only` if there is none; or the flag for `open_read_only` stands there, and no word
+abbrev pub mode_of : Bool → Option Text → Option ModeName
+mode_of true None = Some OpenReadOnly
+mode_of true (Some word) = None
+mode_of false None = Some OpenOnly
+mode_of false (Some word) = mode_called word
 
 -- the number of a word that may be left out
 abbrev pub size_of : Option Text → Option (Option ℕ)
@@ -242,144 +303,63 @@ origin_of None (line ∷ rest) = Some (from_lines (line ∷ rest))
 origin_of (Some path) [] = Some (from_file path)
 origin_of (Some path) (line ∷ rest) = None
 
--- no option says otherwise how a file is taken and saved
-abbrev pub is_plain : SaveMode → ℕ → Bool
-is_plain InPlace wait = wait == 0
-is_plain Replacing wait = false
-
--- no option says otherwise what a run is asked for
-abbrev pub is_plain_run : Origin → SaveMode → ℕ → Bool → Bool → Bool
-is_plain_run input saving wait strict numbered = is_plain saving wait && (not strict && not numbered)
-is_plain_run origin saving wait strict numbered = false
-
--- a run, with its options if there are some
-abbrev pub ran : Text → ModeName → Option ℕ → Origin → SaveMode → ℕ → Bool → Bool → InvocationValue
-ran file mode size origin saving wait strict numbered =
-    if is_plain_run origin saving wait strict numbered then run file mode size
-    else run_with file mode size origin saving wait strict numbered
-
--- a change without options, and one with its options if there are some
-abbrev pub plain_change : Text → FileChange → InvocationValue
-plain_change file (change.Grow bytes) = grow file bytes
-plain_change file change.Shrink = shrink file
-plain_change file change.Migrate = migrate file
-
--- a change of a file, with its options
-abbrev pub asked_change : Text → FileChange → SaveMode → ℕ → InvocationValue
-asked_change file change saving wait =
-    if is_plain saving wait then plain_change file change else change_with file change saving wait
-
 -- the values of a word that may stand there more than once
 abbrev pub list_of : Text → List Row → List Text
 list_of id words = unwrap_or (all_of id words) []
 
--- what the words of a subcommand ask for: each word by its id
-abbrev pub with_file : (Text → Option InvocationValue) → List Row → Option InvocationValue
-with_file ask words = option_and_then ask (first_of (codes "file") words)
+-- a command that has the number of its words
+abbrev pub with_number : (ℕ → InvocationValue) → List Row → Option InvocationValue
+with_number ask words = option_map ask (option_and_then number_of (first_of (codes "number") words))
 
--- a command with a number
-abbrev pub with_number : (Text → ℕ → Option InvocationValue) → List Row → Option InvocationValue
-with_number ask words = with_file (λ file.
-    option_and_then (ask file) (option_and_then number_of (first_of (codes "number") words))) words
+-- what a picture tells, by its flag --html
+abbrev pub drawn_of : List Row → Report
+drawn_of words = if is_set (first_of (codes "html") words) then Page else Picture
 
--- how a file is taken and saved: the flag --replace, and the seconds of --wait
-abbrev pub with_kept : (SaveMode → ℕ → InvocationValue) → List Row → Option InvocationValue
-with_kept ask words = option_map (ask (saving_of (first_of (codes "replace") words)))
-    (seconds_of (first_of (codes "wait") words))
+-- what a dump tells, by its flags --json and --capacities, which are not both there
+abbrev pub dump_of : Bool → Bool → Option Report
+dump_of true true = None
+dump_of true false = Some Json
+dump_of false true = Some Capacities
+dump_of false false = Some Dump
 
-abbrev pub asked_kept : FileChange → List Row → Option InvocationValue
-asked_kept change words = with_file (λ file. with_kept (asked_change file change) words) words
+abbrev pub dumped_of : List Row → Option Report
+dumped_of words = dump_of (is_set (first_of (codes "json") words)) (is_set (first_of (codes "capacities") words))
 
-abbrev pub asked_grow : List Row → Option InvocationValue
-asked_grow words = with_number (λ file n. with_kept (asked_change file (change.Grow n)) words) words
-
--- a check of these files, the first of which this is, and its flags --explain and --quiet: one file alone is explained
-abbrev pub checked_of : Text → List Text → Bool → Bool → Option InvocationValue
-checked_of file files explains quiet =
-    if nat_lt 1 (length files) then (if explains then None else Some (check_all files quiet))
-    else if explains then Some (explain file)
-    else if quiet then Some (check_all files true)
-    else Some (check file)
-
--- what a check asks for
-abbrev pub asked_check : List Row → Option InvocationValue
-asked_check words = with_file (λ file.
-    checked_of file (list_of (codes "file") words) (is_set (first_of (codes "explain") words))
-    (is_set (first_of (codes "quiet") words))) words
-
--- a picture's file, and its flag --html
-abbrev pub asked_draw : List Row → Option InvocationValue
-asked_draw words = with_file (λ file.
-    Some (tell file (if is_set (first_of (codes "html") words) then Page else Picture))) words
-
--- a dump's file, and its flags --json and --capacities
-abbrev pub asked_dump : List Row → Option InvocationValue
-asked_dump words = with_file (λ file.
-    Some (tell file (if is_set (first_of (codes "json") words) then Json else if is_set
-    (first_of (codes "capacities") words) then Capacities else Dump))) words
-
--- the file of names, what they begin with, and how many there are at most
-abbrev pub asked_names : List Row → Option InvocationValue
-asked_names words = with_file (λ file.
-    option_map (names file (unwrap_or (first_of (codes "prefix") words) []))
-    (size_of (first_of (codes "most") words))) words
-
--- a load's file and size
-abbrev pub asked_load : List Row → Option InvocationValue
-asked_load words = with_file (λ file.
-    option_and_then (λ size. with_kept (load file size) words) (size_of (first_of (codes "size") words))) words
-
--- a run's file, mode, size, script and lines, and its words --replace, --wait, --strict and --numbered
-pub record RunWords : Type 0 where
-  pub file : Option Text
-  pub mode : Option Text
-  pub size : Option Text
-  pub script : Option Text
-  pub lines : List Text
-  pub replace : Option Text
-  pub wait : Option Text
-  pub strict : Option Text
-  pub numbered : Option Text
-
--- the words of a run
-abbrev pub run_words : List Row → RunWords
-run_words words = record {
-  file = first_of (codes "file") words;
-  mode = first_of (codes "mode") words;
-  size = first_of (codes "size") words;
-  script = first_of (codes "script") words;
-  lines = list_of (codes "line") words;
-  replace = first_of (codes "replace") words;
-  wait = first_of (codes "wait") words;
-  strict = first_of (codes "strict") words;
-  numbered = first_of (codes "numbered") words;
-}
+-- a file's names, what they begin with, and how many there are at most
+abbrev pub asked_names : Text → List Row → Option InvocationValue
+asked_names file words = option_map (names file (unwrap_or (first_of (codes "prefix") words) []))
+    (size_of (first_of (codes "most") words))
 
 -- the mode of a run wants a size, and there is none
 abbrev pub lacks_size : ModeName → Option ℕ → Bool
 lacks_size mode size = wants_size mode && not (is_some size)
 
 -- a run, unless its mode wants a size and there is none
-abbrev pub run_sized : RunWords → Text → ModeName → Option ℕ → Origin → ℕ → Option InvocationValue
-run_sized said file mode size origin wait =
-    if lacks_size mode size then None
-    else Some (ran file mode size origin (saving_of said.replace) wait (is_set said.strict) (is_set said.numbered))
+abbrev pub run_sized : Text → ModeName → Option ℕ → Option InvocationValue
+run_sized file mode size = if lacks_size mode size then None else Some (run file mode size)
 
-abbrev pub asked_of_run : RunWords → Option InvocationValue
-asked_of_run said =
-    option_and_then (λ file. option_and_then (λ mode.
-    option_and_then (λ size. option_and_then (λ wait. option_and_then (λ origin.
-    run_sized said file mode size origin wait)
-    (origin_of said.script said.lines)) (seconds_of said.wait)) (size_of said.size)) (mode_of said.mode)) said.file
+-- a run of a file, by its mode and its word for the size
+abbrev pub run_of : Text → Option ModeName → Option Text → Option InvocationValue
+run_of file mode size = option_and_then (λ mode. option_and_then (run_sized file mode) (size_of size)) mode
+
+-- the flag for the mode `open_read_only` stands there
+abbrev pub only_reads : List Row → Bool
+only_reads words = is_set (first_of (codes "read-only") words)
+
+-- the mode of a run
+abbrev pub mode_in : List Row → Option ModeName
+mode_in words = mode_of (only_reads words) (first_of (codes "mode") words)
 
 -- what a run asks for
-abbrev pub asked_run : List Row → Option InvocationValue
-asked_run words = asked_of_run (run_words words)
+abbrev pub asked_run : Text → List Row → Option InvocationValue
+asked_run file words = run_of file (mode_in words) (first_of (codes "size") words)
 
--- the command of a word that takes one file, and no lines
+-- the command of a word that takes a file
 abbrev pub command_called : Text → Option FileCommand
 command_called word =
     if bytes_eq word (codes "create") then Some on_file.Create
+    else if bytes_eq word (codes "run") then Some on_file.Run
+    else if bytes_eq word (codes "check") then Some on_file.Check
     else if bytes_eq word (codes "grow") then Some on_file.Grow
     else if bytes_eq word (codes "shrink") then Some on_file.Shrink
     else if bytes_eq word (codes "migrate") then Some on_file.Migrate
@@ -390,38 +370,79 @@ command_called word =
     else if bytes_eq word (codes "load") then Some on_file.Load
     else None
 
--- what such a command asks for
-abbrev pub asked_as : Option FileCommand → List Row → Option InvocationValue
-asked_as (Some on_file.Create) words = with_number (λ file n. Some (create file n)) words
-asked_as (Some on_file.Grow) words = asked_grow words
-asked_as (Some on_file.Shrink) words = asked_kept change.Shrink words
-asked_as (Some on_file.Migrate) words = asked_kept change.Migrate words
-asked_as (Some on_file.Stat) words = with_file (λ file. Some (tell file Figures)) words
-asked_as (Some on_file.Draw) words = asked_draw words
-asked_as (Some on_file.Dump) words = asked_dump words
-asked_as (Some on_file.Names) words = asked_names words
-asked_as (Some on_file.Load) words = asked_load words
-asked_as None words = None
+-- what such a command asks for, of a file
+abbrev pub asked_as : Option FileCommand → Text → List Row → Option InvocationValue
+asked_as (Some on_file.Create) file words = with_number (create file) words
+asked_as (Some on_file.Run) file words = asked_run file words
+asked_as (Some on_file.Check) file words = Some (check file)
+asked_as (Some on_file.Grow) file words = with_number (grow file) words
+asked_as (Some on_file.Shrink) file words = Some (shrink file)
+asked_as (Some on_file.Migrate) file words = Some (migrate file)
+asked_as (Some on_file.Stat) file words = Some (tell file Figures)
+asked_as (Some on_file.Draw) file words = Some (tell file (drawn_of words))
+asked_as (Some on_file.Dump) file words = option_map (tell file) (dumped_of words)
+asked_as (Some on_file.Names) file words = asked_names file words
+asked_as (Some on_file.Load) file words = option_map (load file) (size_of (first_of (codes "size") words))
+asked_as None file words = None
 
 -- the command of the words of a subcommand
 abbrev pub asked_in : Text → List Row → Option InvocationValue
 asked_in subcommand words =
     if bytes_eq subcommand (codes "lint") then Some lint
     else if bytes_eq subcommand (codes "language") then Some language
-    else if bytes_eq subcommand (codes "run") then asked_run words
-    else if bytes_eq subcommand (codes "check") then asked_check words
-    else asked_as (command_called subcommand) words
+    else option_and_then (λ file. asked_as (command_called subcommand) file words) (first_of (codes "file") words)
+
+-- the options of words that have these seconds and this script
+abbrev pub options_with : List Row → ℕ → Origin → OptionValues
+options_with words wait origin = record {
+  origin = origin;
+  paths = list_of (codes "file") words;
+  saving = saving_of (first_of (codes "replace") words);
+  wait = wait;
+  strict = is_set (first_of (codes "strict") words);
+  numbered = is_set (first_of (codes "numbered") words);
+  explains = is_set (first_of (codes "explain") words);
+  quiet = is_set (first_of (codes "quiet") words);
+  verbose = is_set (first_of (codes "verbose") words);
+}
+
+-- more files than one are to be explained
+abbrev pub explains_many : List Row → Bool
+explains_many words = is_set (first_of (codes "explain") words) && nat_lt 1 (length (list_of (codes "file") words))
+
+-- the script of words
+abbrev pub script_of : List Row → Option Origin
+script_of words = origin_of (first_of (codes "script") words) (list_of (codes "line") words)
+
+-- the options of the words of a subcommand: their seconds are a number, they have one script, and explain one file
+abbrev pub options_of : List Row → Option OptionValues
+options_of words = option_and_then (λ wait. option_and_then (λ origin.
+    if explains_many words then None else Some (options_with words wait origin))
+    (script_of words)) (seconds_of (first_of (codes "wait") words))
+
+-- a command with its options
+abbrev pub requested : Option InvocationValue → Option OptionValues → Option RequestValue
+requested asked said = option_and_then (λ a. option_map (λ o. record { command = a; options = o }) said) asked
+
+-- what the words of a subcommand ask for
+abbrev pub requested_in : Text → List Row → Option RequestValue
+requested_in subcommand words = requested (asked_in subcommand words) (options_of words)
 
 -- a subcommand with its words
-abbrev pub asked_of : Option (Text × List Row) → Option InvocationValue
-asked_of None = None
-asked_of (Some found) = asked_in found.0 found.1
+abbrev pub requested_of : Option (Text × List Row) → Option RequestValue
+requested_of None = None
+requested_of (Some found) = requested_in found.0 found.1
 
 -- the words, the program's name first, ask for this: by their subcommand, if clap finds no fault, or they want the
 -- version to be shown
+abbrev pub IsRequestedBy : List Text → RequestValue → Type 0
+IsRequestedBy words r =
+    ((fault_of command_line words ≡ []) × (requested_of (subcommand_of command_line words) ≡ Some r))
+    ⊎ ((r ≡ of_version) × IsAmong DisplayVersion (fault_of command_line words))
+
+-- they ask for this command, with some options
 abbrev pub IsAskedBy : List Text → InvocationValue → Type 0
-IsAskedBy words a = ((fault_of command_line words ≡ []) × (asked_of (subcommand_of command_line words) ≡ Some a))
-    ⊎ ((a ≡ version) × IsAmong DisplayVersion (fault_of command_line words))
+IsAskedBy words a = (o : OptionValues) × IsRequestedBy words (record { command = a; options = o })
 
 -- an answer is what is wanted, and an error stands for nothing
 abbrev pub ParsesTo : {A E : Type 0} → Option A → Result A E → Type 0
@@ -429,15 +450,18 @@ ParsesTo wanted result = MatchResult result (λ a. wanted ≡ Some a) (λ e. wan
 
 -- ---- what is wrong with words that ask for nothing
 
--- there is no such command or mode, or no file, number or size; or two scripts, or more files than are explained
+-- there is no such command or mode, or no file, number or size; or two modes, two scripts, more files than are
+-- explained, or a dump in JSON with capacities
 pub data Wrong : Type 0 where
   no_command : Wrong
   no_file : Wrong
   no_number : Wrong
   no_mode : Wrong
+  two_modes : Wrong
   no_size : Wrong
   two_scripts : Wrong
   many_files : Wrong
+  json_capacities : Wrong
 
 -- what an error says of the words, unless it is one of clap's
 abbrev pub wrong_by : UsageError → Option Wrong
@@ -446,34 +470,48 @@ wrong_by Command = Some no_command
 wrong_by File = Some no_file
 wrong_by Number = Some no_number
 wrong_by (Mode nearest) = Some no_mode
+wrong_by Modes = Some two_modes
 wrong_by Size = Some no_size
 wrong_by TwoScripts = Some two_scripts
 wrong_by Files = Some many_files
+wrong_by JsonCapacities = Some json_capacities
 
--- of a run the first of these: its mode is none, its size is no number, it lacks a size, the seconds are no number, it
--- has two scripts
-abbrev pub wrong_run : RunWords → Wrong
-wrong_run said =
-    if not (is_some (mode_of said.mode)) then no_mode
-    else if not (is_some (size_of said.size)) then no_number
-    else if option_map_or (λ mode. lacks_size mode (unwrap_or (size_of said.size) None)) (mode_of said.mode) false
-    then no_size
-    else if is_some (seconds_of said.wait) then two_scripts
+-- what is wrong with a mode: there are two, or there is no such mode
+abbrev pub wrong_mode : List Row → Wrong
+wrong_mode words = if only_reads words then two_modes else no_mode
+
+-- of a run the first of these: its mode is none, its size is no number, it lacks a size
+abbrev pub wrong_run : List Row → Wrong
+wrong_run words =
+    if not (is_some (mode_in words)) then wrong_mode words
+    else if is_some (size_of (first_of (codes "size") words)) then no_size
     else no_number
 
--- of a command with a file: its numbers, or what is wrong with a run or a check, or there is no such command
-abbrev pub wrong_filed : Text → List Row → Wrong
-wrong_filed subcommand words =
-    if bytes_eq subcommand (codes "run") then wrong_run (run_words words)
-    else if bytes_eq subcommand (codes "check") then many_files
-    else if is_some (command_called subcommand) then no_number
-    else no_command
+-- of a command with a file: what is wrong with a run or a dump, or its number, or there is no such command
+abbrev pub wrong_filed : Option FileCommand → List Row → Wrong
+wrong_filed (Some on_file.Run) words = wrong_run words
+wrong_filed (Some on_file.Dump) words = json_capacities
+wrong_filed (Some command) words = no_number
+wrong_filed None words = no_command
 
--- a file is looked for before all else
+-- of a command: a file is looked for before all else
+abbrev pub wrong_command : Text → List Row → Wrong
+wrong_command subcommand words =
+    if is_some (first_of (codes "file") words) then wrong_filed (command_called subcommand) words
+    else no_file
+
+-- of options the first of these: the seconds are no number, there are two scripts, many files are to be explained
+abbrev pub wrong_options : List Row → Wrong
+wrong_options words =
+    if not (is_some (seconds_of (first_of (codes "wait") words))) then no_number
+    else if is_some (script_of words) then many_files
+    else two_scripts
+
+-- the command is looked at before its options
 abbrev pub wrong_in : Text → List Row → Wrong
 wrong_in subcommand words =
-    if is_some (first_of (codes "file") words) then wrong_filed subcommand words
-    else no_file
+    if is_some (asked_in subcommand words) then wrong_options words
+    else wrong_command subcommand words
 
 -- of a subcommand with its words, or of none
 abbrev pub wrong_of : Option (Text × List Row) → Wrong
@@ -484,7 +522,7 @@ wrong_of (Some found) = wrong_in found.0 found.1
 -- none, why they ask for nothing
 abbrev pub IsWrongBy : List Text → UsageError → Type 0
 IsWrongBy words (Words misread) = IsAmong (kind_of misread) (fault_of command_line words)
-IsWrongBy words e = (fault_of command_line words ≡ []) × (asked_of (subcommand_of command_line words) ≡ None)
+IsWrongBy words e = (fault_of command_line words ≡ []) × (requested_of (subcommand_of command_line words) ≡ None)
     × (wrong_by e ≡ Some (wrong_of (subcommand_of command_line words)))
 
 -- ---- command lines that are always understood
@@ -544,6 +582,16 @@ abbrev pub IsPart : Text → List Text → Text → Type 0
 IsPart name words [] = words ≡ []
 IsPart name words (c ∷ cs) = IsTrue (is_path (c ∷ cs)) × (words ≡ name ∷ (c ∷ cs) ∷ [])
 
+-- the options of a run
+abbrev pub options_of_run : Text → Origin → SaveMode → ℕ → Bool → Bool → OptionValues
+options_of_run file origin saving wait strict numbered = record (plain_options (file ∷ [])) {
+  origin = origin;
+  saving = saving;
+  wait = wait;
+  strict = strict;
+  numbered = numbered;
+}
+
 -- a run, with its script from standard input, or otherwise with no other word than the script
 abbrev pub IsRunWritten : Text → ModeName → Option ℕ → Origin → SaveMode → ℕ → Bool → Bool → List Text → Type 0
 IsRunWritten file mode size input saving wait strict numbered words = (modes : List Text) × (sizes : List Text)
@@ -555,17 +603,22 @@ IsRunWritten file mode size origin saving wait strict numbered words =
     × (mode ≡ OpenOnly) × (size ≡ None) × (saving ≡ InPlace) × (wait ≡ 0) × (strict ≡ false) × (numbered ≡ false)
     × (words ≡ codes "run" ∷ file ∷ origins)
 
--- a change and its file, and after them its options
-abbrev pub IsChangePart : List Text → Text → FileChange → Type 0
-IsChangePart words file (change.Grow bytes) = (digits : Text) × (number_of digits ≡ Some bytes)
-    × (words ≡ codes "grow" ∷ file ∷ digits ∷ [])
-IsChangePart words file change.Shrink = words ≡ codes "shrink" ∷ file ∷ []
-IsChangePart words file change.Migrate = words ≡ codes "migrate" ∷ file ∷ []
+-- the options of a check, and its words
+abbrev pub check_options : Text → Bool → Bool → OptionValues
+check_options file explains quiet = record (plain_options (file ∷ [])) { explains = explains; quiet = quiet }
 
--- the words of a command line ask for a change of a file
-abbrev pub IsChangeWritten : Text → FileChange → SaveMode → ℕ → List Text → Type 0
-IsChangeWritten file change saving wait words = IsTrue (is_path file) × (changes : List Text) × (waits : List Text)
-    × IsChangePart changes file change × IsWaitPart waits wait × (words ≡ changes ++ (waits ++ saving_part saving))
+abbrev pub check_words : Text → Bool → Bool → List Text
+check_words file explains quiet =
+    codes "check" ∷ file ∷ flag_part (codes "--explain") explains ++ flag_part (codes "--quiet") quiet
+
+-- the options of a command that writes a file
+abbrev pub kept_options : Text → SaveMode → ℕ → OptionValues
+kept_options file saving wait = record (plain_options (file ∷ [])) { saving = saving; wait = wait }
+
+-- these words, and after them those options
+abbrev pub IsKeptWritten : List Text → Text → OptionValues → List Text → Type 0
+IsKeptWritten begun file how words = IsTrue (is_path file) × (waits : List Text) × IsWaitPart waits how.wait
+    × (how ≡ kept_options file how.saving how.wait) × (words ≡ begun ++ (waits ++ saving_part how.saving))
 
 -- what is told of a file: the command, and its flag
 abbrev pub report_words : Report → Text → List Text
@@ -576,31 +629,35 @@ report_words Dump file = codes "dump" ∷ file ∷ []
 report_words Capacities file = codes "dump" ∷ file ∷ codes "--capacities" ∷ []
 report_words Json file = codes "dump" ∷ file ∷ codes "--json" ∷ []
 
--- the words after the program's name say what is asked for
-abbrev pub IsWritten : InvocationValue → List Text → Type 0
-IsWritten (create file size) words = IsTrue (is_path file) × (digits : Text) × (number_of digits ≡ Some size)
-    × (words ≡ codes "create" ∷ file ∷ digits ∷ [])
-IsWritten (run file mode size) words =
-    IsTrue (is_path file) × IsRunWritten file mode size input InPlace 0 false false words
-IsWritten (run_with file mode size origin saving wait strict numbered) words =
-    IsTrue (is_path file) × (is_plain_run origin saving wait strict numbered ≡ false)
-    × IsRunWritten file mode size origin saving wait strict numbered words
-IsWritten (check file) words = IsTrue (is_path file) × (words ≡ codes "check" ∷ file ∷ [])
-IsWritten (check_all files quiet) words = (file : Text) × IsTrue (is_path file) × (files ≡ file ∷ [])
-    × (quiet ≡ true) × (words ≡ codes "check" ∷ file ∷ codes "--quiet" ∷ [])
-IsWritten (explain file) words = IsTrue (is_path file) × (words ≡ codes "check" ∷ file ∷ codes "--explain" ∷ [])
-IsWritten (grow file bytes) words = IsChangeWritten file (change.Grow bytes) InPlace 0 words
-IsWritten (shrink file) words = IsChangeWritten file change.Shrink InPlace 0 words
-IsWritten (migrate file) words = IsChangeWritten file change.Migrate InPlace 0 words
-IsWritten (change_with file change saving wait) words = (is_plain saving wait ≡ false)
-    × IsChangeWritten file change saving wait words
-IsWritten (tell file what) words = IsTrue (is_path file) × (words ≡ report_words what file)
-IsWritten (names file prefix most) words = IsTrue (is_path file) × (prefixes : List Text) × (mosts : List Text)
+-- the words after the program's name say a command and these options
+abbrev pub IsWrittenWith : InvocationValue → OptionValues → List Text → Type 0
+IsWrittenWith (create file size) how words = IsTrue (is_path file) × (how ≡ plain_options (file ∷ []))
+    × (digits : Text) × (number_of digits ≡ Some size) × (words ≡ codes "create" ∷ file ∷ digits ∷ [])
+IsWrittenWith (run file mode size) how words = IsTrue (is_path file)
+    × (how ≡ options_of_run file how.origin how.saving how.wait how.strict how.numbered)
+    × IsRunWritten file mode size how.origin how.saving how.wait how.strict how.numbered words
+IsWrittenWith (check file) how words = IsTrue (is_path file) × (how ≡ check_options file how.explains how.quiet)
+    × (words ≡ check_words file how.explains how.quiet)
+IsWrittenWith (grow file bytes) how words = (digits : Text) × (number_of digits ≡ Some bytes)
+    × IsKeptWritten (codes "grow" ∷ file ∷ digits ∷ []) file how words
+IsWrittenWith (shrink file) how words = IsKeptWritten (codes "shrink" ∷ file ∷ []) file how words
+IsWrittenWith (migrate file) how words = IsKeptWritten (codes "migrate" ∷ file ∷ []) file how words
+IsWrittenWith (tell file what) how words = IsTrue (is_path file) × (how ≡ plain_options (file ∷ []))
+    × (words ≡ report_words what file)
+IsWrittenWith (names file prefix most) how words = IsTrue (is_path file) × (how ≡ plain_options (file ∷ []))
+    × (prefixes : List Text) × (mosts : List Text)
     × IsPart (codes "--prefix") prefixes prefix × IsNumberPart (codes "--most") mosts most
     × (words ≡ codes "names" ∷ file ∷ prefixes ++ mosts)
-IsWritten (load file size saving wait) words = IsTrue (is_path file) × (sizes : List Text) × (waits : List Text)
-    × IsNumberPart (codes "--size") sizes size × IsWaitPart waits wait
-    × (words ≡ codes "load" ∷ file ∷ sizes ++ (waits ++ saving_part saving))
-IsWritten lint words = words ≡ codes "lint" ∷ []
-IsWritten language words = words ≡ codes "language" ∷ []
-IsWritten version words = words ≡ codes "--version" ∷ []
+IsWrittenWith (load file size) how words = (sizes : List Text) × IsNumberPart (codes "--size") sizes size
+    × IsKeptWritten (codes "load" ∷ file ∷ sizes) file how words
+IsWrittenWith lint how words = (how ≡ no_options) × (words ≡ codes "lint" ∷ [])
+IsWrittenWith language how words = (how ≡ no_options) × (words ≡ codes "language" ∷ [])
+IsWrittenWith version how words = (how ≡ no_options) × (words ≡ codes "--version" ∷ [])
+
+-- the words after the program's name say what is requested
+abbrev pub IsRequestWritten : RequestValue → List Text → Type 0
+IsRequestWritten r words = IsWrittenWith r.command r.options words
+
+-- they say a command, with some options
+abbrev pub IsWritten : InvocationValue → List Text → Type 0
+IsWritten a words = (o : OptionValues) × IsRequestWritten (record { command = a; options = o }) words

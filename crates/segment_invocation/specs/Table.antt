@@ -3,7 +3,7 @@ use Rattle.std.specs.Prelude.{List, Option, fold, map}
 use denote.Ref.{Bor}
 use Rattle.clap.specs.Walk.{Rule, Text}
 use Rattle.clap.specs.Simple.{Shape, new_app, with_rule}
-use Rattle.segment_invocation.specs.Invocations.{flag, lines, maybe, operand, operands, option}
+use Rattle.segment_invocation.specs.Invocations.{flag, lines, maybe, operand, operands, option, switch}
 use Rattle.segment_invocation.specs.declared.command_line.CommandWord.{CommandWord}
 use Rattle.segment_invocation.specs.declared.command_line.CommandWord.TheVariants as word
 use Rattle.segment_invocation.specs.declared.command_line.HelpEnd.{HelpEnd}
@@ -16,6 +16,7 @@ word_rule (word.Optional name shown help) = maybe name.now
 word_rule (word.Short name letter shown help) = lines name.now letter
 word_rule (word.Option name shown help) = option name.now
 word_rule (word.Flag name help) = flag name.now
+word_rule (word.Switch name letter help) = switch name.now letter
 
 -- a command's name, what it does, what its help has at the end, and its words
 abbrev pub CommandSpec : Type 0

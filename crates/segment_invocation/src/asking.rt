@@ -1,25 +1,23 @@
 //! What the words of a command line ask for.
 ghost use Rattle.std.specs.Prelude.{◌≡◌, false, Some, None, Ok, Err, map, drop, codes, IfErr, IfOk, MatchResult};
-ghost use Rattle.std.specs.Prelude.{IfSome, option_map, option_and_then, unwrap_or};
-ghost use Rattle.std.specs.List.{list_any};
-ghost use Rattle.std.specs.Str.{bytes_eq};
+ghost use Rattle.std.specs.Prelude.{option_map, option_and_then};
 ghost use Rattle.clap.specs.{Matches.found_of, Values.kind_of, Walk.first_of, Walk.rows_of};
 ghost use Rattle.clap.specs.declared.error.kind.ErrorKind.TheVariants.{DisplayVersion, OutOfMemory as NoMemory};
 ghost use Rattle.segment_lang.specs.Words.{number_of};
-ghost use Rattle.segment_invocation.specs.Invocations.{InvocationValue, IsAskedBy, IsWritten, IsWrongBy, ParsesTo};
-ghost use Rattle.segment_invocation.specs.Invocations.{asked_as, asked_by};
-ghost use Rattle.segment_invocation.specs.Invocations.{asked_change, asked_check, asked_in, asked_run, is_set, list_of};
-ghost use Rattle.segment_invocation.specs.Invocations.{many_files, mode_of, no_mode, no_number, origin_by, origin_of};
-ghost use Rattle.segment_invocation.specs.Invocations.{run_words, saving_of, seconds_of, size_of, two_scripts};
-ghost use Rattle.segment_invocation.specs.Invocations.{wrong_by, wrong_in, wrong_run};
-ghost use Rattle.segment_invocation.specs.declared.invocations.Invocation.TheVariants.{Version};
+ghost use Rattle.segment_invocation.specs.Invocations.{InvocationValue, IsAskedBy, IsRequestedBy, IsRequestWritten};
+ghost use Rattle.segment_invocation.specs.Invocations.{IsWritten, IsWrongBy, ParsesTo, RequestValue};
+ghost use Rattle.segment_invocation.specs.Invocations.{asked_as, asked_by, asked_in, asked_run, dumped_of, is_set};
+ghost use Rattle.segment_invocation.specs.Invocations.{json_capacities, list_of, mode_in, no_number};
+ghost use Rattle.segment_invocation.specs.Invocations.{of_version, options_by, options_of, origin_by, origin_of};
+ghost use Rattle.segment_invocation.specs.Invocations.{request_by, requested_in, saving_of, seconds_of, size_of};
+ghost use Rattle.segment_invocation.specs.Invocations.{two_scripts, wrong_by, wrong_command, wrong_filed, wrong_in};
+ghost use Rattle.segment_invocation.specs.Invocations.{wrong_mode, wrong_options, wrong_run};
 ghost use Rattle.segment_invocation.specs.declared.usage.InvocationFault.TheVariants.{OutOfMemory, Usage};
 ghost use Rattle.segment_invocation.specs.declared.usage.UsageError.TheVariants.{Words};
 
 use crate::command_line::command_line;
 use crate::invocations::{
-    AnswerOptions, FileChange, FileCommand, FileOptions, Invocation, ModeName, Report, RunOptions,
-    Script,
+    AnswerOptions, FileCommand, FileOptions, Invocation, ModeName, Options, Report, Request, Script,
 };
 use crate::nearest::nearest_mode;
 use crate::usage::{InvocationFault, UsageError};
@@ -51,10 +49,17 @@ fn texts_in<'a>(alloc: Global, words: &ArgMatches<'a>, id: &str) -> Result<Vec<&
 
 /// Returns the mode of a run, `open_only` if none is named.
 fn mode_in(alloc: Global, words: &ArgMatches<'_>) -> Result<ModeName, UsageError>
-    ensures read { ParsesTo (mode_of (first_of (codes "mode") (rows_of (found_of words.now)))) result }
-    ensures error { IfErr result (λ e. wrong_by e ≡ Some no_mode) }
+    ensures read { ParsesTo (mode_in (rows_of (found_of words.now))) result }
+    ensures error { IfErr result (λ e. wrong_by e ≡ Some (wrong_mode (rows_of (found_of words.now)))) }
 {
-    match word_of(words, "mode") {
+    let mode = word_of(words, "mode");
+    if is_set(words, "read-only") {
+        return match mode {
+            Some(_) => Err(UsageError::Modes),
+            None => Ok(ModeName::OpenReadOnly),
+        };
+    }
+    match mode {
         Some(word) => match ModeName::from_word(word) {
             Some(mode) => Ok(mode),
             None => Err(UsageError::Mode(nearest_mode(alloc, word))),
@@ -131,123 +136,78 @@ fn script_in<'a>(words: &ArgMatches<'a>, lines: Vec<&'a str>) -> Result<Script<'
     }
 }
 
-/// Returns what the words of the command `run` ask for, of a file, with the lines that stand among them.
+/// Returns what the words of the command `run` ask for, of a file.
 fn read_run<'a>(
     alloc: Global,
     file: &'a str,
     words: &ArgMatches<'a>,
-    lines: Vec<&'a str>,
 ) -> Result<Invocation<'a>, UsageError>
-    requires file { first_of (codes "file") (rows_of (found_of words.now)) ≡ Some file.now }
-    requires lines { map (λ l. l.now) lines.items ≡ list_of (codes "line") (rows_of (found_of words.now)) }
-    ensures read { MatchResult result (λ i. asked_run (rows_of (found_of words.now)) ≡ Some (asked_by i))
-        (λ e. asked_run (rows_of (found_of words.now)) ≡ None) }
-    ensures error { IfErr result (λ e. wrong_by e ≡ Some (wrong_run (run_words (rows_of (found_of words.now))))) }
+    ensures read { MatchResult result (λ i. asked_run file.now (rows_of (found_of words.now)) ≡ Some (asked_by i))
+        (λ e. asked_run file.now (rows_of (found_of words.now)) ≡ None) }
+    ensures error { IfErr result (λ e. wrong_by e ≡ Some (wrong_run (rows_of (found_of words.now)))) }
 {
     let mode = mode_in(alloc, words)?;
     let size = count_in(words, "size")?;
     if mode.wants_size() && size.is_none() {
         return Err(UsageError::Size);
     }
-    let keeping = keeping_in(words)?;
-    let running = RunOptions {
-        script: script_in(words, lines)?,
-        keeping,
-        answering: AnswerOptions {
-            strict: is_set(words, "strict"),
-            numbered: is_set(words, "numbered"),
-        },
-    };
-    if running.is_plain() {
-        return Ok(Invocation::Run(file, mode, size));
-    }
-    Ok(Invocation::RunWith(file, mode, size, running))
+    Ok(Invocation::Run(file, mode, size))
 }
 
-/// Returns what the words of the command `check` ask for, of these files, the first of which this is.
-fn read_check<'a>(
-    file: &'a str,
-    words: &ArgMatches<'a>,
-    files: Vec<&'a str>,
-) -> Result<Invocation<'a>, UsageError>
-    requires file { first_of (codes "file") (rows_of (found_of words.now)) ≡ Some file.now }
-    requires files { map (λ f. f.now) files.items ≡ list_of (codes "file") (rows_of (found_of words.now)) }
-    ensures read { MatchResult result (λ i. asked_check (rows_of (found_of words.now)) ≡ Some (asked_by i))
-        (λ e. asked_check (rows_of (found_of words.now)) ≡ None) }
-    ensures error { IfErr result (λ e. wrong_by e ≡ Some many_files) }
+/// Returns what a dump tells.
+fn dump_in(words: &ArgMatches<'_>) -> Result<Report, UsageError>
+    ensures read { ParsesTo (dumped_of (rows_of (found_of words.now))) result }
+    ensures error { IfErr result (λ e. wrong_by e ≡ Some json_capacities) }
 {
-    let are_many = files.len() > 1;
-    match (is_set(words, "explain"), is_set(words, "quiet")) {
-        (true, _) if are_many => Err(UsageError::Files),
-        (true, _) => Ok(Invocation::Explain(file)),
-        (false, false) if !are_many => Ok(Invocation::Check(file)),
-        (false, is_quiet) => Ok(Invocation::CheckAll(files, is_quiet)),
+    match (is_set(words, "json"), is_set(words, "capacities")) {
+        (true, true) => Err(UsageError::Capacities),
+        (true, false) => Ok(Report::Json),
+        (false, true) => Ok(Report::Capacities),
+        (false, false) => Ok(Report::Dump),
     }
 }
 
-/// Returns a change of the segment in a file, with how that file is taken and saved if an option says so.
-fn change_of<'a>(file: &'a str, change: FileChange, keeping: FileOptions) -> Invocation<'a>
-    ensures { asked_by result ≡ asked_change file.now change keeping.saving keeping.wait }
-{
-    match change {
-        _ if !keeping.is_plain() => Invocation::ChangeWith(file, change, keeping),
-        FileChange::Grow(bytes) => Invocation::Grow(file, bytes),
-        FileChange::Shrink => Invocation::Shrink(file),
-        FileChange::Migrate => Invocation::Migrate(file),
-    }
-}
-
-/// Returns what the words of a command with this one file ask for.
+/// Returns what the words of a command with this file ask for.
 fn read_filed<'a>(
+    alloc: Global,
     command: FileCommand,
     file: &'a str,
     words: &ArgMatches<'a>,
 ) -> Result<Invocation<'a>, UsageError>
-    requires { first_of (codes "file") (rows_of (found_of words.now)) ≡ Some file.now }
-    ensures read { MatchResult result (λ i. asked_as (Some command) (rows_of (found_of words.now)) ≡ Some (asked_by i))
-        (λ e. asked_as (Some command) (rows_of (found_of words.now)) ≡ None) }
-    ensures error { IfErr result (λ e. wrong_by e ≡ Some no_number) }
+    ensures read { MatchResult result
+        (λ i. asked_as (Some command) file.now (rows_of (found_of words.now)) ≡ Some (asked_by i))
+        (λ e. asked_as (Some command) file.now (rows_of (found_of words.now)) ≡ None) }
+    ensures error { IfErr result (λ e. wrong_by e
+        ≡ Some (wrong_filed (Some command) (rows_of (found_of words.now)))) }
 {
     match command {
         FileCommand::Create => Ok(Invocation::Create(file, number_in(words)?)),
-        FileCommand::Grow => {
-            let bytes = number_in(words)?;
-            Ok(change_of(file, FileChange::Grow(bytes), keeping_in(words)?))
-        }
-        FileCommand::Shrink => Ok(change_of(file, FileChange::Shrink, keeping_in(words)?)),
-        FileCommand::Migrate => Ok(change_of(file, FileChange::Migrate, keeping_in(words)?)),
+        FileCommand::Run => read_run(alloc, file, words),
+        FileCommand::Check => Ok(Invocation::Check(file)),
+        FileCommand::Grow => Ok(Invocation::Grow(file, number_in(words)?)),
+        FileCommand::Shrink => Ok(Invocation::Shrink(file)),
+        FileCommand::Migrate => Ok(Invocation::Migrate(file)),
         FileCommand::Stat => Ok(Invocation::Tell(file, Report::Figures)),
         FileCommand::Draw if is_set(words, "html") => Ok(Invocation::Tell(file, Report::Page)),
         FileCommand::Draw => Ok(Invocation::Tell(file, Report::Picture)),
-        FileCommand::Dump if is_set(words, "json") => Ok(Invocation::Tell(file, Report::Json)),
-        FileCommand::Dump if is_set(words, "capacities") => {
-            Ok(Invocation::Tell(file, Report::Capacities))
-        }
-        FileCommand::Dump => Ok(Invocation::Tell(file, Report::Dump)),
+        FileCommand::Dump => Ok(Invocation::Tell(file, dump_in(words)?)),
         FileCommand::Names => {
             let most = count_in(words, "most")?;
             Ok(Invocation::Names(file, word_of(words, "prefix").unwrap_or(""), most))
         }
-        FileCommand::Load => {
-            let size = count_in(words, "size")?;
-            Ok(Invocation::Load(file, size, keeping_in(words)?))
-        }
+        FileCommand::Load => Ok(Invocation::Load(file, count_in(words, "size")?)),
     }
 }
 
-/// Returns what the words of a command ask for, with this file among them if there is one. It is no run or check of it.
-#[tactic(auto, using(crate::proofs::asking::NamedFiles::lint_asked, crate::proofs::asking::NamedFiles::language_asked, crate::proofs::asking::NamedFiles::without_file))]
-fn read_plain<'a>(
+/// Returns what the words of a command ask for, without its options.
+fn read_command<'a>(
+    alloc: Global,
     name: &str,
-    file: Option<&'a str>,
     words: &ArgMatches<'a>,
 ) -> Result<Invocation<'a>, UsageError>
-    requires file { option_map (λ f. f.now) file ≡ first_of (codes "file") (rows_of (found_of words.now)) }
-    requires name { IfSome file (λ _. (bytes_eq name.now (codes "run") ≡ false)
-        × (bytes_eq name.now (codes "check") ≡ false)) }
     ensures read { MatchResult result (λ i. asked_in name.now (rows_of (found_of words.now)) ≡ Some (asked_by i))
         (λ e. asked_in name.now (rows_of (found_of words.now)) ≡ None) }
-    ensures error { IfErr result (λ e. wrong_by e ≡ Some (wrong_in name.now (rows_of (found_of words.now)))) }
+    ensures error { IfErr result (λ e. wrong_by e ≡ Some (wrong_command name.now (rows_of (found_of words.now)))) }
 {
     if name == "lint" {
         return Ok(Invocation::Lint);
@@ -255,34 +215,65 @@ fn read_plain<'a>(
     if name == "language" {
         return Ok(Invocation::Language);
     }
-    let Some(file) = file else {
+    let Some(file) = word_of(words, "file") else {
         return Err(UsageError::File);
     };
     match FileCommand::from_word(name) {
-        Some(command) => read_filed(command, file, words),
+        Some(command) => read_filed(alloc, command, file, words),
         None => Err(UsageError::Command),
     }
 }
 
-/// Returns what the words of a command ask for.
-fn read_command<'a>(
+/// Returns the options of a command, which has these files, and these lines of a script.
+fn options_in<'a>(
+    words: &ArgMatches<'a>,
+    files: Vec<&'a str>,
+    lines: Vec<&'a str>,
+) -> Result<Options<'a>, UsageError>
+    requires files { map (λ f. f.now) files.items ≡ list_of (codes "file") (rows_of (found_of words.now)) }
+    requires lines { map (λ l. l.now) lines.items ≡ list_of (codes "line") (rows_of (found_of words.now)) }
+    ensures read { MatchResult result (λ o. options_of (rows_of (found_of words.now)) ≡ Some (options_by o))
+        (λ e. options_of (rows_of (found_of words.now)) ≡ None) }
+    ensures error { IfErr result (λ e. wrong_by e ≡ Some (wrong_options (rows_of (found_of words.now)))) }
+{
+    let keeping = keeping_in(words)?;
+    let script = script_in(words, lines)?;
+    let explain = is_set(words, "explain");
+    if explain && files.len() > 1 {
+        return Err(UsageError::Files);
+    }
+    Ok(Options {
+        script,
+        files,
+        keeping,
+        answering: AnswerOptions {
+            strict: is_set(words, "strict"),
+            numbered: is_set(words, "numbered"),
+        },
+        explain,
+        quiet: is_set(words, "quiet"),
+        verbose: is_set(words, "verbose"),
+    })
+}
+
+/// Returns what the words of a command ask for. The command is read before its options.
+fn read_request<'a>(
     alloc: Global,
     name: &str,
     words: &ArgMatches<'a>,
     files: Vec<&'a str>,
     lines: Vec<&'a str>,
-) -> Result<Invocation<'a>, UsageError>
+) -> Result<Request<'a>, UsageError>
     requires files { map (λ f. f.now) files.items ≡ list_of (codes "file") (rows_of (found_of words.now)) }
     requires lines { map (λ l. l.now) lines.items ≡ list_of (codes "line") (rows_of (found_of words.now)) }
-    ensures read { MatchResult result (λ i. asked_in name.now (rows_of (found_of words.now)) ≡ Some (asked_by i))
-        (λ e. asked_in name.now (rows_of (found_of words.now)) ≡ None) }
+    ensures read { MatchResult result
+        (λ r. requested_in name.now (rows_of (found_of words.now)) ≡ Some (request_by r))
+        (λ e. requested_in name.now (rows_of (found_of words.now)) ≡ None) }
     ensures error { IfErr result (λ e. wrong_by e ≡ Some (wrong_in name.now (rows_of (found_of words.now)))) }
 {
-    match word_of(words, "file") {
-        Some(file) if name == "run" => read_run(alloc, file, words, lines),
-        Some(file) if name == "check" => read_check(file, words, files),
-        file => read_plain(name, file, words),
-    }
+    let command = read_command(alloc, name, words)?;
+    let options = options_in(words, files, lines)?;
+    Ok(Request { command, options })
 }
 
 /// Returns what the words of a command ask for, after taking from them those that there may be more of.
@@ -290,28 +281,31 @@ fn read_found<'a>(
     alloc: Global,
     name: &str,
     words: &ArgMatches<'a>,
-) -> Result<Invocation<'a>, InvocationFault>
-    ensures read { IfOk result (λ i. asked_in name.now (rows_of (found_of words.now)) ≡ Some (asked_by i)) }
+) -> Result<Request<'a>, InvocationFault>
+    ensures read { IfOk result (λ r. requested_in name.now (rows_of (found_of words.now)) ≡ Some (request_by r)) }
     ensures refused { (w : UsageError) → result ≡ Err (Usage w)
-        → (asked_in name.now (rows_of (found_of words.now)) ≡ None)
+        → (requested_in name.now (rows_of (found_of words.now)) ≡ None)
         × (wrong_by w ≡ Some (wrong_in name.now (rows_of (found_of words.now)))) }
 {
     let files = texts_in(alloc, words, "file")?;
     let lines = texts_in(alloc, words, "line")?;
-    Ok(read_command(alloc, name, words, files, lines)?)
+    Ok(read_request(alloc, name, words, files, lines)?)
 }
 
 /// Returns what words without a command ask for: the version or help, or says that they are wrong.
-fn read_other<'a>(other: Misread) -> Result<Invocation<'a>, InvocationFault>
-    ensures version { kind_of other ≡ DisplayVersion → result ≡ Ok Version }
+fn read_other<'a>(alloc: Global, other: Misread) -> Result<Request<'a>, InvocationFault>
+    ensures version { kind_of other ≡ DisplayVersion → MatchResult result (λ r. request_by r ≡ of_version) (λ e. ⊥) }
     ensures memory { kind_of other ≡ NoMemory → result ≡ Err OutOfMemory }
     ensures error { (kind_of other ≡ DisplayVersion → ⊥) → (kind_of other ≡ NoMemory → ⊥)
         → result ≡ Err (Usage (Words other)) }
-    ensures uniqueness { IfOk result (λ i. (i ≡ Version) × (kind_of other ≡ DisplayVersion)) }
+    ensures uniqueness { IfOk result (λ r. (request_by r ≡ of_version) × (kind_of other ≡ DisplayVersion)) }
     ensures result { (w : UsageError) → result ≡ Err (Usage w) → (w ≡ Words other) × (kind_of other ≡ NoMemory → ⊥) }
 {
     if other.kind() == ErrorKind::DisplayVersion {
-        return Ok(Invocation::Version);
+        return Ok(Request {
+            command: Invocation::Version,
+            options: Options::none(alloc),
+        });
     }
     Err(InvocationFault::from(other))
 }
@@ -322,6 +316,27 @@ fn read_other<'a>(other: Misread) -> Result<Invocation<'a>, InvocationFault>
 ///
 /// `Usage` if it is wrong or asks for help; it says what is wrong, or has the help. `OutOfMemory` if memory for reading
 /// it was refused.
+pub fn request<'a>(alloc: Global, words: &'a [&'a str]) -> Result<Request<'a>, InvocationFault>
+    ensures read { IfOk result (λ r. IsRequestedBy (map (λ s. s.now) words.now) (request_by r)) }
+    ensures input { (a : RequestValue) → IsRequestWritten a (drop 1 (map (λ s. s.now) words.now))
+        → MatchResult result (λ r. request_by r ≡ a) (λ e. e ≡ OutOfMemory) }
+    ensures refused { (w : UsageError) → result ≡ Err (Usage w) → IsWrongBy (map (λ s. s.now) words.now) w }
+{
+    let matches = match command_line(alloc)?.try_get_matches_from(words) {
+        Ok(matches) => matches,
+        Err(other) => return read_other(alloc, other),
+    };
+    match matches.subcommand() {
+        Some((name, found)) => read_found(alloc, name, found),
+        None => Err(InvocationFault::Usage(UsageError::Command)),
+    }
+}
+
+/// Returns which command a command line asks for, whatever its options are. Its first word is the program's name.
+///
+/// # Errors
+///
+/// Those of [`request`].
 pub fn invocation<'a>(
     alloc: Global,
     words: &'a [&'a str],
@@ -331,19 +346,8 @@ pub fn invocation<'a>(
         → MatchResult result (λ i. asked_by i ≡ a) (λ e. e ≡ OutOfMemory) }
     ensures refused { (w : UsageError) → result ≡ Err (Usage w) → IsWrongBy (map (λ s. s.now) words.now) w }
 {
-    let matches = match command_line(alloc)?.try_get_matches_from(words) {
-        Ok(matches) => matches,
-        Err(other) => return read_other(other),
-    };
-    match matches.subcommand() {
-        Some((name, found)) => read_found(alloc, name, found),
-        None => Err(InvocationFault::Usage(UsageError::Command)),
+    match request(alloc, words) {
+        Ok(asked) => Ok(asked.command),
+        Err(fault) => Err(fault),
     }
-}
-
-/// Tells whether one of the words of a command line is `--verbose`.
-pub fn is_verbose(words: &[&str]) -> bool
-    ensures { result ≡ list_any (λ word. bytes_eq word.now (codes "--verbose")) words.now }
-{
-    words.contains(&"--verbose")
 }

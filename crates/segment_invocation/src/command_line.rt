@@ -2,7 +2,7 @@
 ghost use Rattle.std.specs.Prelude.{◌≡◌, false, fold, map, IfOk};
 ghost use Rattle.clap.specs.{Walk.rule_of, Simple.app_of, Simple.new_app, Simple.with_rule, Simple.with_subcommand};
 ghost use Rattle.clap.specs.declared.builder.command.Command.TheViews.{out-Command as fields_of};
-ghost use Rattle.segment_invocation.specs.Invocations.{command_line, maybe, program};
+ghost use Rattle.segment_invocation.specs.Invocations.{command_line, flag, maybe, program};
 ghost use Rattle.segment_invocation.specs.Table.{row_shape, word_rule};
 
 use crate::version::VERSION;
@@ -109,6 +109,8 @@ pub enum CommandWord {
     Short(&'static str, char, &'static str, &'static str),
     /// A name that stands alone, and may be left out.
     Flag(&'static str, &'static str),
+    /// A name that stands alone, or its letter after a hyphen, and may be left out.
+    Switch(&'static str, char, &'static str),
 }
 
 /// What help has at the end. The table of commands has no such text itself: its proof grows with each byte.
@@ -171,6 +173,12 @@ const BYTES: CommandWord = CommandWord::Operand("number", "BYTES", "A multiple o
 
 const MODE: CommandWord = CommandWord::Option("mode", "MODE", "One of the five modes below");
 
+const READ_ONLY: CommandWord = CommandWord::Switch(
+    "read-only",
+    'r',
+    "The mode open_read_only, in the place of --mode",
+);
+
 const RUN_SIZE: CommandWord = CommandWord::Option("size", "SIZE", SIZES);
 
 const REPLACE: CommandWord = CommandWord::Flag(
@@ -182,6 +190,17 @@ const WAIT: CommandWord = CommandWord::Option(
     "wait",
     "SECONDS",
     "How long to wait for FILE where another program writes it; without it that is told at once",
+);
+
+const WHOLE: CommandWord = CommandWord::Flag(
+    "replace",
+    "FILE gets its name when it is whole: what ends the program before leaves no FILE",
+);
+
+const WAIT_TO_READ: CommandWord = CommandWord::Option(
+    "wait",
+    "SECONDS",
+    "How long to wait for FILE where another program writes it; without it FILE is read as it is",
 );
 
 const STRICT: CommandWord = CommandWord::Flag(
@@ -240,23 +259,38 @@ const VERBOSE: CommandWord = CommandWord::Flag(
 
 /// The commands, in the order in which help has them.
 static COMMANDS: [Row; 13] = [
-    ("create", CREATE, None, &[FILE, SIZE, VERBOSE]),
+    ("create", CREATE, None, &[FILE, SIZE, WHOLE, VERBOSE]),
     (
         "run",
         RUN,
         Some(HelpEnd::Modes),
         &[
-            FILE, SCRIPT, MODE, RUN_SIZE, LINE, REPLACE, STRICT, NUMBERED, WAIT, VERBOSE,
+            FILE, SCRIPT, MODE, RUN_SIZE, LINE, READ_ONLY, REPLACE, STRICT, NUMBERED, WAIT, VERBOSE,
         ],
     ),
-    ("check", CHECK, None, &[FILES, EXPLAIN, QUIET, VERBOSE]),
+    (
+        "check",
+        CHECK,
+        None,
+        &[FILES, EXPLAIN, QUIET, WAIT_TO_READ, VERBOSE],
+    ),
     ("grow", GROW, None, &[FILE, BYTES, REPLACE, WAIT, VERBOSE]),
     ("shrink", SHRINK, None, &[FILE, REPLACE, WAIT, VERBOSE]),
     ("migrate", MIGRATE, None, &[FILE, REPLACE, WAIT, VERBOSE]),
-    ("stat", STAT, None, &[FILE, VERBOSE]),
-    ("draw", DRAW, None, &[FILE, HTML, VERBOSE]),
-    ("dump", DUMP, None, &[FILE, CAPACITIES, JSON, VERBOSE]),
-    ("names", NAMES, None, &[FILE, PREFIX, MOST, VERBOSE]),
+    ("stat", STAT, None, &[FILE, WAIT_TO_READ, VERBOSE]),
+    ("draw", DRAW, None, &[FILE, HTML, WAIT_TO_READ, VERBOSE]),
+    (
+        "dump",
+        DUMP,
+        None,
+        &[FILE, CAPACITIES, JSON, WAIT_TO_READ, VERBOSE],
+    ),
+    (
+        "names",
+        NAMES,
+        None,
+        &[FILE, PREFIX, MOST, WAIT_TO_READ, VERBOSE],
+    ),
     ("load", LOAD, None, &[FILE, LOADED, REPLACE, WAIT, VERBOSE]),
     ("lint", LINT, None, &[VERBOSE]),
     ("language", LANGUAGE, Some(HelpEnd::Words), &[VERBOSE]),
@@ -268,6 +302,17 @@ fn valued_arg<'a>(alloc: Global, name: &'a str, shown: &'a str, help: &'a str) -
     ensures local { result.global ≡ false }
 {
     Arg::new(alloc, name).value_name(shown).help(help)
+}
+
+/// Returns a name that stands alone, for clap.
+fn flag_arg<'a>(alloc: Global, name: &'a str, help: &'a str) -> Arg<'a>
+    ensures rule { rule_of result ≡ flag name.now }
+    ensures local { result.global ≡ false }
+{
+    Arg::new(alloc, name)
+        .long(name)
+        .action(ArgAction::SetTrue)
+        .help(help)
 }
 
 /// Returns a word of a command, for clap.
@@ -289,10 +334,8 @@ fn arg_of<'a>(alloc: Global, word: &CommandWord) -> Arg<'a>
         CommandWord::Option(name, shown, help) => valued_arg(alloc, name, shown, help)
             .long(name)
             .action(ArgAction::Set),
-        CommandWord::Flag(name, help) => Arg::new(alloc, name)
-            .long(name)
-            .action(ArgAction::SetTrue)
-            .help(help),
+        CommandWord::Flag(name, help) => flag_arg(alloc, name, help),
+        CommandWord::Switch(name, letter, help) => flag_arg(alloc, name, help).short(letter),
     }
 }
 

@@ -1,18 +1,21 @@
 //! What the program may be asked for.
-ghost use Rattle.std.specs.Prelude.{◌≡◌, true, IfOk};
-ghost use Rattle.segment_invocation.specs.Invocations.{command_called, is_plain, is_plain_run, mode_called, origin_by};
-ghost use Rattle.segment_invocation.specs.Invocations.{script_text};
-ghost use Rattle.segment_invocation.specs.Invocations.{wants_size};
+ghost use Rattle.std.specs.Prelude.{◌≡◌, IfOk};
+ghost use Rattle.segment_invocation.specs.Invocations.{command_called, mode_called, no_options, options_by};
+ghost use Rattle.segment_invocation.specs.Invocations.{script_text, wants_size};
 
 use raw_region::{OutOfMemory, append};
 use segment_disk::SaveMode;
 use std::alloc::Global;
 
-/// A command that takes one file, and no lines.
+/// A command that takes a file.
 #[derive(Clone, Copy)]
 pub(crate) enum FileCommand {
     /// `create`: a file is made, with an empty segment.
     Create,
+    /// `run`: a script is run.
+    Run,
+    /// `check`: files are checked.
+    Check,
     /// `grow`: free bytes are added at the end.
     Grow,
     /// `shrink`: the free bytes at the end go.
@@ -32,12 +35,14 @@ pub(crate) enum FileCommand {
 }
 
 impl FileCommand {
-    /// Returns the command of a word. `None` is a word that is none of the nine.
+    /// Returns the command of a word. `None` is a word that is none of the eleven.
     pub(crate) fn from_word(word: &str) -> Option<FileCommand>
         ensures { result ≡ command_called word.now }
     {
         match word {
             "create" => Some(FileCommand::Create),
+            "run" => Some(FileCommand::Run),
+            "check" => Some(FileCommand::Check),
             "grow" => Some(FileCommand::Grow),
             "shrink" => Some(FileCommand::Shrink),
             "migrate" => Some(FileCommand::Migrate),
@@ -135,25 +140,6 @@ pub struct FileOptions {
     pub wait: u64,
 }
 
-impl FileOptions {
-    /// Returns the options that hold if the command line gives none.
-    pub fn plain() -> FileOptions
-        ensures { is_plain result.saving result.wait ≡ true }
-    {
-        FileOptions {
-            saving: SaveMode::InPlace,
-            wait: 0,
-        }
-    }
-
-    /// Tells whether no option says otherwise.
-    pub(crate) fn is_plain(self) -> bool
-        ensures { result ≡ is_plain self.saving self.wait }
-    {
-        matches!(self.saving, SaveMode::InPlace) && self.wait == 0
-    }
-}
-
 /// Where the script of a run comes from.
 #[derive(Drop)]
 pub enum Script<'a> {
@@ -181,83 +167,83 @@ pub fn script_text(alloc: Global, lines: &[&str]) -> Result<Vec<u8>, OutOfMemory
     Ok(text)
 }
 
-/// What a run is asked for beside its file, mode and size.
-#[derive(Drop)]
-pub struct RunOptions<'a> {
-    /// Where its script comes from.
-    pub script: Script<'a>,
-    /// How its file is taken and saved.
-    pub keeping: FileOptions,
-    /// How it answers.
-    pub answering: AnswerOptions,
-}
-
-impl<'a> RunOptions<'a> {
-    /// Returns the options that hold if the command line gives none.
-    pub fn plain() -> RunOptions<'a>
-        ensures { is_plain_run (origin_by result.script) result.keeping.saving result.keeping.wait
-            result.answering.strict result.answering.numbered ≡ true }
-    {
-        RunOptions {
-            script: Script::Input,
-            keeping: FileOptions::plain(),
-            answering: AnswerOptions {
-                strict: false,
-                numbered: false,
-            },
-        }
-    }
-
-    /// Tells whether no option says otherwise.
-    pub(crate) fn is_plain(&self) -> bool
-        ensures { result ≡ is_plain_run (origin_by self.now.script) self.now.keeping.saving self.now.keeping.wait
-            self.now.answering.strict self.now.answering.numbered }
-    {
-        match self.script {
-            Script::Input => {
-                self.keeping.is_plain() && !self.answering.strict && !self.answering.numbered
-            }
-            Script::File(_) | Script::Lines(_) => false,
-        }
-    }
-}
-
-/// What the program is asked for. A file goes by its path, and sizes count bytes.
+/// What the program is to do. A file goes by its path, and sizes count bytes.
 #[derive(Drop)]
 pub enum Invocation<'a> {
     /// To make an empty segment of this size in a file that is not there.
     Create(&'a str, u64),
-    /// To run the script of standard input on the segment in a file, in a mode, with the size of a segment that is
-    /// made. The modes `create_only` and `open_or_create` have a size.
+    /// To run a script on the segment in a file, in a mode, with the size of a segment that is made. The modes
+    /// `create_only` and `open_or_create` have a size.
     Run(&'a str, ModeName, Option<u64>),
-    /// To run a script on the segment in a file, with options.
-    RunWith(&'a str, ModeName, Option<u64>, RunOptions<'a>),
-    /// To check that a file holds a segment.
+    /// To check that a file holds a segment. The options have all files of the command line, this one first.
     Check(&'a str),
-    /// To check that of several files, or of one, and to name those that hold none; of the others nothing if the second
-    /// is true.
-    CheckAll(Vec<&'a str>, bool),
-    /// To check the same, and if it holds none to tell in words why, and which byte shows it.
-    Explain(&'a str),
     /// To make the segment in a file larger by a number of bytes.
     Grow(&'a str, u64),
     /// To make the segment in a file as small as its last block lets it be.
     Shrink(&'a str),
     /// To write the segment in a file, of this format or an older one, in this format.
     Migrate(&'a str),
-    /// To grow, shrink or migrate a segment with options.
-    ChangeWith(&'a str, FileChange, FileOptions),
     /// To tell something of the segment in a file.
     Tell(&'a str, Report),
     /// To print the names of the segment in a file that begin with a text, in their order, at most this number.
     Names(&'a str, &'a str, Option<u64>),
-    /// To make a segment of such a text: of this size, or as long as the text says and cut after its last block. It is
-    /// made in a file that is not there, or is to take the place of the one that is.
-    Load(&'a str, Option<u64>, FileOptions),
+    /// To make a segment of a dump, in a file: of this size, or as long as the dump says and cut after its last block.
+    Load(&'a str, Option<u64>),
     /// To tell which lines of a script are no commands.
     Lint,
     /// To print the commands of a script.
     Language,
     /// To print the program's name and version.
     Version,
+}
+
+/// The options of a command. One that the command does not take has the value that it has if it is left out.
+#[derive(Drop)]
+pub struct Options<'a> {
+    /// Where the script comes from.
+    pub script: Script<'a>,
+    /// All files of the command.
+    pub files: Vec<&'a str>,
+    /// How a file that is written is taken and saved.
+    pub keeping: FileOptions,
+    /// How a script is answered.
+    pub answering: AnswerOptions,
+    /// `--explain`: if the file holds no segment, a text tells why, and which byte shows it.
+    pub explain: bool,
+    /// `--quiet`: nothing is told of a file that holds a segment.
+    pub quiet: bool,
+    /// `--verbose`: a second line says why the command failed.
+    pub verbose: bool,
+}
+
+impl<'a> Options<'a> {
+    /// Returns the options of a command line without any.
+    pub(crate) fn none(alloc: Global) -> Options<'a>
+        ensures { options_by result ≡ no_options }
+    {
+        Options {
+            script: Script::Input,
+            files: Vec::new(alloc),
+            keeping: FileOptions {
+                saving: SaveMode::InPlace,
+                wait: 0,
+            },
+            answering: AnswerOptions {
+                strict: false,
+                numbered: false,
+            },
+            explain: false,
+            quiet: false,
+            verbose: false,
+        }
+    }
+}
+
+/// What a command line asks for: a command, and its options.
+#[derive(Drop)]
+pub struct Request<'a> {
+    /// What the program is to do.
+    pub command: Invocation<'a>,
+    /// How it is to be done.
+    pub options: Options<'a>,
 }

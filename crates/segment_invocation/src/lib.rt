@@ -8,9 +8,9 @@ mod nearest;
 mod usage;
 mod version;
 
-pub use asking::{invocation, is_verbose};
+pub use asking::{invocation, request};
 pub use invocations::{
-    AnswerOptions, FileChange, FileOptions, Invocation, ModeName, Report, RunOptions, Script,
+    AnswerOptions, FileChange, FileOptions, Invocation, ModeName, Options, Report, Request, Script,
     script_text,
 };
 pub use nearest::Tip;

@@ -28,6 +28,9 @@ pub enum UsageError {
     /// The mode is none of the five; the name of the nearest, if one is near.
     #[error("error: a mode is create_only, open_only, open_or_create, open_read_only or open_copy_on_write\n{0}")]
     Mode(Tip),
+    /// The flag of a mode and `--mode` are both given.
+    #[error("error: -r is the mode open_read_only; leave --mode out\n")]
+    Modes,
     /// The mode may make a segment, and no size is given.
     #[error("error: the modes create_only and open_or_create want --size with a number of bytes\n")]
     Size,
@@ -37,6 +40,9 @@ pub enum UsageError {
     /// More than one file is to be explained.
     #[error("error: --explain takes one FILE\n")]
     Files,
+    /// A dump is to be JSON, and to tell capacities, which JSON has no place for.
+    #[error("error: --json tells no capacities; leave --capacities out\n")]
+    Capacities,
 }
 
 /// Why a command line asks for nothing that the program does.

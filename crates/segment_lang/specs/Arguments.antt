@@ -1,4 +1,4 @@
--- What stands after a command word, read one word after another.
+-- The arguments of a command, read word by word.
 use Rattle.std.specs.Prelude.{ℕ, ℤ, Option, Some, None, List, [], ◌∷◌, length, map, ◌==◌, option_and_then}
 use Rattle.std.specs.Prelude.{unwrap_or, if◌then◌else◌}
 use Rattle.raw_region.specs.Format.{current}
@@ -41,7 +41,7 @@ command_of_three g bytes = option_and_then (λ x. g (whole_language current) (x.
 unfoldable pub scalar_at : ScalarKind → ℕ → List ℕ → Option Content
 scalar_at k n bytes = option_and_then (λ x. content (Scalar k) n (x ∷ [])) (only_word bytes)
 
--- a kind, a key, and what an object is made with
+-- a kind, a key, and the initial contents of an object
 unfoldable pub making_at : (Key → Content → Command) → (Language → Word → Option Key) → List ℕ → Option Command
 making_at make key_in bytes = do
   x ← next_two bytes
@@ -76,7 +76,7 @@ counted_values k n bytes =
 abbrev pub scalars_in : TypedNumbers → List ScalarValue
 scalars_in w = map (scalar_of w.kind) w.numbers
 
--- a scalar kind and how many, a key, and as many values
+-- a scalar kind and a count, a key, and this many values
 unfoldable pub making_each_at : List ℕ → Option Command
 making_each_at bytes = do
   x ← next_two bytes

@@ -1,4 +1,4 @@
--- What the definitions of words and numbers mean, by the spelling of what is read.
+-- Laws of words and numbers: the values that are read, and their spelling.
 use Rattle.std.specs.Prelude.{◌≡◌, ◌<◌, ◌≤◌, ◌+◌, length, ◌^◌, ◌↔◌, ◌⊎◌, ℕ, ℤ, pos, negsuc, ◌≤ℤ◌, true, Some, List, []}
 use Rattle.std.specs.Prelude.{◌∷◌, ◌++◌, decimal, take, option_map, option_and_then, if◌then◌else◌}
 use Rattle.std.specs.List.{AllByRecursion, Contains}
@@ -53,7 +53,7 @@ WordsFollow =
     ≡ (if at_end bytes then Some [] else option_and_then (λ x. option_map (λ ws. x.0 ∷ ws) (words x.1))
     (next_word bytes))
 
--- how many words there are, and how many bytes they stand for
+-- the number of words and of their bytes
 abbrev pub room : List Word → ℕ
 room [] = 0
 room (Bare bs ∷ ws) = 1 + length bs + room ws
@@ -71,7 +71,7 @@ LongLinesAreCut = (language : Language) (line : List ℕ) → reading language (
 abbrev pub PrintedKindsAreRead : Type 0
 PrintedKindsAreRead = (l : Language) (k : Kind) → Contains l.kinds k → kind_named l (kind_text k) ≡ Some k
 
--- what is printed is one word, which is the key of the name
+-- the printed text is one word, the key of the name
 pub record IsReadAsName (l : Language) (name printed : List ℕ) : Type 0 where
   pub word : Word
   pub words : words_of printed ≡ Some (word ∷ [])

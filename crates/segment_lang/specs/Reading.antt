@@ -1,4 +1,4 @@
--- What a line means: nothing, a command, or one of three errors.
+-- The meaning of a line: nothing, a command, or one of three errors.
 use Rattle.std.specs.Prelude.{ℕ, ◌+◌, ◌-◌, ℤ, Bool, true, not, ◌&&◌, Option, Some, None, List, [], ◌∷◌, length, find}
 use Rattle.std.specs.Prelude.{replicate, option_map, option_and_then, ◌==◌, nat_lt, nat_le, if◌then◌else◌, codes}
 use Rattle.std.specs.Prelude.{slice_index, take, take_while, drop}
@@ -27,7 +27,7 @@ abbrev pub kind_of_word : Language → Word → Option Kind
 kind_of_word l (Bare w) = kind_named l w
 kind_of_word l (word.Text bs) = None
 
--- a kind, and how many: a scalar kind may have `[k]` after it
+-- a kind and a count: a scalar kind can have `[k]` after it
 abbrev pub counted : Kind → Option ℕ → Option (Kind × ℕ)
 counted (Scalar k) (Some n) = if nat_le 1 n && nat_le n 1048576 then Some (Scalar k, n) else None
 counted k n = None
@@ -36,7 +36,7 @@ counted k n = None
 abbrev pub bracketed : List ℕ → Option ℕ
 bracketed w = if slice_index w (length w - 1) == 0x5D then number_of (take (length w - 1) w) else None
 
--- a kind, and how many: 1, or the number in brackets
+-- a kind and a count: 1, or the number in brackets
 abbrev pub counted_kind : Language → Word → Option (Kind × ℕ)
 counted_kind l (word.Text bs) = None
 counted_kind l (Bare w) = elim (kind_named l w) [
@@ -104,7 +104,7 @@ content (Map k v) n [] = Some (asked.NoPairs k v)
 content Strings n ws = option_map asked.Strings (all quoted_of ws)
 content k n ws = None
 
--- what the words after a command word ask for
+-- reads the words after a command word as a command
 abbrev pub Reader : Type 0
 Reader = Language → List Word → Option Command
 
@@ -189,7 +189,7 @@ destroying_ptr l ws = None
 
 -- ---- the commands
 
--- a command word, and the form of what stands after it
+-- a command word, and the form of its arguments
 abbrev pub Form : Type 0
 Form = List ℕ × Reader
 
@@ -233,7 +233,7 @@ forms =
     ∷ (codes "all_deallocated", alone asked.AllDeallocated)
     ∷ []
 
--- what stands after a command word
+-- the form of a command word, if there is such a command
 abbrev pub form_of : List ℕ → Option Form
 form_of w = find (λ (f : Form). is_word w f.0) forms
 

@@ -1,4 +1,4 @@
--- What the types of the code stand for.
+-- The meanings of the types of the code.
 use Rattle.std.specs.Prelude.{ℕ, ◌+◌, ◌*◌, ◌%◌, List, [], ◌∷◌, Option, Some, option_and_then, option_map, map, find}
 use Rattle.std.specs.Prelude.{◌≤◌, Bool, true, false, length, replicate, ⊤}
 use Rattle.raw_region.specs.Format.{current}
@@ -122,7 +122,7 @@ is_wrong asked.Nothing = false
 is_wrong (asked.Asked c) = false
 is_wrong r = true
 
--- the form of what stands after the word of a deed
+-- the form of a deed's arguments
 abbrev pub deed_reader_of : DeedForm → Reader
 deed_reader_of deed.Construct = making asked.Construct new_key
 deed_reader_of deed.ConstructIt = making_each
@@ -155,7 +155,7 @@ deed_reader_of deed.ZeroFree = alone asked.ZeroFree
 deed_reader_of deed.Sanity = alone asked.Sanity
 deed_reader_of deed.AllDeallocated = alone asked.AllDeallocated
 
--- the form of what stands after a command word
+-- the form of a command's arguments
 abbrev pub reader_of : CommandForm → Reader
 reader_of form.Size = alone asked.Size
 reader_of form.Get = with_key_number asked.Get
@@ -164,28 +164,28 @@ reader_of form.Put = putting
 reader_of form.Pop = with_key asked.Pop key_of
 reader_of (form.Deed d) = deed_reader_of d
 
--- what a command word of a form asks for, with what stands after it
+-- the meaning of a command word's form with these arguments
 abbrev pub reading_by : CommandForm → List ℕ → asked.Reading
 reading_by form rest = as_reading (option_and_then (reader_of form (whole_language current)) (words rest))
 
--- what is read after a command word
+-- the meaning of a line by its start
 abbrev pub reading_led : LineStart → asked.Reading
 reading_led lead.Nothing = asked.Nothing
 reading_led (lead.Form form rest) = reading_by form rest.now
 reading_led (lead.Wrong e) = wrong_reading e
 
--- what a line means, if what stands after its command word has the word's form
+-- the meaning of a line whose arguments have the form of its command word
 abbrev pub reading_of : Reading → Option asked.Reading
 reading_of read.Nothing = Some asked.Nothing
 reading_of (read.Command form rest) =
     option_map asked.Asked (option_and_then (reader_of form (whole_language current)) (words rest.now))
 reading_of (read.Wrong e) = Some (wrong_reading e)
 
--- what a line's first word is the word of, with what is after it
+-- the value of a line's first word, and the rest of the line
 abbrev pub with_rest : {A : Type 0} → List ℕ → Option A → Option (A × List ℕ)
 with_rest {A} line x = option_map (λ (a : A). (a, behind_word line)) x
 
--- a word, and what it is the word of
+-- a word, and its value
 abbrev pub KeywordRow : Type 0 → Type 0
 KeywordRow A = List ℕ × A
 
@@ -196,6 +196,6 @@ place_of (a ∷ []) = 0
 place_of (a ∷ b ∷ []) = 0
 place_of (a ∷ b ∷ c ∷ w) = (a + 6 * c) % 32
 
--- what the first row of a word has
+-- the value in the first row with the word
 abbrev pub found_in : {A : Type 0} → List (KeywordRow A) → List ℕ → Option A
 found_in {A} rows w = option_map (λ (row : KeywordRow A). row.1) (find (λ (row : KeywordRow A). is_word w row.0) rows)

@@ -1,4 +1,4 @@
--- The words of a line one after another: each reader takes what it reads from the front, and answers it with the rest.
+-- The words of a line, read one after another: each reader returns what it read from the front, and the rest.
 use Rattle.std.specs.Prelude.{ℕ, Bool, true, not, ◌||◌, Option, Some, None, List, [], ◌∷◌, length, option_map}
 use Rattle.std.specs.Prelude.{option_and_then, ◌==◌, if◌then◌else◌, take_while, drop, unwrap_or}
 use Rattle.std.specs.List.{list_all}
@@ -13,7 +13,7 @@ o >>= f = option_and_then f o
 abbrev pub at_end : List ℕ → Bool
 at_end bytes = length (skip_blanks bytes) == 0
 
--- the bytes up to a blank, and what is after them
+-- the bytes up to a blank
 abbrev pub up_to_blank : List ℕ → List ℕ
 up_to_blank bytes = take_while (λ c. not (is_blank c)) bytes
 
@@ -37,7 +37,7 @@ digits_at [] = None
 digits_at (h ∷ []) = None
 digits_at (h ∷ l ∷ cs) = option_map (λ c. (c, cs)) (byte_of_digits h l)
 
--- what stands after a backslash
+-- the byte of an escape, after the backslash, and the rest
 unfoldable pub escape_at : List ℕ → Option (ℕ × List ℕ)
 escape_at [] = None
 escape_at (c ∷ cs) = if (c == 0x22) || (c == 0x5C) then Some (c, cs) else if c == 0x78 then digits_at cs else None
@@ -60,7 +60,7 @@ abbrev pub quote_at : List ℕ → Option (List ℕ × List ℕ)
 quote_at [] = None
 quote_at (c ∷ cs) = if c == 0x22 then closed_at cs else None
 
--- what is after the quote that closes a text
+-- the bytes after the quote that closes a text
 abbrev pub behind_quote : List ℕ → Option (List ℕ)
 behind_quote [] = None
 behind_quote (c ∷ cs) = if c == 0x22 then (if ends_word cs then Some cs else None) else None
@@ -87,7 +87,7 @@ unfoldable mutual
   high_digit_at (h ∷ []) = None
   high_digit_at (h ∷ l ∷ cs) = option_and_then (λ c. longer c (text_at cs)) (byte_of_digits h l)
 
--- the bytes that a text stands for, and what is after it
+-- the bytes of a text
 abbrev pub text_in : List ℕ → List ℕ
 text_in bytes = (unwrap_or (text_at bytes) ([], [])).0
 
@@ -95,12 +95,12 @@ text_in bytes = (unwrap_or (text_at bytes) ([], [])).0
 abbrev pub behind_text : List ℕ → Option (List ℕ)
 behind_text bytes = option_map (λ x. x.1) (text_at bytes)
 
--- what is after the quote that opens a text
+-- the bytes after the quote that opens a text
 abbrev pub behind_opening : List ℕ → Option (List ℕ)
 behind_opening [] = None
 behind_opening (c ∷ cs) = if c == 0x22 then Some cs else None
 
--- the bytes that a text stands for: itself; or if the quote that opens it is in front, what stands after this quote
+-- the bytes of the text, if an opening quote is in front; otherwise the bytes themselves
 abbrev pub spelled_bytes : List ℕ → List ℕ
 spelled_bytes bytes = unwrap_or (option_map text_in (behind_opening bytes)) bytes
 
@@ -137,7 +137,7 @@ three_words bytes = do
   y ← two_words x.1
   Some (x.0, y.0, y.1)
 
--- the next two words, and what is after them
+-- the next two words, and the rest
 unfoldable pub next_two : List ℕ → Option (Word × Word × List ℕ)
 next_two bytes = do
   x ← next_word bytes

@@ -31,7 +31,7 @@ digit_of c = if between 0x30 0x39 c then Some (c - 0x30) else if between 0x61 0x
 abbrev pub byte_of_digits : ℕ → ℕ → Option ℕ
 byte_of_digits h l = option_and_then (λ x. option_map (λ y. 16 * x + y) (digit_of l)) (digit_of h)
 
--- what is left to read of a word, and the words after it
+-- the rest of a word, and the words after it
 abbrev pub WordRest : Type 0
 WordRest = Option (List ℕ × List Word)
 

@@ -12,7 +12,7 @@ pub fn is_blank(byte: u8) -> bool
     byte == b' ' || byte == b'\t'
 }
 
-/// Returns what is left after the blanks in front.
+/// Returns the bytes without their leading blanks.
 pub fn skip_blanks(bytes: &[u8]) -> &[u8]
     ensures value { result.now ≡ skip_blanks bytes.now }
     ensures shrinking { length result.now ≤ length bytes.now }

@@ -4,7 +4,7 @@ ghost use Rattle.std.specs.Prelude.{◌≡◌, ◌≤◌, ◌<◌, ◌++◌, ◌
 
 use std::marker::Model;
 
-/// Up to `N` values. What stands after them means nothing.
+/// At most `N` values. Array elements past the length have no meaning.
 #[derive(Drop)]
 pub struct Buffer<T, const N: usize> {
     values: [T; N],
@@ -35,14 +35,14 @@ impl<T: Copy + Default, const N: usize> Buffer<T, N> {
 }
 
 impl<T: Copy, const N: usize> Buffer<T, N> {
-    /// Takes all values out. It costs nothing: what it held is not looked at again.
+    /// Removes all values, at no cost: the old elements are never read again.
     pub fn clear(&mut self)
         ensures { self.new ≡ [] }
     {
         self.len = 0;
     }
 
-    /// Returns how many values it has.
+    /// Returns the number of values.
     pub fn len(&self) -> usize
         ensures { result ≡ length self.now }
     {

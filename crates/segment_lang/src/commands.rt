@@ -1,4 +1,4 @@
-//! What a line asks for. The types hold what they say in place or in the line, and take no memory.
+//! Commands. The types hold values or refer to the line, and allocate nothing.
 
 use crate::forms::CommandForm;
 use crate::lists::{Literals, TextLiterals};
@@ -7,14 +7,14 @@ use crate::values::LiteralValues;
 use crate::words::Quoted;
 use seg_types::{Handle, IndexKey, Key, Kind, LineError, NewKey, ScalarKind, ScalarValue};
 
-/// What an object is made with.
+/// The initial contents of an object.
 #[derive(Drop)]
 pub enum Content<'a> {
     /// Scalars of one value.
     Scalars {
         /// The value.
         value: ScalarValue,
-        /// How many, from 1 to 1048576.
+        /// The number of values, from 1 to 1048576.
         count: u32,
     },
     /// The elements of a vector.
@@ -32,21 +32,21 @@ pub enum Content<'a> {
     },
 }
 
-/// What a line asks for, if it is done once all of the line is read. The other commands are those of [`CommandForm`].
+/// A command that is executed once the whole line is read. [`CommandForm`] has the other commands.
 #[derive(Drop)]
 pub enum Deed<'a> {
     /// Make an object.
     Construct {
         /// The key that it gets.
         key: NewKey<'a>,
-        /// What it is made with.
+        /// The initial contents.
         content: Content<'a>,
     },
     /// Make an array of different values.
     ConstructIt {
         /// The key that it gets.
         key: NewKey<'a>,
-        /// How many values it has, from 1 to 1048576.
+        /// The number of values, from 1 to 1048576.
         count: u32,
         /// A kind, a count, a key and as many values.
         values: LiteralValues<'a>,
@@ -62,7 +62,7 @@ pub enum Deed<'a> {
     FindOrConstruct {
         /// The object's entry.
         key: IndexKey<'a>,
-        /// What it is made with.
+        /// The initial contents.
         content: Content<'a>,
     },
     /// Destroy the object of an entry.
@@ -71,17 +71,17 @@ pub enum Deed<'a> {
     DestroyPtr(Handle),
     /// Print an object's kind and value.
     Show(Key<'a>),
-    /// Print what an object is.
+    /// Print class, name, kind, count and handle of an object.
     Info(Key<'a>),
-    /// Write one element of an object: the object, which element, counted from 0, and what it becomes.
+    /// Set one element: the object, the index from 0 on, and the value.
     Set(Key<'a>, u64, Literal<'a>),
     /// Put an element into a vector: the vector, where it stands then, counted from 0, and the new element.
     Insert(Key<'a>, u64, Literal<'a>),
     /// Take an element out of a vector: the vector, and which element, counted from 0.
     Erase(Key<'a>, u64),
-    /// Make room in an object for as many elements: the object, and how many.
+    /// Reserve capacity: the object, and the number of elements.
     Reserve(Key<'a>, u64),
-    /// Give back the room of an object that no element uses.
+    /// Shrink the capacity of an object to its length.
     Shrink(Key<'a>),
     /// Take all elements out of an object.
     Clear(Key<'a>),
@@ -109,17 +109,17 @@ pub enum Deed<'a> {
     ListKinds,
     /// Print the blocks and gaps by offset.
     Blocks,
-    /// Print how many bytes are free.
+    /// Print the number of free bytes.
     Free,
-    /// Print how many named objects there are.
+    /// Print the number of named objects.
     NumNamed,
-    /// Print how many unique objects there are.
+    /// Print the number of unique objects.
     NumUnique,
     /// Make room in the index of names for as many entries.
     ReserveNamed(u64),
     /// Make room in the index of unique kinds for as many entries.
     ReserveUnique(u64),
-    /// Give back the room of the indexes that no entry uses.
+    /// Shrink the capacities of the indexes to their counts.
     ShrinkIndexes,
     /// Make the free bytes zero.
     ZeroFree,
@@ -134,18 +134,18 @@ pub enum Deed<'a> {
 pub enum LineStart<'a> {
     /// With nothing: it is a comment or has blanks only, and has no answer.
     Nothing,
-    /// With a command word of a form. What stands after the word is to be read.
+    /// A command word with its form, and the arguments, which are not read yet.
     Form(CommandForm, &'a [u8]),
     /// With no command word, or it is too long.
     Wrong(LineError),
 }
 
-/// What a line means.
+/// The meaning of a line.
 #[derive(Drop)]
 pub enum Reading<'a> {
     /// Nothing: it is a comment or has blanks only, and has no answer.
     Nothing,
-    /// A command: the form of its word, and what stands after the word, which has the form.
+    /// A command: the form of its word, and its arguments, which have the form.
     Command(CommandForm, &'a [u8]),
     /// No command.
     Wrong(LineError),

@@ -1,4 +1,4 @@
-//! What an object is made with, as a line writes it.
+//! The initial contents of an object, read from a line.
 
 ghost use Rattle.std.specs.Prelude.{◌≡◌, Some, None, option_and_then, option_map, if◌then◌else◌};
 ghost use Rattle.seg_types.specs.Commands.{Bytes, Elements, NoPairs, Strings};
@@ -61,7 +61,7 @@ fn read_no_pairs(key: ScalarKind, value: ScalarKind, bytes: &[u8]) -> Option<Con
     Some(Content::NoPairs { key, value })
 }
 
-/// Returns what an object of the kind is made with.
+/// Reads the initial contents of an object of the kind.
 pub fn read_content(kind: Kind, count: u32, bytes: &[u8]) -> Option<Content<'_>>
     ensures { option_map content_of result ≡ option_and_then (content kind count) (words bytes.now) }
 {

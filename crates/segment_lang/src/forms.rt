@@ -1,4 +1,4 @@
-//! Command words, and the form of what stands after each.
+//! Command words, each with the form of its arguments.
 
 ghost use Rattle.std.specs.Prelude.{◌≡◌, ◌<◌, [], IsTrue, Some, None, if◌then◌else◌, length, option_and_then};
 ghost use Rattle.std.specs.Prelude.{is_some, option_map, map, slice_index_or};
@@ -22,7 +22,7 @@ use crate::readers::{
 };
 use crate::words::ends_word;
 
-/// How what stands after a command word is written.
+/// The form of a command's arguments.
 #[derive(Clone, Copy, Debug, PartialEq, Eq)]
 pub enum CommandForm {
     /// Nothing: the word alone is the command.
@@ -39,16 +39,16 @@ pub enum CommandForm {
     Deed(DeedForm),
 }
 
-/// How what stands after the command word of a deed is written.
+/// The form of a deed's arguments.
 #[derive(Clone, Copy, Debug, PartialEq, Eq)]
 pub enum DeedForm {
-    /// A kind with a count, a key and what an object of the kind is made with: one value, any number of them or none.
+    /// A kind with a count, a key and the initial contents: one value, any number of values, or none.
     Construct,
     /// A kind with a count, a key and as many values.
     ConstructIt,
     /// A kind and an entry of an index.
     Find,
-    /// A kind with a count, an entry of an index and what an object of the kind is made with.
+    /// A kind with a count, an entry of an index and the initial contents.
     FindOrConstruct,
     /// An entry of an index.
     Destroy,
@@ -173,7 +173,7 @@ static FORMS: [&[(&[u8], CommandForm)]; 32] = [
     ],
 ];
 
-/// Returns what is after a word that stands in front of a line and ends there.
+/// Returns the rest of a line that begins with the word, if the word ends there.
 fn behind<'a>(line: &'a [u8], word: &[u8]) -> Option<&'a [u8]>
     requires { IsTrue (is_unbroken word.now) }
     ensures { option_map (λ rest. rest.now) result
@@ -186,7 +186,7 @@ fn behind<'a>(line: &'a [u8], word: &[u8]) -> Option<&'a [u8]>
     Some(rest)
 }
 
-/// Returns the form of the first row whose word is the first of a line, and what is after it.
+/// Returns the form of the first row whose word is the first word of the line, and the rest of the line.
 fn find_row<'a>(rows: &[(&[u8], CommandForm)], line: &'a [u8]) -> Option<(CommandForm, &'a [u8])>
     requires { IsTrue (list_all (λ row. is_unbroken row.0.now) rows.now) }
     ensures { option_map (λ x. (x.0, x.1.now)) result
@@ -213,7 +213,8 @@ fn place_of(line: &[u8]) -> usize
     }
 }
 
-/// Returns the form of the first row of a line's first word at its place in the table, and what is after the word.
+/// Returns the form of the line's first word, and the rest of the line. It looks at the rows of the word's place in the
+/// table.
 fn find_form<'a>(
     table: &[&[(&[u8], CommandForm)]],
     line: &'a [u8],
@@ -228,8 +229,8 @@ fn find_form<'a>(
     find_row(table[place_of(line)], line)
 }
 
-/// Returns the form of the command word that a line begins with, and what is after the word. `None` is a line whose
-/// first word is none. The word is compared if the table has its place, and its end is not looked for before.
+/// Returns the form of the line's command word, and the arguments; `None` if the first word is no command word. Only
+/// rows at the word's place in the table are compared with it, so the end of the word is not searched before.
 pub fn split_form(line: &[u8]) -> Option<(CommandForm, &[u8])>
     ensures { option_map (λ x. (reader_of x.0, x.1.now)) result
         ≡ with_rest line.now (option_map (λ form. form.1) (form_of (up_to_blank line.now))) }
@@ -237,7 +238,7 @@ pub fn split_form(line: &[u8]) -> Option<(CommandForm, &[u8])>
     find_form(&FORMS, line)
 }
 
-/// Returns the deed that asks for a write of an element, by what stands after its word.
+/// Reads the arguments of the command word set.
 #[inline(never)]
 fn read_set<'a>(bytes: &'a [u8], scratch: &'a mut LineBuffer) -> Option<Deed<'a>>
     ensures { option_map deed_of result ≡ command_of_three (with_key_number_literal asked.Set) bytes.now }
@@ -246,7 +247,7 @@ fn read_set<'a>(bytes: &'a [u8], scratch: &'a mut LineBuffer) -> Option<Deed<'a>
     Some(Deed::Set(key, index, value))
 }
 
-/// Returns the deed that asks for an insertion of an element, by what stands after its word.
+/// Reads the arguments of the command word insert.
 #[inline(never)]
 fn read_insert<'a>(bytes: &'a [u8], scratch: &'a mut LineBuffer) -> Option<Deed<'a>>
     ensures { option_map deed_of result ≡ command_of_three (with_key_number_literal asked.Insert) bytes.now }
@@ -255,7 +256,7 @@ fn read_insert<'a>(bytes: &'a [u8], scratch: &'a mut LineBuffer) -> Option<Deed<
     Some(Deed::Insert(key, index, value))
 }
 
-/// Returns the deed that asks for a removal of an element, by what stands after its word.
+/// Reads the arguments of the command word erase.
 #[inline(never)]
 fn read_erase<'a>(bytes: &'a [u8], scratch: &'a mut LineBuffer) -> Option<Deed<'a>>
     ensures { option_map deed_of result ≡ command_of_two (with_key_number asked.Erase) bytes.now }
@@ -264,7 +265,7 @@ fn read_erase<'a>(bytes: &'a [u8], scratch: &'a mut LineBuffer) -> Option<Deed<'
     Some(Deed::Erase(key, index))
 }
 
-/// Returns the deed that asks for room for elements, by what stands after its word.
+/// Reads the arguments of the command word reserve.
 #[inline(never)]
 fn read_reserve<'a>(bytes: &'a [u8], scratch: &'a mut LineBuffer) -> Option<Deed<'a>>
     ensures { option_map deed_of result ≡ command_of_two (with_key_number asked.Reserve) bytes.now }
@@ -273,7 +274,7 @@ fn read_reserve<'a>(bytes: &'a [u8], scratch: &'a mut LineBuffer) -> Option<Deed
     Some(Deed::Reserve(key, count))
 }
 
-/// Returns the deed that asks for a look-up of a pair, by what stands after its word.
+/// Reads the arguments of the command word lookup.
 #[inline(never)]
 fn read_lookup<'a>(bytes: &'a [u8], scratch: &'a mut LineBuffer) -> Option<Deed<'a>>
     ensures { option_map deed_of result ≡ command_of_two (with_key_literal asked.Lookup) bytes.now }
@@ -282,7 +283,7 @@ fn read_lookup<'a>(bytes: &'a [u8], scratch: &'a mut LineBuffer) -> Option<Deed<
     Some(Deed::Lookup(key, at))
 }
 
-/// Returns the deed that asks for a removal of a pair, by what stands after its word.
+/// Reads the arguments of the command word remove.
 #[inline(never)]
 fn read_remove<'a>(bytes: &'a [u8], scratch: &'a mut LineBuffer) -> Option<Deed<'a>>
     ensures { option_map deed_of result ≡ command_of_two (with_key_literal asked.Remove) bytes.now }
@@ -291,7 +292,7 @@ fn read_remove<'a>(bytes: &'a [u8], scratch: &'a mut LineBuffer) -> Option<Deed<
     Some(Deed::Remove(key, at))
 }
 
-/// Returns the deed that what stands after a command word of this form asks for.
+/// Reads the arguments of a command word of this form.
 pub fn read_deed<'a>(
     form: DeedForm,
     bytes: &'a [u8],
@@ -334,7 +335,7 @@ pub fn read_deed<'a>(
     }
 }
 
-/// Tells whether what stands after a command word has the word's form.
+/// Returns true if the arguments have the form.
 pub fn is_command(form: CommandForm, bytes: &[u8], scratch: &mut LineBuffer) -> bool
     ensures { result ≡ is_some (option_and_then (reader_of form (whole_language current)) (words bytes.now)) }
 {

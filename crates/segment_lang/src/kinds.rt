@@ -87,7 +87,7 @@ pub fn kind_of_word(word: Word<'_>) -> Option<Kind>
     }
 }
 
-/// Returns what stands in front of the first `[`, and what is from there on.
+/// Splits the word before its first `[`.
 fn split_front(word: &[u8]) -> (&[u8], &[u8])
     ensures front { result.0.now ≡ take_while (λ c. not (c == 0x5B)) word.now }
     ensures rest { result.1.now ≡ drop (length result.0.now) word.now }
@@ -102,7 +102,7 @@ fn split_front(word: &[u8]) -> (&[u8], &[u8])
     word.split_at(word.len() - rest.len())
 }
 
-/// Returns what stands in front of the first `[`, and what after it.
+/// Splits the word at its first `[`, which neither part holds.
 fn split_bracket(word: &[u8]) -> (&[u8], &[u8])
     ensures front { result.0.now ≡ take_while (λ c. not (c == 0x5B)) word.now }
     ensures after { result.1.now ≡ drop (length result.0.now + 1) word.now }
@@ -138,7 +138,7 @@ fn counted(kind: Kind, count: Option<u64>) -> Option<(Kind, u32)>
     Some((kind, count as u32))
 }
 
-/// Returns the kind that a bare word is, and how many elements stand in brackets after it: without them 1.
+/// Reads a bare word as a kind, and the number in brackets after it; without brackets the number is 1.
 fn counted_name(word: &[u8]) -> Option<(Kind, u32)>
     ensures { result ≡ counted_kind (whole_language current) (Bare word.now) }
 {
@@ -150,7 +150,7 @@ fn counted_name(word: &[u8]) -> Option<(Kind, u32)>
     counted(kind, bracketed(behind))
 }
 
-/// Returns the kind of the objects that are to be made, and how many elements each has.
+/// Reads a word as the kind of a new object, and its number of values.
 pub fn counted_kind(word: Word<'_>) -> Option<(Kind, u32)>
     ensures { result ≡ counted_kind (whole_language current) (word_of word.entry) }
 {

@@ -1,7 +1,7 @@
-//! The command language: what a line of a script asks for, and how the parts of an answer are printed.
+//! The command language: the commands of a script, and the text of each part of an answer.
 #![tactic(auto)]
 
-// The words of a line, and what they spell.
+// The words of a line, and their values.
 mod blanks;
 mod buffer;
 mod literals;

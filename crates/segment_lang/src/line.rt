@@ -72,7 +72,7 @@ pub fn line_start(line: &[u8]) -> LineStart<'_>
     }
 }
 
-/// Returns what a line means. A name that is spelled with escapes is decoded into `scratch`, whatever it held.
+/// Returns the meaning of a line. A name with escapes is decoded into `scratch`, whose old contents are dropped.
 fn read_line<'a>(line: &'a [u8], scratch: &mut LineBuffer) -> Reading<'a>
     ensures { reading_of result ≡ Some (reading (whole_language current) line.now) }
 {
@@ -89,7 +89,7 @@ fn read_line<'a>(line: &'a [u8], scratch: &mut LineBuffer) -> Reading<'a>
     }
 }
 
-/// Returns what a line means: nothing, a command, or why it is none. It comes without its end, a line feed; one
+/// Returns the meaning of a line: nothing, a command, or a syntax error. The line is passed without its line feed; one
 /// carriage return at its end is dropped.
 pub fn parse_line(line: &[u8]) -> Reading<'_>
     ensures reading { reading_of result ≡ Some (reading (whole_language current) line.now) }

@@ -10,7 +10,7 @@ use crate::literals::{Literal, literal_of, quoted_of};
 use crate::words::{Quoted, next_word};
 use std::marker::Model;
 
-/// Values of any form. They are read from the line when they are asked for, in order.
+/// Values of any form. The iterator reads them from the line, in order.
 #[derive(Drop)]
 pub struct Literals<'a> {
     // What of the line is left: each word of it is a value.
@@ -43,7 +43,7 @@ impl<'a> Iterator for Literals<'a> {
     }
 }
 
-/// Texts. They are read from the line when they are asked for, in order.
+/// Texts. The iterator reads them from the line, in order.
 #[derive(Drop)]
 pub struct TextLiterals<'a> {
     // What of the line is left: each word of it is a text.

@@ -1,4 +1,4 @@
-//! Commands by the form of what stands after their word.
+//! Readers of commands, one for each form of arguments.
 
 ghost use Rattle.std.specs.Prelude.{◌≡◌, ℕ, Some, None, option_and_then, option_map, if◌then◌else◌};
 ghost use Rattle.seg_types.specs.Commands as asked;
@@ -24,8 +24,7 @@ use crate::values::read_values;
 use crate::words::{next_two, next_word, only_word, three_words, two_words};
 use seg_types::{Key, Kind};
 
-/// Returns a kind with a count, a key and what an object of the kind is made with: one value, any number of them or
-/// none.
+/// Reads a kind with a count, a key and the initial contents: one value, any number of values, or none.
 #[tactic(auto, unfolding(crate::specs::Arguments::making_at))]
 #[inline(never)]
 pub fn read_construct<'a>(bytes: &'a [u8], scratch: &'a mut LineBuffer) -> Option<Deed<'a>>
@@ -38,7 +37,7 @@ pub fn read_construct<'a>(bytes: &'a [u8], scratch: &'a mut LineBuffer) -> Optio
     Some(Deed::Construct { key, content })
 }
 
-/// Returns a kind with a count, an entry of an index and what an object of the kind is made with.
+/// Reads a kind with a count, an entry of an index and the initial contents.
 #[tactic(auto, unfolding(crate::specs::Arguments::making_at))]
 #[inline(never)]
 pub fn read_find_or_construct<'a>(bytes: &'a [u8], scratch: &'a mut LineBuffer) -> Option<Deed<'a>>

@@ -1,5 +1,4 @@
-//! Laws about the definitions that the contracts cite. These functions do nothing; what they ensure
-//! is proved.
+//! Laws about the definitions of the contracts. The functions do nothing; their contracts are proved.
 
 ghost use Rattle.segment_lang.specs.Laws.{LongLinesAreCut, NumbersAreDecimals, PrintedKindsAreRead};
 ghost use Rattle.segment_lang.specs.Laws.{PrintedNamesAreRead, PrintedTextsAreRead, TextsAreSpelled, WholesAreDecimals};
@@ -36,7 +35,7 @@ pub fn printed_names_are_read()
     ensures { PrintedNamesAreRead }
 {}
 
-/// States that all words of a line are those that are read one after another.
+/// States that the words of a line are the words that repeated reading of the next word finds.
 pub fn words_follow()
     ensures { WordsFollow }
 {}
@@ -46,7 +45,7 @@ pub fn words_have_room()
     ensures { WordsHaveRoom }
 {}
 
-/// States that of a line that is too long, the first 4098 bytes say so: the others can be dropped.
+/// States that the first 4098 bytes of a line that is too long show that it is: the other bytes can be dropped.
 pub fn long_lines_are_cut()
     ensures { LongLinesAreCut }
 {}

@@ -12,7 +12,7 @@ use crate::words::next_word;
 use seg_types::{ScalarKind, ScalarValue};
 use std::marker::Model;
 
-/// Values of one kind. They are read from the line when they are asked for, in order.
+/// Values of one kind. The iterator reads them from the line, in order.
 #[derive(Drop)]
 pub struct LiteralValues<'a> {
     kind: ScalarKind,
@@ -55,7 +55,7 @@ impl Iterator for LiteralValues<'_> {
     }
 }
 
-/// Returns how many values of the kind the words are, or `None` if one is no such value.
+/// Returns the number of values, or `None` if a word is no value of the kind.
 fn count_values(kind: ScalarKind, bytes: &[u8]) -> Option<usize>
     ensures { result ≡ option_map length (numbers_at kind bytes.now) }
 {

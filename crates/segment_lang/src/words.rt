@@ -16,8 +16,7 @@ use crate::buffer::LineBuffer;
 use seg_types::Name;
 use std::marker::Model;
 
-/// The bytes that a text in quotes stands for. If the line escapes one, they are read from it when they are asked
-/// for.
+/// The bytes of a text in quotes. If the line has escapes, iteration decodes them.
 #[derive(Drop)]
 pub struct Quoted<'a> {
     // The bytes; or, if one is escaped, the line from the quote that opens the text on. Bytes that are not escaped have
@@ -104,7 +103,7 @@ fn is_bare(byte: u8) -> bool
     byte.is_ascii_graphic() && byte != b'"'
 }
 
-/// Returns the bytes in front that may stand in a bare word, and what is from the first other one on.
+/// Splits the bytes at the first one that no bare word can hold.
 fn split_bare(bytes: &[u8]) -> (&[u8], &[u8])
     ensures front { result.0.now ≡ take (prefix_len is_bare bytes.now) bytes.now }
     ensures rest { result.1.now ≡ drop (prefix_len is_bare bytes.now) bytes.now }
@@ -120,7 +119,7 @@ fn split_bare(bytes: &[u8]) -> (&[u8], &[u8])
     bytes.split_at(bytes.len() - rest.len())
 }
 
-/// Returns the bare word in front, up to a blank, and what is after it.
+/// Returns the leading bare word, up to a blank, and the rest.
 fn read_bare(bytes: &[u8]) -> Option<(&[u8], &[u8])>
     ensures value { option_map (λ x. (x.0.now, x.1.now)) result ≡ bare_at bytes.now }
     ensures shrinking { IfSome result (λ x. length (up_to_blank bytes.now) + length x.1.now ≡ length bytes.now) }
@@ -154,7 +153,7 @@ fn digit_of(byte: u8) -> Option<u8>
     }
 }
 
-/// Returns the byte that two digits in front spell, and what is after them.
+/// Reads two leading hexadecimal digits as a byte, and returns the rest.
 #[tactic(auto, unfolding(crate::specs::Tokens::digits_at))]
 fn read_digits(bytes: &[u8]) -> Option<(u8, &[u8])>
     ensures value { option_map (λ x. (x.0, x.1.now)) result ≡ digits_at bytes.now }
@@ -168,7 +167,7 @@ fn read_digits(bytes: &[u8]) -> Option<(u8, &[u8])>
     Some((16 * high + low, rest))
 }
 
-/// Returns the byte that stands after a backslash, and what is after it.
+/// Reads the escape after a backslash as a byte, and returns the rest.
 #[tactic(auto, unfolding(crate::specs::Tokens::escape_at))]
 fn read_escape(bytes: &[u8]) -> Option<(u8, &[u8])>
     ensures value { option_map (λ x. (x.0, x.1.now)) result ≡ escape_at bytes.now }
@@ -184,7 +183,7 @@ fn read_escape(bytes: &[u8]) -> Option<(u8, &[u8])>
     }
 }
 
-/// Returns the next byte that a text stands for, and what is after its spelling. A quote is none.
+/// Reads the next byte of a text, which an escape can spell, and returns the rest. A quote is no byte of a text.
 #[tactic(auto, unfolding(crate::specs::Tokens::item_at))]
 fn read_item(bytes: &[u8]) -> Option<(u8, &[u8])>
     ensures value { option_map (λ x. (x.0, x.1.now)) result ≡ item_at bytes.now }
@@ -202,7 +201,7 @@ fn read_item(bytes: &[u8]) -> Option<(u8, &[u8])>
     Some((*byte, rest))
 }
 
-/// Returns the bytes in front that stand for themselves in a text, and what is from the first other one on.
+/// Splits the bytes at the first one that does not stand for itself in a text.
 fn split_plain(bytes: &[u8]) -> (&[u8], &[u8])
     ensures front { result.0.now ≡ take_while is_plain bytes.now }
     ensures rest { result.1.now ≡ drop (length (take_while is_plain bytes.now)) bytes.now }
@@ -228,7 +227,7 @@ pub fn ends_word(bytes: &[u8]) -> bool
     }
 }
 
-/// Returns what stands after the items of a text.
+/// Returns the bytes after the items of a text.
 fn skip_items(bytes: &[u8]) -> &[u8]
     ensures end { item_at result.now ≡ None }
     ensures unchanged { behind_text result.now ≡ behind_text bytes.now }
@@ -241,7 +240,7 @@ fn skip_items(bytes: &[u8]) -> &[u8]
     rest
 }
 
-/// Returns what is after the quote that opens a text, if it stands in front.
+/// Returns the bytes after the opening quote, or `None` if the first byte is no quote.
 fn open_text(bytes: &[u8]) -> Option<&[u8]>
     ensures value { option_map (λ x. x.now) result ≡ behind_opening bytes.now }
     ensures shrinking { IfSome result (λ x. length x.now < length bytes.now) }
@@ -255,7 +254,8 @@ fn open_text(bytes: &[u8]) -> Option<&[u8]>
     Some(rest)
 }
 
-/// Returns what is after the quote that closes a text, if it stands in front and the word ends there.
+/// Returns the bytes after the closing quote, or `None` if the first byte is no quote or the word does not end after
+/// it.
 fn close_text(bytes: &[u8]) -> Option<&[u8]>
     ensures value { option_map (λ x. x.now) result ≡ behind_quote bytes.now }
     ensures shrinking { IfSome result (λ x. length x.now < length bytes.now) }
@@ -269,8 +269,8 @@ fn close_text(bytes: &[u8]) -> Option<&[u8]>
     Some(rest)
 }
 
-/// Returns the text that a quote in front opens, and what is after the quote that closes it. It is not inlined, so that a
-/// bare word is read with few registers.
+/// Reads a text after its opening quote, and returns the bytes after its closing one. It is not inlined, so that
+/// reading a bare word needs few registers.
 #[inline(never)]
 fn read_text(bytes: &[u8]) -> Option<(Quoted<'_>, &[u8])>
     ensures value { option_map (λ x. (x.0, x.1.now)) result ≡ option_and_then text_at (behind_opening bytes.now) }
@@ -286,8 +286,7 @@ fn read_text(bytes: &[u8]) -> Option<(Quoted<'_>, &[u8])>
     Some((Quoted { spelled: bytes }, rest))
 }
 
-/// Returns the next word, after the blanks in front of it, and what is after it. There is none at the end, and if a
-/// byte does not fit.
+/// Skips blanks, and returns the next word and the rest. Returns `None` at the end, or if a byte fits no word.
 #[tactic(auto, unfolding(crate::specs::Tokens::next_word, crate::specs::Tokens::word_at))]
 pub fn next_word(bytes: &[u8]) -> Option<(Word<'_>, &[u8])>
     ensures value { option_map (λ x. (word_of x.0, x.1.now)) result ≡ next_word bytes.now }
@@ -308,7 +307,7 @@ pub fn next_word(bytes: &[u8]) -> Option<(Word<'_>, &[u8])>
     Some((Word::Bare(word), rest))
 }
 
-/// Returns the only word of the bytes: one that is followed by blanks alone.
+/// Returns the only word of the bytes: a word with nothing but blanks after it.
 #[tactic(auto, unfolding(crate::specs::Tokens::only_word))]
 pub fn only_word(bytes: &[u8]) -> Option<Word<'_>>
     ensures value { option_map word_of result ≡ only_word bytes.now }
@@ -339,7 +338,7 @@ pub fn three_words(bytes: &[u8]) -> Option<(Word<'_>, Word<'_>, Word<'_>)>
     Some((first, second, third))
 }
 
-/// Returns the next two words, and what is after them.
+/// Returns the next two words, and the rest.
 pub fn next_two(bytes: &[u8]) -> Option<(Word<'_>, Word<'_>, &[u8])>
     ensures { option_map (λ x. (word_of x.0, word_of x.1, x.2.now)) result ≡ next_two bytes.now }
 {

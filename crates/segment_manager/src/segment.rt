@@ -8,6 +8,7 @@ use crate::layout::SIZE_AT;
 use crate::modes::Mode;
 use best_fit::Heap;
 use raw_region::{RawRegion, Window};
+use seg_types::Handle;
 use std::marker::Model;
 
 /// Typed objects under names in one run of bytes, with how it is open.
@@ -85,6 +86,16 @@ impl Segment {
     {
         let Segment { heap, .. } = self;
         heap.into_window().into_region()
+    }
+
+    /// Notes a handle if a block of the segment has it, so that calls by this handle find it at once. Any number may be
+    /// given. No byte changes.
+    ///
+    /// Example: `segment.remember(handle)`.
+    pub fn remember(&mut self, handle: Handle)
+        ensures { self.new ≡ self.old }
+    {
+        self.heap.remember(handle);
     }
 
     /// Tells whether the segment is open for reading.

@@ -19,7 +19,7 @@ names_text prefix most d = flat_map name_line (take most (filter (λ name. begin
 
 -- ---- name by name
 
--- the name is one of them, if this many more are to come
+-- the name is listed, if this many more names can be
 abbrev pub is_listed : List ℕ → ℕ → List ℕ → Bool
 is_listed prefix left name = not (left == 0) && begins_with name prefix
 
@@ -27,6 +27,6 @@ is_listed prefix left name = not (left == 0) && begins_with name prefix
 abbrev pub listed_line : List ℕ → ℕ → List ℕ → List ℕ
 listed_line prefix left name = if is_listed prefix left name then name_line name else []
 
--- how many more are to come after it
+-- the number of names that can be listed after it
 abbrev pub left_after : List ℕ → ℕ → List ℕ → ℕ
 left_after prefix left name = if is_listed prefix left name then left - 1 else left

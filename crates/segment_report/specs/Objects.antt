@@ -13,11 +13,11 @@ use Rattle.segment_report.specs.declared.objects.ObjectTally.{ObjectTally}
 abbrev pub is_of_kind : Kind → Object → Bool
 is_of_kind k o = same_kind k (kind_of o.value)
 
--- how many are of a kind
+-- the number of objects of a kind
 abbrev pub count_of_kind : List Object → Kind → ℕ
 count_of_kind os k = count_by (is_of_kind k) os
 
--- how many there are of each class, and of each kind
+-- the number of objects of each class, and of each kind
 abbrev pub objects_tally : List Object → ObjectTally
 objects_tally os = record {
   named = count_by (is_class Named) os;
@@ -26,7 +26,7 @@ objects_tally os = record {
   kinds = map (count_of_kind os) kinds;
 }
 
--- how many objects there are of each class and kind
+-- the number of objects of each class and kind, in a directory
 abbrev pub object_tally_of : Directory → ObjectTally
 object_tally_of d = objects_tally d.objects
 

@@ -20,12 +20,12 @@ page_head =
     ++ codes
     "table{border-collapse:collapse}td,th{padding:2px 12px;border-bottom:1px solid #ccd;text-align:left}th{cursor:pointer}</style></head>\n<body><h1>Segment</h1>\n"
 
--- what stands in front of the figures, which a browser does not show as they are
+-- the part before the figures: a browser does not show it as text
 abbrev pub figures_head : List ℕ
 figures_head =
     codes "<h2>Figures</h2><table id='figures'></table>\n<script type='text/plain' id='stat'>\n"
 
--- what stands in front of the rows of the table
+-- the part before the rows of the table
 abbrev pub table_head : List ℕ
 table_head =
     codes "</script>\n<h2>Objects</h2><input id='search' placeholder='search'>\n<table id='objects'><thead>"
@@ -61,7 +61,7 @@ cells_text class name kind count handle =
 abbrev pub row_text : Class → List ℕ → Kind → ℕ → ℕ → List ℕ
 row_text class name kind count handle = cells_text (class_text class) name kind count handle
 
--- the row of an object, by what it says of itself
+-- the row of an object
 abbrev pub instance_row : Instance → List ℕ
 instance_row said = row_text said.class said.name.now said.kind said.count said.handle
 

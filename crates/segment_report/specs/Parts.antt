@@ -5,8 +5,8 @@ use Rattle.seg_types.specs.Texts.{kind_text}
 use Rattle.segment_report.specs.declared.parts.Part.{Part}
 use Rattle.segment_report.specs.declared.parts.Part.TheVariants.{Bytes, Number, Escaped, Kind}
 
--- A byte after two others: a control character as `?`, and of U+FFFE and U+FFFF, which are no characters of XML, the
--- last byte as that of U+FFFD.
+-- A byte after two others. A control character becomes `?`. U+FFFE and U+FFFF, which XML does not allow, become U+FFFD
+-- by their last byte.
 abbrev pub plain_byte : ℕ → ℕ → ℕ → List ℕ
 plain_byte before last b =
     if nat_lt b 0x20 then codes "?"

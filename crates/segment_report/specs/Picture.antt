@@ -36,7 +36,7 @@ top_of per at = 72 + at / per * 32
 
 -- ---- shapes
 
--- bytes that lie in one row: the line round them, and after it where they begin, how many they are, and of what sort
+-- a run of bytes within one row: its outline; then its offset, its length, and its sort
 abbrev pub box_text : ℕ → ℕ → ℕ → ℕ → ℕ → List ℕ → List ℕ
 box_text left right top from len sort =
     codes "<path class='" ++ (sort
@@ -73,15 +73,15 @@ sort_of (Some Index) = codes "index"
 sort_of (Some Storage) = codes "storage"
 sort_of (Some Node) = codes "node"
 
--- ---- what an object is called
+-- ---- labels of objects
 
--- what an object is called
+-- the label of an object
 abbrev pub called : Class → List ℕ → ℕ → List ℕ
 called Named name handle = xml_text name ++ codes ": "
 called Unique name handle = codes "@"
 called Anonymous name handle = codes "#" ++ (decimal handle ++ codes ": ")
 
--- how wide what is written in a shape can be: as far as its first row goes
+-- the width for the text in a shape, which is the width of the shape's first row
 abbrev pub width_in : ℕ → ℕ → ℕ → ℕ → ℕ
 width_in left right top last = (if top == last then right else 1052) - left
 
@@ -116,7 +116,7 @@ object_in d None from = None
 
 -- ---- the whole picture
 
--- a block or gap, and what stands in it
+-- a block or gap, with its text
 abbrev pub span_text : Directory → Span → List ℕ
 span_text d s =
     shape_text (bytes_in_row d.size) s.offset s.len (sort_of s.use_of)
@@ -141,7 +141,7 @@ legend_text =
     ++ codes "<path class='free' d='M428 40H444V56H428Z'/><text x='450' y='53'>free</text>"
     ++ codes "<path class='end' d='M528 40H544V56H528Z'/><text x='550' y='53'>header and end tag</text>\n"
 
--- the size and the free bytes, and what the colours mean
+-- the size and the free bytes, and the legend of the colours
 abbrev pub head_text : ℕ → ℕ → List ℕ
 head_text size free = begin_text
     ++ (decimal size ++ (codes " bytes, " ++ (decimal free ++ (codes " free" ++ legend_text))))

@@ -10,9 +10,9 @@ use Rattle.segment_report.specs.Entries.{entry_line}
 use Rattle.segment_report.specs.Objects.{count_of_kind, kind_place, object_tally_of}
 use Rattle.segment_report.specs.Usages.{tally_of}
 
--- what is counted once: the size, the bytes of all gaps, how many gaps there are and the longest of them; of each role
--- how many blocks there are, and their bytes; how many objects there are of each class; how many entries each index has
--- places for; and how many bytes the segment would lose if it ended after its last block
+-- the figures: the size, the bytes of all gaps, the number of gaps, the longest gap; the number and the bytes of the
+-- blocks of each role; the number of objects of each class; the capacity of each index; and the number of bytes after
+-- the last block
 abbrev pub figures_text : ℕ → Tally → ObjectTally → ℕ → ℕ → List ℕ
 figures_text size t o named unique =
     entry_line (codes "size") size
@@ -27,7 +27,7 @@ figures_text size t o named unique =
     ++ (entry_line (codes "named_capacity") named ++ (entry_line (codes "unique_capacity") unique
     ++ (entry_line (codes "shrink_frees") t.end_gap ++ [])))))))))))))))))
 
--- a kind that some objects have, and how many
+-- a kind that some objects have, and their number
 abbrev pub kind_line : Kind → ℕ → List ℕ
 kind_line k n = if n == 0 then [] else entry_line (kind_text k) n
 
@@ -35,7 +35,7 @@ kind_line k n = if n == 0 then [] else entry_line (kind_text k) n
 abbrev pub counted_line : List ℕ → Kind → List ℕ
 counted_line counts k = kind_line k (slice_index counts (kind_place k))
 
--- the kinds in their order, by how many there are of each
+-- the lines of the kinds, in their order, from the number of objects of each
 abbrev pub kinds_text : (Kind → ℕ) → List ℕ
 kinds_text count = flat_map (λ k. kind_line k (count k)) kinds
 

@@ -1,4 +1,4 @@
--- What a call writes of a segment.
+-- The text that a call writes about a segment.
 use Rattle.std.specs.Prelude.{◌≡◌, ◌+◌, List, ℕ, Result}
 use Rattle.raw_region.specs.Answers.{failures_in}
 use Rattle.raw_region.specs.Device.{WriterHistory, Writes}

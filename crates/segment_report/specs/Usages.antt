@@ -1,4 +1,4 @@
--- How the bytes of a segment are used: its gaps, and its blocks by what they are for.
+-- The uses of a segment's bytes: its gaps, and its blocks by role.
 use Rattle.std.specs.Prelude.{ℕ, ◌-◌, Bool, List, length, filter, fold, max, sum_by}
 use Rattle.block_tags.specs.declared.tile.Role.{Role}
 use Rattle.block_tags.specs.declared.tile.Role.TheVariants.{Object as ObjectRole, Index, Storage, Node}
@@ -16,7 +16,7 @@ has_role role x = same_role role x.role
 abbrev pub blocks_of : Role → List Extent → List Extent
 blocks_of role xs = filter (has_role role) xs
 
--- how many they are, and their bytes together, tags included
+-- the number of blocks of a role, and the sum of their bytes, tags included
 abbrev pub usage_of : Role → List Extent → Usage
 usage_of role xs = record {
   count = length (blocks_of role xs);
@@ -31,7 +31,7 @@ gap_usage gs = record { count = length gs; bytes = sum_by (λ (g : Gap). g.len) 
 abbrev pub longest : List Gap → ℕ
 longest gs = fold (λ n (g : Gap). max n g.len) 0 gs
 
--- all of a directory; and by how many bytes a segment that ends after its last block is shorter
+-- the usages of a directory, and the number of bytes after its last block
 abbrev pub tally_of : Directory → Tally
 tally_of d = record {
   gaps = gap_usage (gaps (live d));

@@ -59,13 +59,12 @@ static KINDS: [Kind; 37] = [
     Kind::Map(ScalarKind::U64, ScalarKind::U64),
 ];
 
-/// Writes the figures of a segment, a line for each, of a word and a number. They are its size, its free bytes, the
-/// number of gaps and the longest gap. The number and bytes of the blocks of each role follow, tags included, then the
-/// number of objects of each class and the capacities of the indexes. The last is how many bytes shorter the segment
-/// would be if it ended after its last block. Then there is a line for each kind that some of its objects have, with
-/// their number.
+/// Writes the figures of a segment, each as a line with a word and a number: its size, its free bytes, the number of
+/// gaps, and the longest gap; for each role the number of blocks and their bytes, tags included; the number of objects
+/// of each class, and the capacities of the indexes; and the number of bytes after the last block. A line for each kind
+/// that some objects have follows, with their number.
 ///
-/// Returns `DeviceFault` if the writer failed: what went out is then a proper prefix of the text.
+/// Returns `DeviceFault` if the writer failed: it has then written a proper prefix of the text.
 pub fn stat<W: Sink>(segment: &Segment, out: &mut W) -> Result<(), DeviceFault>
     requires { (W.history out.old).failures < 2 ^ 64 - 1 }
     ensures { WritesReport segment.now (W.history out.old) (W.history out.new) result stat_text }

@@ -28,7 +28,7 @@ pub fn put_names<W: Sink>(
     Ok(())
 }
 
-/// Writes a name that begins with the text, if `left` more may be written, and returns how many may then.
+/// Writes a name that begins with the text, if `left` is not 0. Returns the number of names that can still be written.
 fn put_listed<W: Sink>(
     out: &mut W,
     name: &[u8],

@@ -7,10 +7,10 @@ ghost use Rattle.segment_report.specs.Objects.{scalar_place};
 use seg_types::{Class, Kind, ScalarKind};
 use segment_manager::Segment;
 
-/// How many kinds there are.
+/// The number of kinds.
 const KIND_COUNT: usize = 37;
 
-/// How many objects there are, by class and by kind.
+/// Counts of objects, by class and by kind.
 #[derive(Clone, Copy)]
 pub struct ObjectTally {
     /// The objects with a name.
@@ -52,7 +52,7 @@ fn scalar_place(kind: ScalarKind) -> usize
 }
 
 impl ObjectTally {
-    /// Makes what is counted before the first object.
+    /// Returns the counts before the first object: all 0.
     fn new() -> ObjectTally
         ensures { result ≡ objects_tally [] }
     {
@@ -64,7 +64,7 @@ impl ObjectTally {
         }
     }
 
-    /// Returns how many objects are of a kind.
+    /// Returns the number of objects of a kind.
     pub fn of_kind(&self, kind: Kind) -> u64
         ensures { result ≡ slice_index self.now.kinds (kind_place kind) }
     {
@@ -85,7 +85,7 @@ impl ObjectTally {
     }
 }
 
-/// Returns how many objects a segment has, by class and by kind.
+/// Counts the objects of a segment by class and by kind.
 pub fn tally_objects(segment: &Segment) -> ObjectTally
     ensures { AnswersWith segment.now object_tally_of result }
 {

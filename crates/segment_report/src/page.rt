@@ -117,7 +117,7 @@ fn put_head<W: Sink>(out: &mut W) -> Result<(), DeviceFault>
     )
 }
 
-/// Writes what stands in front of the figures.
+/// Writes the part before the figures.
 fn put_figures_head<W: Sink>(out: &mut W) -> Result<(), DeviceFault>
     requires { (W.history out.old).failures < 2 ^ 64 - 1 }
     ensures { Writes (W.history out.old) (W.history out.new) result figures_head }
@@ -128,7 +128,7 @@ fn put_figures_head<W: Sink>(out: &mut W) -> Result<(), DeviceFault>
     )
 }
 
-/// Writes what stands in front of the rows of the table.
+/// Writes the part before the rows of the table.
 fn put_table_head<W: Sink>(out: &mut W) -> Result<(), DeviceFault>
     requires { (W.history out.old).failures < 2 ^ 64 - 1 }
     ensures { Writes (W.history out.old) (W.history out.new) result table_head }

@@ -86,7 +86,7 @@ fn put_head<W: Sink>(out: &mut W, size: u64, free: u64) -> Result<(), DeviceFaul
     )
 }
 
-/// Writes each block and gap, and what stands in it.
+/// Writes each block and gap, with its text.
 fn put_spans<W: Sink>(segment: &Segment, scale: Scale, out: &mut W) -> Result<(), DeviceFault>
     requires writer { (W.history out.old).failures < 2 ^ 64 - 1 }
     requires scale { HasScale segment.now scale.row }
@@ -104,7 +104,7 @@ fn put_spans<W: Sink>(segment: &Segment, scale: Scale, out: &mut W) -> Result<()
     Ok(())
 }
 
-/// Writes a block or gap, and what stands in it.
+/// Writes a block or gap, with its text.
 fn put_tile<W: Sink>(
     segment: &Segment,
     scale: Scale,
@@ -123,7 +123,7 @@ fn put_tile<W: Sink>(
     put_inside(segment, scale, tile, out)
 }
 
-/// Writes what stands in a block, if it is an object's.
+/// Writes the text in a block, if the block holds an object.
 fn put_inside<W: Sink>(
     segment: &Segment,
     scale: Scale,
@@ -143,7 +143,7 @@ fn put_inside<W: Sink>(
     }
 }
 
-/// Writes what the object in a block is called.
+/// Writes the label of the object in a block.
 fn put_object<W: Sink>(
     segment: &Segment,
     scale: Scale,

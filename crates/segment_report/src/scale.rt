@@ -2,7 +2,7 @@
 ghost use Rattle.std.specs.Prelude.{◌≡◌, ◌+◌, ◌-◌, ◌≤◌, ◌<◌, ◌^◌};
 ghost use Rattle.segment_report.specs.Picture.{bytes_in_row, left_of, right_of, top_of};
 
-/// How many bytes a row of a picture has.
+/// The number of bytes in a row of a picture.
 #[derive(Clone, Copy, Debug)]
 pub struct Scale {
     /// The bytes of a row.
@@ -25,7 +25,7 @@ pub struct Corners {
 }
 
 impl Scale {
-    /// Returns the scale of the picture of a segment of `size` bytes: 16 rows hold all of them.
+    /// Returns the scale for a segment of `size` bytes: its picture has at most 16 rows.
     pub fn of(size: u64) -> Scale
         requires { size ≤ 2 ^ 30 }
         ensures { result.row ≡ bytes_in_row size }

@@ -1,4 +1,4 @@
-//! The shapes of a picture, and what is written in them.
+//! The shapes of a picture, and their texts.
 ghost use Rattle.std.specs.Prelude.{◌≡◌, ◌+◌, ◌-◌, ◌^◌, ◌<◌, ◌≤◌};
 ghost use Rattle.raw_region.specs.Device.{Writes};
 ghost use Rattle.segment_report.specs.Picture.{called, frame_text, label_text, shape_text, width_in};
@@ -131,7 +131,7 @@ fn put_frame<W: Sink>(out: &mut W, scale: Scale, from: u64, len: u64) -> Result<
     )
 }
 
-/// Returns how wide what is written in a shape can be: as far as its first row goes.
+/// Returns the width for the text in a shape, which is the width of the shape's first row.
 fn width_in(corners: &Corners) -> u64
     ensures { result ≡ width_in corners.now.left corners.now.right corners.now.top corners.now.last }
 {
@@ -142,7 +142,7 @@ fn width_in(corners: &Corners) -> u64
     }
 }
 
-/// Writes what an object is called, in front of its kind.
+/// Writes the label of an object, which stands before its kind.
 fn put_called<W: Sink>(out: &mut W, said: Instance<'_>) -> Result<(), DeviceFault>
     requires { (W.history out.old).failures < 2 ^ 64 - 1 }
     ensures { Writes (W.history out.old) (W.history out.new) result

@@ -9,10 +9,10 @@ use block_tags::Role;
 use segment_manager::Segment;
 use segment_manager::unchecked::next_tile;
 
-/// How many blocks of one use there are, and their bytes together.
+/// The number of blocks of one use, and the sum of their bytes.
 #[derive(Clone, Copy, Debug, PartialEq, Eq)]
 pub struct Usage {
-    /// How many they are.
+    /// The number of blocks.
     pub count: u64,
     /// Their bytes, with their tags.
     pub bytes: u64,
@@ -53,7 +53,7 @@ impl Usage {
 }
 
 impl Tally {
-    /// Makes what is counted before the first block.
+    /// Returns the counts before the first block: all 0.
     fn new() -> Tally
         ensures { result ≡ tally_in [] }
     {
@@ -106,7 +106,7 @@ pub fn tally_blocks(segment: &Segment) -> Tally
     tally
 }
 
-/// Returns the number of bytes of a segment, which are those of a directory.
+/// Returns the size of a segment in bytes, which is the size of its directory.
 pub fn size_of(segment: &Segment) -> u64
     ensures size { AnswersQuery segment.now Size (Number result) }
     ensures denotation { IsSegment segment.now.cut.bytes }

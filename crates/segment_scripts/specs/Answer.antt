@@ -64,7 +64,7 @@ role_word (Some Index) = codes "index"
 role_word (Some Storage) = codes "storage"
 role_word (Some Node) = codes "node"
 
--- where a block or gap begins, its length, and what it is used for
+-- the offset of a block or gap, its length, and its use
 abbrev pub block_words : Span → List (List ℕ)
 block_words s = number_text s.offset ∷ number_text s.len ∷ role_word s.use_of ∷ []
 

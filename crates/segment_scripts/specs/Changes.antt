@@ -10,7 +10,7 @@ use Rattle.segment_manager.specs.Directory.{Directory}
 use Rattle.segment_manager.specs.State.{SegmentState, DenotesCurrent, KeepsModeAndPlace}
 use Rattle.segment_manager.specs.Step.{step}
 use Rattle.seg_types.specs.Literals.{values_of}
--- the object that is to be changed
+-- the object can be changed
 pub use Rattle.segment_manager.proofs.CommandLaws.{IsChangeable, IsChangeableObject}
 
 -- the values that literals are for a vector of a kind, as a type has them in a row, or why they are none

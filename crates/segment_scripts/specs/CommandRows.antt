@@ -19,7 +19,7 @@ abbrev pub usage_of : List CommandRow → List ℕ → List ℕ
 usage_of [] word = []
 usage_of (row ∷ rows) word = if bytes_eq row.word.now word then row.usage.now else usage_of rows word
 
--- what stands after the command word of a deed, as a usage has it
+-- the arguments of a deed's command word, as its usage words them
 abbrev pub deed_arguments : DeedForm → List ℕ
 deed_arguments deed.Construct = codes " KIND[k] NEWKEY ARGS"
 deed_arguments deed.ConstructIt = codes " KIND[k] NEWKEY V1 .. Vk"
@@ -52,7 +52,7 @@ deed_arguments deed.ZeroFree = []
 deed_arguments deed.Sanity = []
 deed_arguments deed.AllDeallocated = []
 
--- what stands after a command word of a form
+-- the arguments of a command word, as its usage words them
 abbrev pub form_arguments : CommandForm → List ℕ
 form_arguments form.Size = []
 form_arguments form.Get = codes " KEY I"
@@ -105,10 +105,10 @@ form_rows =
     ∷ (codes "all_deallocated", form.Deed deed.AllDeallocated)
     ∷ []
 
--- how a command is written: its word, and what stands after it
+-- the usage of a command: its word, and its arguments
 abbrev pub form_usage : FormRow → List ℕ
 form_usage row = row.0 ++ form_arguments row.1
 
--- what is read after a command word
+-- the form of a command's arguments
 abbrev pub form_read : FormRow → Form
 form_read row = (row.0, reader_of row.1)

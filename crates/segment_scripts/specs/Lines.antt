@@ -20,7 +20,7 @@ ended_lines bytes = lines (whole_lines bytes)
 unfoldable pub open_line : List ℕ → List ℕ
 open_line bytes = drop (length (whole_lines bytes)) bytes
 
--- the lines that may be executed: those that ended within the limit and, if the script ended within it, the last one
+-- the lines that can be executed: those that ended within the limit and, if the script ended within it, the last line
 abbrev pub executable : ReadDelta → List (List ℕ)
 executable script =
     if script.ended && nat_le (length script.bytes) script_limit then lines script.bytes

@@ -1,4 +1,4 @@
--- What is told of the lines of a script that are no commands.
+-- The reports about the lines of a script that are no commands.
 use Rattle.std.specs.Prelude.{◌≡◌, ℕ, ◌+◌, ◌-◌, Bool, true, false, not, min, List, [], ◌∷◌, ◌++◌, length, take, decimal}
 use Rattle.std.specs.Prelude.{codes, if◌then◌else◌}
 use Rattle.raw_region.specs.Format.{current}
@@ -19,7 +19,7 @@ abbrev pub same : Bool → Bool → Bool
 same true b = b
 same false b = not b
 
--- what is left after the blanks in front, or after the word in front
+-- the bytes without their leading blanks, or without their leading word
 abbrev pub behind : Bool → List ℕ → List ℕ
 behind blanks [] = []
 behind blanks (c ∷ cs) = if same blanks (is_blank c) then behind blanks cs else c ∷ cs
@@ -31,8 +31,7 @@ first_word line = let rest = behind true line in take (length rest - length (beh
 abbrev pub arguments : List ℕ → List ℕ
 arguments line = behind true (behind false (behind true line))
 
--- the column, counted in bytes from 1: of the command word, of the first byte that is too many, or of what stands
--- after the command word
+-- the column, in bytes from 1: of the command word, of the first byte past the limit, or of the arguments
 abbrev pub column_of : LineError → List ℕ → ℕ
 column_of wrong.UnknownCommand line = length line - length (behind true line) + 1
 column_of wrong.LineTooLong line = 4097
@@ -52,7 +51,7 @@ finding_text rows n e line =
 
 -- ---- line by line
 
--- how many lines there were, whether one of them is no command, and the commands that there are
+-- the number of lines, whether one of them is no command, and the table of commands
 pub record LintState : Type 0 where
   pub line : ℕ
   pub found : Bool
@@ -73,7 +72,7 @@ tells at e line = (finding_text at.rows at.line e (without_return line), record 
 abbrev pub misses_line : List ℕ → Bool
 misses_line line = is_wrong (reading (whole_language current) line)
 
--- what a reading prints, and the next directory
+-- the report about a reading, and the next state
 abbrev pub respond : LintState → List ℕ → Reading → List ℕ × LintState
 respond at line Nothing = ([], at)
 respond at line (Asked c) = ([], at)
@@ -81,7 +80,7 @@ respond at line UnknownCommand = tells at wrong.UnknownCommand line
 respond at line LineTooLong = tells at wrong.LineTooLong line
 respond at line BadSyntax = tells at wrong.BadSyntax line
 
--- what is told of a line: nothing if it is a command or means nothing
+-- the report about a line: nothing for a command, a comment or an empty line
 abbrev pub lint_line : LintState → List ℕ → List ℕ × LintState
 lint_line at line = respond (record at { line = min (at.line + 1) 18446744073709551615 }) line
     (reading (whole_language current) line)

@@ -25,7 +25,7 @@ abbrev pub once : {E : Type 0} → Answered → Result (Unit {0}) E → Result A
 once answered (Ok u) = Ok answered
 once answered (Err e) = Err e
 
--- the directory machine refuses what was asked
+-- the directory machine refuses the command
 abbrev pub is_refusal : Answer → Bool
 is_refusal (RefusedFor r) = true
 is_refusal answer = false

@@ -1,4 +1,4 @@
--- What a command is answered by a call, and the step of the directory machine that this is.
+-- The answer of a command by a call, and the step of the directory machine.
 use Rattle.std.specs.Prelude.{◌≡◌, ◌≤◌, ℕ, ◌+◌, true, false, Option, Some, None, List, [], ◌∷◌, length, slice_get, ⊤}
 use Rattle.std.specs.Prelude.{IsTrue}
 use Rattle.best_fit.specs.Extents.{spans}
@@ -21,7 +21,7 @@ use Rattle.segment_scripts.specs.ZeroGaps.{changes_nothing}
 use Rattle.segment_scripts.specs.declared.replies.CommandAnswer.{CommandAnswer as Reply}
 use Rattle.segment_scripts.specs.declared.replies.CommandAnswer.TheVariants as said
 
--- what is shown of an object, or that there is none
+-- the answer of `show` for an object, or that there is none
 abbrev pub shown_of : Option Object → Answer
 shown_of None = Refused NotFound
 shown_of (Some o) = Shown o.value
@@ -30,7 +30,7 @@ shown_of (Some o) = Shown o.value
 abbrev pub shown_at : Directory → Key → Answer
 shown_at d key = shown_of (object_at d key)
 
--- what is told of an object, or that there is none
+-- the answer of `info` for an object, or that there is none
 abbrev pub told_of : Option Object → Answer
 told_of None = Refused NotFound
 told_of (Some o) = Told o
@@ -39,7 +39,7 @@ told_of (Some o) = Told o
 abbrev pub told_at : Directory → Key → Answer
 told_at d key = told_of (object_at d key)
 
--- the text at an index in a vector of strings, and in that of a key, or why there is none
+-- the text at an index of a vector of strings, or the refusal
 abbrev pub text_of : Value → ℕ → Answer
 text_of (Texts ps t) i = elim (slice_get ps i) [ None ↦ Refused OutOfRange | Some p ↦ TextElement p.bytes ]
 text_of v i = Refused WrongKind
@@ -52,7 +52,7 @@ text_in (Some o) i = text_of o.value i
 abbrev pub text_at : Directory → Key → ℕ → Answer
 text_at d key i = text_in (object_at d key) i
 
--- The answer that a reply stands for: itself if it is short, and otherwise what the directory says of it.
+-- The answer of a reply: a short reply is the answer; for a long one the directory has it.
 abbrev pub answer_seen : Directory → Reply → Answer
 answer_seen d said.Done = Done
 answer_seen d said.Absent = Absent
@@ -68,9 +68,9 @@ answer_seen d said.Kinds = Kinds (unique_objects d)
 answer_seen d said.Blocks = Blocks (spans (live d))
 answer_seen d (said.Refused r) = Refused r
 
--- ---- what a line can ask for
+-- ---- bounds on the arguments of a line
 
--- how many bytes of a line texts take at the least, with one after each
+-- the least number of bytes that texts take in a line, with one byte after each
 abbrev pub texts_taken : List (List ℕ) → ℕ
 texts_taken [] = 0
 texts_taken (bs ∷ bss) = 1 + length bs + texts_taken bss
@@ -83,7 +83,7 @@ IsLineContent key (asked.Bytes bs) = (length bs ≤ 4096) × IsTrue (agrees Stri
 IsLineContent key (asked.NoPairs k v) = IsTrue (agrees (Map k v) key)
 IsLineContent key (asked.Strings bss) = (texts_taken bss ≤ 4097) × IsTrue (agrees StringsKind key)
 
--- how many bytes of a line values take at the least, with one after each
+-- the least number of bytes that values take in a line, with one byte after each
 abbrev pub bytes_taken : List Literal → ℕ
 bytes_taken [] = 0
 bytes_taken (asked.Whole z ∷ ls) = 2 + bytes_taken ls

@@ -1,4 +1,4 @@
--- What a script prints and leaves.
+-- The output of a script, and the last directory.
 use Rattle.std.specs.Prelude.{ℕ, List, [], ◌∷◌, ◌++◌, ◌==◌, if◌then◌else◌}
 use Rattle.std.specs.Fmt.{digits}
 use Rattle.seg_types.specs.Commands.{Reading, Nothing, Asked, UnknownCommand, LineTooLong, BadSyntax}
@@ -26,7 +26,7 @@ lines (c ∷ cs) = if c == 0x0A then [] ∷ lines cs else onto_first c (lines cs
 abbrev pub error_line : LineError → List ℕ
 error_line e = line (line_error_text e ∷ [])
 
--- what is printed for a line, and the directory after it
+-- the output for a line, and the directory after it
 abbrev pub respond : Mode → Directory → Reading → List ℕ × Directory
 respond mode d Nothing = ([], d)
 respond mode d (Asked c) = let done = step mode d c in (answer_text done.0, done.1)
@@ -34,7 +34,7 @@ respond mode d UnknownCommand = (error_line wrong.UnknownCommand, d)
 respond mode d LineTooLong = (error_line wrong.LineTooLong, d)
 respond mode d BadSyntax = (error_line wrong.BadSyntax, d)
 
--- what a list of lines prints, and the last directory
+-- the output for a list of lines, and the last directory
 abbrev pub run_lines : Language → Mode → Directory → List (List ℕ) → List ℕ × Directory
 run_lines language mode d [] = ([], d)
 run_lines language mode d (l ∷ ls) =
@@ -42,7 +42,7 @@ run_lines language mode d (l ∷ ls) =
     let rest = run_lines language mode first.1 ls in
     (first.0 ++ rest.0, rest.1)
 
--- what a script prints, and the last directory
+-- the output for a script, and the last directory
 unfoldable pub run : Language → Mode → Directory → List ℕ → List ℕ × Directory
 unfolding step reading digits
 run language mode d script = run_lines language mode d (lines script)

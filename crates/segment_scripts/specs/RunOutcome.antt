@@ -1,5 +1,5 @@
--- What a run of a script owes, over anything that answers lines: `respond place line` is the text
--- that a line prints from a place, and the place to which it leads.
+-- The outcome of a run, for any machine that answers lines: `respond place line` is the output for the line in a state
+-- of the machine, and the next state.
 use Rattle.std.specs.Prelude.{◌≡◌, ◌<◌, ◌≤◌, ℕ, ◌+◌, true, false, List, [], ◌∷◌, ◌++◌, length, take, Result, Ok, Err}
 use Rattle.raw_region.specs.Device.{ReaderHistory, ReadDelta, WriterHistory, WriteDelta, EndsAtMostOnce, ReadsSource}
 use Rattle.raw_region.specs.Device.{IsProperPrefix}
@@ -66,14 +66,14 @@ pub record IsCutAtLimit {P : Type 0} (respond : P → List ℕ
   pub read : script.failed ≡ false
   pub written : out.failed ≡ false
 
--- what a run leaves at each fault
+-- the outcome of a run at each fault
 abbrev pub LeavesFault : {P : Type 0} → (P → List ℕ → List ℕ × P) → P → ReadDelta → WriteDelta → RunFault
     → (P → Type 0) → Type 0
 LeavesFault respond start script out ReadFault Stands = IsCutByReader respond start script out Stands
 LeavesFault respond start script out WriteFault Stands = IsCutByWriter respond start script out Stands
 LeavesFault respond start script out ScriptTooLong Stands = IsCutAtLimit respond start script out Stands
 
--- What a run leaves, from a place: `IsContainer` are the places where the machine may stand afterwards.
+-- The outcome of a run from a state: `IsContainer` holds for the states in which the machine can be afterwards.
 abbrev pub ExecutesScript : {P : Type 0} → (P → List ℕ → List ℕ × P) → P → ReadDelta → WriteDelta
     → Result (Unit {0}) RunFault → (P → Type 0) → Type 0
 ExecutesScript respond start script out (Ok u) Stands = RunsWhole respond start script out Stands
@@ -92,8 +92,8 @@ failed_writes (Err WriteFault) = 1
 failed_writes (Err ScriptTooLong) = 0
 failed_writes (Ok x) = 0
 
--- what a run did with its devices, wherever it began: the script was read no further than one byte after its limit,
--- and asked no more after its end; and each failure is the one that the run answers
+-- the use of the devices in a run, wherever it began: the script was read at most to one byte past its limit, and not
+-- again after its end; and each failure is the one that the run returned
 pub record UsesDevices {A : Type 0} (given given' : ReaderHistory) (taken taken' : WriterHistory)
     (result : Result A RunFault) : Type 0 where
   pub reads : ReadsSource given given' (failed_reads result)

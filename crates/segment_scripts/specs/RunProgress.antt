@@ -78,12 +78,12 @@ module _ {P : Type 0} (respond : P → List ℕ → List ℕ × P) (stops : P �
     pub on : goes_on respond stops start (ended_lines (read ++ front)) ≡ true
     pub stopped : HasStopped respond start before (ended_lines (read ++ front)) (open_line (read ++ front)) Stands taken
 
-  -- what a piece leaves: it was read to its end, or the run ended in it
+  -- the outcome of a piece: it was read to its end, or the run ended in it
   abbrev pub LeavesPiece : List ℕ → List ℕ → (P → Type 0) → List ℕ → List ℕ → End → Type 0
   LeavesPiece read piece Stands line taken Whole = IsOn (read ++ piece) Stands line taken
   LeavesPiece read piece Stands line taken Refused = EndsIn read piece Stands taken
 
-  -- all lines were answered, and after none of them the run was to end
+  -- all lines were answered, and none of them ended the run
   pub record IsThrough (read : List ℕ) (Stands : P → Type 0) (taken : List ℕ) : Type 0 where
     pub answered : HasAnswered respond start before (lines read) Stands taken
     pub on : goes_on respond stops start (lines read) ≡ true
@@ -93,7 +93,7 @@ module _ {P : Type 0} (respond : P → List ℕ → List ℕ × P) (stops : P �
     pub parts : lines read ≡ ended_lines read ++ open_line read ∷ []
     pub ends : EndsBehind (ended_lines read) (open_line read) Stands taken
 
-  -- what the last line leaves
+  -- the outcome of the last line
   abbrev pub LeavesLast : List ℕ → (P → Type 0) → List ℕ → End → Type 0
   LeavesLast read Stands taken Whole = IsThrough read Stands taken
   LeavesLast read Stands taken Refused = EndsAtLast read Stands taken
@@ -105,7 +105,7 @@ pub record IsOnAtEnd {P : Type 0} (respond : P → List ℕ → List ℕ × P) (
   pub end : IsAtEnd respond start before script Stands line taken
   pub on : goes_on respond stops start (ended_lines script.bytes) ≡ true
 
--- what the lines that end in a script leave: it was read to its end, or the run ended after one of them
+-- the outcome of the lines that end in a script: it was read to its end, or one of them ended the run
 abbrev pub LeavesEnded : {P : Type 0} → (P → List ℕ → List ℕ × P) → (P → List ℕ → Bool) → P → List ℕ → ReadDelta
     → (P → Type 0) → List ℕ → List ℕ → WriteDelta → End → Type 0
 LeavesEnded respond stops start before script Stands line taken out Whole =

@@ -16,7 +16,7 @@ use Rattle.segment_scripts.specs.Run.{respond}
 use Rattle.segment_scripts.specs.Writing.{WritesFor}
 use Rattle.segment_scripts.specs.ZeroGaps.{is_idle, zeros_after}
 
--- what is known of a segment between two lines
+-- the state of a segment between two lines
 pub record MachineState : Type 0 where
   pub mode : Mode
   pub directory : Directory
@@ -37,7 +37,7 @@ place_after at asked = record {
   zeros = zeros_after at.mode at.directory asked at.zeros;
 }
 
--- what a line prints from a place, and where it leads
+-- the output of a line in a state, and the next state
 abbrev pub answer_line : MachineState → List ℕ → List ℕ × MachineState
 answer_line at line = let asked = reading (whole_language current) line
     in ((respond at.mode at.directory asked).0, place_after at asked)
@@ -50,8 +50,8 @@ refuses_line at line = refuses at.mode at.directory (reading (whole_language cur
 abbrev pub is_idle_line : MachineState → List ℕ → Bool
 is_idle_line at line = is_idle at.mode at.directory (reading (whole_language current) line)
 
--- wherever it stands, what it is asked leads where it is to lead, what is owed there is written, and it is told whether
--- it is refused
+-- for every directory of the segment: a line has the next directory of the machine, its output is written, and the
+-- result says whether it was refused
 pub record Responds {E : Type 0} (old new : SegmentState) (took took' : WriterHistory) (result : Result Answered E)
     (asked : Reading) : Type 0 where
   pub leads : (at : MachineState) → IsMachineAt old at → IsMachineAt new (place_after at asked)

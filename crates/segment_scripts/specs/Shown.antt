@@ -1,4 +1,4 @@
--- What is written of an object that is shown, part by part.
+-- The parts of the answer of `show`.
 use Rattle.std.specs.Prelude.{ℕ, List, [], ◌∷◌, ◌++◌, ◌==◌, if◌then◌else◌, Option, Some, None, codes}
 use Rattle.seg_types.specs.declared.kinds.Class.{Class}
 use Rattle.seg_types.specs.declared.kinds.Class.TheVariants.{Anonymous, Named, Unique}
@@ -9,11 +9,11 @@ use Rattle.segment_values.specs.Layouts.{Spelling}
 -- the length of a container, if there is one
 pub use Rattle.segment_values.specs.Asked.{length_in}
 
--- a kind, and how many there are if there is not one alone
+-- a kind, and the count unless it is 1
 abbrev pub counted_text : Kind → ℕ → List ℕ
 counted_text kind n = kind_text kind ++ (if n == 1 then [] else 0x5B ∷ number_text n ++ 0x5D ∷ [])
 
--- a kind, and how many elements there are if they are scalars and not one alone
+-- a kind, and the number of elements if the object is an array of more than one scalar
 abbrev pub front_text : Kind → ℕ → List ℕ
 front_text (Scalar k) n = counted_text (Scalar k) n
 front_text kind n = kind_text kind

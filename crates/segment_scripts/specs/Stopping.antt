@@ -1,4 +1,4 @@
--- What a run owes that ends with the first line that is refused, over anything that answers lines: `stops place line`
+-- The outcome of a run that ends with the first refused line, for any machine that answers lines: `stops place line`
 -- says whether the run ends after a line.
 use Rattle.std.specs.Prelude.{◌≡◌, ◌&&◌, ℕ, Bool, true, false, not, List, [], ◌∷◌, ◌++◌, take, Result, Ok, Err}
 use Rattle.raw_region.specs.Device.{ReadDelta, WriteDelta}
@@ -27,14 +27,14 @@ is_stop until answered = may_stop until && was_refused answered
 abbrev pub stops_at : {P : Type 0} → Until → (P → List ℕ → Bool) → P → List ℕ → Bool
 stops_at until refuses place line = may_stop until && refuses place line
 
--- whether a run ends after none of these lines
+-- none of these lines ends the run
 abbrev pub goes_on : {P : Type 0} → (P → List ℕ → List ℕ × P) → (P → List ℕ → Bool) → P → List (List ℕ) → Bool
 goes_on respond stops place [] = true
 goes_on respond stops place (l ∷ ls) = not (stops place l) && goes_on respond stops (respond place l).1 ls
 
 module _ {P : Type 0} (respond : P → List ℕ → List ℕ × P) (stops : P → List ℕ
     → Bool) (start : P) (script : ReadDelta) (out : WriteDelta) (Stands : P → Type 0) where
-  -- all lines of the script were answered, and after none of them the run was to end
+  -- all lines of the script were answered, and none of them ended the run
   pub record RunsToTheEnd : Type 0 where
     pub ran : RunsWhole respond start script out Stands
     pub on : goes_on respond stops start (lines script.bytes) ≡ true
@@ -57,12 +57,12 @@ module _ {P : Type 0} (respond : P → List ℕ → List ℕ × P) (stops : P �
   answered_before WriteFault left = left.answers.answered
   answered_before ScriptTooLong left = ended_lines (take script_limit script.bytes)
 
-  -- the run failed, and after none of the lines before the run was to end
+  -- the run failed, and none of the lines before ended it
   pub record FailsOnTheWay (fault : RunFault) : Type 0 where
     pub left : LeavesFault respond start script out fault Stands
     pub on : goes_on respond stops start (answered_before fault left) ≡ true
 
-  -- what a run leaves that may end before its script does
+  -- the outcome of a run that can end before its script does
   abbrev pub LeavesUntil : Result End RunFault → Type 0
   LeavesUntil (Ok Whole) = RunsToTheEnd
   LeavesUntil (Ok Refused) = IsStoppedAt

@@ -1,4 +1,4 @@
--- Texts that stand one after another, by how many bytes each has.
+-- Texts one after another, with the length of each.
 use Rattle.std.specs.Prelude.{ℕ, ◌+◌, List, [], ◌∷◌, drop, take}
 
 -- a text, cut by lengths

@@ -1,2 +1,2 @@
--- What a call writes if that depends on what a machine or a segment stands for.
+-- The output of a call, if it depends on the state of a machine or a segment.
 pub use Rattle.segment_values.specs.Writing.{WritesFor}

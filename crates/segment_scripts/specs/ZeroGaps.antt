@@ -36,7 +36,7 @@ has_nothing_to_do d c = false
 abbrev pub changes_nothing : Mode → Directory → Command → Bool
 changes_nothing mode d c = is_untouched (step mode d c).0 || has_nothing_to_do d c
 
--- what is asked changes nothing: it is no command, it only reads, or its command changes nothing
+-- the line changes nothing: it is no command, it only reads, or its command changes nothing
 abbrev pub is_idle : Mode → Directory → Reading → Bool
 is_idle mode d (Asked c) = not (is_changing c) || changes_nothing mode d c
 is_idle mode d Nothing = true

@@ -9,7 +9,7 @@ use raw_region::DeviceFault;
 pub enum Answered {
     /// The line was executed, or there was nothing to do.
     Done,
-    /// The line was refused: it is no command, or what it asks for was not done.
+    /// The line was refused: it is no command, or its command failed.
     Refused,
 }
 

@@ -22,9 +22,9 @@ use segment_values::object_to_change;
 ///
 /// # Errors
 ///
-/// `ReadOnly` if the segment is open for reading. Otherwise `NotFound` if no object has the key, `WrongKind` if it is
-/// neither or a value has not the form of its elements, `OutOfRange` if a value is not in their range, and nothing
-/// changes; `NoSpace` if its storage cannot be regrown or a text has no fit: the objects are as before.
+/// `ReadOnly` if the segment is open for reading. Otherwise `NotFound` if no object has the key, `WrongKind` if the
+/// object is neither or a value has another form than its elements, `OutOfRange` if a value is outside their range:
+/// nothing changes. Otherwise `NoSpace` if its storage cannot grow or a text has no fit: the objects are as before.
 #[inline(never)]
 pub fn assign(
     segment: &mut Segment,
@@ -99,7 +99,7 @@ fn assign_string(
     segment.string_assign(&object, text)
 }
 
-/// Makes texts those of the vector of strings.
+/// Replaces the texts of a vector of strings.
 #[inline(never)]
 fn assign_texts(
     segment: &mut Segment,
@@ -121,7 +121,7 @@ fn assign_texts(
     segment.texts_assign(&object, row.few().as_slice())
 }
 
-/// Makes the texts of a row those of the vector of strings, however many they are.
+/// Replaces the texts of a vector of strings by those of a row of any length.
 #[inline(never)]
 fn assign_many(segment: &mut Segment, object: Object, row: &TextRow) -> Result<(), Refusal>
     requires { IsObject object segment.old }
@@ -132,11 +132,11 @@ fn assign_many(segment: &mut Segment, object: Object, row: &TextRow) -> Result<(
     segment.texts_assign(&object, row.all().as_slice())
 }
 
-/// Puts the bytes of a text after those of the string of a key.
+/// Appends the bytes of a text to a string.
 ///
 /// # Errors
 ///
-/// As the segment's call. Nothing changes.
+/// The errors of the segment's call. Nothing changes.
 #[inline(never)]
 pub fn append(
     segment: &mut Segment,

@@ -1,4 +1,4 @@
-//! Objects made of what a line writes.
+//! Construction of objects from the arguments of a line.
 ghost use Rattle.std.specs.Prelude.{◌≡◌, ◌≤◌, IsTrue, length};
 ghost use Rattle.std.specs.List.{AllByRecursion};
 ghost use Rattle.seg_types.specs.Commands.{Command, Construct, ConstructIt, Content as AskedContent, Elements};
@@ -55,7 +55,7 @@ impl LineKey for IndexKey<'_> {
     }
 }
 
-/// Does what a line asks for that makes an object of this content, and returns the answer.
+/// Executes a command that constructs an object with this content, and returns the answer.
 #[tactic(auto, using(crate::proofs::values::Keys::line_some, crate::proofs::values::Keys::line_few))]
 #[inline(never)]
 pub fn make<'a, K: LineKey>(
@@ -137,7 +137,7 @@ fn make_texts<'a, K: LineKey>(
     key.make(segment, &NewTexts { texts })
 }
 
-/// Makes a vector of strings of the texts of a row, however many.
+/// Constructs a vector of strings from a row of any length.
 #[inline(never)]
 fn make_many<'a, K: LineKey>(segment: &mut Segment, key: &K, row: &TextRow) -> CommandAnswer<'a>
     requires { IsLineContent (K.key key.now) (Strings row.now) }

@@ -14,13 +14,13 @@ pub struct CommandRow {
     pub word: &'static str,
     /// The words that it has.
     pub usage: &'static str,
-    /// What it answers.
+    /// The form of its answer.
     pub answer: &'static str,
-    /// What it does.
+    /// A sentence about its effect.
     pub does: &'static str,
 }
 
-/// Writes each command with its words, what it answers, and in the next line what it does.
+/// Writes each command with its arguments and its answer, and its effect in the next line.
 pub fn put_language<W: Sink>(out: &mut W, rows: &[CommandRow]) -> Result<(), DeviceFault>
     requires { (W.history out.old).failures < 2 ^ 64 - 1 }
     ensures { Writes (W.history out.old) (W.history out.new) result (flat_map row_text rows.now) }
@@ -49,8 +49,7 @@ fn put_row<W: Sink>(out: &mut W, row: &CommandRow) -> Result<(), DeviceFault>
     )
 }
 
-/// Returns the commands of the language, in the order of that table: each word that a line may begin with, and after it
-/// what is read there.
+/// Returns the commands of the language in the order of the table: each command word with its arguments.
 pub fn command_rows() -> &'static [CommandRow]
     ensures words { map (λ row. row.word.now) result.now ≡ map (λ form. form.0) forms }
     ensures usages { map (λ row. row.usage.now) result.now ≡ map form_usage form_rows }
@@ -59,7 +58,7 @@ pub fn command_rows() -> &'static [CommandRow]
     &LANGUAGE
 }
 
-/// The rows of a table: of each command its word, its usage, its answer and what it does.
+/// The rows of a table: word, usage, answer and effect of each command.
 macro_rules! rows {
     ($($word:literal, $usage:literal, $answer:literal, $does:literal;)*) => {
         [$(CommandRow { word: $word, usage: $usage, answer: $answer, does: $does }),*]

@@ -12,8 +12,8 @@ use crate::machine::{Machine, Scratch};
 use raw_region::{DeviceFault, Sink};
 use segment_lang::{LineError, MAX_LINE_LEN, Piece, line_error, put_pieces, without_return};
 
-/// Reads the lines of a script, and tells which are no commands: their number, the column, the error, and what is
-/// expected.
+/// Reads the lines of a script, and reports each line that is no command: its number, the column, the error, and the
+/// expected form.
 #[derive(Drop)]
 pub struct Lint<'a> {
     rows: &'a [CommandRow],
@@ -22,7 +22,7 @@ pub struct Lint<'a> {
 }
 
 impl<'a> Lint<'a> {
-    /// Makes one that read no line yet. The rows say what is expected after each command word.
+    /// Makes a `Lint` that has read no line. The rows have the expected form after each command word.
     pub fn new(rows: &'a [CommandRow]) -> Lint<'a>
         ensures { is_at result.line result.has_found result.rows.now (start rows.now) }
     {
@@ -74,7 +74,7 @@ impl<'a> Machine for Lint<'a> {
     ghost long_refusals = { λ at line. misses_line-long line };
 }
 
-/// Writes what is wrong with a line.
+/// Writes the report about a line.
 fn put_finding<W: Sink>(
     rows: &[CommandRow],
     number: u64,
@@ -131,7 +131,7 @@ fn first_word(line: &[u8]) -> &[u8]
     &rest[..rest.len() - behind(false, rest).len()]
 }
 
-/// Returns what is left after the blanks in front, or after the word in front.
+/// Skips the leading blanks, or the leading word.
 fn behind(blanks: bool, bytes: &[u8]) -> &[u8]
     ensures value { result.now ≡ behind blanks bytes.now }
     ensures shrinking { length result.now ≤ length bytes.now }

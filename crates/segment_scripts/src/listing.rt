@@ -34,7 +34,7 @@ pub fn put_blocks<W: Sink>(segment: &Segment, out: &mut W) -> Result<(), DeviceF
     put_pieces(out, &[Piece::Bytes(b"end\n")])
 }
 
-/// Writes the line of a block or gap: where it begins, how long it is, and what it is used for.
+/// Writes the line of a block or gap: its offset, its length and its use.
 fn put_tile<W: Sink>(out: &mut W, tile: Tile) -> Result<(), DeviceFault>
     requires { (W.history out.old).failures < 2 ^ 64 - 1 }
     ensures { Writes (W.history out.old) (W.history out.new) result (line (block_words (span tile))) }
@@ -52,7 +52,7 @@ fn put_tile<W: Sink>(out: &mut W, tile: Tile) -> Result<(), DeviceFault>
     )
 }
 
-/// Returns the word for what a block is used for, or for a gap.
+/// Returns the word for the use of a block, or for a gap.
 fn role_word(use_of: Option<Role>) -> &'static [u8]
     ensures { result.now ≡ role_word use_of }
 {

@@ -1,4 +1,4 @@
-//! What stands between a script and whatever answers its lines.
+//! The interface between a script and the machine that answers its lines.
 ghost use Rattle.std.specs.Prelude.{◌≡◌, ◌-◌, ◌^◌, ◌<◌, ℕ, Bool, true, List, length, take};
 ghost use Rattle.segment_scripts.specs.Refusing.{Tells};
 ghost use Rattle.segment_scripts.specs.Writing.{WritesFor};
@@ -9,8 +9,8 @@ use crate::text_rows::TextRow;
 use raw_region::{DeviceFault, Sink};
 use segment_lang::LineBuffer;
 
-/// Room for a name that a line escapes, and for what it gives an object. It is made once for all lines, and what it
-/// held means nothing.
+/// Buffers for a name with escapes and for the contents of an object. All lines share them, and old contents have no
+/// meaning.
 #[derive(Drop)]
 pub struct Scratch {
     pub(crate) name: LineBuffer,
@@ -44,7 +44,7 @@ pub trait Machine {
     // The states that contracts speak of.
     ghost Place: { Type 0 };
 
-    // What a line, without its end, prints from a place, and where it leads.
+    // The output of a line, passed without its end, in a state of the machine, and the next state.
     ghost respond: { Place → List ℕ → List ℕ × Place };
 
     // Whether a line, without its end, is refused at a place.

@@ -5,11 +5,11 @@ use raw_region::Sink;
 
 /// Follows a run of a script whose answers go to a writer. It writes nothing there itself.
 pub trait RunObserver<W: Sink> {
-    /// Tells the observer that more of the script is to be read: what was answered so far may go out.
+    /// Called before each read of the script; the observer can flush the output.
     fn before_read(&mut self, out: &mut W)
         ensures { W.history out.new ≡ W.history out.old };
 
-    /// Tells the observer that the next line of the script is to be answered, even a comment or an empty one.
+    /// Called before each line of the script is answered, also a comment or an empty line.
     fn before_line(&mut self, out: &mut W)
         ensures { W.history out.new ≡ W.history out.old };
 }

@@ -1,4 +1,4 @@
-//! The last element of a vector, which is written and taken out.
+//! The command `pop`: it writes the last element of a vector, and removes it.
 ghost use Rattle.std.specs.Prelude.{◌≡◌, ◌-◌, ◌^◌, ◌<◌, OnErr};
 ghost use Rattle.seg_types.specs.declared.kinds.Kind.TheVariants.{Strings as StringsKind, Vector as VectorOf};
 ghost use Rattle.seg_types.specs.Commands.{Pop};
@@ -19,9 +19,9 @@ use seg_types::{Key, Kind, Refusal, ScalarKind, ScalarValue, by_kind};
 use segment_manager::{Object, Segment};
 use segment_values::{length_of, object_to_change};
 
-/// Takes the last element out of the vector of a key, and writes it, or why there is none: `ReadOnly` if the segment is
-/// open for reading. Otherwise `NotFound` if no object has the key, `WrongKind` if it is no vector, `OutOfRange` if it
-/// is empty. A fault leaves the element taken out, and a proper prefix of it written.
+/// Removes the last element of a vector and writes it, or writes the refusal: `ReadOnly` if the segment is open for
+/// reading. Otherwise `NotFound` if no object has the key, `WrongKind` if it is no vector, `OutOfRange` if it is empty.
+/// After a fault the element is removed, and a proper prefix of it is written.
 #[inline(never)]
 pub fn pop<W: Sink>(segment: &mut Segment, key: &Key, out: &mut W) -> Result<Answered, DeviceFault>
     requires { (W.history out.old).failures < 2 ^ 64 - 1 }
@@ -42,8 +42,8 @@ pub fn pop<W: Sink>(segment: &mut Segment, key: &Key, out: &mut W) -> Result<Ans
     }
 }
 
-/// Writes the last text of the vector of strings of a key, which the segment lends, and takes it out then, also if
-/// writing it failed.
+/// Writes the last text of a vector of strings directly from the segment, and then removes it, even if the write
+/// failed.
 fn pop_text<W: Sink>(
     segment: &mut Segment,
     object: Object,

@@ -1,4 +1,4 @@
-//! The printing of answers: what is short goes out in one line, what is long as the segment tells it.
+//! Printing of answers: a short answer is one write, a long one is written as the segment is read.
 ghost use Rattle.std.specs.Prelude.{◌≡◌, ◌-◌, ◌^◌, ◌<◌, true};
 ghost use Rattle.raw_region.specs.Device.{Writes};
 ghost use Rattle.segment_manager.specs.Answers.{Found, Refused};

@@ -1,4 +1,5 @@
-//! What a command is answered: each is executed by one call of the segment, for some by the kind of the object.
+//! Answers of commands: one call of the segment executes each command; for some commands the kind of the object selects
+//! it.
 ghost use Rattle.std.specs.Prelude.{◌≡◌};
 ghost use Rattle.segment_lang.specs.Seen.{deed_of};
 ghost use Rattle.segment_manager.specs.Directory.{Directory};
@@ -15,7 +16,7 @@ use segment_lang::Deed;
 use segment_manager::Segment;
 use segment_values::{InsertSpot, add, erase, erase_pair, look_up, set};
 
-/// What a command is answered: all of it where it is short, and where it is long, of what the segment is to be asked.
+/// The answer of a command: a short answer itself; for a long one, the object to read from the segment.
 #[derive(Drop)]
 pub enum CommandAnswer<'a> {
     /// The command is done.
@@ -28,13 +29,13 @@ pub enum CommandAnswer<'a> {
     Number(u64),
     /// The handle of an object that was made.
     Made(Handle),
-    /// The handle of an object, and how many elements it has.
+    /// The handle of an object, and its number of elements.
     Found(Handle, u32),
     /// An element of an object, or a value of a map.
     Element(ScalarValue),
     /// The kind and the value of the object of a key, or that there is none.
     Shown(Key<'a>),
-    /// What the object of a key says of itself, or that there is none.
+    /// Class, name, kind, count and handle of the object of a key, or that there is none.
     Told(Key<'a>),
     /// Each object with a name, by name.
     Names,
@@ -46,7 +47,7 @@ pub enum CommandAnswer<'a> {
     Refused(Refusal),
 }
 
-/// Does a deed, and returns it. What the line escapes or lists is put into `room`.
+/// Executes a command, and returns its answer. Names with escapes and lists are decoded into `room`.
 #[inline(never)]
 pub fn reply<'a>(
     segment: &mut Segment,
@@ -131,7 +132,7 @@ fn looked_up<'a>(found: Result<Option<(Handle, u32)>, Refusal>) -> CommandAnswer
     }
 }
 
-/// Returns the answer where an element was asked for.
+/// Returns the answer for an element.
 pub fn element<'a>(element: Result<ScalarValue, Refusal>) -> CommandAnswer<'a>
     ensures { (d : Directory) → answer_seen d result ≡ scalar_answer element }
 {

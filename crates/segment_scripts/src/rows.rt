@@ -70,7 +70,7 @@ fn as_type<T: Scalar>(value: ScalarValue) -> T
     }
 }
 
-/// Makes the values of a line those of a row. They are of the type's kind.
+/// Copies the values of a line into a row. They are of the type's kind.
 pub fn value_row<T: Scalar>(values: LiteralValues<'_>, row: &mut ValueBuffer<T>)
     requires kind { values.kind ≡ T.kind }
     requires range { AllByRecursion (λ z. IsTrue (is_value T.kind z)) values.numbers }
@@ -83,12 +83,12 @@ pub fn value_row<T: Scalar>(values: LiteralValues<'_>, row: &mut ValueBuffer<T>)
     }
 }
 
-/// Makes the values that literals are for a vector of a type those of a row.
+/// Copies literals into a row, as values for a vector of a type.
 ///
 /// # Errors
 ///
-/// `WrongKind` if one has not the form of the kind. Otherwise `OutOfRange` if one is not in its range. The row means
-/// nothing then.
+/// `WrongKind` if a literal has another form than the kind. Otherwise `OutOfRange` if one is outside its range. The row
+/// has no meaning then.
 pub fn literal_row<T: Scalar>(
     literals: Literals<'_>,
     row: &mut ValueBuffer<T>,

@@ -19,7 +19,7 @@ use memchr::memchr_iter;
 use raw_region::{DeviceFault, Sink, Source};
 use segment_lang::{Buffer, LineBuffer};
 
-/// How many bytes of a script are read at once, at most.
+/// The most bytes of a script that one read takes.
 const PIECE: usize = 65536;
 
 /// The most bytes that a script may have.
@@ -36,7 +36,7 @@ fn line_end(bytes: &[u8]) -> Option<usize>
     memchr_iter(b'\n', bytes).next()
 }
 
-/// Answers a line, before which the follower is asked.
+/// Calls the observer, and answers a line.
 fn answer_next<M: Machine, W: Sink, F: RunObserver<W>>(
     machine: &mut M,
     scratch: &mut Scratch,
@@ -55,7 +55,7 @@ fn answer_next<M: Machine, W: Sink, F: RunObserver<W>>(
     machine.answer(scratch, line, out)
 }
 
-/// Answers the open line, which ends with these bytes. One that has no others is not copied.
+/// Answers the open line, which these bytes end. A line that lies wholly in them is not copied.
 fn answer_ended<M: Machine, W: Sink, F: RunObserver<W>>(
     machine: &mut M,
     scratch: &mut Scratch,
@@ -118,7 +118,7 @@ fn feed<M: Machine, W: Sink, F: RunObserver<W>>(
     Ok(End::Whole)
 }
 
-/// Reads the script in pieces, and executes the lines that end in it, as far as the one that ends the run.
+/// Reads the script in pieces and executes the lines that end in it, up to the line that ends the run.
 fn read_lines<M: Machine, S: Source, W: Sink, F: RunObserver<W>>(
     machine: &mut M,
     scratch: &mut Scratch,
@@ -211,12 +211,12 @@ fn answer_last<M: Machine, W: Sink, F: RunObserver<W>>(
     Ok(End::Whole)
 }
 
-/// Executes the script line by line from where the machine stands, and writes the answers. A line ends at a byte 10;
-/// the last one needs no end. It takes no memory. The follower is asked before each read of the script, and before each
-/// line. Until a refusal, the first line that the machine refuses is the last: it is answered, and no line after it is
-/// executed, nor more of the script read.
+/// Executes a script line by line and writes the answers. A line ends at a byte 10; the last line needs no end. The run
+/// allocates nothing. It calls the observer before each read of the script and before each line. With `Until::Refusal`
+/// the first line that the machine refuses is the last: it is answered, no later line is executed, and the script is
+/// not read further.
 ///
-/// A fault leaves the machine where the lines that were executed lead.
+/// After a fault the machine has the state after the lines that were executed.
 pub fn run_until<M: Machine, S: Source, W: Sink, F: RunObserver<W>>(
     machine: &mut M,
     script: &mut S,

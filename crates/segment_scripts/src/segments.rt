@@ -71,7 +71,7 @@ fn put_wrong<W: Sink>(error: LineError, out: &mut W) -> Result<Answered, DeviceF
     Answered::Refused.once(put_pieces(out, &[Piece::LineError(error), Piece::Bytes(b"\n")]))
 }
 
-/// Answers `size`, with what stands after it.
+/// Answers `size`, given its arguments.
 #[inline(always)]
 fn answer_size<W: Sink>(
     segment: &Segment,
@@ -88,7 +88,7 @@ fn answer_size<W: Sink>(
     Answered::Done.once(put_number_line(out, b"", segment.size()))
 }
 
-/// Answers `get`, with what stands after it.
+/// Answers `get`, given its arguments.
 #[inline(never)]
 fn answer_get<W: Sink>(
     segment: &Segment,
@@ -106,7 +106,7 @@ fn answer_get<W: Sink>(
     }
 }
 
-/// Answers `push`, with what stands after it.
+/// Answers `push`, given its arguments.
 #[inline(never)]
 fn answer_push<W: Sink>(
     segment: &mut Segment,
@@ -129,7 +129,7 @@ fn answer_push<W: Sink>(
     }
 }
 
-/// Answers `put`, with what stands after it.
+/// Answers `put`, given its arguments.
 #[inline(never)]
 fn answer_put<W: Sink>(
     segment: &mut Segment,
@@ -150,7 +150,7 @@ fn answer_put<W: Sink>(
     }
 }
 
-/// Answers `pop`, with what stands after it.
+/// Answers `pop`, given its arguments.
 #[inline(never)]
 fn answer_pop<W: Sink>(
     segment: &mut Segment,
@@ -168,7 +168,7 @@ fn answer_pop<W: Sink>(
     }
 }
 
-/// Answers the command word of a deed, with what stands after it.
+/// Answers any other command, given its arguments.
 #[inline(never)]
 fn answer_deed<W: Sink>(
     segment: &mut Segment,

@@ -92,7 +92,7 @@ impl Layout for InLine {
     }
 }
 
-/// Writes a kind, and how many elements there are where they are scalars and not one alone.
+/// Writes a kind, and the number of elements if the object is an array of more than one scalar.
 fn put_front<W: Sink>(kind: Kind, count: u64, out: &mut W) -> Result<(), DeviceFault>
     requires { (W.history out.old).failures < 2 ^ 64 - 1 }
     ensures { Writes (W.history out.old) (W.history out.new) result (front_text kind count) }
@@ -103,7 +103,7 @@ fn put_front<W: Sink>(kind: Kind, count: u64, out: &mut W) -> Result<(), DeviceF
     }
 }
 
-/// Writes a kind, and how many there are where there is not one alone.
+/// Writes a kind, and the count unless it is 1.
 fn put_counted<W: Sink>(kind: Kind, count: u64, out: &mut W) -> Result<(), DeviceFault>
     requires { (W.history out.old).failures < 2 ^ 64 - 1 }
     ensures { Writes (W.history out.old) (W.history out.new) result (counted_text kind count) }

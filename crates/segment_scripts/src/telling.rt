@@ -24,7 +24,7 @@ use segment_lang::{Piece, put_pieces};
 use segment_manager::unchecked::{named_instance, unique_instance};
 use segment_manager::{Instance, Object, Segment, locate};
 
-/// Writes what the object of a key says of itself, or that there is none.
+/// Writes class, name, kind, count and handle of the object of a key, or that there is none.
 #[inline(never)]
 pub fn put_info_answer<W: Sink>(
     segment: &Segment,
@@ -41,7 +41,7 @@ pub fn put_info_answer<W: Sink>(
     }
 }
 
-/// Writes what an object says of itself.
+/// Writes class, name, kind, count and handle of an object.
 fn put_object<W: Sink>(
     segment: &Segment,
     object: Object,

@@ -1,4 +1,4 @@
-//! The texts of a line in place: their bytes one after another, and how many each has.
+//! The texts of a line, stored in place: their bytes one after another, and the length of each.
 ghost use Rattle.std.specs.Prelude.{◌≡◌, ◌≤◌, ◌<◌, ◌+◌, ◌++◌, ◌∷◌, [], List, ℕ, MatchResult, Ok, Err, length, map};
 ghost use Rattle.std.specs.Prelude.{take};
 ghost use Rattle.segment_manager.specs.Step.{texts_of};
@@ -10,7 +10,7 @@ use seg_types::Refusal;
 use segment_lang::{LineBuffer, Literal, Literals, Quoted, TextLiterals};
 use std::marker::Model;
 
-/// The most texts that a line can be taken for: each takes a byte and those that it stands for.
+/// The most texts that a line can hold: each takes at least one byte, and a byte after it.
 const MOST: usize = 4097;
 
 /// The number of texts for which short room does: room is cleared when it is made.
@@ -47,7 +47,7 @@ impl TextRow {
         }
     }
 
-    /// Takes all texts out. It costs nothing: what stands in their places is not looked at again.
+    /// Removes all texts, at no cost: their places are never read again.
     pub fn clear(&mut self)
         ensures { self.new ≡ [] }
     {
@@ -66,7 +66,7 @@ impl TextRow {
         self.len += 1;
     }
 
-    /// Returns how many texts it has.
+    /// Returns the number of texts.
     pub fn len(&self) -> usize
         ensures { result ≡ length self.now }
     {
@@ -90,7 +90,7 @@ impl TextRow {
     }
 }
 
-/// Parts of bytes, one after another, by how many bytes each has.
+/// Cuts bytes into parts of these lengths.
 fn cut<'a, const N: usize>(bytes: &'a [u8], lengths: &[usize]) -> ArrayVec<&'a [u8], N>
     requires max_count { length lengths.now ≤ N }
     requires aligned { total lengths.now ≡ length bytes.now }
@@ -106,7 +106,7 @@ fn cut<'a, const N: usize>(bytes: &'a [u8], lengths: &[usize]) -> ArrayVec<&'a [
     slices
 }
 
-/// Makes the texts of a line those of a row.
+/// Copies the texts of a line into a row.
 pub fn text_row(texts: TextLiterals<'_>, row: &mut TextRow)
     requires { texts_taken texts ≤ 4097 }
     ensures { row.new ≡ texts.entry }
@@ -117,11 +117,11 @@ pub fn text_row(texts: TextLiterals<'_>, row: &mut TextRow)
     }
 }
 
-/// Makes the texts that literals are those of a row.
+/// Copies literals into a row, as texts.
 ///
 /// # Errors
 ///
-/// `WrongKind` if one is none. The row means nothing then.
+/// `WrongKind` if a literal is no text. The row has no meaning then.
 pub fn literal_texts(literals: Literals<'_>, row: &mut TextRow) -> Result<(), Refusal>
     requires { bytes_taken literals ≤ 4097 }
     ensures { MatchResult result (λ u. texts_of literals.entry ≡ Ok row.new) (λ why.

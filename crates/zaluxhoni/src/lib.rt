@@ -15,7 +15,7 @@
 //!
 //! The condition of `construct` holds for every call that takes a `ScalarValue` and a count; the other call without
 //! it is `find_or_construct_array`. [`UniqueInstance`] and [`AnonymousInstance`] are keys without a kind too.
-//! [`examine`], [`examine_bytes`], [`open_bytes`] and [`open_any`] also take a base.
+//! [`open_image`], [`open_bytes`] and [`open_any`] also take a base.
 //!
 //! The layers below a segment ([`Heap`], [`SegVec`], [`Window`], [`RawRegion`]) are for types of your own. They require
 //! the caller to manage the layout.
@@ -30,8 +30,8 @@ pub use best_fit::{Heap, NoSpace};
 pub use block_tags::Role;
 pub use grow_shrink::{GrowError, grow, shrink_to_fit};
 pub use image_check::{
-    AcceptedVersions, ExamineError, ExamineRefused, ImageClass, MemoryFault, NoBlockMemory,
-    OpenError, OpenRefused, Verdict, examine, examine_bytes, open, open_any, open_bytes, verify,
+    AcceptedVersions, ImageClass, MemoryFault, NoBlockMemory, OpenError, OpenRefused, Verdict,
+    open, open_any, open_bytes, open_image, verify,
 };
 pub use naming::named;
 pub use raw_region::std_io::{StdSink, StdSource};

@@ -1,4 +1,4 @@
-//! A tree of the gaps that is written anew, over a window whose tags are good.
+//! Building of the tree of gaps, over a window whose tags are good.
 ghost use Rattle.std.specs.Prelude.{◌≡◌, ◌+◌, ◌%◌, ◌≤◌, IsTrue, List, [], ◌∷◌, ◌++◌, length, None};
 ghost use Rattle.raw_region.specs.Format.{current};
 ghost use Rattle.raw_region.specs.Memory.{AreBytes, SameBytesExcept, SameSurroundings, bytes_of};
@@ -19,9 +19,9 @@ use raw_region::{Window, bytes_are_octets};
 
 impl Heap {
     /// Makes the heap of a window that has blocks and gaps, and no tree of the gaps. It writes the tree into the gaps,
-    /// and the link to it into the word at 24. The window has a legal size and good tags, and no gap is red. What the
-    /// word at 24 and the links of the gaps held is lost, and all else stays. There are no hints yet, which
-    /// `insert_hint` notes.
+    /// and the link to it into the word at 24. The window has a legal size and good tags, and no gap is red. The old
+    /// word at 24 and the old links of the gaps are lost, and all else stays. There are no hints until `insert_hint`
+    /// adds them.
     pub fn rebuild(window: Window) -> Heap
         requires size { IsTrue (is_legal_size (length window.bytes)) }
         requires tags { IsTrue (has_tags 0 (bytes_of window.bytes) (length window.bytes)) }
@@ -84,7 +84,7 @@ fn plant_gaps(gaps: &mut GapTree)
     }
 }
 
-/// Puts the first gap into the tree that stands after all those of the tree.
+/// Inserts the first gap after all gaps of the tree.
 fn plant(gaps: &mut GapTree, node: u64)
     requires { (xs : List Gap) × (g : Gap) × (node ≡ node_of g) × IsNextGap gaps.old.window xs g }
     ensures tree { (xs : List Gap) (g : Gap) → node ≡ node_of g → IsNextGap gaps.old.window xs g

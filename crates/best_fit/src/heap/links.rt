@@ -72,7 +72,7 @@ impl Heap {
         move_to(&mut self.gaps.window, from + from_at, to + to_at, n);
     }
 
-    /// Moves links as `shift_links`, if none of them is null, in about half the time.
+    /// Moves links as `shift_links` does, if none of them is null, in about half the time.
     pub fn shift_non_null_links(&mut self, from: u64, from_at: u64, to: u64, to_at: u64, n: u64)
         requires from_aligned { from_at % 8 ≡ 0 }
         requires to_aligned { to_at % 8 ≡ 0 }
@@ -116,7 +116,7 @@ fn move_to(window: &mut Window, source: u64, target: u64, n: u64)
     shift(window, source, n, way(source, target));
 }
 
-/// Moves links as `move_to`, if none of them is null.
+/// Moves links as `move_to` does, if none of them is null.
 fn move_non_null_to(window: &mut Window, source: u64, target: u64, n: u64)
     requires source_aligned { source % 8 ≡ 0 }
     requires target_aligned { target % 8 ≡ 0 }

@@ -27,8 +27,8 @@ pub const FREE_TREE_ROOT: u64 = 24;
 /// The payload of the first tile.
 const FIRST_GAP: u64 = HEADER_LEN + TAG_LEN;
 
-/// What is looked for among the gaps: the first that is longer than `len`, or just so long and has its payload at
-/// `from` or after it.
+/// The target of a search among the gaps: the first gap that is longer than `len`, or has this length and its payload
+/// at `from` or after it.
 #[derive(Clone, Copy, Debug)]
 pub struct GapProbe {
     /// The length in bytes.
@@ -38,7 +38,7 @@ pub struct GapProbe {
 }
 
 /// A window whose gaps are nodes, each named by its payload: its links are the first two words there, and its colour is
-/// that of its tile. A gap precedes longer ones, and those as long that stand after it.
+/// the colour of its tile. A gap precedes longer gaps, and gaps of its length at greater offsets.
 #[derive(Drop)]
 pub struct GapTree {
     pub(super) window: Window,

@@ -14,7 +14,7 @@ use raw_region::Window;
 /// Where the word that tells a gap's length stands in its tag; its lowest four bits tell the use and the colour.
 const LENGTH: u64 = 8;
 
-/// Returns the length of the gap that has this payload. Any number may be asked for.
+/// Returns the length of the gap with this payload. The number can be any number.
 fn len_before(window: &Window, node: u64) -> u64
     ensures { is_gap_node window.now node ≡ true → result ≡ len_in (gaps_in window.now) node }
 {

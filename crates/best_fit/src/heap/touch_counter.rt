@@ -40,7 +40,7 @@ impl<'a> TouchCounter<'a> {
         TouchCounter { gaps, count: 0 }
     }
 
-    /// Returns how many touches there were.
+    /// Returns the number of touches.
     pub fn count(&self) -> u64
         ensures { result ≡ self.now.count }
     {
@@ -139,7 +139,7 @@ impl<'a> TouchCounter<'a> {
         set_link(&mut self.gaps.window, FREE_TREE_ROOT, changed.root);
     }
 
-    /// Puts a gap into the tree, of which it is the only one that is not in it. Its links may be anything.
+    /// Inserts a gap into the tree; all other gaps are in it. Its links can have any value.
     pub fn link_gap(&mut self, node: u64)
         requires tree { (xs : List Gap) × (g : Gap) × (ys : List Gap) × (node ≡ node_of g)
             × LacksGap self.old.gaps.now.window xs g ys }
@@ -337,7 +337,7 @@ fn clear_links(gaps: &mut GapTree, node: u64)
     set_link(&mut gaps.window, node + RIGHT_LINK, None);
 }
 
-/// Returns what a gap itself is looked for by.
+/// Returns the probe that finds a gap itself.
 fn probe_of(gaps: &GapTree, node: u64) -> GapProbe
     requires { is_gap_node gaps.now.window node ≡ true }
     ensures { result ≡ own_probe (gaps_in gaps.now.window) node }
@@ -346,7 +346,7 @@ fn probe_of(gaps: &GapTree, node: u64) -> GapProbe
     GapProbe { len, from: node }
 }
 
-/// Returns the first gap of the tree that does not stand before what is looked for, and where its removal begins.
+/// Returns the first gap of the tree that does not precede the probe, and the point where its removal begins.
 fn way_to(gaps: &GapTree, root: Option<u64>, sought: &GapProbe) -> RemovePoint
     requires root { root ≡ root_of_gaps gaps.now.window }
     requires tree { (hs : List Gap) × HasGapTree gaps.now.window hs }

@@ -12,10 +12,10 @@ use Rattle.best_fit.specs.Heap.{ChangesBytes, IsHeap, SameBlock, live_of}
 use Rattle.best_fit.specs.Rebuilding.{IsBesideGap}
 use Rattle.best_fit.proofs.Laws.{blocks-trans, changed-header_blocks, free-refl, header_changed, is_proper-IsProper}
 use Rattle.best_fit.proofs.Laws.{keeps-refl}
-use Rattle.segment_manager.specs.State.{DenotesCurrent}
+use Rattle.segment_manager.specs.State.{DenotesCurrent, IsSegment}
 use Rattle.segment_manager.proofs.Laws.{denotes-heap, denotes-later, denotes-live, directory-later}
-use Rattle.image_check.specs.OpeningAny.{NewVersionsStand, OlderDirectoriesStand, RebuildsTree, ReplantedStand}
-use Rattle.image_check.specs.OpeningAny.{UpgradesVersion}
+use Rattle.image_check.specs.Upgrading.{NewVersionsStand, OlderDirectoriesStand, RebuildsTree, ReplantedStand}
+use Rattle.image_check.specs.Upgrading.{UpgradesVersion}
 use Rattle.image_check.proofs.bytes.Numbers.{AreZero-half_word_at, half_word_at-AreZero}
 use Rattle.image_check.proofs.frame.FormatTags.{later-has_tags}
 use Rattle.image_check.proofs.bytes.Words.{word_at-halves}
@@ -299,3 +299,8 @@ new_versions_stand b b' d h size v =
     let upper : SameBytes (bytes_of b) (bytes_of b') 12 16 = record { at = λ k low high. v.rest.at k (inr low) } in
     let word = version-word (bytes_of b) (bytes_of b') 1 h.header.version (omega arith) v.version upper in
     renewed-denotes 1 (alone b) (alone b) (alone b') (omega arith) (d, h) (rebuilt-same (alone b) heap) changed word d h
+
+-- a segment that stands for a directory by an older format stands for one
+pub renewed-segment : (format : ℕ) (old new : List ℕ) → IsImage format old → UpgradesFormat format old new
+    → IsSegment new
+renewed-segment format old new image r = (image.0, r.denotes image.0 image.1)

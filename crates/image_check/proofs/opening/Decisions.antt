@@ -1,24 +1,23 @@
--- What is decided of images of any of the three formats, and why none is opened.
-use Rattle.image_check.proofs.Common.{ImageClass, IsOpenCause, IsTrue, List, None, OpenError, ReadDelta, Some, and_from}
+-- What is decided of images of any of the three formats.
+use Rattle.image_check.proofs.Common.{ImageClass, ReadDelta, [], refl, subst, IsTrue, List, None, Some, and_from}
 use Rattle.image_check.proofs.Common.{ap, are_bytes, arith, cases_lt, class_of, format_of, inl, inr, length}
 use Rattle.image_check.proofs.Common.{list_all-append, sym, ℕ, ◌++◌, ◌<◌, ◌∙◌, ◌≡◌, ◌≤◌, ◌⊎◌}
-use Rattle.std.proofs.lemmas.List.{append_assoc, length-append}
+use Rattle.std.proofs.lemmas.List.{append-nil, append_assoc, length-append}
 use Rattle.raw_region.specs.Memory.{zeros}
-use Rattle.image_check.specs.declared.errors.OpenError.TheVariants.{Image, OutOfMemory, ReadFault, RegionTooSmall}
 use Rattle.image_check.specs.Classes.{DecidesClass}
+use Rattle.image_check.specs.Opening.{IsRefusedAs}
 use Rattle.image_check.specs.Deciding.{AllDecidedAny, decided}
 use Rattle.image_check.specs.Formats.{DecidesAny, class_of_any}
-use Rattle.image_check.specs.OpeningAny.{IsWhyNotAny}
 use Rattle.image_check.proofs.reading.Deciding.{decided-none, decided-some, zeros-are_bytes, zeros-length}
 use Rattle.image_check.proofs.reading.Formats.{format_of-front}
 use Rattle.image_check.proofs.reading.Stops.{short-undecided}
 
 -- ---- where the version is read, all that begins with it is of one format
 
-pub class-any : (b : List ℕ) (c : ImageClass) → 12 ≤ length b → DecidesClass (format_of b) b c → DecidesAny b c
+class-any : (b : List ℕ) (c : ImageClass) → 12 ≤ length b → DecidesClass (format_of b) b c → DecidesAny b c
 class-any b c l d = λ rest h. ap (λ (f : ℕ). class_of f (b ++ rest)) (format_of-front b rest l) ∙ d rest h
 
-pub any-class : (b : List ℕ) (c : ImageClass) → 12 ≤ length b → DecidesAny b c → DecidesClass (format_of b) b c
+any-class : (b : List ℕ) (c : ImageClass) → 12 ≤ length b → DecidesAny b c → DecidesClass (format_of b) b c
 any-class b c l d = λ rest h. sym (ap (λ (f : ℕ). class_of f (b ++ rest)) (format_of-front b rest l)) ∙ d rest h
 
 -- what is decided stays so with more bytes
@@ -44,7 +43,7 @@ few-cases : (b : List ℕ) (c : ImageClass) → (length b < 12) ⊎ (12 ≤ leng
 few-cases b c (inl l) s d = few-unsaid b 12 c (omega arith) l d
 few-cases b c (inr l) s d = few-said b c l s d
 
-pub few-any : (b : List ℕ) (c : ImageClass) → length b < 144 → DecidesAny b c → ⊥
+few-any : (b : List ℕ) (c : ImageClass) → length b < 144 → DecidesAny b c → ⊥
 few-any b c s d = few-cases b c (cases_lt (length b) 12) s d
 
 -- ---- the law
@@ -66,51 +65,12 @@ all_decided_any front = record {
   none = λ e c d. none-cases front c (cases_lt (length front) 144) e d;
 }
 
--- ---- why none is opened
+-- ---- the class of what is refused
 
--- a class that what was read decides
-decides-cases : (b : List ℕ) (c : ImageClass) → (length b < 144) ⊎ (144 ≤ length b) → DecidesClass (format_of b) b c
-    → DecidesAny b c
-decides-cases b c (inl s) d = absurd (decided-none (format_of b) b (short-undecided (format_of b) b s) c d)
-decides-cases b c (inr l) d = class-any b c (omega arith) d
-
-undecided-cases : (b : List ℕ) (c : ImageClass) → (length b < 144) ⊎ (144 ≤ length b)
-    → (DecidesClass (format_of b) b c → ⊥) → DecidesAny b c → ⊥
-undecided-cases b c (inl s) n d = few-any b c s d
-undecided-cases b c (inr l) n d = n (any-class b c (omega arith) d)
-
-refused-cases : {A : Type 0} (b : List ℕ) (c : ImageClass) → A ⊎ DecidesClass (format_of b) b c → A ⊎ DecidesAny b c
-refused-cases b c (inl a) = inl a
-refused-cases b c (inr d) = inr (decides-cases b c (cases_lt (length b) 144) d)
-
--- and the other way round
-any-cases : (b : List ℕ) (c : ImageClass) → (length b < 144) ⊎ (144 ≤ length b) → DecidesAny b c
-    → DecidesClass (format_of b) b c
-any-cases b c (inl s) d = absurd (few-any b c s d)
-any-cases b c (inr l) d = any-class b c (omega arith) d
-
-decided-cases : {A : Type 0} (b : List ℕ) (c : ImageClass) → A ⊎ DecidesAny b c → A ⊎ DecidesClass (format_of b) b c
-decided-cases b c (inl a) = inl a
-decided-cases b c (inr d) = inr (any-cases b c (cases_lt (length b) 144) d)
-
--- why an image of any format is not opened is why one of its format is not
-pub why-by_format : (image : ReadDelta) (base capacity : ℕ) (cause : OpenError)
-    → IsWhyNotAny image base capacity cause → IsOpenCause (format_of image.bytes) image base capacity cause
-why-by_format image base capacity (Image c) w = record { sound = w.sound; right = decided-cases image.bytes c w.right }
-why-by_format image base capacity RegionTooSmall w = w
-why-by_format image base capacity (OutOfMemory refusal) w = w
-why-by_format image base capacity ReadFault w = record {
-  failed = w.failed;
-  open_class = λ c d. w.open_class c (decides-cases image.bytes c (cases_lt (length image.bytes) 144) d);
-}
-
--- by the format that was read
-pub why-any : (image : ReadDelta) (base capacity : ℕ) (cause : OpenError)
-    → IsOpenCause (format_of image.bytes) image base capacity cause → IsWhyNotAny image base capacity cause
-why-any image base capacity (Image c) w = record { sound = w.sound; right = refused-cases image.bytes c w.right }
-why-any image base capacity RegionTooSmall w = w
-why-any image base capacity (OutOfMemory refusal) w = w
-why-any image base capacity ReadFault w = record {
-  failed = w.failed;
-  open_class = λ c d. undecided-cases image.bytes c (cases_lt (length image.bytes) 144) (w.open_class c) d;
-}
+-- it is the class of the bytes: what they decide holds if nothing follows
+pub refused-class : (format : ℕ) (image : ReadDelta) (c : ImageClass) → IsRefusedAs format image c
+    → class_of format image.bytes ≡ Some c
+refused-class format image c r = elim r.right [
+  | inl e ↦ e.1
+  | inr d ↦ subst (λ (b : List ℕ). class_of format b ≡ Some c) (append-nil image.bytes) (d [] refl)
+]

@@ -1,22 +1,22 @@
 -- The places that the reading of an image tells.
 use Rattle.image_check.proofs.Common.{BadContainer, BadFreeTree, BadIndex, BadMagic, BadObject, BadReserved, BadSize}
-use Rattle.image_check.proofs.Common.{BadTag, Err, ExamineError, HasFront, IfErr, ImageClass, IsShown, List, Ok}
+use Rattle.image_check.proofs.Common.{BadTag, Err, HasFront, IfErr, ImageClass, IsShown, List, Ok}
 use Rattle.image_check.proofs.Common.{OpenError, OrphanBlock, ReadsPastEnd, Result, SharedBlock, Shows, Truncated}
 use Rattle.image_check.proofs.Common.{UnsupportedVersion, WindowState, [], added, ap, arith, both_added, codes}
-use Rattle.image_check.proofs.Common.{cond-false, cond-true, drop, error_for, inl, inr, is_legal_size, length}
-use Rattle.image_check.proofs.Common.{length-take-le, size_word, slice_index, subst, sym, take, true, ℕ, ◌++◌, ◌-◌, ◌<◌}
+use Rattle.image_check.proofs.Common.{cond-false, cond-true, drop, is_legal_size, length}
+use Rattle.image_check.proofs.Common.{size_word, slice_index, subst, sym, take, true, ℕ, ◌++◌, ◌-◌, ◌<◌}
 use Rattle.image_check.proofs.Common.{◌∙◌, ◌∷◌, ◌≡◌, ◌≤◌}
-use Rattle.std.proofs.lemmas.List.{get_or_append_left, length-append}
-use Rattle.image_check.specs.declared.errors.ExamineError.TheVariants.{Image, OutOfMemory, ReadFault, RegionTooSmall}
+use Rattle.std.proofs.lemmas.List.{get_or_append_left}
+use Rattle.image_check.specs.declared.errors.OpenError.TheVariants.{Image, OutOfMemory, ReadFault, RegionTooSmall}
 use Rattle.image_check.specs.declared.verdict.Verdict.{Verdict}
-use Rattle.image_check.specs.Causes.{IsEnd, IsNodeLink, error_in}
+use Rattle.image_check.specs.Causes.{IsEnd, IsExcess}
 use Rattle.image_check.specs.HeaderPlaces.{IsFirstOther, IsFrontPlace}
 use Rattle.image_check.proofs.reading.Deciding.{size_word-front}
 use Rattle.image_check.proofs.reading.Buffer.{HasFront-IsRight}
 use Rattle.image_check.proofs.reading.Fronts.{IsRight-append, IsRight-take}
 
 -- the end of what came
-pub end-shown : (format : ℕ) (b : List ℕ) (n : ℕ) (cause : ExamineError) → n ≡ length b → IsEnd n cause
+pub end-shown : (format : ℕ) (b : List ℕ) (n : ℕ) (cause : OpenError) → n ≡ length b → IsEnd n cause
     → IsShown format b cause
 end-shown format b n (Image v) e h = subst (λ c. Shows format b c v.place) (sym h.0) (h.1 ∙ e)
 end-shown format b n RegionTooSmall e h = tt
@@ -25,7 +25,7 @@ end-shown format b n ReadFault e h = tt
 
 -- the size that was said
 behind-shown : (format : ℕ) (b : List ℕ) (n : ℕ) (v : Verdict) → n ≡ size_word b → is_legal_size (size_word b) ≡ true
-    → IsNodeLink n (Image v) → Shows format b v.class v.place
+    → IsExcess n (Image v) → Shows format b v.class v.place
 behind-shown format b n v e legal h = subst (λ c. Shows format b c v.place) (sym h.0)
     (h.1 ∙ e ∙ sym (cond-true (is_legal_size (size_word b)) (size_word b) 16 legal))
 
@@ -65,7 +65,7 @@ module _ (format : ℕ) (front more : List ℕ) (long : 24 ≤ length front) whe
 
 module _ (w : WindowState) (old mid new ws : List ℕ) (n : ℕ) (is : n ≡ length w.bytes) (rest : mid ≡ old ++ ws) where
   one-behind : (format : ℕ) → HasFront format w → (start : List ℕ) → old ≡ start ++ take 24 w.bytes → (byte : ℕ)
-      → new ≡ mid ++ byte ∷ [] → (v : Verdict) → IsNodeLink n (Image v)
+      → new ≡ mid ++ byte ∷ [] → (v : Verdict) → IsExcess n (Image v)
       → Shows format (drop (length start) new) v.class v.place
   one-behind format h start e byte g v s =
       let one : List ℕ = byte ∷ [] in
@@ -79,26 +79,13 @@ module _ (w : WindowState) (old mid new ws : List ℕ) (n : ℕ) (is : n ≡ len
       subst (λ b. Shows format b v.class v.place) (sym said)
       (behind-shown format all n v (is ∙ sym right.says) (ap is_legal_size right.says ∙ right.legal) s)
 
-  -- the place of a node link is told
-  pub whole-shown : (r : Result (Unit {0}) ExamineError) → IfErr r (λ cause. ReadsPastEnd mid new (error_for cause))
-      → IfErr r (IsNodeLink n)
+  -- the place of the first byte after it is told
+  pub whole-shown : (r : Result (Unit {0}) OpenError) → IfErr r (ReadsPastEnd mid new)
+      → IfErr r (IsExcess n)
       → IfErr r (λ cause. (format : ℕ) → HasFront format w → (start : List ℕ) → old ≡ start ++ take 24 w.bytes
       → IsShown format (drop (length start) new) cause)
   whole-shown (Ok done) g s = tt
-  whole-shown (Err (Image v)) (inl g) s = absurd (cc)
-  whole-shown (Err (Image v)) (inr g) s = λ format h start e. one-behind format h start e g.1.0 g.1.1 v s
+  whole-shown (Err (Image v)) g s = λ format h start e. one-behind format h start e g.1.0 g.1.1 v s
   whole-shown (Err RegionTooSmall) g s = λ format h start e. tt
   whole-shown (Err (OutOfMemory refusal)) g s = λ format h start e. tt
   whole-shown (Err ReadFault) g s = λ format h start e. tt
-
--- what is so of a cause without its place
-pub err-in : {A : Type 0} (Q : OpenError → Type 0) (r : Result A ExamineError)
-    → IfErr r (λ cause. Q (error_for cause)) → IfErr (error_in r) Q
-err-in Q (Ok x) h = tt
-err-in Q (Err cause) h = h
-
--- what is said of an error is said of the cause
-pub err-out : {A : Type 0} (Q : OpenError → Type 0) (r : Result A ExamineError) → IfErr (error_in r) Q
-    → IfErr r (λ cause. Q (error_for cause))
-err-out Q (Ok x) h = tt
-err-out Q (Err cause) h = h

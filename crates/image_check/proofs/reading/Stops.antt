@@ -2,18 +2,18 @@
 use Rattle.image_check.proofs.Common.{BadMagic, BadSize, Err, ImageClass, IsShort, IsTooSmallFor, IsTrue, List, None}
 use Rattle.image_check.proofs.Common.{Ok, OpenError, ReadDelta, ReadsPastEnd, Some, Stops, Truncated}
 use Rattle.image_check.proofs.Common.{UnsupportedVersion, [], added, and_from, and_right, ap, arith, both_added}
-use Rattle.image_check.proofs.Common.{both_ways, decided_by, failed_reads, false, front_of, has_front, has_magic}
-use Rattle.image_check.proofs.Common.{has_size, has_version, if◌then◌else◌, inl, inr, is_legal_size, le-leb, le-ltb}
-use Rattle.image_check.proofs.Common.{legal_size, length, length-take, lt-ltb, nat_le, nat_lt, read_delta, refl}
+use Rattle.image_check.proofs.Common.{both_ways, class_of, decided_by, failed_reads, false, front_of, has_front}
+use Rattle.image_check.proofs.Common.{has_magic, has_size, has_version, if◌then◌else◌, inl, inr, is_legal_size, le-leb}
+use Rattle.image_check.proofs.Common.{le-ltb, legal_size, length, length-take, lt-ltb, nat_le, nat_lt, read_delta, refl}
 use Rattle.image_check.proofs.Common.{size_word, subst, sym, take, true, ℕ, ◌++◌, ◌+◌, ◌<◌, ◌∙◌, ◌∷◌, ◌≡◌, ◌≤◌}
 use Rattle.std.proofs.Common.{Bool}
 use Rattle.std.proofs.lemmas.Bool.{lt-leb}
 use Rattle.std.proofs.lemmas.List.{length-append}
 use Rattle.raw_region.specs.Answers.{AppendsProperPrefix}
-use Rattle.image_check.specs.declared.errors.OpenError.TheVariants.{Image, ReadFault}
-use Rattle.image_check.specs.Classes.{holds}
+use Rattle.image_check.specs.declared.errors.OpenError.TheVariants.{Image, OutOfMemory, ReadFault, RegionTooSmall}
+use Rattle.image_check.specs.Classes.{DecidesClass, holds, number_of}
 use Rattle.image_check.specs.Deciding.{decided}
-use Rattle.image_check.specs.Opening.{is_late}
+use Rattle.image_check.specs.declared.verdict.Verdict.{Verdict}
 use Rattle.image_check.proofs.reading.Deciding.{decided-none, decided-some, first_class}
 use Rattle.image_check.proofs.frame.EarlyClasses.{cut-Truncated, short-Truncated}
 use Rattle.image_check.proofs.reading.Fronts.{IsRight, IsRight-append, front-decided, front-wrong, front_of-append}
@@ -83,17 +83,17 @@ short_stops : (format : ℕ) (b : List ℕ) (ended : Bool) (f f' base capacity :
     → IsTrue (holds format b Truncated) → decided format b ≡ None
     → (IsTooSmallFor format (given b ended f f') base capacity → ⊥) → IsShort ended cause → f' ≡ f + rise cause
     → Stops format (given b ended f f') base capacity cause
-short_stops format b ended f f' base capacity cause t d n (inl e) g =
-    subst (Stops format (given b ended f f') base capacity) (sym e)
-    (fault_stops format b ended f f' base capacity d n (g ∙ ap (λ c. f + rise c) e))
-short_stops format b ended f f' base capacity cause t d n (inr h) g =
-    let same : f' ≡ f + 0 = g ∙ ap (λ c. f + rise c) h.0 in
-    subst (Stops format (given b ended f f') base capacity) (sym h.0)
-    (record {
-      why = record { sound = none_failed f f' same; right = inl (h.1, first_class (holds format b) t) };
-      too_small = λ s. absurd (n s);
-      early = refl;
-    })
+short_stops format b ended f f' base capacity (Image v) t d n h g = record {
+  why = record {
+    sound = none_failed f f' g;
+    right = inl (h.1, subst (λ c. class_of format b ≡ Some c) (sym h.0) (first_class (holds format b) t));
+  };
+  too_small = λ s. absurd (n s);
+  early = ap (λ c. nat_lt 7 (number_of c)) h.0;
+}
+short_stops format b ended f f' base capacity RegionTooSmall t d n h g = absurd h
+short_stops format b ended f f' base capacity (OutOfMemory refusal) t d n h g = absurd h
+short_stops format b ended f f' base capacity ReadFault t d n h g = fault_stops format b ended f f' base capacity d n g
 
 -- ---- in the first 24 bytes, and in the others where these are wrong
 
@@ -137,34 +137,35 @@ wrong_front_stops format old mid new front xs ended f f' base capacity c cause l
 -- what is wrong with the first words is no class from the eighth on
 early-by : (m v l : Bool) (n : ℕ) (c : ImageClass)
     → (if m then (if v then (if l then Ok n else Err BadSize) else Err UnsupportedVersion) else Err BadMagic) ≡ Err c
-    → is_late (Image c) ≡ false
+    → nat_lt 7 (number_of c) ≡ false
 early-by true true true n c e = absurd (cc)
-early-by true true false n c e = let same : BadSize ≡ c = cc in ap (λ k. is_late (Image k)) (sym same)
-early-by true false l n c e = let same : UnsupportedVersion ≡ c = cc in ap (λ k. is_late (Image k)) (sym same)
-early-by false v l n c e = let same : BadMagic ≡ c = cc in ap (λ k. is_late (Image k)) (sym same)
+early-by true true false n c e = let same : BadSize ≡ c = cc in ap (λ k. nat_lt 7 (number_of k)) (sym same)
+early-by true false l n c e = let same : UnsupportedVersion ≡ c = cc in ap (λ k. nat_lt 7 (number_of k)) (sym same)
+early-by false v l n c e = let same : BadMagic ≡ c = cc in ap (λ k. nat_lt 7 (number_of k)) (sym same)
 
 -- the class of a front is an early one
-pub front-early : (format : ℕ) (b : List ℕ) (c : ImageClass) → front_of format b ≡ Err c → is_late (Image c) ≡ false
+pub front-early : (format : ℕ) (b : List ℕ) (c : ImageClass) → front_of format b ≡ Err c
+    → nat_lt 7 (number_of c) ≡ false
 front-early format b c e =
     early-by (has_magic b) (has_version format b) (is_legal_size (size_word b)) (size_word b) c e
 
 -- with 144 bytes the wrong front decides
 pub wrong_front_decides : (format : ℕ) (old mid new front xs : List ℕ) (ended : Bool) (f f' base capacity : ℕ)
-    (c : ImageClass) → length front ≡ 24 → length xs ≡ 120 → mid ≡ old ++ front
-    → front_of format front ≡ Err c → new ≡ mid ++ xs → f' ≡ f + 0
-    → Stops format (read_since old new ended f f') base capacity (Image c)
-wrong_front_decides format old mid new front xs ended f f' base capacity c l k e w a g =
+    (v : Verdict) → length front ≡ 24 → length xs ≡ 120 → mid ≡ old ++ front
+    → front_of format front ≡ Err v.class → new ≡ mid ++ xs → f' ≡ f + 0
+    → Stops format (read_since old new ended f f') base capacity (Image v)
+wrong_front_decides format old mid new front xs ended f f' base capacity v l k e w a g =
     let b : List ℕ = front ++ xs in
     let both = length-append front xs in
     let wrong = front_of-append format front xs (omega arith) ∙ w in
-    stops_since format old new b ended f f' base capacity (Image c) (both_added old mid new front xs e a)
+    stops_since format old new b ended f f' base capacity (Image v) (both_added old mid new front xs e a)
     (record {
       why = record {
         sound = none_failed f f' g;
-        right = inr (decided-some format b c (front-decided format b c (omega arith) wrong));
+        right = inr (decided-some format b v.class (front-decided format b v.class (omega arith) wrong));
       };
-      too_small = λ t. absurd (none_too_small format b ended f f' base capacity c wrong t);
-      early = front-early format front c w;
+      too_small = λ t. absurd (none_too_small format b ended f f' base capacity v.class wrong t);
+      early = front-early format front v.class w;
     })
 
 -- ---- after a right front
@@ -212,22 +213,23 @@ pub whole_stops : (format : ℕ) (old mid new b : List ℕ) (size : ℕ) (ended 
     (cause : OpenError) → IsRight format b size → length b ≡ size → base + size ≤ capacity
     → mid ≡ old ++ b → ReadsPastEnd mid new cause → f' ≡ f + rise cause
     → Stops format (read_since old new ended f f') base capacity cause
-whole_stops format old mid new b size ended f f' base capacity cause r l room e (inl h) g =
-    stops_since format old new b ended f f' base capacity cause (h.1 ∙ e)
-    (subst (Stops format (given b ended f f') base capacity) (sym h.0)
+whole_stops format old mid new b size ended f f' base capacity ReadFault r l room e h g =
+    stops_since format old new b ended f f' base capacity ReadFault (h ∙ e)
     (fault_stops format b ended f f' base capacity (right-undecided format b size r (omega arith))
-    (room_for format b size ended f f' base capacity r room) (g ∙ ap (λ c. f + rise c) h.0)))
-whole_stops format old mid new b size ended f f' base capacity cause r l room e (inr h) g =
+    (room_for format b size ended f f' base capacity r room) g)
+whole_stops format old mid new b size ended f f' base capacity RegionTooSmall r l room e h g = absurd h
+whole_stops format old mid new b size ended f f' base capacity (OutOfMemory refusal) r l room e h g = absurd h
+whole_stops format old mid new b size ended f f' base capacity (Image v) r l room e h g =
     let one : List ℕ = h.1.0 ∷ [] in
     let both : length (b ++ one) ≡ length b + 1 = length-append b one in
     let right = IsRight-append format b one size r in
-    stops_since format old new (b ++ one) ended f f' base capacity cause (both_added old mid new b one e h.1.1)
-    (subst (Stops format (given (b ++ one) ended f f') base capacity) (sym h.0)
+    let decides = decided-some format (b ++ one) BadSize (more-decided format (b ++ one) size right (omega arith)) in
+    stops_since format old new (b ++ one) ended f f' base capacity (Image v) (both_added old mid new b one e h.1.1)
     (record {
       why = record {
-        sound = none_failed f f' (g ∙ ap (λ c. f + rise c) h.0);
-        right = inr (decided-some format (b ++ one) BadSize (more-decided format (b ++ one) size right (omega arith)));
+        sound = none_failed f f' g;
+        right = inr (subst (DecidesClass format (b ++ one)) (sym h.0) decides);
       };
       too_small = λ t. absurd (room_for format (b ++ one) size ended f f' base capacity right room t);
-      early = refl;
-    }))
+      early = ap (λ c. nat_lt 7 (number_of c)) h.0;
+    })

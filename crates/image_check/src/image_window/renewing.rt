@@ -5,7 +5,7 @@ ghost use Rattle.raw_region.specs.Memory.{SameSurroundings, bytes_of, word_at};
 ghost use Rattle.best_fit.specs.Heap.{ChangesBytes, IsHeap};
 ghost use Rattle.best_fit.specs.Rebuilding.{RebuildsFreeTree};
 ghost use Rattle.image_check.specs.Opening.{IsImage};
-ghost use Rattle.image_check.specs.OpeningAny.{UpgradesFormat};
+ghost use Rattle.image_check.specs.Upgrading.{UpgradesFormat};
 ghost use Rattle.image_check.specs.Owners.{AreBlocks};
 ghost use Rattle.image_check.specs.Passes.{tiles_in};
 

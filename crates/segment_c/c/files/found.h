@@ -2,7 +2,7 @@
 
 /* ---- what exists at a path */
 
-/* Whether it can be a segment's file. */
+/* Refuses what cannot be a segment's file. */
 static zx_code judge(zx_file *file, const struct stat *found) {
     if (S_ISDIR(found->st_mode)) return faulty(file, ZX_FILE_FOLDER, EISDIR);
     if (S_ISCHR(found->st_mode) || S_ISBLK(found->st_mode)) return faulty(file, ZX_FILE_DEVICE, EINVAL);
@@ -11,14 +11,14 @@ static zx_code judge(zx_file *file, const struct stat *found) {
     return ZX_DONE;
 }
 
-/* What a path led to, and when that was asked, by the clock by which the system dates changes of files. */
+/* A look at a path: its result, and its time by the clock that dates changes of files. */
 struct sight {
     struct timespec at;
     struct stat found;
     bool is_link;
 };
 
-/* What exists at the path, for a call that opens. ZX_FILE_MISSING only if nothing does. */
+/* Looks at the path for a call that opens. Returns ZX_FILE_MISSING only if nothing exists there. */
 static zx_code look(zx_file *file, const char *path, struct sight *sight) {
     clock_gettime(CLOCK_REALTIME_COARSE, &sight->at);
     if (lstat(path, &sight->found) != 0) return errno == ENOENT ? faulty(file, ZX_FILE_MISSING, ENOENT) : fault(file);
@@ -33,16 +33,16 @@ static int compared(const struct timespec *one, const struct timespec *other) {
     return one->tv_nsec < other->tv_nsec ? -1 : one->tv_nsec > other->tv_nsec;
 }
 
-/* Whether a file surely has the names that it had when it was seen. To give or to take one dates the file anew. The
-   clock of dates stands still for some milliseconds, so a file that was dated just before it was seen does not tell. Nor
-   does a date in whole hundredths of a second: there are file systems that have no others, or only whole seconds. */
+/* Returns true if a file certainly has the same names as at the first look: adding or removing a name changes the date
+   of its status. The clock of these dates advances in steps of some milliseconds, so a date just before the first look
+   proves nothing. Nor does a date in whole hundredths of a second: some file systems have only coarse dates. */
 static bool has_its_names(const struct sight *sight, const struct stat *file) {
     return is_same(&sight->found, file) && sight->found.st_nlink == file->st_nlink &&
            compared(&sight->found.st_ctim, &file->st_ctim) == 0 && compared(&file->st_ctim, &sight->at) < 0 &&
            file->st_ctim.tv_nsec % 10000000 != 0;
 }
 
-/* Keeps the path, which nobody asks for once the file is open. */
+/* Keeps the path. It is not used once the file is open. */
 static zx_code keep(const char *path, struct zx_held_file **found) {
     size_t room = strlen(path) + 1;
     struct zx_held_file *held = calloc(1, sizeof *held + room);
@@ -87,10 +87,10 @@ static zx_code find(zx_file *file, const char *path, struct zx_held_file **found
     return ZX_DONE;
 }
 
-/* ---- the mark of a file that is to be replaced: beside it a new one may stand, if whoever saved was killed. To ask
-   for it takes a quarter of what it takes to look there */
+/* ---- the mark of a file under replacement: a killed saver can have left a new file next to it. Reading the mark takes
+   a quarter of the time that a search for that file takes */
 
-/* The mark, and the names of the files beside. */
+/* The attribute that is the mark. */
 static const char MARK[] = "user.zaluxhoni";
 
 enum marked { NO, YES, UNKNOWN };
@@ -99,8 +99,8 @@ static enum marked is_marked(int file) {
     return fgetxattr(file, MARK, NULL, 0) >= 0 ? YES : errno == ENODATA ? NO : UNKNOWN;
 }
 
-/* A name for the file that will replace the one of a name, made of that name (FNV-1a): only who holds the file that the
-   name leads to uses it. Something that cannot be removed may have it, and so there are a few. */
+/* Makes a name for a new file from the name of the file that it will replace (FNV-1a). Only the holder of that file
+   uses it. There are several, since a folder can have one of them. */
 static void spare_name(char spare[40], const char *name, int turn) {
     uint64_t hash = 0xcbf29ce484222325;
     for (; *name; name++) hash = (hash ^ (unsigned char)*name) * 0x100000001b3;
@@ -112,8 +112,8 @@ static void spare_name(char spare[40], const char *name, int turn) {
 
 /* ---- the right to write */
 
-/* Removes what one that was killed left beside the file, and the mark: not of a file with several names, since it does
-   not say beside which of them. */
+/* Removes the new file that a killed saver left, and the mark. A file with several names keeps its mark, which does not
+   say next to which of them the new file is. */
 static void remove_spare(const struct zx_held_file *held, bool has_one_name, enum marked marked) {
     const char *name = last_name(held->name);
     size_t before = (size_t)(name - held->name);
@@ -130,14 +130,14 @@ static void remove_spare(const struct zx_held_file *held, bool has_one_name, enu
     if (may_unmark && has_one_name) fremovexattr(held->file, MARK);
 }
 
-/* Whether the lock of a file is the one that the zx_file holds, by another name of its file. */
+/* Returns true if the zx_file itself has the lock, under another name of its file. */
 static bool is_own_lock(const zx_file *file, const struct stat *locked) {
     struct stat own;
     return file->held && is_own(file->held) && file->held->state != READ && fstat(file->held->file, &own) == 0 &&
            is_same(&own, locked);
 }
 
-/* Opens and locks the file of a name that was seen. AGAIN if the name meanwhile leads to another one. */
+/* Opens and locks the file of a name after a look at it. Returns AGAIN if the name leads to another file by now. */
 static zx_code lock(zx_file *file, struct zx_held_file *held, const struct sight *sight, struct stat *opened) {
     int how = held->state == READ ? O_RDONLY : O_RDWR;
     if (!open_listed(&held->file, held->folder, held->name, how | O_NOFOLLOW | O_NONBLOCK | O_NOCTTY, 0))
@@ -156,7 +156,7 @@ static zx_code lock(zx_file *file, struct zx_held_file *held, const struct sight
     return ZX_DONE;
 }
 
-/* Finds what the mode wants: the file, locked, and what it is; or, if it is to be created, its folder and name. */
+/* Finds and locks the file; or finds the folder and the name of a file to create. */
 static zx_code hold_once(zx_file *file, const char *path, uint32_t mode, bool is_mapped, struct zx_held_file **held,
                          struct stat *found) {
     struct sight sight;

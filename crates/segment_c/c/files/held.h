@@ -19,10 +19,10 @@
 
 enum { LARGEST = 1 << 30, TRIES = 64, SPARES = 8, PAGE = 4096, PIECE = 8 * PAGE };
 
-/* The name meanwhile leads elsewhere: a code that no caller sees. */
+/* The name leads to another file by now. No caller sees this code. */
 enum { AGAIN = 1 };
 
-/* What a file is that is held. */
+/* The state of a held file. */
 enum state {
     SAVED,    /* under its name since it was opened, or since it was saved */
     NEW,      /* created and never saved: who discards it removes it */
@@ -36,6 +36,10 @@ struct zx_held_file {
     zx_segment *mapped;        /* the segment that lies in its mapping, or null */
     uint8_t *at;               /* the mapping, of `len` bytes, or null: it keeps the lock as a descriptor does */
     uint64_t len;
+    uint64_t room;             /* the bytes of addresses that the mapping has, if they are more than `len`; or 0 */
+    unsigned steps;            /* open transactions that keep pages */
+    struct commits *commits;   /* of a file that is durable, or null */
+    int log;                   /* the log beside the file; -1 if none is open */
     unsigned forks;            /* of the process that opened it */
     int folder;                /* of the name; AT_FDCWD for a mapped file that existed, whose name is a path */
     int file;                  /* with its lock; -1 if none exists under the name */
@@ -59,9 +63,9 @@ static zx_code faulty(zx_file *file, zx_code code, int error) {
 
 static zx_code fault(zx_file *file) { return faulty(file, ZX_FILE_FAULT, errno); }
 
-/* What a call returns: an errno comes with the codes of files alone. */
+/* Returns the code of a call. Only codes of files come with an errno. */
 static zx_code answered(zx_file *file, zx_code code) {
-    if (code < ZX_FILE_IN_USE || code > ZX_FILE_FORKED) file->error = 0;
+    if (code < ZX_FILE_IN_USE || code > ZX_FILE_IN_STEP) file->error = 0;
     return code;
 }
 
@@ -69,9 +73,9 @@ void zx_file_words(zx_code code, zx_text *words) {
     static const char *const all[] = {
         "no file", "file is open", "file in use", "file exists", "no such file", "link leads to nothing", "is a folder",
         "is a device", "is a pipe", "file too large", "file fault", "file was replaced", "saved, but folder not synced",
-        "file of another process",
+        "file of another process", "log of another file", "commit may be saved or not", "transaction is open",
     };
-    if (ZX_FILE_NONE <= code && code <= ZX_FILE_FORKED) {
+    if (ZX_FILE_NONE <= code && code <= ZX_FILE_IN_STEP) {
         words->at = (const uint8_t *)all[code - ZX_FILE_NONE];
         words->len = strlen(all[code - ZX_FILE_NONE]);
     } else {
@@ -87,10 +91,10 @@ const char *zx_message(zx_code code) {
     return message;
 }
 
-/* Whether a signal interrupted a call, which is to be made once more, as long as that does not go on for ever. */
+/* Returns true if a signal interrupted a call and the call may be repeated; the number of repetitions is limited. */
 static bool is_interrupted(int *tries) { return errno == EINTR && ++*tries < TRIES; }
 
-/* ---- all files that are held: a forked process closes its copies, or it would keep its parent's locks */
+/* ---- the list of held files: a forked process closes its copies, since a copy would keep the parent's lock */
 
 static pthread_mutex_t guard = PTHREAD_MUTEX_INITIALIZER;
 static bool is_watching; /* whether a fork takes the list apart in the child */
@@ -106,8 +110,11 @@ static void close_all(struct zx_held_file *held) {
     if (held->file >= 0) close(held->file);
     if (held->made >= 0) close(held->made);
     if (held->folder >= 0) close(held->folder);
-    held->file = held->made = held->folder = -1;
+    if (held->log >= 0) close(held->log);
+    held->file = held->made = held->folder = held->log = -1;
 }
+
+static void unmap_all(struct zx_held_file *held) { munmap(held->at, held->room ? held->room : held->len); }
 
 /* A child has no mapping either, so its segment is closed, and no view is current. The box of its handle stays
    behind. */
@@ -115,7 +122,7 @@ static void in_child(void) {
     forks++;
     for (struct zx_held_file *each = all_held; each; each = each->next) {
         close_all(each);
-        if (each->at) munmap(each->at, each->len);
+        if (each->at) unmap_all(each);
         if (!each->mapped) continue;
         each->mapped->at = NULL;
         each->mapped->changes++;
@@ -127,7 +134,7 @@ static void in_child(void) {
 /* Puts a file into the list, before it is opened. Frees it, and returns null, if there is no memory to watch forks. */
 static struct zx_held_file *enlist(struct zx_held_file *held) {
     held->forks = forks;
-    held->file = held->made = -1;
+    held->file = held->made = held->log = -1;
     pthread_mutex_lock(&guard);
     if (!is_watching) is_watching = pthread_atfork(before_fork, after_fork, in_child) == 0;
     bool is_watched = is_watching;
@@ -163,7 +170,7 @@ static void close_listed(int *descriptor) {
     errno = error;
 }
 
-/* Takes the new file for the old one, whose lock it gives back. */
+/* Installs the new file as the held one, and releases the lock of the old file. */
 static void take_made(struct zx_held_file *held) {
     pthread_mutex_lock(&guard);
     int before = held->file;
@@ -174,7 +181,9 @@ static void take_made(struct zx_held_file *held) {
     close_listed(&held->made);
 }
 
-/* Gives the right to write back, even if a child that fork knows nothing of has a copy of the descriptor. */
+static void free_commits(struct zx_held_file *held);
+
+/* Releases the lock, even if a child process has a copy of the descriptor that no handler of forks saw. */
 static void release(struct zx_held_file *held) {
     if (held->file >= 0 && is_own(held)) flock(held->file, LOCK_UN);
     pthread_mutex_lock(&guard);
@@ -183,6 +192,7 @@ static void release(struct zx_held_file *held) {
     if (*at) *at = held->next;
     close_all(held);
     pthread_mutex_unlock(&guard);
+    free_commits(held);
     free(held);
 }
 
@@ -190,21 +200,21 @@ static bool is_same(const struct stat *one, const struct stat *other) {
     return one->st_dev == other->st_dev && one->st_ino == other->st_ino;
 }
 
-/* Whether a name leads to a file. */
+/* Returns true if a name leads to this file. */
 static bool leads_to(int folder, const char *name, const struct stat *file) {
     struct stat named;
     return fstatat(folder, name, &named, AT_SYMLINK_NOFOLLOW) == 0 && is_same(&named, file);
 }
 
 /* Returns ZX_FILE_REPLACED if the name of a file that is held leads elsewhere by now, or nowhere. A mapped file, which
-   keeps its bytes under any name, has lost the last one. */
+   keeps its bytes under any name, has lost the last one. A durable one is replaced by its name. */
 static zx_code still_named(zx_file *file, const struct zx_held_file *held) {
     struct stat own, named;
+    bool by_name = !held->mapped || held->commits;
     if (fstat(held->file, &own) != 0) return fault(file);
-    bool is_named = held->mapped ? own.st_nlink > 0
-                                 : fstatat(held->folder, held->name, &named, AT_SYMLINK_NOFOLLOW) == 0;
-    if (!is_named && !held->mapped && errno != ENOENT) return fault(file);
-    if (is_named && !held->mapped) is_named = is_same(&own, &named);
+    bool is_named = by_name ? fstatat(held->folder, held->name, &named, AT_SYMLINK_NOFOLLOW) == 0 : own.st_nlink > 0;
+    if (!is_named && by_name && errno != ENOENT) return fault(file);
+    if (is_named && by_name) is_named = is_same(&own, &named);
     return is_named ? (zx_code)ZX_DONE : faulty(file, ZX_FILE_REPLACED, ESTALE);
 }
 
@@ -216,8 +226,8 @@ static void abandon(struct zx_held_file *held) {
     release(held);
 }
 
-/* Locks a file, without waiting. Returns 0, also on a file system without locks, which refuses nobody; otherwise an
-   errno: EWOULDBLOCK if another has the lock. */
+/* Locks a file without waiting. Returns 0 or an errno: EWOULDBLOCK if another process has the lock. On a file system
+   without locks it returns 0. */
 static int take_lock(int file, int how) {
     int tries = 0;
     while (flock(file, how | LOCK_NB) != 0) {
@@ -234,7 +244,7 @@ static struct image room_for(uint64_t len) {
     return image;
 }
 
-/* Copies the image of the segment into memory of its own. */
+/* Copies the image of the segment. */
 static zx_code image_of(zx_segment *segment, struct image *image) {
     uint64_t size;
     zx_code code = zx_size(segment, &size);
@@ -282,7 +292,7 @@ static bool is_zero(const uint8_t *bytes, size_t len) {
     return bytes[0] == 0 && memcmp(bytes, bytes + 1, len - 1) == 0;
 }
 
-/* Syncs a file or a folder. What does not support that is on no disk. */
+/* Syncs a file or a folder. Does nothing for one that is not on a disk. */
 static bool sync_one(int file) {
     int tries = 0;
     while (fsync(file) != 0)

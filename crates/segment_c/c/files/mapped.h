@@ -36,15 +36,15 @@ static zx_code attach(zx_file *file, struct zx_held_file *held, uint64_t size, u
 
 static size_t page_size(void) { return (size_t)sysconf(_SC_PAGESIZE); }
 
-/* Whether the file lies in a tmpfs, which lends it pages one by one and counts these alone as its blocks. */
+/* Returns true if the file is in a tmpfs, where pages are allocated one by one and counted as the file's blocks. */
 static bool is_in_memory(int file, const struct stat *found) {
     struct statfs disk;
     return major(found->st_dev) == 0 && (size_t)found->st_blksize == page_size() && fstatfs(file, &disk) == 0 &&
            disk.f_type == TMPFS_MAGIC;
 }
 
-/* Whether a page of the file may have no block. The number of its blocks does not tell, since it counts those of its
-   attributes too. The exception is tmpfs, where the search for a hole would ask for each page. */
+/* Returns true if the file can have a hole. The number of its blocks does not tell, since it includes those of its
+   attributes. On tmpfs that number is used: there a search for a hole would look at each page. */
 static bool has_hole(int file, const struct stat *found) {
     uint64_t len = (uint64_t)found->st_size, page = page_size(), blocks = (uint64_t)found->st_blocks * 512;
     if (blocks < len) return true;
@@ -52,7 +52,7 @@ static bool has_hole(int file, const struct stat *found) {
     return lseek(file, 0, SEEK_HOLE) < (off_t)len;
 }
 
-/* Gives the file blocks up to a length, so that no page that is written finds the disk full. */
+/* Allocates blocks up to a length, so that no write to a page finds the disk full. */
 static bool allot(int file, const struct stat *found, uint64_t len) {
     if ((uint64_t)found->st_size >= len && !has_hole(file, found)) return true;
     int tries = 0;
@@ -61,13 +61,13 @@ static bool allot(int file, const struct stat *found, uint64_t len) {
     return true;
 }
 
-/* Makes the file just as long as its image. */
+/* Sets the length of the file to that of its image. */
 static bool cut(int file, uint64_t size) {
     struct stat found;
     return fstat(file, &found) == 0 && ((uint64_t)found.st_size == size || set_length(file, size));
 }
 
-/* The size that an image says (docs/FORMAT.md). */
+/* Returns the size in an image's header (docs/FORMAT.md). */
 static uint64_t size_said(const uint8_t *image) {
     uint64_t size = 0;
     for (int i = 7; i >= 0; i--) size = size << 8 | image[16 + i];
@@ -103,7 +103,7 @@ static void read_apart(const uint8_t *at, uint64_t len) {
     (void)(first[0] + first[APART * page] + last[0] + (last - APART * page)[0]);
 }
 
-/* Takes the two pages away, and puts them where a second file of one length is mapped. */
+/* Moves the two pages to the place where a second file of this length is mapped. */
 static void move_place(size_t page, uint64_t len) {
     if (place.at) {
         munmap(place.at - page, page);
@@ -123,7 +123,7 @@ static void move_place(size_t page, uint64_t len) {
     if (behind < from + room) munmap(behind, (size_t)(from + room - behind));
 }
 
-/* Where a file of a length may be mapped, if nothing else is there by then; null if that does not matter. */
+/* Returns an address at which a file of this length may be mapped, if it is still free then; null for any address. */
 static void *place_for(uint64_t len) {
     size_t page = page_size();
     len = (len + page - 1) / page * page;
@@ -147,8 +147,9 @@ static bool map_listed(struct zx_held_file *held, uint64_t len, int protection, 
 
 static void unmap_listed(struct zx_held_file *held) {
     pthread_mutex_lock(&guard);
-    munmap(held->at, held->len);
+    unmap_all(held);
     held->at = NULL;
+    held->room = 0;
     held->mapped = NULL;
     pthread_mutex_unlock(&guard);
 }
@@ -188,7 +189,7 @@ static zx_code map_anew(zx_file *file, struct zx_held_file *held, uint32_t how) 
 /* Cuts a mapped file that this process writes to its image. */
 static bool cut_mapped(zx_file *file, const struct zx_held_file *held) {
     uint64_t size;
-    bool is_written = held->state != READ && is_own(held) && file->segment.lent;
+    bool is_written = held->state != READ && !held->commits && held->steps == 0 && is_own(held) && file->segment.lent;
     return !is_written || zx_size(&file->segment, &size) != ZX_DONE || cut(held->file, size);
 }
 
@@ -198,14 +199,14 @@ static void unmap(zx_file *file, struct zx_held_file *held) {
     if (is_own(held)) unmap_listed(held);
 }
 
-/* Makes the mapping as long as is wanted, around an image that fits into it, and the file too. The segment stays
-   open, unless memory ends. */
+/* Sets the length of the mapping and of the file; the image fits into both. The segment stays open, unless memory is
+   refused. */
 static zx_code remap(zx_file *file, struct zx_held_file *held, uint64_t size, uint64_t wanted) {
     zx_memory memory;
     struct stat found;
     if (wanted > held->len && (fstat(held->file, &found) != 0 || !allot(held->file, &found, wanted))) {
         zx_code code = fault(file);
-        cut(held->file, size);
+        if (held->steps == 0) cut(held->file, size);
         return code;
     }
     zx_detach(&file->segment, &memory);
@@ -220,17 +221,21 @@ static zx_code remap(zx_file *file, struct zx_held_file *held, uint64_t size, ui
     pthread_mutex_unlock(&guard);
     zx_code code = attach(file, held, size, ZX_WRITE);
     if (code == ZX_DONE && !is_done) code = faulty(file, ZX_FILE_FAULT, error);
-    if ((code != ZX_DONE || wanted == size) && !cut(held->file, size) && code == ZX_DONE) code = fault(file);
+    bool is_cut = held->steps == 0 && (code != ZX_DONE || wanted == size);
+    if (is_cut && !cut(held->file, size) && code == ZX_DONE) code = fault(file);
     return code;
 }
 
-/* Makes room for an image of so many bytes. */
+static zx_code lengthen(zx_file *file, struct zx_held_file *held, uint64_t size, uint64_t wanted);
+
+/* Makes mapping and file long enough for an image of this many bytes. */
 static zx_code make_room(zx_file *file, uint64_t wanted) {
     struct zx_held_file *held = file->held;
     uint64_t size;
     if (!held || !held->mapped) return zx_relocate(&file->segment, (wanted + 15) / 16 * 16);
     zx_code code = held->state == READ ? (zx_code)ZX_SHORT_REGION : zx_size(&file->segment, &size);
-    return code == ZX_DONE ? remap(file, held, size, wanted) : code;
+    if (code != ZX_DONE) return code;
+    return held->commits ? lengthen(file, held, size, wanted) : remap(file, held, size, wanted);
 }
 
 zx_code zx_file_grow(zx_file *file, uint64_t extra) {
@@ -243,12 +248,14 @@ zx_code zx_file_grow(zx_file *file, uint64_t extra) {
     return code == ZX_DONE ? zx_grow(&file->segment, extra) : code;
 }
 
-/* Makes a mapped file as short as its segment became by a call, which returned the code. */
+/* Makes a mapped file as short as its segment became by a call, which returned the code. While a transaction is open
+   the file keeps its length, and so does the mapping of a file that is durable. */
 static zx_code fit(zx_file *file, zx_code code) {
     struct zx_held_file *held = file->held;
     uint64_t size = 0;
     if (code == ZX_DONE) code = zx_size(&file->segment, &size);
     if (code != ZX_DONE || !held || !held->mapped || held->state == READ || size == held->len) return code;
+    if (held->steps > 0 || held->commits) return code;
     return remap(file, held, size, size);
 }
 
@@ -272,6 +279,7 @@ zx_code zx_file_rollback(zx_file *file, zx_segment *before) {
 zx_code zx_file_flush(zx_file *file) {
     struct zx_held_file *held = file->held;
     if (!held || !held->mapped) return zx_file_save(file);
+    if (held->commits) return zx_file_commit(file);
     file->error = 0;
     if (held->state == READ) return ZX_READ_ONLY;
     if (!is_own(held)) return faulty(file, ZX_FILE_FORKED, EPERM);

@@ -1,6 +1,6 @@
-/* A part of files.c: a new file with all that the old one has, and how it takes that one's place. */
+/* A part of files.c: a new file with the attributes of the old one, and the replacement of the old file. */
 
-/* ---- what a file has beside its bytes */
+/* ---- owner, rights and attributes */
 
 /* The access control list, and what the names of attributes of users begin with. */
 static const char LIST[] = "system.posix_acl_access", OF_USERS[] = "user.";
@@ -8,10 +8,10 @@ static const char LIST[] = "system.posix_acl_access", OF_USERS[] = "user.";
 /* The most bytes of a value, or of all names of attributes, that the system gives. */
 enum { ATTRIBUTE = 1 << 16 };
 
-/* Whether an errno says that the file has no such attribute. */
+/* Returns true if an errno says that the file has no such attribute. */
 static bool is_without(int error) { return error == ENODATA || error == ENOTSUP || error == ENOSYS; }
 
-/* Whether an errno says that the attribute can never be copied. A full disk, or one that fails, says that not. */
+/* Returns true if an errno says that the attribute can never be copied; a full or failing disk does not say so. */
 static bool is_for_ever(int error) {
     return is_without(error) || error == EPERM || error == EACCES || error == EINVAL || error == ERANGE ||
            error == E2BIG;
@@ -66,8 +66,8 @@ static bool copy_attributes(int made, int from, char *names, uint8_t *value) {
     return true;
 }
 
-/* Gives a file what another has beside its bytes. If nobody tells whether that has a list, only the owner gets rights.
-   */
+/* Copies owner, rights and attributes. If the old file's access control list cannot be read, only the owner gets
+   rights. */
 static bool take_all_but_bytes(int made, int from, const struct stat *old) {
     uint8_t *value = malloc((size_t)2 * ATTRIBUTE);
     if (!value) return false;
@@ -97,7 +97,7 @@ static bool write_image(int file, const struct image *image) {
     return set_length(file, image->len);
 }
 
-/* Whether the file has just the bytes of the image. */
+/* Returns true if the file's bytes are the image. */
 static bool has_image(int file, const struct image *image) {
     uint8_t piece[PIECE];
     struct stat found;
@@ -127,14 +127,14 @@ static int lock_new(int made) {
     return error;
 }
 
-/* Whether a name surely leads no longer to a file that had it. */
+/* Returns true if a name certainly leads to the file no more. */
 static bool lost_its_name(int made, int folder, const char *name) {
     struct stat own, named;
     if (fstat(made, &own) != 0) return false;
     return fstatat(folder, name, &named, AT_SYMLINK_NOFOLLOW) == 0 ? !is_same(&named, &own) : errno == ENOENT;
 }
 
-/* Gives a name to a file that has none. EEXIST if something has it. */
+/* Names an unnamed file. Fails with EEXIST if the name exists. */
 static bool give_name(int made, int folder, const char *name) {
     char self[40];
     (void)snprintf(self, sizeof self, "/proc/self/fd/%d", made);
@@ -183,8 +183,8 @@ static zx_code make_held(zx_file *file, struct zx_held_file *held, const struct 
 
 /* ---- a file saved */
 
-/* Creates the file that is to replace the one that is held, and tells its name. ESTALE if another holds the name of the
-   file. A file that takes no mark goes without. */
+/* Creates the new file that will replace the held one, and returns its name. Fails with ESTALE if another process has
+   replaced the held file. A file system without attributes gets no mark. */
 static bool make_spare(struct zx_held_file *held, char spare[40], const struct image *image, const struct stat *old) {
     (void)fsetxattr(held->file, MARK, "1", 1, 0);
     for (int turn = 0; turn < SPARES; turn++) {
@@ -200,7 +200,7 @@ static bool make_spare(struct zx_held_file *held, char spare[40], const struct i
     return errno = EEXIST, false;
 }
 
-/* Puts a new file with the image in the place of the one that is held. */
+/* Replaces the held file by a new one with the image. */
 static zx_code replace(zx_file *file, struct zx_held_file *held, const struct image *image) {
     struct stat old;
     char spare[40];
@@ -227,7 +227,7 @@ static zx_code replace(zx_file *file, struct zx_held_file *held, const struct im
     return sync_name(file, held);
 }
 
-/* Whether the file surely has the image of the segment: no call has changed that since, and no view may have. */
+/* Returns true if the file certainly has the segment's image: no call has changed it since, and no view can have. */
 static bool is_saved(const zx_segment *segment, const struct zx_held_file *held) {
     return held->state == SAVED && segment->changes == held->saved && !segment->shared;
 }

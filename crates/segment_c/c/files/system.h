@@ -12,6 +12,7 @@ struct zx_system {
     int (*fallocate)(int file, int how, off_t from, off_t len);
     off_t (*lseek)(int file, off_t from, int whence);
     int (*fsync)(int file);
+    int (*fdatasync)(int file);
     int (*syncfs)(int file);
     int (*flock)(int file, int how);
     int (*lstat)(const char *path, struct stat *found);
@@ -32,6 +33,7 @@ struct zx_system {
     void *(*mremap)(void *at, size_t len, size_t wanted, int how);
     int (*munmap)(void *at, size_t len);
     int (*msync)(void *at, size_t len, int how);
+    int (*madvise)(void *at, size_t len, int advice);
     int (*close)(int file);
     void *(*malloc)(size_t size);
     void *(*calloc)(size_t count, size_t size);
@@ -52,6 +54,7 @@ extern struct zx_system zx_system;
 #define fallocate(file, how, from, len) zx_system.fallocate(file, how, from, len)
 #define lseek(file, from, whence) zx_system.lseek(file, from, whence)
 #define fsync(file) zx_system.fsync(file)
+#define fdatasync(file) zx_system.fdatasync(file)
 #define syncfs(file) zx_system.syncfs(file)
 #define flock(file, how) zx_system.flock(file, how)
 #define lstat(path, found) zx_system.lstat(path, found)
@@ -72,6 +75,7 @@ extern struct zx_system zx_system;
 #define mremap(at, len, wanted, how) zx_system.mremap(at, len, wanted, how)
 #define munmap(at, len) zx_system.munmap(at, len)
 #define msync(at, len, how) zx_system.msync(at, len, how)
+#define madvise(at, len, advice) zx_system.madvise(at, len, advice)
 #define close(file) zx_system.close(file)
 #define malloc(size) zx_system.malloc(size)
 #define calloc(count, size) zx_system.calloc(count, size)

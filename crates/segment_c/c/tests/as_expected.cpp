@@ -4,6 +4,7 @@
 
 #include <algorithm>
 #include <atomic>
+#include <chrono>
 #include <csignal>
 #include <cstdio>
 #include <deque>
@@ -877,6 +878,88 @@ void a_file_that_cannot_grow() {
     std::remove("expected.seg");
 }
 
+/// The members of std::vector, std::string and std::map that programs reach for.
+void members_as_in_std() {
+    segment s = segment::create(65536);
+    const auto v = s.vector<i64>("v");
+    v.append_range({1, 2, 3, 4, 5, 6});
+    IS(*v.rbegin() == 6 && v.rbegin()[1] == 5 && v.crbegin()[5] == 1);
+    IS(std::vector<i64>(v.rbegin(), v.rend()) == (std::vector<i64>{6, 5, 4, 3, 2, 1}));
+    *v.rbegin() = 60;
+    v.data()[0] = 10;
+    IS(v == (std::vector<i64>{10, 2, 3, 4, 5, 60}));
+    IS(*v.erase(v.begin()) == 2);
+    IS(*v.erase(v.begin(), v.begin() + 2) == 4);
+    const auto after_last = v.erase(v.end() - 1);
+    IS(after_last == v.end());
+    IS(*v.insert(v.begin(), 7) == 7 && v[0] == 7);
+    IS(v.insert(v.cbegin() + 1, {8, 9}).index() == 1);
+    IS(v == (std::vector<i64>{7, 8, 9, 4, 5}));
+    IS(v.emplace_back(42) == 42);
+    IS(erase_if(v, [](i64 each) { return each % 2 == 0; }) == 3 && erase(v, 9) == 1 && erase(v, 9) == 0);
+    IS(v == (std::vector<i64>{7, 5}));
+    // a call copies elements of its own segment, since it may move them
+    for (int i = 0; i < 5; i++) v.append_range(v);
+    v.insert_range(1, v);
+    IS(v.size() == 128 && v[0] == 7 && v[1] == 7 && v[2] == 5 && v[127] == 5);
+    s.construct_array<i64>("copy", v);
+    IS(s.array<i64>("copy") == v && s.array<i64>("copy").data()[127] == 5);
+    THROWS(out_of_range, v.erase(v.end()));
+    THROWS(out_of_range, v.insert(v.end() + 1, 1));
+
+    const auto items = s.vector<item>("items");
+    IS(items.emplace_back(item{1.5, 2, 3, 4})->article == 2);
+    IS(items.insert(items.begin(), {item{0, 8, 0, 0}, item{0, 9, 0, 0}})->article == 8);
+    items.view()[1].stock = 77;
+    IS(items.erase(items.begin())->stock == 77 && items.size() == 2);
+    const segment &constant = s;
+    IS(*constant.vector<i64>("v").rbegin() == 5 && constant.vector<item>("items").data()[0].stock == 77);
+
+    const auto m = s.map<i32, i64>("m");
+    IS(m.insert({3, 30}).second && m.insert({3, 31}).first->second == 30 && !m.insert({3, 31}).second);
+    IS(m.try_emplace(4, 40).second && !m.emplace(4, 41).second && m.get(4) == 40);
+    IS(!m.insert_or_assign(3, 33).second && m.insert_or_assign(5, 50).first->first == 5 && m.get(3) == 33);
+    IS(m.count(3) == 1 && m.count(9) == 0);
+    IS(m.erase(m.begin())->first == 4 && m.erase(m.upper_bound(4)) == m.end() && m.size() == 1);
+    m.put_range({{1, 10}, {2, 20}});
+    IS(erase_if(m, [](const auto &pair) { return pair.first % 2 == 0; }) == 2 && m.size() == 1 && m.contains(1));
+
+    const auto text = s.string("text");
+    text.assign("hello world");
+    text.push_back('!');
+    IS(text.find("o") == 4 && text.find("o", 5) == 7 && text.rfind("o") == 7 && text.find("z") == text.npos);
+    IS(text.contains("wor") && text.starts_with("he") && text.ends_with("d!") && text.substr(6, 5) == "world");
+    IS(!text.starts_with("hello world!!") && !text.ends_with("hello hello world!") && text.substr(12).empty());
+    THROWS(out_of_range, text.substr(13));
+
+    const auto list = s.strings("list");
+    list.assign({"a", "b", "c"});
+    IS(*list.erase(list.begin()) == "b" && *list.insert(list.begin(), "z") == "z" && list.emplace_back("q") == "q");
+    IS(*list.rbegin() == "q" && list.erase(list.begin(), list.end() - 1)->size() == 1 && list.size() == 1);
+    IS(erase_if(list, [](const std::string &each) { return each == "q"; }) == 1 && list.empty());
+}
+
+/// An open waits for the writer who holds the file, and no longer than it may.
+void an_open_that_waits() {
+    using namespace std::chrono;
+    std::ostringstream name;
+    name << "waits" << std::this_thread::get_id() << ".seg";
+    const std::string path = name.str();
+    segment first = segment::create_file(path, 4096);
+    first.save_file();
+    const auto before = steady_clock::now();
+    THROWS(file_in_use, segment::open_file(path, zaluxhoni::mode::write, milliseconds(60)));
+    IS(steady_clock::now() - before >= milliseconds(60));
+    std::thread closer([&] {
+        std::this_thread::sleep_for(milliseconds(50));
+        first.close_file();
+    });
+    IS(segment::open_or_create_file(path, 4096, seconds(30)).is_open());
+    closer.join();
+    IS(segment::map_file(path, zaluxhoni::mode::write, seconds(1)).is_open());
+    std::remove(path.c_str());
+}
+
 /// Where a segment cannot be long enough, it is as long as before. This takes 1 GiB of memory.
 void the_longest_segment() {
     segment s = segment::create(1024);
@@ -895,7 +978,8 @@ void every_case() {
     void (*const cases[])() = {an_array_that_is_made_anew, numbers_that_do_not_fit, truths, texts_that_are_stored,
                                elements, texts, FORMATS algorithms, bulk, own_types, views_without_a_copy,
                                iterators_in_place, iterators_and_modes, several_calls_as_one, const_segments, groups,
-                               segments_that_grow, errors, sizes_that_do_not_fit, swapped, projected};
+                               segments_that_grow, errors, sizes_that_do_not_fit, swapped, projected,
+                               members_as_in_std, an_open_that_waits};
     for (void (*each)() : cases) {
         try {
             each();

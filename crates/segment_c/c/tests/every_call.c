@@ -869,6 +869,71 @@ static void views(void) {
     IS(zx_is_current(&s, &there), false);
 }
 
+/* Objects that were looked up once. */
+static void looked_up_once(void) {
+    static int64_t big[200];
+    zx_segment s = ZX_CLOSED_HANDLE;
+    zx_key vector = zx_name("vector"), string = zx_name("string"), map = zx_name("map"), none = zx_name("none");
+    zx_value six = zx_i64(6);
+    zx_object object, text, truths, small, natural;
+    int64_t number = 5;
+    uint64_t handle, unsigned_number = 0;
+    int32_t short_number = 0;
+    uint8_t byte = 0;
+    bool truth = false, was_there;
+    IS(zx_look_up(&s, &vector, &object), ZX_CLOSED);
+    DONE(zx_create(&s, 65536));
+    zx_values row = zx_i64s(big, 3);
+    big[0] = -1, big[1] = 2, big[2] = -3;
+    DONE(zx_construct_vector(&s, &vector, &row, &handle));
+    DONE(zx_construct_string(&s, &string, bytes("red"), 3, &handle));
+    DONE(zx_construct_map(&s, &map, ZX_I64, ZX_I64, &handle));
+    IS(zx_look_up(&s, &none, &object), ZX_NOT_FOUND);
+    IS(zx_look_up(&s, &map, &object), ZX_WRONG_KIND);
+    DONE(zx_look_up(&s, &vector, &object));
+    DONE(zx_look_up(&s, &string, &text));
+    DONE(zx_i64_at(&s, &object, 2, &number));
+    IS(number, -3);
+    IS(zx_i64_at(&s, &object, 3, &number), ZX_OUT_OF_RANGE);
+    IS(zx_i64_at(&s, &object, UINT64_MAX, &number), ZX_OUT_OF_RANGE);
+    IS(zx_i32_at(&s, &object, 0, &short_number), ZX_WRONG_KIND);
+    IS(number, -3);
+    DONE(zx_u8_at(&s, &text, 1, &byte));
+    IS(byte, 'e');
+
+    /* a vector that moves is found again */
+    for (int i = 0; i < 200; i++) DONE(zx_push(&s, &vector, &six));
+    DONE(zx_i64_at(&s, &object, 202, &number));
+    IS(number, 6);
+    DONE(zx_i64_at(&s, &object, 1, &number));
+    IS(number, 2);
+    DONE(zx_relocate(&s, 131072));
+    DONE(zx_u8_at(&s, &text, 2, &byte));
+    IS(byte, 'd');
+
+    /* an object that is gone, and another one with its handle */
+    DONE(zx_destroy(&s, &string, &was_there));
+    IS(zx_u8_at(&s, &text, 0, &byte), ZX_NOT_FOUND);
+    const bool two[] = { true, false };
+    const int32_t shorts[] = { -7 };
+    const uint64_t naturals[] = { UINT64_MAX };
+    zx_values rows[] = { zx_bools(two, 2), zx_i32s(shorts, 1), zx_u64s(naturals, 1) };
+    zx_key keys[] = { zx_name("truths"), zx_name("shorts"), zx_name("naturals") };
+    for (int i = 0; i < 3; i++) DONE(zx_construct_array(&s, &keys[i], &rows[i], &handle));
+    DONE(zx_look_up(&s, &keys[0], &truths));
+    DONE(zx_look_up(&s, &keys[1], &small));
+    DONE(zx_look_up(&s, &keys[2], &natural));
+    DONE(zx_bool_at(&s, &truths, 0, &truth));
+    IS(truth, true);
+    DONE(zx_i32_at(&s, &small, 0, &short_number));
+    IS(short_number, -7);
+    DONE(zx_u64_at(&s, &natural, 0, &unsigned_number));
+    IS(unsigned_number == UINT64_MAX, true);
+    IS(zx_u8_at(&s, &truths, 0, &byte), ZX_WRONG_KIND);
+    zx_close(&s);
+    IS(zx_bool_at(&s, &truths, 0, &truth), ZX_CLOSED);
+}
+
 /* Several calls as one. */
 static void transactions(void) {
     static uint8_t image[1024], again[1024];
@@ -1186,6 +1251,94 @@ static void files(void) {
     TEXT(text.at, text.len, "is a folder");
 }
 
+static int64_t first_number(zx_file *file, zx_key key) {
+    zx_value got = zx_i64(-1);
+    DONE(zx_get(&file->segment, &key, 0, &got));
+    return got.number;
+}
+
+/* Commits, and transactions that keep pages. */
+static void durable_files(void) {
+    zx_file file = ZX_CLOSED_FILE;
+    zx_key a = zx_name("a");
+    zx_value six = zx_i64(6), seven = zx_i64(7), eight = zx_i64(8);
+    zx_step before = ZX_NO_STEP, inner = ZX_NO_STEP;
+    char path[400], log[410];
+    snprintf(path, sizeof path, "%s/committed.seg", folder);
+    snprintf(log, sizeof log, "%s-log", path);
+    remove(path), remove(log);
+    IS(zx_file_open(&file, path, ZX_OPEN_READ_ONLY | ZX_DURABLE, 0), ZX_BAD_MODE);
+    DONE(zx_file_open(&file, path, ZX_CREATE_ONLY | ZX_DURABLE, 8192));
+    IS(made(&file.segment, a, 1, zx_i64(5)), 192);
+    DONE(zx_file_commit(&file));
+    DONE(zx_set(&file.segment, &a, 0, &six));
+    zx_file_discard(&file);
+    DONE(zx_file_open(&file, path, ZX_OPEN_ONLY | ZX_DURABLE, 0));
+    IS(first_number(&file, a), 5);
+    DONE(zx_file_begin(&file, &before));
+    DONE(zx_set(&file.segment, &a, 0, &six));
+    IS(zx_file_commit(&file), ZX_FILE_IN_STEP);
+    IS(zx_file_save(&file), ZX_FILE_IN_STEP);
+    IS(zx_file_close(&file), ZX_FILE_IN_STEP);
+    DONE(zx_file_begin(&file, &inner));
+    DONE(zx_set(&file.segment, &a, 0, &seven));
+    DONE(zx_file_grow(&file, 8192));
+    DONE(zx_file_undo(&file, &inner));
+    IS(first_number(&file, a), 6);
+    DONE(zx_file_keep(&file, &before));
+    DONE(zx_file_begin(&file, &before));
+    DONE(zx_set(&file.segment, &a, 0, &eight));
+    zx_file_leave(&file, &before);
+    IS(first_number(&file, a), 8);
+    zx_file_discard(&file);
+    DONE(zx_file_open(&file, path, ZX_OPEN_READ_ONLY, 0));
+    IS(first_number(&file, a), 6);
+    DONE(zx_file_close(&file));
+    DONE(zx_file_open(&file, path, ZX_OPEN_ONLY | ZX_MAPPED, 0));
+    IS(first_number(&file, a), 6);
+    IS(remove(log), -1);
+    DONE(zx_file_begin(&file, &before));
+    DONE(zx_set(&file.segment, &a, 0, &seven));
+    DONE(zx_file_undo(&file, &before));
+    IS(first_number(&file, a), 6);
+    DONE(zx_file_close(&file));
+}
+
+/* The bytes of logs, as docs/FORMAT.md has them. */
+static void bytes_of_logs(void) {
+    static uint8_t log[4096 + 8 + 60 + 4096], image[64], base[32], page[9] = { 1, 0, 0, 0, 2, 0, 0, 0, 3 };
+    const uint64_t f = 1442695040888963407u, m = 6364136223846793005u;
+    IS(zx_log_page_mark(1, page, 9) == (((9 * m + f + 2) * m) + 3 * f) * 3, true);
+    IS(zx_log_fingerprint(page, 9) == (((9 * m + f + 2) * m) + 3 * f), true);
+    IS(zx_log_gate(true, log, 4095), ZX_SHORT_BUFFER);
+    DONE(zx_log_gate(true, log, 4096));
+    IS(log[0], 1);
+    uint8_t payload[60];
+    base[0] = 7;
+    memcpy(image, base, 32);
+    image[20] = 9;
+    DONE(zx_log_front(32, zx_log_fingerprint(base, 32), zx_log_fingerprint(image, 32), payload, 60));
+    IS(payload[0], 32);
+    IS(payload[8] == 255 && payload[15] == 255, true);
+    IS(payload[16], 16);
+    IS(zx_log_edit(20, image + 20, 4, payload + 40, 19), ZX_SHORT_BUFFER);
+    DONE(zx_log_edit(20, image + 20, 4, payload + 40, 20));
+    IS(payload[40] == 20 && payload[48] == 4 && payload[56] == 9, true);
+    DONE(zx_log_body(payload, 60, log + 4096, sizeof log - 4096));
+    IS(log[4096], 60);
+    uint8_t found[64] = { 0 };
+    uint64_t len = 0, end = 0, mark = 0;
+    DONE(zx_log_recover(base, 32, log, sizeof log, found, 64, &len, &end, &mark));
+    IS(len == 32 && end == 4096 + 8 + 60 && mark == zx_log_fingerprint(base, 32), true);
+    IS(memcmp(found, image, 32), 0);
+    IS(zx_log_recover(base, 32, log, sizeof log, found, 31, &len, &end, &mark), ZX_SHORT_BUFFER);
+    base[1] = 1;
+    IS(zx_log_recover(base, 32, log, sizeof log, found, 64, &len, &end, &mark), ZX_FILE_LOG_FOREIGN);
+    log[0] = 0;
+    DONE(zx_log_recover(base, 32, log, sizeof log, found, 64, &len, &end, &mark));
+    IS(end == 0 && memcmp(found, base, 32) == 0, true);
+}
+
 /* Values behind the last element: all of them or none. */
 static void extended(void) {
     zx_segment s = ZX_CLOSED_HANDLE;
@@ -1334,6 +1487,7 @@ int main(int count, char **arguments) {
     modes();
     in_lent_memory();
     views();
+    looked_up_once();
     transactions();
     names_from();
     what_is_no_image();
@@ -1341,6 +1495,8 @@ int main(int count, char **arguments) {
     what_is_passed_wrongly();
     words();
     files();
+    durable_files();
+    bytes_of_logs();
     extended();
     rows_of_numbers();
     rows_of_texts();

@@ -679,7 +679,9 @@ void calls_of_c() {
     IS(zx_rollback(&s, &before), u64{ZX_DONE});
     IS(zx_is_current(&s, &there), false);
     zx_file none = ZX_CLOSED_FILE;
+    zx_step step = ZX_NO_STEP;
     IS(zx_file_rollback(&none, &before), u64{ZX_CLOSED});
+    zx_file_leave(&none, &step);
     IS(zx_version(), u64{ZX_VERSION});
     IS(std::string_view{zx_state()}.substr(0, 6) == "state ", true);
     IS(std::string(zx_message(ZX_NO_SPACE)) == "no space", true);
@@ -827,11 +829,43 @@ void errors_say_what() {
 
 } // namespace
 
+void durable_files() {
+    const std::string path = folder + std::string("/committed-cpp.seg");
+    std::remove(path.c_str());
+    std::remove((path + "-log").c_str());
+    {
+        segment s = segment::create_durable_file(path, 8192);
+        s.construct<i64>("a", 5);
+        s.commit();
+        s.transaction([&] { s.set<i64>("a", 0, 6); });
+        bool is_thrown = false;
+        try {
+            s.transaction([&] {
+                s.set<i64>("a", 0, 7);
+                s.commit();
+            });
+        } catch (const zaluxhoni::file_in_step &) {
+            is_thrown = true;
+        }
+        IS(is_thrown, true);
+        IS(s.get<i64>("a", 0), 6);
+        s.set<i64>("a", 0, 8);
+    }
+    {
+        segment s = segment::open_durable_file(path);
+        IS(s.get<i64>("a", 0), 6);
+        s.set<i64>("a", 0, 9);
+        s.close_file();
+    }
+    segment s = segment::open_or_create_durable_file(path, 8192);
+    IS(s.get<i64>("a", 0), 9);
+}
+
 int main(int count, char **arguments) {
     if (count != 2) return 2;
     folder = arguments[1];
     void (*const cases[])() = {
-        an_anonymous_object, names, files, mapped_files, index_and_object_do_not_both_fit, arrays,
+        an_anonymous_object, names, files, mapped_files, durable_files, index_and_object_do_not_both_fit, arrays,
         the_only_object_of_its_kind, places_reserved_in_the_indexes, best_fit, storage_is_lengthened_then_replaced,
         a_string_grows_and_shrinks, a_map, refusals_of_a_vector, a_vector_of_strings, objects_found_or_made, many_at_once,
         another_kind_under_the_handle, one_of_each, size_and_region, modes, calls_of_c, what_is_refused, what_shows_a_class,

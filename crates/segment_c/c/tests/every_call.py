@@ -563,6 +563,7 @@ def calls_of_c():
     ctypes.c_int64.from_address(there.at).value = 6
     same(zx.zx_rollback(handle, before), 0)
     same(zx.zx_file_rollback(library.File(), before), zaluxhoni.Closed.code)
+    same(zx.zx_file_leave(library.File(), library.Step()), None)
     same(zx.zx_version(), 900)
     same(zaluxhoni.__version__, "0.9.0")
     same(zaluxhoni.state(), zx.zx_state().decode())
@@ -1341,6 +1342,70 @@ def a_relative_path():
         same(s["a"], 7)
 
 
+def files_that_are_durable():
+    path = new("durable")
+    s = zaluxhoni.open(path, "x", size=8192, durable=True)
+    s["a"] = 5
+    s.commit()
+    s["a"] = 6
+    s.discard()
+    s = zaluxhoni.open(path, "w", durable=True)
+    same(s["a"], 5)
+    with s.transaction():
+        s["a"] = 6
+        with s.transaction():
+            s["a"] = 7
+            raises(zaluxhoni.FileInStep, s.commit)
+            raises(zaluxhoni.FileInStep, s.save)
+    try:
+        with s.transaction():
+            s["a"] = 8
+            s.grow(8192)
+            raise KeyError("8")
+    except KeyError:
+        pass
+    same((s["a"], s.size), (7, 8192))
+    s["numbers"] = [1, 2, 3]
+    view = s["numbers"].view()
+    with s.transaction():
+        view[0] = 10
+    raises(zaluxhoni.Lent, s.close)
+    view.release()
+    view = None
+    s.discard()
+    # what reads, and what maps otherwise, finds the commits; only who may write ends the log
+    with zaluxhoni.open(path, "r") as reader:
+        same((reader["a"], list(reader["numbers"])), (7, [10, 2, 3]))
+    same(os.path.exists(path + "-log"), True)
+    with zaluxhoni.open(path, "w", mapped=True) as s:
+        same(s["a"], 7)
+        same(os.path.exists(path + "-log"), False)
+        with s.transaction():
+            s["a"] = 9
+        with zaluxhoni.open(path, "r") as reader:
+            same(reader["a"], 9)
+    with zaluxhoni.open(path, durable=True, mapped=True) as s:
+        s["a"] = 10
+    same(os.path.exists(path + "-log"), False)
+    with zaluxhoni.open(path, "r") as reader:
+        same(reader["a"], 10)
+    raises(zaluxhoni.BadMode, zaluxhoni.open, path, "r", durable=True)
+    # the log of another file
+    s = zaluxhoni.open(path, "w", durable=True)
+    s["a"] = 11
+    s.commit()
+    s.discard()
+    with zaluxhoni.create(8192) as other:
+        image = other.image()
+    with open(path, "wb") as file:
+        file.write(image)
+    raises(zaluxhoni.FileLogForeign, zaluxhoni.open, path, "w", durable=True)
+    raises(zaluxhoni.FileLogForeign, zaluxhoni.open, path, "w")
+    raises(zaluxhoni.FileLogForeign, zaluxhoni.open, path, "r")
+    os.remove(path + "-log")
+    zaluxhoni.open(path, "w", durable=True).close()
+
+
 def files_that_fail():
     path = path_of("stranger")
     with open(path, "wb") as file:
@@ -1997,7 +2062,7 @@ for case in (an_anonymous_object, names, index_and_object_do_not_both_fit, array
              copies, a_list_as_list_is_one, threads_that_follow_each_other, one_segment_of_many_threads, groups,
              transactions,
              records, views, size_and_region, calls_of_c, what_is_refused, what_shows_a_class, one_thread, files,
-             files_that_are_mapped, what_is_refused_by_name, a_process_that_forks, a_relative_path, files_that_fail,
+             files_that_are_mapped, files_that_are_durable, what_is_refused_by_name, a_process_that_forks, a_relative_path, files_that_fail,
              what_is_read_again, what_is_not_closed, the_end_of_the_process, the_end_of_a_block, errors_are_copied,
              none_is_no_name, records_of_other_packages, records_as_list_are_one, tasks_with_transactions,
              numbers_beyond_all, small_rules, no_space_says_more, a_wait_for_the_writer, the_module_as_program,

@@ -123,10 +123,12 @@ static bool fails(const char *name, int error) {
 WRAPPED(int, stat, (const char *path, struct stat *found), path, found)
 WRAPPED(int, fstatat, (int folder, const char *path, struct stat *found, int flags), folder, path, found, flags)
 INTERRUPTIBLE(int, fsync, (int file), file)
+INTERRUPTIBLE(int, fdatasync, (int file), file)
 WRAPPED(int, syncfs, (int file), file)
 WRAPPED(int, fchmod, (int file, mode_t mode), file, mode)
 WRAPPED(int, unlinkat, (int folder, const char *path, int flags), folder, path, flags)
 WRAPPED(int, msync, (void *at, size_t len, int flags), at, len, flags)
+WRAPPED(int, madvise, (void *at, size_t len, int advice), at, len, advice)
 INTERRUPTIBLE(int, fallocate, (int file, int mode, off_t at, off_t len), file, mode, at, len)
 
 /* How often no file becomes shorter or longer. */
@@ -291,6 +293,7 @@ struct zx_system zx_system = {
     .fallocate = system_fallocate,
     .lseek = system_lseek,
     .fsync = system_fsync,
+    .fdatasync = system_fdatasync,
     .syncfs = system_syncfs,
     .flock = system_flock,
     .lstat = system_lstat,
@@ -311,6 +314,7 @@ struct zx_system zx_system = {
     .mremap = system_mremap,
     .munmap = munmap,
     .msync = system_msync,
+    .madvise = system_madvise,
     .close = close,
     .malloc = system_malloc,
     .calloc = system_calloc,
@@ -701,12 +705,12 @@ static void what_is_passed(void) {
     IS(count_in(room), 1);
 
     zx_text words;
-    for (zx_code code = ZX_FILE_NONE; code <= ZX_FILE_FORKED; code++) {
+    for (zx_code code = ZX_FILE_NONE; code <= ZX_FILE_IN_STEP; code++) {
         words.len = 0;
         zx_file_words(code, &words);
         IS(words.len > 0, true);
     }
-    zx_file_words(ZX_FILE_FORKED + 1, &words);
+    zx_file_words(ZX_FILE_IN_STEP + 1, &words);
     IS(words.len, 0);
     zx_file_words(ZX_NO_SPACE, &words);
     IS(words.len, 8);

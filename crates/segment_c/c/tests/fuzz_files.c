@@ -61,6 +61,7 @@ CALL(int, -1, ftruncate, (int file, off_t len), file, len)
 CALL(int, -1, fallocate, (int file, int how, off_t from, off_t len), file, how, from, len)
 CALL(off_t, -1, lseek, (int file, off_t from, int whence), file, from, whence)
 CALL(int, -1, fsync, (int file), file)
+CALL(int, -1, fdatasync, (int file), file)
 CALL(int, -1, syncfs, (int file), file)
 CALL(int, -1, flock, (int file, int how), file, how)
 CALL(int, -1, lstat, (const char *path, struct stat *found), path, found)
@@ -82,6 +83,7 @@ CALL(void *, MAP_FAILED, mmap, (void *at, size_t len, int protection, int how, i
      protection, how, file, from)
 CALL(void *, MAP_FAILED, mremap, (void *at, size_t len, size_t wanted, int how), at, len, wanted, how)
 CALL(int, -1, msync, (void *at, size_t len, int how), at, len, how)
+CALL(int, -1, madvise, (void *at, size_t len, int advice), at, len, advice)
 CALL(void *, NULL, malloc, (size_t size), size)
 CALL(void *, NULL, calloc, (size_t count, size_t size), count, size)
 CALL(char *, NULL, realpath, (const char *path, char *found), path, found)
@@ -89,7 +91,7 @@ CALL(char *, NULL, realpath, (const char *path, char *found), path, found)
 struct zx_system zx_system = {
     .open = fuzzed_open, .openat = fuzzed_openat, .pread = fuzzed_pread, .pwrite = fuzzed_pwrite,
     .ftruncate = fuzzed_ftruncate, .fallocate = fuzzed_fallocate, .lseek = fuzzed_lseek, .fsync = fuzzed_fsync,
-    .syncfs = fuzzed_syncfs, .flock = fuzzed_flock, .lstat = fuzzed_lstat, .stat = fuzzed_stat, .fstat = fuzzed_fstat,
+    .fdatasync = fuzzed_fdatasync, .madvise = fuzzed_madvise, .syncfs = fuzzed_syncfs, .flock = fuzzed_flock, .lstat = fuzzed_lstat, .stat = fuzzed_stat, .fstat = fuzzed_fstat,
     .fstatat = fuzzed_fstatat, .fstatfs = fuzzed_fstatfs, .fchmod = fuzzed_fchmod, .fchown = fuzzed_fchown,
     .fgetxattr = fuzzed_fgetxattr, .fsetxattr = fuzzed_fsetxattr, .fremovexattr = fuzzed_fremovexattr,
     .flistxattr = fuzzed_flistxattr, .linkat = fuzzed_linkat, .renameat = fuzzed_renameat, .unlinkat = fuzzed_unlinkat,

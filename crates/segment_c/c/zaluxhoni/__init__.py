@@ -24,11 +24,11 @@ from typing import Any, List, Optional
 from . import _library
 from ._errors import (Absent, BadContainer, BadCount, BadFreeTree, BadGrowth, BadImage, BadImageSize, BadIndex, BadKey,
                       BadKind, BadMagic, BadMode, BadName, BadObject, BadReserved, BadSize, BadTag, BadValue, Closed,
-                      DanglingLink, Error, Exists, FileError, FileExists, FileFault, FileForked, FileInUse, FileMissing,
-                      FileReplaced, FileTooLarge, FileUnsynced, IsDevice, IsFolder, IsPipe, Lent, NoElement, NoFile,
-                      NoMemory, NoSpace, NotFound, NullSlice, OrphanBlock, OutOfRange, ReadOnly, SharedBlock,
-                      ShortBuffer, ShortRegion, TooLarge, Truncated, UnsupportedVersion, WrongKind, WrongTask,
-                      WrongThread, image_error_of, shown)
+                      DanglingLink, Error, Exists, FileError, FileExists, FileFault, FileForked, FileInStep, FileInUse,
+                      FileLogForeign, FileMissing, FileReplaced, FileTooLarge, FileUnsure, FileUnsynced, IsDevice,
+                      IsFolder, IsPipe, Lent, NoElement, NoFile, NoMemory, NoSpace, NotFound, NullSlice, OrphanBlock,
+                      OutOfRange, ReadOnly, SharedBlock, ShortBuffer, ShortRegion, TooLarge, Truncated,
+                      UnsupportedVersion, WrongKind, WrongTask, WrongThread, image_error_of, shown)
 from ._library import zx
 from ._objects import Array, Map, Object, String, Strings, Vector
 from ._records import Records
@@ -45,10 +45,12 @@ __all__ = [
     "BadImageSize", "BadReserved", "BadTag", "BadFreeTree", "BadIndex", "BadObject", "SharedBlock", "BadContainer",
     "OrphanBlock", "NoFile", "FileError", "FileInUse", "FileExists", "FileMissing", "DanglingLink", "IsFolder",
     "IsDevice", "IsPipe", "FileTooLarge", "FileFault", "FileReplaced", "FileUnsynced", "FileForked",
+    "FileLogForeign", "FileUnsure", "FileInStep",
 ]
 
 
 _MAPPED = 256
+_DURABLE = 512
 
 _number = zx.zx_version()
 __version__ = f"{_number // 10000}.{_number // 100 % 100}.{_number % 100}"
@@ -95,7 +97,8 @@ def load(image: Any, mode: str = "w", *, capacity: Optional[int] = None, grow: b
 
 
 def open(path: Any, mode: str = "c", *, size: int = 65536, grow: bool = False, encoding: Optional[str] = "utf-8",
-         check_same_thread: bool = True, mapped: bool = False, timeout: Optional[float] = None) -> Segment:
+         check_same_thread: bool = True, mapped: bool = False, durable: bool = False,
+         timeout: Optional[float] = None) -> Segment:
     """Opens the segment of a file. `mode` is one of
 
         "r"  opens a file that exists, and only reads it          (open_read_only)
@@ -108,13 +111,15 @@ def open(path: Any, mode: str = "c", *, size: int = 65536, grow: bool = False, e
     longer if there is no space. In the modes that save, the file belongs to this segment until it is closed: anyone
     else gets FileInUse, at once or after `timeout` seconds of waiting. With check_same_thread=False each thread may use
     the segment, and each call is alone on it. With `mapped` the segment lies in the file: opening copies nothing, each
-    change is in the file at once, and `discard` reverts none; docs/C.md says what that costs. FileError, if the file is
+    change is in the file at once, and `discard` reverts none; docs/C.md says what that costs. With `durable` changes are
+    private until `commit`, or the end of a transaction, puts them into the log beside the file: whenever the process is
+    killed or the power fails, the next opening finds the last commit that was done, or the one under way. FileError, if the file is
     refused; BadImage, BadMode, BadSize."""
     if not isinstance(mode, str) or mode not in FILE_MODES:
         raise BadMode(f"no mode is {shown(mode)}")
     opened = new_segment(grow, encoding, check_same_thread)
-    how = FILE_MODES[mode] + (_MAPPED if mapped else 0)
-    opened._path, opened._is_mapped = path, mapped
+    how = FILE_MODES[mode] + (_DURABLE if durable else _MAPPED if mapped else 0)
+    opened._path, opened._is_mapped, opened._is_durable = path, bool(mapped or durable), bool(durable)
     passed, bytes_wanted, ends = path_bytes(path), natural(size), _ends(timeout)
     pause = 0.001
     while True:

@@ -289,6 +289,21 @@ class FileForked(FileError, PermissionError):
     code, number = 53, errno.EPERM
 
 
+class FileLogForeign(FileError):
+    """The log beside the file belongs to another file, or is damaged."""
+    code, number = 54, errno.ESTALE
+
+
+class FileUnsure(FileError):
+    """A commit failed while the system synced it, and may be on the disk or not. Only `save` may follow."""
+    code, number = 55, errno.EIO
+
+
+class FileInStep(FileError, BlockingIOError):
+    """A transaction is open."""
+    code, number = 56, errno.EBUSY
+
+
 class WrongThread(Error, RuntimeError):
     """Only the thread that opened a segment uses it."""
 

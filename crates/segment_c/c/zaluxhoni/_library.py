@@ -28,6 +28,10 @@ class File(ctypes.Structure):
                 ("place", ctypes.c_uint64)]
 
 
+class Step(ctypes.Structure):
+    _fields_ = [("copy", Handle), ("kept", ctypes.c_void_p)]
+
+
 class Key(ctypes.Structure):
     _fields_ = [("how", ctypes.c_uint32), ("kind", ctypes.c_uint32), ("handle", ctypes.c_uint64),
                 ("name", ctypes.c_char_p), ("len", ctypes.c_size_t)]
@@ -131,11 +135,13 @@ def _load() -> Any:
     library.zx_state.argtypes, library.zx_state.restype = [], ctypes.c_char_p
     files: Dict[str, List[Any]] = {"open": [ctypes.c_char_p, u32, u64], "save": [], "save_as": [ctypes.c_char_p, u32],
                                    "close": [], "discard": [], "grow": [u64], "shrink": [], "flush": [],
-                                   "rollback": [ctypes.POINTER(Handle)]}
+                                   "rollback": [ctypes.POINTER(Handle)], "commit": [],
+                                   "begin": [ctypes.POINTER(Step)], "keep": [ctypes.POINTER(Step)],
+                                   "undo": [ctypes.POINTER(Step)], "leave": [ctypes.POINTER(Step)]}
     for name, arguments in files.items():
         call = getattr(library, "zx_file_" + name)
         call.argtypes, call.restype = [ctypes.POINTER(File), *arguments], u32
-    library.zx_file_discard.restype = None
+    library.zx_file_discard.restype = library.zx_file_leave.restype = None
     return library
 
 

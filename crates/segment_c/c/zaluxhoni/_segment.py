@@ -480,7 +480,7 @@ class Segment(_Named, _library.Block):
     make one."""
     __slots__ = ("_file", "_handle", "_prefix", "_thread_number", "_may_ask", "_opener", "_thread", "_process",
                  "_changes_at_fork", "_is_told", "_lock", "_changes", "_lent", "_any_name", "_was_lent", "_left",
-                 "_path", "_is_mapped", "_classes", "_steps", "_task", "_restored", "_held", "_was_refused", "growing",
+                 "_path", "_is_mapped", "_is_durable", "_classes", "_steps", "_task", "_restored", "_held", "_was_refused", "growing",
                  "encoding", "__weakref__")
     if TYPE_CHECKING:
         def __enter__(self) -> Segment:
@@ -500,7 +500,7 @@ class Segment(_Named, _library.Block):
         self._lock = threading.RLock()
         self._changes = 0
         self._lent: List[Tuple[Any, int]] = []
-        self._steps: List[_library.Handle] = []
+        self._steps: List[_library.Step] = []
         self._task: Any = None
         self._restored: Optional[Tuple[bytes, int, int]] = None
         # its `with` block holds nothing that others wait for
@@ -508,7 +508,7 @@ class Segment(_Named, _library.Block):
         self._any_name = ctypes.create_string_buffer(_LONGEST_NAME)
         self._was_lent, self._left = False, []  # type: Tuple[bool, List[_Left]]
         self._path: Any = None
-        self._is_mapped = False
+        self._is_mapped = self._is_durable = False
         self._classes: Dict[Any, Any] = _plain if check_same_thread else _locked_classes()
         self.growing = grow
         """Whether a call that finds no space makes the segment longer by half and goes on."""
@@ -698,13 +698,15 @@ class Segment(_Named, _library.Block):
 
     def transaction(self) -> Transaction:
         """Makes a block one step. `with segment.transaction():` keeps all that the block did; if an exception leaves
-        the block, the segment is as before it. It copies the segment. In a task of asyncio it belongs to the task:
-        until it ends, the calls of other tasks raise WrongTask. NoMemory, Closed."""
+        the block, the segment is as before it. Of a file opened with `durable` or `mapped` it costs what is changed;
+        any other segment is copied. The end of the outermost block commits a file opened with `durable`: if that raises
+        anything but FileUnsure, the segment is as before the block. In a task of asyncio it belongs to the task: until
+        it ends, the calls of other tasks raise WrongTask. NoMemory, Closed; the errors of `commit`."""
         if self._thread_number and _here.number != self._thread_number:
             self._refuse_stranger()
         return Transaction(self)
 
-    def _begin_step(self, before: _library.Handle) -> None:
+    def _begin_step(self, before: _library.Step) -> None:
         """Notes that a transaction begins. The first one in a task makes each call look at its task."""
         if not self._steps:
             self._task = _task_here()
@@ -712,24 +714,24 @@ class Segment(_Named, _library.Block):
         if self._task is not None:
             self._thread_number = self._may_ask.value = _NOBODY
 
-    def _end_step(self, before: _library.Handle) -> None:
+    def _end_step(self, before: _library.Step) -> None:
         self._steps = [step for step in self._steps if step is not before]
         if not self._steps:
             self._thread_number = self._may_ask.value = self._opener
             self._task = None
 
-    def _roll_back(self, before: _library.Handle) -> None:
-        """Restores the segment from its copy. Views keep what they show, in memory of their own. If the handler of a
+    def _roll_back(self, before: _library.Step) -> None:
+        """Restores the segment. Views keep what they show, in memory of their own. If the handler of a
         signal interrupts it, the same call continues."""
         self._changes += 1
         if self._restored is None:
             if not self._is_lent():
-                return self._file_call(zx.zx_file_rollback, self._path, before)
+                return self._file_call(zx.zx_file_undo, self._path, before)
             self._refuse_lent_file()
             length = ctypes.c_uint64()
-            zx.zx_size(before, length)
+            zx.zx_size(before.copy, length)
             image = ctypes.create_string_buffer(length.value)
-            zx.zx_save(before, image, len(image))
+            zx.zx_save(before.copy, image, len(image))
             self._restored = image.raw, max(self.size + self.region_left, len(image)), MODES_OF[self.mode]
         image_before, capacity, mode = self._restored
         if self.is_open:
@@ -747,8 +749,16 @@ class Segment(_Named, _library.Block):
         self._note_views()
         self._file_call(zx.zx_file_save, self._path)
 
+    def commit(self) -> None:
+        """Commits the changes of a file opened with `durable`: then they are on the disk, and survive whatever ends the
+        process. It costs what was changed. For any other file it is `flush`. The errors of `save`; FileInStep in a
+        transaction; FileUnsure if nobody knows whether they are on the disk."""
+        self._note_views()
+        self._file_call(zx.zx_file_commit, self._path)
+
     def flush(self) -> None:
-        """Waits until the changes of a mapped file are on the disk; saves any other file. The errors of `save`."""
+        """Waits until the changes of a mapped file are on the disk, and commits a durable one; saves any other file.
+        The errors of `save` and `commit`."""
         self._note_views()
         self._file_call(zx.zx_file_flush, self._path)
 
@@ -873,7 +883,8 @@ class Segment(_Named, _library.Block):
 
     def _say_unsaved(self, reason: str) -> bool:
         """Says on standard error, once, that the segment is not saved; false."""
-        left = "its file has the changes so far" if self._is_mapped else "its file stays as it was saved last"
+        left = ("its file stays as it was committed last" if self._is_durable else
+                "its file has the changes so far" if self._is_mapped else "its file stays as it was saved last")
         self._is_told = True
         try:
             print(f"zaluxhoni: the segment of {self._path!r} was not closed, and is not saved, since {reason}; {left}",
@@ -1022,16 +1033,17 @@ class Transaction(_library.Block):
 
     def __init__(self, segment: Segment) -> None:
         self._segment, self._held = segment, segment._lock
-        self._copies: List[_library.Handle] = []
+        self._copies: List[_library.Step] = []
         self._was_refused = False
 
     def _begin(self) -> Segment:
-        segment, before = self._segment, _library.Handle()
+        segment, before = self._segment, _library.Step()
         segment._refuse_stranger()
         self._copies.append(before)
         segment._begin_step(before)
         if segment.mode != "read":
-            segment._call(zx.zx_begin, before)
+            segment._note_views()
+            segment._file_call(zx.zx_file_begin, segment._path, before)
         return segment
 
     def _end(self, depth: int, raised: Any) -> None:
@@ -1040,15 +1052,29 @@ class Transaction(_library.Block):
             return
         segment, before = self._segment, self._copies[depth - 1]
         is_open = segment.is_open or segment._restored is not None
-        if raised is not None and before.at and is_open and not self._was_refused:
+        if raised is None and is_open and not self._was_refused:
+            self._keep(before)
+        elif (before.copy.at or before.kept) and is_open and not self._was_refused:
             try:
                 segment._roll_back(before)
             except Error:
                 self._was_refused = True
                 raise
-        zx.zx_close(before)
+        zx.zx_file_leave(segment._file, before)
         segment._end_step(before)
         del self._copies[depth - 1:]
+
+    def _keep(self, before: _library.Step) -> None:
+        """Keeps what the block did. If it cannot be committed, the segment is as before the block."""
+        segment = self._segment
+        segment._note_views()
+        try:
+            segment._file_call(zx.zx_file_keep, segment._path, before)
+        except Error:
+            if before.kept:
+                segment._roll_back(before)
+            self._was_refused = True
+            raise
 
 
 def _task_here() -> Any:

@@ -5,15 +5,14 @@ use Rattle.std.specs.Prelude.{nat_le, nat_lt, find, min, if◌then◌else◌}
 use Rattle.std.proofs.lemmas.Bool.{and_from, and_parts, cond-true, le-leb, lt-ltb, or_right}
 use Rattle.raw_region.specs.Format.{current}
 use Rattle.block_tags.specs.Format.{is_legal_size}
-use Rattle.image_check.specs.{declared.classes.ImageClass.ImageClass, declared.errors.OpenError.OpenError}
-use Rattle.image_check.specs.{declared.errors.ExamineError.ExamineError, declared.verdict.Verdict.Verdict}
-use Rattle.image_check.specs.{Causes.IsShown, Causes.error_for, Classes.class_of, Classes.holds, Classes.number_of}
-use Rattle.image_check.specs.{Opening.IsTooSmallFor, OpeningBytes.IsWhyNotOf, OpeningBytes.as_given}
+use Rattle.image_check.specs.{declared.errors.OpenError.OpenError, declared.verdict.Verdict.Verdict}
+use Rattle.image_check.specs.{Causes.IsShown, Classes.class_of, Classes.holds, Classes.number_of}
+use Rattle.image_check.specs.Opening.{IsOpenCause, IsTooSmallFor, as_given}
+use Rattle.image_check.proofs.Facts.{refused-class}
 use Rattle.image_check.specs.declared.classes.ImageClass.TheVariants.{Truncated, BadMagic, UnsupportedVersion, BadSize}
 use Rattle.image_check.specs.declared.classes.ImageClass.TheVariants.{BadReserved, BadTag, BadFreeTree, BadIndex}
 use Rattle.image_check.specs.declared.classes.ImageClass.TheVariants.{BadObject, SharedBlock, BadContainer, OrphanBlock}
-use Rattle.image_check.specs.declared.errors.OpenError.TheVariants.{Image, RegionTooSmall, ReadFault}
-use Rattle.image_check.specs.declared.errors.ExamineError.TheVariants.{Image as Examined, RegionTooSmall as TooSmall}
+use Rattle.image_check.specs.declared.errors.OpenError.TheVariants.{Image, RegionTooSmall}
 use Rattle.image_check.specs.EarlyTests.{has_front, has_magic, has_version, size_word}
 use Rattle.segment_c.specs.Opening.{IsExplained, IsNoImage, IsTooLongForRegion, IsWhyNotOpened, size_said}
 
@@ -55,23 +54,27 @@ module _ (image : List ℕ) (capacity : ℕ) where
   pub why_memory : IsWhyNotOpened image capacity 26
   why_memory = record { why = inl refl; too_long = λ t. inl refl }
 
-  module _ (cause : OpenError) (why : IsWhyNotOf current image 0 capacity cause)
+  module _ (cause : OpenError) (why : IsOpenCause current (as_given image) 0 capacity cause)
       (small : IsTooSmallFor current (as_given image) 0 capacity → cause ≡ RegionTooSmall) where
     -- an image with a class has the code of the class
-    pub why_class : (c : ImageClass) (code : ℕ) → cause ≡ Image c → code ≡ 100 + number_of c
+    pub why_class : (v : Verdict) (code : ℕ) → cause ≡ Image v → code ≡ 100 + number_of v.class
         → IsWhyNotOpened image capacity code
-    why_class c code e n = record {
-      why = inr (inr (c, n, subst (IsWhyNotOf current image 0 capacity) e why));
+    why_class v code e n = record {
+      why = inr (inr (
+        v.class,
+        n,
+        refused-class current (as_given image) v.class (subst (IsOpenCause current (as_given image) 0 capacity) e why),
+      ));
       too_long = λ t. absurd (other (sym e ∙ small (is_given t)));
     }
       where
-        other : Image c ≡ RegionTooSmall → ⊥
+        other : Image v ≡ RegionTooSmall → ⊥
         other wrong = cc
 
     -- an image without room has the code of its region
     pub why_room : cause ≡ RegionTooSmall → IsWhyNotOpened image capacity 27
     why_room e =
-        let told = subst (IsWhyNotOf current image 0 capacity) e why in
+        let told = subst (IsOpenCause current (as_given image) 0 capacity) e why in
         record {
           why = inr (inl (
             refl,
@@ -79,9 +82,6 @@ module _ (image : List ℕ) (capacity : ℕ) where
           ));
           too_long = λ t. inr refl;
         }
-
-    pub no_fault : cause ≡ ReadFault → ⊥
-    no_fault e = subst (IsWhyNotOf current image 0 capacity) e why
 
   -- a region with room for what they say
   has_room : min (size_said image) 1073741824 ≤ capacity → IsTooSmallFor current (as_given image) 0 capacity → ⊥
@@ -99,20 +99,19 @@ pub without_place : (image : List ℕ) (code old new : ℕ) → IsExplained imag
 without_place image code old new (inl e) = inl e.0
 without_place image code old new (inr e) = inr (e.0, e.1, e.2)
 
-module _ (image : List ℕ) (capacity : ℕ) (cause : ExamineError)
-    (why : IsWhyNotOf current image 0 capacity (error_for cause)) where
+module _ (image : List ℕ) (capacity : ℕ) (cause : OpenError)
+    (why : IsOpenCause current (as_given image) 0 capacity cause) where
   -- an examined image is explained by its class
-  pub explained : (v : Verdict) (code old : ℕ) → cause ≡ Examined v → IsShown current image cause
+  pub explained : (v : Verdict) (code old : ℕ) → cause ≡ Image v → IsShown current image cause
       → code ≡ 100 + number_of v.class → IsExplained image code old v.place
   explained v code old e shown n = inr (
     v.class,
     n,
-    subst (λ (c : ExamineError).
-        IsWhyNotOf current image 0 capacity (error_for c)) e why,
+    refused-class current (as_given image) v.class (subst (IsOpenCause current (as_given image) 0 capacity) e why),
     subst (IsShown current image) e shown,
   )
 
   -- a region that is large enough is not too small
-  pub not_small : min (size_said image) 1073741824 ≤ capacity → cause ≡ TooSmall → ⊥
+  pub not_small : min (size_said image) 1073741824 ≤ capacity → cause ≡ RegionTooSmall → ⊥
   not_small room e = has_room image capacity room
-      (subst (λ (c : ExamineError). IsWhyNotOf current image 0 capacity (error_for c)) e why)
+      (subst (IsOpenCause current (as_given image) 0 capacity) e why)

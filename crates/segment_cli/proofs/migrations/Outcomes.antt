@@ -6,7 +6,7 @@ use Rattle.segment_manager.specs.{State.DenotesCurrent}
 use Rattle.image_check.specs.declared.errors.OpenError.TheVariants.{Image as NoImage, RegionTooSmall as NoRoomForImage}
 use Rattle.image_check.specs.declared.errors.OpenError.TheVariants.{OutOfMemory as NoMemory, ReadFault as NotRead}
 use Rattle.image_check.specs.{declared.errors.OpenError.OpenError, declared.errors.OpenRefused.OpenRefused}
-use Rattle.image_check.specs.{OpeningAny.IsWhyNotAny, OpeningAny.OpensAny, Saving.IsSaved}
+use Rattle.image_check.specs.{Formats.format_of, Opening.IsOpenCause, Opening.Opens, Saving.IsSaved}
 use Rattle.segment_cli.specs.Migration.{IsMigration, IsMigrationFault, IsNewImage}
 use Rattle.segment_cli.specs.{declared.faults.SessionFault.TheVariants.WriteFault, Beginning.opened_fault}
 use Rattle.segment_cli.proofs.sessions.Ends.{IsUnwritten, failed}
@@ -14,8 +14,9 @@ use Rattle.segment_cli.proofs.sessions.Ends.{IsUnwritten, failed}
 -- ---- no segment
 
 fault-why : (base capacity : ℕ) (image : ReadDelta) (saved : WriteDelta) (cause : OpenError) → IsUnwritten saved
-    → IsWhyNotAny image base capacity cause → IsMigrationFault base capacity image saved (opened_fault cause)
-fault-why base capacity image saved (NoImage c) u why = record { why = why; bytes = u.bytes; failed = u.failed }
+    → IsOpenCause (format_of image.bytes) image base capacity cause
+    → IsMigrationFault base capacity image saved (opened_fault cause)
+fault-why base capacity image saved (NoImage v) u why = record { why = why; bytes = u.bytes; failed = u.failed }
 fault-why base capacity image saved NoRoomForImage u why = record { why = why; bytes = u.bytes; failed = u.failed }
 fault-why base capacity image saved (NoMemory refusal) u why = record { why = why; bytes = u.bytes; failed = u.failed }
 fault-why base capacity image saved NotRead u why = record { why = why; bytes = u.bytes; failed = u.failed }
@@ -23,7 +24,7 @@ fault-why base capacity image saved NotRead u why = record { why = why; bytes = 
 -- an image that was not opened is not migrated
 pub not-migrated : (region : List ℕ) (base : ℕ) (mode : Mode) (image : ReadDelta) (saved : WriteDelta)
     (refused : OpenRefused)
-    → OpensAny image region base mode (Err refused) → IsUnwritten saved
+    → Opens (format_of image.bytes) image region base mode (Err refused) → IsUnwritten saved
     → IsMigration base (length region) image saved (Err (opened_fault refused.cause))
 not-migrated region base mode image saved refused o u = record {
   answers = fault-why base (length region) image saved refused.cause u o.answers.why;
@@ -33,7 +34,7 @@ not-migrated region base mode image saved refused o u = record {
 -- ---- a segment
 
 module _ (region : List ℕ) (base : ℕ) (mode : Mode) (image : ReadDelta) (saved : WriteDelta) (s : SegmentState)
-    (o : OpensAny image region base mode (Ok s))
+    (o : Opens (format_of image.bytes) image region base mode (Ok s))
     (again : (d : Directory) → DenotesCurrent s.cut.bytes d → IsSaved s.cut.bytes d) where
   new-image : IsNewImage image s.cut.bytes
   new-image =

@@ -92,8 +92,8 @@ opened region base mode image s h small =
         from = d;
         begins = (h.read.ended, stands);
         mode = h.mode;
-        stands = subst (λ (b : List ℕ). DenotesCurrent b d) (sym h.bytes) stands;
-        zeros = λ began. zeros_read s image.bytes h.bytes began;
+        stands = subst (λ (b : List ℕ). DenotesCurrent b d) (sym (h.renewed.same refl)) stands;
+        zeros = λ began. zeros_read s image.bytes (h.renewed.same refl) began;
         read = h.read.failed;
       };
       left = tt;
@@ -104,7 +104,7 @@ opened region base mode image s h small =
 why_not_begun : (image : ReadDelta) (base capacity : ℕ) (cause : OpenError)
     → IsOpenCause current image base capacity cause
     → IsWhyNotBegun Image image base capacity (opened_fault cause)
-why_not_begun image base capacity (NoImage c) why = (refl, why)
+why_not_begun image base capacity (NoImage v) why = (refl, why)
 why_not_begun image base capacity NoRoomForImage why = why
 why_not_begun image base capacity (NoMemory refusal) why = (refl, why)
 why_not_begun image base capacity NotRead why = (refl, why)

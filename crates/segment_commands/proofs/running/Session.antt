@@ -1,5 +1,5 @@
 -- A session begins with the segment of an image that was opened.
-use Rattle.std.proofs.Common.{◌≡◌, ℕ, sym, subst, List, length, Ok}
+use Rattle.std.proofs.Common.{◌≡◌, ℕ, refl, sym, subst, List, length, Ok}
 use Rattle.raw_region.specs.Device.{ReadDelta}
 use Rattle.raw_region.specs.Format.{current}
 use Rattle.segment_manager.specs.declared.modes.Mode.{Mode}
@@ -26,8 +26,8 @@ module _ (image : ReadDelta) (region : List ℕ) where
           from = d;
           begins = (h.read.ended, stands);
           mode = h.mode;
-          stands = subst (λ (b : List ℕ). DenotesCurrent b d) (sym h.bytes) stands;
-          zeros = λ zero. zeros_read s h.bytes zero;
+          stands = subst (λ (b : List ℕ). DenotesCurrent b d) (sym (h.renewed.same refl)) stands;
+          zeros = λ zero. zeros_read s (h.renewed.same refl) zero;
           read = h.read.failed;
         };
         left = tt;

@@ -24,6 +24,11 @@ use Rattle.segment_dump.specs.Succeeding.{HasRequestedSize, JudgesDump, MakesObj
 use Rattle.segment_dump.proofs.loading.Portable.{needs-all, portable-left}
 use Rattle.segment_dump.proofs.building.BuildSteps.{IsFronted, empty-built, fronted as with_names, named-reserved}
 use Rattle.segment_dump.proofs.building.BuildSteps.{unique-reserved}
+use Rattle.best_fit.specs.Ends.{EndsAt}
+use Rattle.raw_region.proofs.Laws.{SameSurroundings-trans}
+use Rattle.raw_region.specs.Memory.{SameSurroundings, WindowState, cut_at}
+use Rattle.segment_dump.specs.Succeeding.{LiesOf}
+use Rattle.segment_dump.proofs.loading.Placed.{built-long, ends-in}
 use Rattle.segment_dump.proofs.building.WholeDump.{built-portable, cut-free, portable-sorted, text-behind}
 
 -- ---- the objects
@@ -239,6 +244,16 @@ module _ (text : List ℕ) (capacity base : ℕ) (size : Option ℕ) (room : ℕ
   asked-by None asked n e = tt
   asked-by (Some m) asked n e = e
 
+  -- what ends there in a window that was filled ends there in the region
+  placed : (region : List ℕ) (asked : ℕ) (c : WindowState) (result : Result SegmentState LoadRefused)
+      → IfOk result (λ s. EndsAt c s.cut (length s.cut.bytes)) → (n : ℕ) → asked ≡ n → base + asked ≤ length region
+      → SameSurroundings (cut_at region base asked) c → length c.bytes ≡ asked
+      → IfOk result (λ s. EndsAt (cut_at region base n) s.cut (length s.cut.bytes))
+  placed region asked c (Ok s) h n e l a k =
+      subst (λ m. EndsAt (cut_at region base m) s.cut (length s.cut.bytes)) e
+      (ends-in region base asked c s.cut l a k h)
+  placed region asked c (Err why) h n e l a k = tt
+
   module _ (E F : Type 0) (region lines left : List ℕ) (front : Front) (asked said : ℕ) (s0 s1 : SegmentState)
       (r : Result (Unit {0}) F) (found : Result Front E) (cr : Result SegmentState CreateRefused) (q : lines
       ≡ text) (h : Takes fronted IsFront lines left found) (w : found
@@ -284,6 +299,19 @@ module _ (text : List ℕ) (capacity base : ℕ) (size : Option ℕ) (room : ℕ
           let v = building b d n s l t c f in
           j.judges (site_of (front_of n (portable d)) asked) (portable d) v.built (portable-sorted b d s)
           (asked-by size asked n v.asked_is) (t ∙ ap (λ (x : Front). dump_text x.size (portable d)) (sym v.front_is));
+    }
+
+    -- the segment that was judged lies in the region
+    pub good-placed : (result : Result SegmentState LoadRefused) → capacity ≡ length region
+        → SameSurroundings s0.cut s1.cut → IfOk result (λ s. EndsAt s1.cut s.cut (length s.cut.bytes))
+        → LiesOf text region base size room counted result
+    good-placed result c around ends = record {
+      lies = λ b d n s l t k f.
+          let v = building b d n s l t k (subst (λ m. refusal_for m base size room
+          (record { size = n; needs = items_needs (portable d) }) ≡ None) (sym c) f) in
+          let created = subst (Creates region base asked Write) cw creates in
+          placed region asked s1.cut result ends (asked_of size n) v.asked_is created.fits
+          (SameSurroundings-trans _ _ _ created.place around) (built-long v.built);
     }
 
 -- ---- a load

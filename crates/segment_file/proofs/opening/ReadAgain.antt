@@ -16,7 +16,7 @@ use Rattle.image_check.specs.Classes.{class_of}
 use Rattle.image_check.specs.EarlyTests.{size_word}
 use Rattle.image_check.specs.Formats.{format_in}
 use Rattle.image_check.specs.Opening.{IsRefusedAs, IsTooSmallFor}
-use Rattle.image_check.specs.OpeningBytes.{as_given}
+use Rattle.image_check.specs.Opening.{as_given}
 use Rattle.image_check.specs.Verdicts.{Shows}
 use Rattle.image_check.proofs.Facts.{all_decided}
 use Rattle.grow_shrink.specs.LargerRegion.{region_len}

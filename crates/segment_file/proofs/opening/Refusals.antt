@@ -5,7 +5,6 @@ use Rattle.std.proofs.Common.{◌≡◌, ◌⊎◌, ℕ, ◌+◌, inl, inr, List
 use Rattle.std.proofs.Common.{refl, sym, ap, subst, ◌∙◌, arith}
 use Rattle.raw_region.specs.Device.{ReaderHistory, ReadDelta, ReadsSource, read_delta}
 use Rattle.raw_region.specs.Refusals.{out_of_memory_of}
-use Rattle.raw_region.specs.Format.{current}
 use Rattle.raw_region.specs.Memory.{SameSurroundings, cut_at}
 use Rattle.segment_manager.specs.declared.modes.Mode.{Mode}
 use Rattle.segment_manager.specs.State.{SegmentState}
@@ -15,13 +14,10 @@ use Rattle.image_check.specs.declared.errors.OpenError.TheVariants.{Image as NoI
 use Rattle.image_check.specs.declared.errors.OpenError.TheVariants.{OutOfMemory as NoBlocks, ReadFault as NotRead}
 use Rattle.image_check.specs.declared.errors.OpenRefused.{OpenRefused}
 use Rattle.image_check.specs.declared.versions.AcceptedVersions.{AcceptedVersions}
-use Rattle.image_check.specs.declared.versions.AcceptedVersions.TheVariants.{Current, All}
 use Rattle.image_check.specs.EarlyTests.{size_word}
-use Rattle.image_check.specs.Formats.{format_in, format_of}
+use Rattle.image_check.specs.Formats.{format_in}
 use Rattle.image_check.specs.Opening.{IsImage, IsTooSmallFor, IsOpenCause, ReadsFrontAlone, cause_of, failed_reads}
-use Rattle.image_check.specs.OpeningAny.{UpgradesFormat}
-use Rattle.image_check.specs.OpeningBytes.{OpensBytes, as_given}
-use Rattle.image_check.proofs.Facts.{why-by_format, why-given}
+use Rattle.image_check.specs.Upgrading.{UpgradesFormat}
 use Rattle.grow_shrink.specs.LargerRegion.{region_len}
 use Rattle.segment_file.specs.declared.file_errors.FileError.{FileError}
 use Rattle.segment_file.specs.declared.file_errors.FileError.TheVariants.{Image, OutOfMemory, ReadFault}
@@ -32,32 +28,6 @@ use Rattle.segment_file.specs.Opening.{IsCramped, KeepsRegion, IsOpenedBy, Opens
 use Rattle.segment_file.specs.Opening.{IsWholeImage, WidensIfNeeded, OpensAt, OpensImage, file_error, file_region}
 use Rattle.segment_file.proofs.opening.Fronts.{few-undecided}
 use Rattle.segment_file.proofs.opening.Rooms.{region-grows, room-as-said, room-as-told}
-
--- ---- by the format that it says
-
-pub why-at : (versions : AcceptedVersions) (image : ReadDelta) (region : List ℕ) (mode : Mode)
-    (refused : OpenRefused) → OpensAt versions image region mode (Err refused)
-    → IsOpenCause (format_in versions image.bytes) image 0 (length region) refused.cause
-why-at Current image region mode refused o = o.answers.why
-why-at All image region mode refused o = why-by_format image 0 (length region) refused.cause o.answers.why
-
--- an image that was opened is the file's
-pub opened-at : (versions : AcceptedVersions) (image : ReadDelta) (region : List ℕ) (mode : Mode) (s : SegmentState)
-    → OpensAt versions image region mode (Ok s) → IsOpenedBy versions image region mode s
-opened-at Current image region mode s o = o.answers
-opened-at All image region mode s o = o.answers
-
--- an image in memory is one that a reader gave
-pub text-at : (b region : List ℕ) (mode : Mode) (result : Result SegmentState OpenRefused)
-    → OpensBytes current b region 0 mode result → OpensAt Current (as_given b) region mode result
-text-at b region mode (Ok s) o = record { answers = o.answers; too_small = o.too_small }
-text-at b region mode (Err refused) o = record {
-  answers = record {
-    why = why-given current b 0 (length region) refused.cause o.answers.why;
-    handed_back = o.answers.handed_back;
-  };
-  too_small = o.too_small;
-}
 
 -- ---- its refusals
 
@@ -73,26 +43,27 @@ some_none a e = cc
 pub unopened-by : (format most capacity : ℕ) (image : ReadDelta) (cause : OpenError) (error : FileError)
     → IsOpenCause format image 0 capacity cause → file_error cause ≡ Some error
     → IsWhyUnopened format most image error
-unopened-by format most capacity image (NoImage c) error w e =
-    subst (IsWhyUnopened format most image) (sym (some_error (Image c) error e)) w
+unopened-by format most capacity image (NoImage v) error w e =
+    subst (IsWhyUnopened format most image) (sym (some_error (Image v.class) error e)) w
 unopened-by format most capacity image NoRoom error w e = absurd (none_error error e)
-unopened-by format most capacity image (NoBlocks refusal) error w e =
+unopened-by format most capacity image (NoBlocks (Bytes refusal)) error w e = absurd w.1
+unopened-by format most capacity image (NoBlocks (BlockMap refusal)) error w e =
     subst (IsWhyUnopened format most image) (sym (some_error (OutOfMemory (BlockMap refusal)) error e)) w
 unopened-by format most capacity image NotRead error w e =
     subst (IsWhyUnopened format most image) (sym (some_error ReadFault error e)) w
 
 pub roomless-by : (format capacity : ℕ) (image : ReadDelta) (cause : OpenError)
     → IsOpenCause format image 0 capacity cause → file_error cause ≡ None → IsTooSmallFor format image 0 capacity
-roomless-by format capacity image (NoImage c) w e = absurd (some_none (Image c) e)
+roomless-by format capacity image (NoImage v) w e = absurd (some_none (Image v.class) e)
 roomless-by format capacity image NoRoom w e = w
-roomless-by format capacity image (NoBlocks refusal) w e = absurd (some_none (OutOfMemory (BlockMap refusal)) e)
+roomless-by format capacity image (NoBlocks refusal) w e = absurd (some_none (OutOfMemory refusal) e)
 roomless-by format capacity image NotRead w e = absurd (some_none ReadFault e)
 
 -- no error of the file: the region has no room
 pub no-error : (cause : OpenError) → file_error cause ≡ None → cause ≡ NoRoom
-no-error (NoImage c) e = absurd (some_none (Image c) e)
+no-error (NoImage v) e = absurd (some_none (Image v.class) e)
 no-error NoRoom e = refl
-no-error (NoBlocks refusal) e = absurd (some_none (OutOfMemory (BlockMap refusal)) e)
+no-error (NoBlocks refusal) e = absurd (some_none (OutOfMemory refusal) e)
 no-error NotRead e = absurd (some_none ReadFault e)
 
 -- ---- the front alone
@@ -102,7 +73,7 @@ pub front-alone : (A : Type 0) (new : ReaderHistory) (cause : OpenError)
     → (let result : Result A OpenError = Err cause in ReadsSource nothing_given new (failed_reads result))
     → (let result : Result A OpenError = Err cause in ReadsFrontAlone nothing_given new result) → cause ≡ NoRoom
     → IsFrontGiven new
-front-alone A new (NoImage c) r a is = absurd (cc)
+front-alone A new (NoImage v) r a is = absurd (cc)
 front-alone A new NoRoom r a is = record { long = a refl; sound = r.counted }
 front-alone A new (NoBlocks refusal) r a is = absurd (cc)
 front-alone A new NotRead r a is = absurd (cc)
@@ -131,18 +102,18 @@ module _ (versions : AcceptedVersions) (more : ℕ) (mode : Mode) (len : ℕ) (i
       → file_error refused.cause ≡ Some error → Answer (Err error)
   not-opened refused error o e =
       unopened-by (format_in versions image.bytes) (file_region len more image.bytes) (length region) image
-      refused.cause error (why-at versions image region mode refused o) e
+      refused.cause error o.answers.why e
 
   -- and one that is
   pub no-place : (refused : OpenRefused) → OpensAt versions image region mode (Err refused)
       → file_error refused.cause ≡ None → IsTooSmallFor (format_in versions image.bytes) image 0 (length region)
   no-place refused o e = roomless-by (format_in versions image.bytes) (length region) image refused.cause
-      (why-at versions image region mode refused o) e
+      o.answers.why e
 
   -- a segment in a region with room for what the image says
   pub is-opened : (s : SegmentState) → length region ≡ file_region len more image.bytes
       → OpensAt versions image region mode (Ok s) → Answer (Ok s)
-  is-opened s room o = record { region = region; room = room; opened = opened-at versions image region mode s o }
+  is-opened s room o = record { region = region; room = room; opened = o.answers }
 
 -- memory was refused before the image was read
 pub unread-image : (versions : AcceptedVersions) (more : ℕ) (mode : Mode) (len : ℕ)
@@ -160,13 +131,11 @@ module _ (image : ReadDelta) (region : List ℕ) (mode : Mode) (s : SegmentState
   -- an opened segment is as long as its image says
   pub as-long : (versions : AcceptedVersions) → IsOpenedBy versions image region mode s
       → length s.cut.bytes ≡ size_word image.bytes
-  as-long Current o = ap length o.bytes ∙ sym (image-size current image.bytes o.denotes)
-  as-long All o = o.renewed.size ∙ sym (image-size (format_of image.bytes) image.bytes o.denotes)
+  as-long versions o = o.renewed.size ∙ sym (image-size (format_in versions image.bytes) image.bytes o.denotes)
 
   whole-image : (versions : AcceptedVersions) → IsOpenedBy versions image region mode s
       → IsWholeImage (format_in versions image.bytes) image
-  whole-image Current o = record { read = o.read; denotes = o.denotes }
-  whole-image All o = record { read = o.read; denotes = o.denotes }
+  whole-image versions o = record { read = o.read; denotes = o.denotes }
 
   module _ (s' : SegmentState) (bytes : s'.cut.bytes ≡ s.cut.bytes) (mode_same : s'.mode
       ≡ s.mode) (region' : List ℕ) (place : SameSurroundings (cut_at region' 0 (length s.cut.bytes)) s'.cut) where
@@ -175,19 +144,12 @@ module _ (image : ReadDelta) (region : List ℕ) (mode : Mode) (s : SegmentState
 
     moved : (versions : AcceptedVersions) → IsOpenedBy versions image region mode s
         → IsOpenedBy versions image region' mode s'
-    moved Current o = record {
-      read = o.read;
-      mode = mode_same ∙ o.mode;
-      bytes = bytes ∙ o.bytes;
-      place = in-place (length image.bytes) (ap length o.bytes);
-      denotes = o.denotes;
-    }
-    moved All o = record {
+    moved versions o = record {
       read = o.read;
       mode = mode_same ∙ o.mode;
       place = in-place (length image.bytes) o.renewed.size;
       denotes = o.denotes;
-      renewed = subst (UpgradesFormat (format_of image.bytes) image.bytes) (sym bytes) o.renewed;
+      renewed = subst (UpgradesFormat (format_in versions image.bytes) image.bytes) (sym bytes) o.renewed;
     }
 
   module _ (versions : AcceptedVersions) (len more : ℕ) (room : length region

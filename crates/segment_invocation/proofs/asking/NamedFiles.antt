@@ -1,8 +1,7 @@
--- What is asked for by the name of a command, by its file and without one.
-use Rattle.std.proofs.Common.{◌≡◌, ◌∙◌, ◌++◌, ap, map, Bool, true, false, List, [], Option, Some, None, codes, refl}
+-- What is asked for by the name of a command, and what values and numbers its words have.
+use Rattle.std.proofs.Common.{◌≡◌, ◌∙◌, ◌++◌, ap, map, true, false, List, [], Option, Some, None, codes, refl}
 use Rattle.std.proofs.Common.{ℕ}
 use Rattle.std.specs.Prelude.{option_and_then, option_map, unwrap_or}
-use Rattle.std.specs.Prelude.{if◌then◌else◌}
 use Rattle.std.specs.Str.{bytes_eq}
 use Rattle.std.proofs.lemmas.Slice.Eq.{bytes_eq-Decides}
 use denote.Ref.{Bor}
@@ -11,11 +10,8 @@ use Rattle.clap.specs.Walk.{Row, Text, first_of, rows_of}
 use Rattle.clap.specs.declared.parser.matches.Found.{Found}
 use Rattle.clap.proofs.WalkLemmas.{raw_values-rows}
 use Rattle.segment_lang.specs.Words.{number_of}
-use Rattle.segment_invocation.specs.Invocations.{InvocationValue, asked_as, asked_in, command_called}
-use Rattle.segment_invocation.specs.Invocations.{language, lint, list_of}
+use Rattle.segment_invocation.specs.Invocations.{asked_as, asked_in, command_called, language, lint, list_of}
 use Rattle.segment_invocation.specs.Invocations.{size_of}
-use Rattle.segment_invocation.specs.declared.invocations.FileCommand.{FileCommand}
-use Rattle.segment_invocation.specs.declared.invocations.FileCommand.TheVariants as on_file
 
 module _ (name : Text) (rows : List Row) where
   -- the name of `lint` asks for a lint
@@ -26,9 +22,15 @@ module _ (name : Text) (rows : List Row) where
   pub language_asked : bytes_eq name (codes "language") ≡ true → asked_in name rows ≡ Some language
   language_asked e = ap (λ n. asked_in n rows) ((bytes_eq-Decides name (codes "language")).0 e)
 
-neither : (b : Bool) (x y : Option InvocationValue) → x ≡ None → y ≡ None → (if b then x else y) ≡ None
-neither true x y h k = h
-neither false x y h k = k
+  module _ (l : bytes_eq name (codes "lint") ≡ false) (h : bytes_eq name (codes "language") ≡ false) where
+    -- every other command wants a file
+    pub without_file : first_of (codes "file") rows ≡ None → asked_in name rows ≡ None
+    without_file e = rw (l, h, e) refl
+
+    -- with a file it asks for what its name says
+    pub of_file : (file : Text) → first_of (codes "file") rows ≡ Some file
+        → asked_in name rows ≡ asked_as (command_called name) file rows
+    of_file file e = rw (l, h, e) refl
 
 -- ---- the values of a word that may stand there more than once
 
@@ -73,24 +75,3 @@ no_number_read (Some w) h = absurd (not_none (number_of w) h)
 pub number_unread : (word : Option Text) → size_of word ≡ None → option_and_then number_of word ≡ None
 number_unread None h = cc
 number_unread (Some w) h = none_of (number_of w) h
-
-fileless : (command : Option FileCommand) (rows : List Row) → first_of (codes "file") rows ≡ None
-    → asked_as command rows ≡ None
-fileless (Some on_file.Create) rows e = rw e refl
-fileless (Some on_file.Grow) rows e = rw e refl
-fileless (Some on_file.Shrink) rows e = rw e refl
-fileless (Some on_file.Migrate) rows e = rw e refl
-fileless (Some on_file.Stat) rows e = rw e refl
-fileless (Some on_file.Draw) rows e = rw e refl
-fileless (Some on_file.Dump) rows e = rw e refl
-fileless (Some on_file.Names) rows e = rw e refl
-fileless (Some on_file.Load) rows e = rw e refl
-fileless None rows e = refl
-
--- every other command wants a file
-pub without_file : (name : Text) (rows : List Row) → bytes_eq name (codes "lint") ≡ false
-    → bytes_eq name (codes "language") ≡ false
-    → first_of (codes "file") rows ≡ None → asked_in name rows ≡ None
-without_file name rows l h e = rw (l, h)
-    (neither (bytes_eq name (codes "run")) _ _ (rw e refl)
-    (neither (bytes_eq name (codes "check")) _ _ (rw e refl) (fileless (command_called name) rows e)))

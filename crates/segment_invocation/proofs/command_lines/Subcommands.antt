@@ -14,12 +14,16 @@ use Rattle.clap.specs.Takes.{walk_passes}
 use Rattle.clap.specs.declared.builder.value_parser.Reading.TheVariants as reading
 use Rattle.clap.specs.declared.parser.matches.ValueSource.TheVariants.{CommandLine}
 use Rattle.segment_lang.specs.Words.{number_of}
-use Rattle.segment_invocation.specs.Invocations.{InvocationValue, RunWords, asked_change, asked_in, check, check_all}
-use Rattle.segment_invocation.specs.Invocations.{check_command, create, create_command, draw_command, dump_command}
-use Rattle.segment_invocation.specs.Invocations.{explain, file_command, flag_words, grow_command, kept_command}
-use Rattle.segment_invocation.specs.Invocations.{line_words, load, load_command, names, names_command, program}
-use Rattle.segment_invocation.specs.Invocations.{run_command, run_words, saving_part, seconds_of, size_of, tell}
-use Rattle.segment_invocation.specs.declared.invocations.FileChange.TheVariants as change
+use Rattle.segment_invocation.specs.Invocations.{mode_of}
+use Rattle.segment_invocation.specs.Invocations.{InvocationValue, OptionValues, Origin, asked_in, check, check_command}
+use Rattle.segment_invocation.specs.Invocations.{check_options, create, create_command, draw_command, dump_command}
+use Rattle.segment_invocation.specs.Invocations.{file_command, flag_part, flag_words, from_file, from_lines, grow}
+use Rattle.segment_invocation.specs.Invocations.{grow_command, input, kept_command, kept_options, line_words, load}
+use Rattle.segment_invocation.specs.Invocations.{load_command, migrate, names, names_command, options_of}
+use Rattle.segment_invocation.specs.Invocations.{plain_options, program, run_command, run_of, options_of_run}
+use Rattle.segment_invocation.specs.Invocations.{saving_part}
+use Rattle.segment_invocation.specs.Invocations.{seconds_of, shrink, size_of, tell}
+use Rattle.segment_invocation.specs.declared.invocations.ModeName.TheVariants.{OpenOnly}
 use Rattle.segment_invocation.specs.declared.invocations.Report.TheVariants.{Figures, Picture, Page, Dump, Capacities}
 use Rattle.segment_invocation.specs.declared.invocations.Report.TheVariants.{Json}
 use Rattle.segment_disk.specs.declared.presence.SaveMode.{SaveMode}
@@ -157,66 +161,85 @@ module _ {A : Type 0} (s : Shape) (ask : List Row → A) where
       (plain s nothing_held idle 1 f p t)
       (steps s (after_file s f) to (fold (walked s.rules []) to more) words more w (flags s to more u))) h v
 
+-- a command and its options, if they are asked for
+abbrev pub Asking : Type 0
+Asking = Option InvocationValue × Option OptionValues
+
+-- what a subcommand's rows ask for
+abbrev pub asking : Text → List Row → Asking
+asking name words = (asked_in name words, options_of words)
+
+-- what the rows of a run ask for
+abbrev pub run_asking : List Row → Asking
+run_asking = asking (codes "run")
+
+-- a command of a file, with no options
+abbrev pub plainly : Text → InvocationValue → Asking
+plainly f a = (Some a, Some (plain_options (f ∷ [])))
+
 -- ---- a file, which may have flags after it
 
 -- `stat` asks for figures
 pub stat-asks : (f : Text) → IsPlain f
-    → IsAsk (leaf (file_command (codes "stat"))) (asked_in (codes "stat")) (f ∷ []) (Some (tell f Figures))
+    → IsAsk (leaf (file_command (codes "stat"))) (asking (codes "stat")) (f ∷ []) (plainly f (tell f Figures))
 unfolding clap_on_literals
-stat-asks f p = flagged (leaf (file_command (codes "stat"))) (asked_in (codes "stat")) f [] (Some (tell f Figures))
-    p refl refl refl refl
+stat-asks f p = flagged (leaf (file_command (codes "stat"))) (asking (codes "stat")) f []
+    (plainly f (tell f Figures)) p refl refl refl refl
+
+-- the command `check`
+abbrev pub check_leaf : Shape
+check_leaf = leaf check_command
+
+-- what a check of one file asks for, with flags
+abbrev IsCheckAsk : Text → Bool → Bool → Type 0
+IsCheckAsk f explains quiet = IsAsk check_leaf (asking (codes "check"))
+    (f ∷ flag_part (codes "--explain") explains ++ flag_part (codes "--quiet") quiet)
+    (Some (check f), Some (check_options f explains quiet))
 
 -- `check` asks for a check
-pub check-asks : (f : Text) → IsPlain f
-    → IsAsk (leaf check_command) (asked_in (codes "check")) (f ∷ []) (Some (check f))
+pub check-asks : (f : Text) (explains quiet : Bool) → IsPlain f → IsCheckAsk f explains quiet
 unfolding clap_on_literals
-check-asks f p = flagged (leaf check_command) (asked_in (codes "check")) f [] (Some (check f)) p refl refl refl refl
-
--- `check --quiet` asks for a quiet check
-pub quiet-asks : (f : Text) → IsPlain f
-    → IsAsk (leaf check_command) (asked_in (codes "check")) (f ∷ codes "--quiet" ∷ []) (Some (check_all (f ∷ []) true))
-unfolding clap_on_literals
-quiet-asks f p = flagged (leaf check_command) (asked_in (codes "check")) f (codes "--quiet" ∷ [])
-    (Some (check_all (f ∷ []) true)) p refl refl refl refl
-
--- `check --explain` asks for an explanation
-pub explain-asks : (f : Text) → IsPlain f
-    → IsAsk (leaf check_command) (asked_in (codes "check")) (f ∷ codes "--explain" ∷ []) (Some (explain f))
-unfolding clap_on_literals
-explain-asks f p = flagged (leaf check_command) (asked_in (codes "check")) f (codes "--explain" ∷ [])
-    (Some (explain f)) p refl refl refl refl
+check-asks f false false p = flagged check_leaf (asking (codes "check")) f []
+    (Some (check f), Some (check_options f false false)) p refl refl refl refl
+check-asks f false true p = flagged check_leaf (asking (codes "check")) f (codes "--quiet" ∷ [])
+    (Some (check f), Some (check_options f false true)) p refl refl refl refl
+check-asks f true false p = flagged check_leaf (asking (codes "check")) f (codes "--explain" ∷ [])
+    (Some (check f), Some (check_options f true false)) p refl refl refl refl
+check-asks f true true p = flagged check_leaf (asking (codes "check")) f
+    (codes "--explain" ∷ codes "--quiet" ∷ []) (Some (check f), Some (check_options f true true)) p refl refl refl refl
 
 -- `draw` asks for a picture
 pub draw-asks : (f : Text) → IsPlain f
-    → IsAsk (leaf draw_command) (asked_in (codes "draw")) (f ∷ []) (Some (tell f Picture))
+    → IsAsk (leaf draw_command) (asking (codes "draw")) (f ∷ []) (plainly f (tell f Picture))
 unfolding clap_on_literals
-draw-asks f p = flagged (leaf draw_command) (asked_in (codes "draw")) f [] (Some (tell f Picture)) p refl refl refl refl
+draw-asks f p = flagged (leaf draw_command) (asking (codes "draw")) f [] (plainly f (tell f Picture)) p refl refl refl
+    refl
 
 -- `draw --html` asks for a page
 pub html-asks : (f : Text) → IsPlain f
-    → IsAsk (leaf draw_command) (asked_in (codes "draw")) (f ∷ codes "--html" ∷ []) (Some (tell f Page))
+    → IsAsk (leaf draw_command) (asking (codes "draw")) (f ∷ codes "--html" ∷ []) (plainly f (tell f Page))
 unfolding clap_on_literals
-html-asks f p = flagged (leaf draw_command) (asked_in (codes "draw")) f (codes "--html" ∷ []) (Some (tell f Page)) p
+html-asks f p = flagged (leaf draw_command) (asking (codes "draw")) f (codes "--html" ∷ []) (plainly f (tell f Page)) p
     refl refl refl refl
 
 -- `dump` asks for a dump
 pub dump-asks : (f : Text) → IsPlain f
-    → IsAsk (leaf dump_command) (asked_in (codes "dump")) (f ∷ []) (Some (tell f Dump))
+    → IsAsk (leaf dump_command) (asking (codes "dump")) (f ∷ []) (plainly f (tell f Dump))
 unfolding clap_on_literals
-dump-asks f p = flagged (leaf dump_command) (asked_in (codes "dump")) f [] (Some (tell f Dump)) p refl refl refl refl
+dump-asks f p = flagged (leaf dump_command) (asking (codes "dump")) f [] (plainly f (tell f Dump)) p refl refl refl refl
 
 -- `dump --capacities` asks for a dump with capacities
 pub capacities-asks : (f : Text) → IsPlain f
-    → IsAsk (leaf dump_command) (asked_in (codes "dump")) (f ∷ codes "--capacities" ∷ []) (Some (tell f Capacities))
+    → IsAsk (leaf dump_command) (asking (codes "dump")) (f ∷ codes "--capacities" ∷ []) (plainly f (tell f Capacities))
 unfolding clap_on_literals
-capacities-asks f p = flagged (leaf dump_command) (asked_in (codes "dump")) f (codes "--capacities" ∷ [])
-    (Some (tell f Capacities)) p refl refl refl refl
+capacities-asks f p = flagged (leaf dump_command) (asking (codes "dump")) f (codes "--capacities" ∷ [])
+    (plainly f (tell f Capacities)) p refl refl refl refl
 
 -- `dump --json` asks for a dump in JSON
 pub json-asks : (f : Text) → IsPlain f
-    → IsAsk (leaf dump_command) (asked_in (codes "dump")) (f ∷ codes "--json" ∷ []) (Some (tell f Json))
+    → IsAsk (leaf dump_command) (asking (codes "dump")) (f ∷ codes "--json" ∷ []) (plainly f (tell f Json))
 unfolding clap_on_literals
-json-asks f p = flagged (leaf dump_command) (asked_in (codes "dump")) f (codes "--json" ∷ []) (Some (tell f Json)) p
+json-asks f p = flagged (leaf dump_command) (asking (codes "dump")) f (codes "--json" ∷ []) (plainly f (tell f Json)) p
     refl refl refl refl
 
 -- ---- a file and a number
@@ -228,13 +251,13 @@ number s h d q t = plain s h idle 2 d q t
 
 -- `create` asks for a new segment of a size
 pub create-asks : (f d : Text) → IsPlain f → IsPlain d
-    → IsAsk (leaf create_command) (asked_in (codes "create")) (f ∷ d ∷ [])
-    (option_and_then (λ n. Some (create f n)) (number_of d))
+    → IsAsk (leaf create_command) (asking (codes "create")) (f ∷ d ∷ [])
+    (option_map (create f) (number_of d), Some (plain_options (f ∷ [])))
 unfolding clap_on_literals
 create-asks f d p q =
     let s : Shape = leaf create_command in
-    behind s (asked_in (codes "create")) f (d ∷ []) [] (plain_step s.rules (after_file s f) d)
-    (option_and_then (λ n. Some (create f n)) (number_of d)) p refl
+    behind s (asking (codes "create")) f (d ∷ []) [] (plain_step s.rules (after_file s f) d)
+    (option_map (create f) (number_of d), Some (plain_options (f ∷ []))) p refl
     (number s (after_file s f).held d q refl) refl refl refl
 
 -- ---- options that may be left out
@@ -279,23 +302,26 @@ module _ {A : Type 0} (s : Shape) (ask : List Row → A) (f : Text) (words : Lis
 
 -- ---- a change
 
+-- the options of a command that writes a file, by its words
+abbrev pub kept_in : Text → Option Text → SaveMode → Option OptionValues
+kept_in f wait saving = option_and_then (λ w. Some (kept_options f saving w)) (seconds_of wait)
+
 -- the command `shrink`
 abbrev pub shrink_leaf : Shape
 shrink_leaf = leaf (kept_command (codes "shrink"))
 
 -- `shrink` asks for a smaller file
 pub shrink-asks : (f : Text) (wait : Option Text) (saving : SaveMode) → IsPlain f → IsPlainIn wait
-    → IsAsk shrink_leaf (asked_in (codes "shrink")) (f ∷ option_words (codes "--wait") wait ++ saving_part saving)
-    (option_map (asked_change f change.Shrink saving) (seconds_of wait))
+    → IsAsk shrink_leaf (asking (codes "shrink")) (f ∷ option_words (codes "--wait") wait ++ saving_part saving)
+    (Some (shrink f), kept_in f wait saving)
 unfolding clap_on_literals
 shrink-asks f None saving p q =
-    saved shrink_leaf (asked_in (codes "shrink")) f [] (after_file shrink_leaf f) (λ v.
-    option_map (asked_change f change.Shrink v) (seconds_of None)) saving p refl
+    saved shrink_leaf (asking (codes "shrink")) f [] (after_file shrink_leaf f)
+    (λ v. (Some (shrink f), kept_in f None v)) saving p refl
     (record { walk = refl; passes = refl }) (refl, refl, refl) (refl, refl, refl)
 shrink-asks f (Some w) saving p q =
-    saved shrink_leaf (asked_in (codes "shrink")) f (codes "--wait" ∷ w ∷ [])
-    (with_option shrink_leaf f (codes "wait") w)
-    (λ v. option_map (asked_change f change.Shrink v) (seconds_of (Some w))) saving p refl
+    saved shrink_leaf (asking (codes "shrink")) f (codes "--wait" ∷ w ∷ [])
+    (with_option shrink_leaf f (codes "wait") w) (λ v. (Some (shrink f), kept_in f (Some w) v)) saving p refl
     (option-steps shrink_leaf (after_file shrink_leaf f).held idle 2 (codes "--wait") (codes "wait") w q refl refl
     refl) (refl, refl, refl) (refl, refl, refl)
 
@@ -305,17 +331,16 @@ migrate_leaf = leaf (kept_command (codes "migrate"))
 
 -- `migrate` asks for the current format
 pub migrate-asks : (f : Text) (wait : Option Text) (saving : SaveMode) → IsPlain f → IsPlainIn wait
-    → IsAsk migrate_leaf (asked_in (codes "migrate")) (f ∷ option_words (codes "--wait") wait ++ saving_part saving)
-    (option_map (asked_change f change.Migrate saving) (seconds_of wait))
+    → IsAsk migrate_leaf (asking (codes "migrate")) (f ∷ option_words (codes "--wait") wait ++ saving_part saving)
+    (Some (migrate f), kept_in f wait saving)
 unfolding clap_on_literals
 migrate-asks f None saving p q =
-    saved migrate_leaf (asked_in (codes "migrate")) f [] (after_file migrate_leaf f) (λ v.
-    option_map (asked_change f change.Migrate v) (seconds_of None)) saving p refl
+    saved migrate_leaf (asking (codes "migrate")) f [] (after_file migrate_leaf f)
+    (λ v. (Some (migrate f), kept_in f None v)) saving p refl
     (record { walk = refl; passes = refl }) (refl, refl, refl) (refl, refl, refl)
 migrate-asks f (Some w) saving p q =
-    saved migrate_leaf (asked_in (codes "migrate")) f (codes "--wait" ∷ w ∷ [])
-    (with_option migrate_leaf f (codes "wait") w)
-    (λ v. option_map (asked_change f change.Migrate v) (seconds_of (Some w))) saving p refl
+    saved migrate_leaf (asking (codes "migrate")) f (codes "--wait" ∷ w ∷ [])
+    (with_option migrate_leaf f (codes "wait") w) (λ v. (Some (migrate f), kept_in f (Some w) v)) saving p refl
     (option-steps migrate_leaf (after_file migrate_leaf f).held idle 2 (codes "--wait") (codes "wait") w q refl refl
     refl) (refl, refl, refl) (refl, refl, refl)
 
@@ -329,18 +354,16 @@ at_bytes f d = plain_step grow_leaf.rules (after_file grow_leaf f) d
 
 -- `grow` asks for a larger file
 pub grow-asks : (f d : Text) (wait : Option Text) (saving : SaveMode) → IsPlain f → IsPlain d → IsPlainIn wait
-    → IsAsk grow_leaf (asked_in (codes "grow")) (f ∷ d ∷ option_words (codes "--wait") wait ++ saving_part saving)
-    (option_and_then (λ n. option_map (asked_change f (change.Grow n) saving) (seconds_of wait)) (number_of d))
+    → IsAsk grow_leaf (asking (codes "grow")) (f ∷ d ∷ option_words (codes "--wait") wait ++ saving_part saving)
+    (option_map (grow f) (number_of d), kept_in f wait saving)
 unfolding clap_on_literals
-grow-asks f d None saving p q r = saved grow_leaf (asked_in (codes "grow")) f (d ∷ []) (at_bytes f d)
-    (λ v. option_and_then (λ n. option_map (asked_change f (change.Grow n) v) (seconds_of None)) (number_of d))
-    saving p refl
+grow-asks f d None saving p q r = saved grow_leaf (asking (codes "grow")) f (d ∷ []) (at_bytes f d)
+    (λ v. (option_map (grow f) (number_of d), kept_in f None v)) saving p refl
     (number grow_leaf (after_file grow_leaf f).held d q refl) (refl, refl, refl) (refl, refl, refl)
 grow-asks f d (Some w) saving p q r =
-    saved grow_leaf (asked_in (codes "grow")) f (d ∷ codes "--wait" ∷ w ∷ [])
+    saved grow_leaf (asking (codes "grow")) f (d ∷ codes "--wait" ∷ w ∷ [])
     (after_option grow_leaf (codes "wait") w (at_bytes f d))
-    (λ v. option_and_then (λ n. option_map (asked_change f (change.Grow n) v) (seconds_of (Some w))) (number_of d))
-    saving p refl
+    (λ v. (option_map (grow f) (number_of d), kept_in f (Some w) v)) saving p refl
     (optioned grow_leaf (after_file grow_leaf f) (d ∷ []) (at_bytes f d).held 3 (codes "--wait") (codes "wait") w r
     (number grow_leaf (after_file grow_leaf f).held d q refl) refl refl refl) (refl, refl, refl) (refl, refl, refl)
 
@@ -351,8 +374,8 @@ abbrev pub load_leaf : Shape
 load_leaf = leaf load_command
 
 -- what a load is asked for, by its words
-abbrev pub loaded : Text → Option Text → Option Text → SaveMode → Option InvocationValue
-loaded f size wait saving = option_and_then (λ n. option_map (load f n saving) (seconds_of wait)) (size_of size)
+abbrev pub loaded : Text → Option Text → Option Text → SaveMode → Asking
+loaded f size wait saving = (option_map (load f) (size_of size), kept_in f wait saving)
 
 size-steps : (f d : Text) → IsPlain d
     → IsSteps load_leaf (after_file load_leaf f) (codes "--size" ∷ d ∷ []) (with_option load_leaf f (codes "size") d)
@@ -362,23 +385,23 @@ size-steps f d q = option-steps load_leaf (after_file load_leaf f).held idle 2 (
 
 -- `load` asks for a load
 pub load-asks : (f : Text) (size wait : Option Text) (saving : SaveMode) → IsPlain f → IsPlainIn size → IsPlainIn wait
-    → IsAsk load_leaf (asked_in (codes "load")) (f ∷ option_words (codes "--size") size
+    → IsAsk load_leaf (asking (codes "load")) (f ∷ option_words (codes "--size") size
     ++ (option_words (codes "--wait") wait ++ saving_part saving)) (loaded f size wait saving)
 unfolding clap_on_literals
 load-asks f None None saving p q r =
-    saved load_leaf (asked_in (codes "load")) f [] (after_file load_leaf f) (loaded f None None) saving p refl
+    saved load_leaf (asking (codes "load")) f [] (after_file load_leaf f) (loaded f None None) saving p refl
     (record { walk = refl; passes = refl }) (refl, refl, refl) (refl, refl, refl)
 load-asks f (Some d) None saving p q r =
-    saved load_leaf (asked_in (codes "load")) f (codes "--size" ∷ d ∷ []) (with_option load_leaf f (codes "size") d)
+    saved load_leaf (asking (codes "load")) f (codes "--size" ∷ d ∷ []) (with_option load_leaf f (codes "size") d)
     (loaded f (Some d) None) saving p refl
     (size-steps f d q) (refl, refl, refl) (refl, refl, refl)
 load-asks f None (Some w) saving p q r =
-    saved load_leaf (asked_in (codes "load")) f (codes "--wait" ∷ w ∷ []) (with_option load_leaf f (codes "wait") w)
+    saved load_leaf (asking (codes "load")) f (codes "--wait" ∷ w ∷ []) (with_option load_leaf f (codes "wait") w)
     (loaded f None (Some w)) saving p refl
     (option-steps load_leaf (after_file load_leaf f).held idle 2 (codes "--wait") (codes "wait") w r refl refl refl)
     (refl, refl, refl) (refl, refl, refl)
 load-asks f (Some d) (Some w) saving p q r =
-    saved load_leaf (asked_in (codes "load")) f (codes "--size" ∷ d ∷ codes "--wait" ∷ w ∷ [])
+    saved load_leaf (asking (codes "load")) f (codes "--size" ∷ d ∷ codes "--wait" ∷ w ∷ [])
     (after_option load_leaf (codes "wait") w (with_option load_leaf f (codes "size") d))
     (loaded f (Some d) (Some w)) saving p refl
     (optioned load_leaf (after_file load_leaf f) (codes "--size" ∷ d ∷ [])
@@ -392,8 +415,8 @@ abbrev pub names_leaf : Shape
 names_leaf = leaf names_command
 
 -- what names are asked for, by their words
-abbrev pub listed : Text → Option Text → Option Text → Option InvocationValue
-listed f prefix most = option_map (names f (unwrap_or prefix [])) (size_of most)
+abbrev pub listed : Text → Option Text → Option Text → Asking
+listed f prefix most = (option_map (names f (unwrap_or prefix [])) (size_of most), Some (plain_options (f ∷ [])))
 
 prefix-steps : (f t : Text) → IsPlain t
     → IsSteps names_leaf (after_file names_leaf f) (codes "--prefix" ∷ t ∷ [])
@@ -404,22 +427,22 @@ prefix-steps f t q = option-steps names_leaf (after_file names_leaf f).held idle
 
 -- `names` asks for names
 pub names-asks : (f : Text) (prefix most : Option Text) → IsPlain f → IsPlainIn prefix → IsPlainIn most
-    → IsAsk names_leaf (asked_in (codes "names")) (f ∷ option_words (codes "--prefix") prefix
+    → IsAsk names_leaf (asking (codes "names")) (f ∷ option_words (codes "--prefix") prefix
     ++ option_words (codes "--most") most) (listed f prefix most)
 unfolding clap_on_literals
 names-asks f None None p q r =
-    flagged names_leaf (asked_in (codes "names")) f [] (listed f None None) p refl refl refl refl
+    flagged names_leaf (asking (codes "names")) f [] (listed f None None) p refl refl refl refl
 names-asks f (Some t) None p q r =
-    behind names_leaf (asked_in (codes "names")) f (codes "--prefix" ∷ t ∷ []) []
+    behind names_leaf (asking (codes "names")) f (codes "--prefix" ∷ t ∷ []) []
     (with_option names_leaf f (codes "prefix") t) (listed f (Some t) None) p refl
     (prefix-steps f t q) refl refl refl
 names-asks f None (Some d) p q r =
-    behind names_leaf (asked_in (codes "names")) f (codes "--most" ∷ d ∷ []) []
+    behind names_leaf (asking (codes "names")) f (codes "--most" ∷ d ∷ []) []
     (with_option names_leaf f (codes "most") d) (listed f None (Some d)) p refl
     (option-steps names_leaf (after_file names_leaf f).held idle 2 (codes "--most") (codes "most") d r refl refl
     refl) refl refl refl
 names-asks f (Some t) (Some d) p q r =
-    behind names_leaf (asked_in (codes "names")) f (codes "--prefix" ∷ t ∷ codes "--most" ∷ d ∷ []) []
+    behind names_leaf (asking (codes "names")) f (codes "--prefix" ∷ t ∷ codes "--most" ∷ d ∷ []) []
     (after_option names_leaf (codes "most") d (with_option names_leaf f (codes "prefix") t))
     (listed f (Some t) (Some d)) p refl
     (optioned names_leaf (after_file names_leaf f) (codes "--prefix" ∷ t ∷ [])
@@ -432,34 +455,17 @@ names-asks f (Some t) (Some d) p q r =
 abbrev pub run_leaf : Shape
 run_leaf = leaf run_command
 
--- a flag has a value where it is left out too
-abbrev pub saving_word : SaveMode → Text
-saving_word InPlace = codes "false"
-saving_word Replacing = codes "true"
-
--- the word of a setting that is on or off
-abbrev pub truth_word : Bool → Text
-truth_word true = codes "true"
-truth_word false = codes "false"
-
--- what the words of a run of standard input say
-abbrev pub said : Text → Option Text → Option Text → Option Text → SaveMode → Bool → Bool → RunWords
-said f mode size wait saving strict numbered = record {
-  file = Some f;
-  mode = mode;
-  size = size;
-  script = None;
-  lines = [];
-  replace = Some (saving_word saving);
-  wait = wait;
-  strict = Some (truth_word strict);
-  numbered = Some (truth_word numbered);
-}
+-- what a run of standard input is asked for, by its words
+abbrev pub said : Text → Option Text → Option Text → Option Text → SaveMode → Bool → Bool → Asking
+said f mode size wait saving strict numbered = (
+  run_of f (mode_of false mode) size,
+  option_and_then (λ w. Some (options_of_run f input saving w strict numbered)) (seconds_of wait),
+)
 
 -- a place, with the flags of a run after it
-abbrev IsFlagged : Walk → (SaveMode → Bool → Bool → RunWords) → SaveMode → Bool → Bool → Type 0
+abbrev IsFlagged : Walk → (SaveMode → Bool → Bool → Asking) → SaveMode → Bool → Bool → Type 0
 IsFlagged to a saving strict numbered = (walk_passes run_leaf [] to (flag_words saving strict numbered) ≡ true)
-    × (run_words (finished run_leaf.rules
+    × (run_asking (finished run_leaf.rules
     (fold (walked run_leaf.rules []) to (flag_words saving strict numbered)).held) ≡ a saving strict numbered)
     × (passes_at run_leaf true (fold (walked run_leaf.rules []) to (flag_words saving strict numbered)) ≡ true)
 
@@ -477,16 +483,16 @@ all-flags P a b c d e f g h Replacing true false = g
 all-flags P a b c d e f g h Replacing true true = h
 
 -- words that lead from the file of a run to a place, and there say this beside its flags
-record IsRunPart (f : Text) (words : List Text) (to : Walk) (a : SaveMode → Bool → Bool → RunWords) : Type 0 where
+record IsRunPart (f : Text) (words : List Text) (to : Walk) (a : SaveMode → Bool → Bool → Asking) : Type 0 where
   path : IsSteps run_leaf (after_file run_leaf f) words to
   flagged : (saving : SaveMode) (strict numbered : Bool) → IsFlagged to a saving strict numbered
 
-run-flagged : (f : Text) (words : List Text) (to : Walk) (a : SaveMode → Bool → Bool → RunWords) → IsPlain f
+run-flagged : (f : Text) (words : List Text) (to : Walk) (a : SaveMode → Bool → Bool → Asking) → IsPlain f
     → IsRunPart f words to a → (saving : SaveMode) (strict numbered : Bool)
-    → IsAsk run_leaf run_words (f ∷ words ++ flag_words saving strict numbered) (a saving strict numbered)
+    → IsAsk run_leaf run_asking (f ∷ words ++ flag_words saving strict numbered) (a saving strict numbered)
 run-flagged f words to a p w saving strict numbered =
     let h = w.flagged saving strict numbered in
-    behind run_leaf run_words f words (flag_words saving strict numbered) to (a saving strict numbered) p refl
+    behind run_leaf run_asking f words (flag_words saving strict numbered) to (a saving strict numbered) p refl
     w.path h.0 h.1 h.2
 
 -- `--mode M` and `--size N` right after the file, and both
@@ -603,7 +609,7 @@ all-part f m d w q r t = record {
 -- `run` asks for a run
 pub run-asks : (f : Text) (mode size wait : Option Text) (saving : SaveMode) (strict numbered : Bool) → IsPlain f
     → IsPlainIn mode → IsPlainIn size → IsPlainIn wait
-    → IsAsk run_leaf run_words (f ∷ option_words (codes "--mode") mode
+    → IsAsk run_leaf run_asking (f ∷ option_words (codes "--mode") mode
     ++ (option_words (codes "--size") size
     ++ (option_words (codes "--wait") wait ++ flag_words saving strict numbered)))
     (said f mode size wait saving strict numbered)
@@ -625,14 +631,16 @@ run-asks f (Some m) (Some d) (Some w) saving strict numbered p q r t =
 
 -- ---- a run whose script is a file, or lines
 
-abbrev pub said_with : Text → Option Text → List Text → RunWords
-said_with f script lines = record (said f None None None InPlace false false) { script = script; lines = lines }
+-- a run with this script, and no options
+abbrev pub said_with : Text → Origin → Asking
+said_with f origin = (run_of f (Some OpenOnly) None, Some (options_of_run f origin InPlace 0 false false))
 
 -- `run` with a script asks for a run of it
-pub script-asks : (f t : Text) → IsPlain f → IsPlain t → IsAsk run_leaf run_words (f ∷ t ∷ []) (said_with f (Some t) [])
+pub script-asks : (f t : Text) → IsPlain f → IsPlain t → IsAsk run_leaf run_asking (f ∷ t ∷ []) (said_with f
+    (from_file t))
 unfolding clap_on_literals
-script-asks f t p q = behind run_leaf run_words f (t ∷ []) [] (plain_step run_leaf.rules (after_file run_leaf f) t)
-    (said_with f (Some t) []) p refl
+script-asks f t p q = behind run_leaf run_asking f (t ∷ []) [] (plain_step run_leaf.rules (after_file run_leaf f) t)
+    (said_with f (from_file t)) p refl
     (number run_leaf (after_file run_leaf f).held t q refl) refl refl refl
 
 -- the row of a word, which may have more than one value
@@ -699,7 +707,8 @@ lined f done last (l ∷ ls) (q, qs) =
     }
 
 lines-found : (f : Text) (before : List Text) (final : Text)
-    → run_words (finished run_leaf.rules (at_line f before final).held) ≡ said_with f None (before ++ final ∷ [])
+    → run_asking (finished run_leaf.rules (at_line f before final).held) ≡ said_with f (from_lines (before ++ final ∷
+    []))
 unfolding clap_on_literals
 lines-found f [] final = refl
 lines-found f (x ∷ xs) final = refl
@@ -711,12 +720,14 @@ lines-pass f (x ∷ xs) final = refl
 
 -- `run` with lines asks for a run of them
 pub lines-ask : (f l : Text) (ls : List Text) → IsPlain f → IsPlain l → ArePlain ls
-    → IsAsk run_leaf run_words (f ∷ line_words (l ∷ ls)) (said_with f None (l ∷ ls))
+    → IsAsk run_leaf run_asking (f ∷ line_words (l ∷ ls)) (said_with f (from_lines (l ∷ ls)))
 lines-ask f l ls p q qs =
     let more = lined f [] l ls qs in
-    asks run_leaf run_words (f ∷ line_words (l ∷ ls)) (at_line f more.before more.final) (said_with f None (l ∷ ls))
+    asks run_leaf run_asking (f ∷ line_words (l ∷ ls)) (at_line f more.before more.final) (said_with f (from_lines
+    (l ∷ ls)))
     (steps run_leaf (walk_from nothing_held) (after_file run_leaf f) (at_line f more.before more.final) (f ∷ [])
     (line_words (l ∷ ls)) (plain run_leaf nothing_held idle 1 f p refl)
     (steps run_leaf (after_file run_leaf f) (at_line f [] l) (at_line f more.before more.final)
     (codes "-c" ∷ l ∷ []) (line_words ls) (first-line f l q) more.path))
-    (lines-found f more.before more.final ∙ ap (λ t. said_with f None t) more.all) (lines-pass f more.before more.final)
+    (lines-found f more.before more.final ∙ ap (λ t. said_with f (from_lines t)) more.all) (lines-pass f more.before
+    more.final)

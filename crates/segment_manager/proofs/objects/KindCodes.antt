@@ -1,22 +1,11 @@
 -- The codes of kinds: each names one.
-use Rattle.segment_manager.proofs.Common.{◌≡◌, refl, sym, ℤ, true, Some, List, arith, eqb-true, ScalarKind, BoolKind}
-use Rattle.segment_manager.proofs.Common.{U8, Kind, Scalar, Vector, Map, code_of, kind_of_code, same_kind, scalar_code}
+use Rattle.segment_manager.proofs.Common.{◌≡◌, refl, sym, ℤ, true, List, arith, eqb-true, ScalarKind, BoolKind}
+use Rattle.segment_manager.proofs.Common.{U8, Kind, Scalar, code_of, same_kind, scalar_code}
 use Rattle.segment_manager.proofs.Common.{Value, Numbers, kind_of, IsTrue, current, is_kind_of}
 use Rattle.seg_types.specs.declared.kinds.ScalarKind.TheVariants.{I32, I64, U64}
 use Rattle.segment_manager.proofs.objects.Heads.{scalar-small}
-
--- ---- codes are read
-
 -- the kind of a kind's code
-pub code-read : (k : Kind) → kind_of_code (code_of k) ≡ Some k
-code-read (Scalar BoolKind) = refl
-code-read (Vector BoolKind) = refl
-code-read (Map BoolKind BoolKind) = refl
-code-read (Map U8 BoolKind) = refl
-code-read (Map I32 BoolKind) = refl
-code-read (Map I64 BoolKind) = refl
-code-read (Map U64 BoolKind) = refl
-code-read kind = refl
+pub use Rattle.seg_types.proofs.Laws.{code-read}
 
 -- ---- kinds of numbers
 

@@ -8,16 +8,16 @@ pub pieces-preserved : goal.pieces-preserved
 pieces-preserved c =
     let s = c.args.shorter in let w = c.args.wider in let old = c.args.handles.now in
     let now = c.pieces.handles in let k = c.pieces.piece in let x = c.pieces.invariant in
-    let v = c.get-handle.result in
+    let v = c.get-handle.result in let far : 256 ≤ k = c.pieces.auto.piece in
     elim c.if-place-piece.branch [
       | then-place-piece+then-place-piece-2 b ↦
           subst (λ (xs : List ℕ). Widened s w old xs (k + 1)) (sym b.handles-is)
-          (widened_note s w old now b.note.new.handles k v x (sym c.get-handle.ensures)
+          (widened_note s w old now b.note.new.handles k v far x (sym c.get-handle.ensures)
           (sym c.place.ensures ∙ b.if-place-piece.true)
           (subst (λ (p : ℕ). p ≤ k) b.place-then-place-piece.ensures b.if-place-piece-2.true)
           (λ i. subst (λ (xs : List ℕ). (slice_index b.note.new.handles i ≡ slice_index xs i)
           ⊎ ((i ≡ place_of w v) × (slice_index b.note.new.handles i ≡ v))) c.set.ensures (b.note.ensures i)))
       | else-place-piece b ↦
           subst (λ (xs : List ℕ). Widened s w old xs (k + 1)) (sym b.handles-is)
-          (subst (λ (xs : List ℕ). Widened s w old xs (k + 1)) (sym c.set.ensures) (widened_clear s w old now k x))
+          (subst (λ (xs : List ℕ). Widened s w old xs (k + 1)) (sym c.set.ensures) (widened_clear s w old now k far x))
     ]

@@ -1,7 +1,6 @@
 -- Each row is a tile in use, and one visit more. The visits are the steps.
-use Rattle.image_check.proofs.Common.{ExamineError, HasFront, IsImage, IsWhyRefused, OpenError, Spends, UpgradesFormat}
-use Rattle.image_check.proofs.Common.{arith, entries_of, subst, sym, true, ℕ, ◌∙◌, ◌≡◌}
-use Rattle.image_check.specs.Opening.{is_late}
+use Rattle.image_check.proofs.Common.{HasFront, IsImage, IsWhyRefused, Spends, UpgradesFormat}
+use Rattle.image_check.proofs.Common.{arith, entries_of, subst, sym, ◌∙◌}
 use Rattle.image_check.specs.Passes.{tiles_in}
 use Rattle.image_check.specs.Visits.{all_rates}
 use Rattle.image_check.proofs.budget.Visits.{noted-raised}
@@ -84,16 +83,13 @@ pub returns-in-Err-clause-opening : goal.returns-in-Err-clause-opening
 returns-in-Err-clause-opening c = λ format front.
     let same = HasFront-version format c.args.window c.version-format.result front c.version-format.ensures in
     record {
-      why = c.in-Err.cause;
-      holds = subst (λ f. IsWhyRefused f c.args.window.bytes c.in-Err.cause) same c.in-Err.ensures.outcome;
-      cause = c.into_error.ensures;
+      why = subst (λ f. IsWhyRefused f c.args.window.bytes c.in-Err.cause) same c.in-Err.ensures.outcome;
       region = c.into_region.ensures;
     }
 
 pub returns-in-Err-clause-visits_on_error : goal.returns-in-Err-clause-visits_on_error
 returns-in-Err-clause-visits_on_error c = λ late.
-    let counted = c.in-Err.ensures.visits_on_error
-    (subst (λ (e : OpenError). is_late e ≡ true) c.into_error.ensures late) in
+    let counted = c.in-Err.ensures.visits_on_error late in
     let before = c.new-visits.ensures ∙ c.replace.ensures.value in
     let after = c.into_steps-in-Err.ensures in
     omega arith

@@ -7,7 +7,7 @@ pub returns-in-Err-2-clause-fits : goal.returns-in-Err-2-clause-fits
 returns-in-Err-2-clause-fits c =
     let long = c.if-image-lt-LEAST.false in
     misfit-front (format_in c.args.versions c.args.image.now) c.args.image.now c.args.base
-    (length c.args.region.now) c.in-Err.field-0.class (sym c.in-Err.ensures.text) (omega arith)
+    (length c.args.region.now) c.in-Err.field-0 (sym c.in-Err.ensures.text) (omega arith)
 
 pub returns-in-Err-2-clause-output : goal.returns-in-Err-2-clause-output
 returns-in-Err-2-clause-output c =
@@ -21,7 +21,7 @@ returns-in-Ok-2-clause-fits c =
     let room = c.if-not-in_range.ensures in
     let short = c.if-count-size.true in
     misfit-cut (format_in c.args.versions c.args.image.now) c.args.image.now c.args.base (length c.args.region.now)
-    c.in-Ok.size
+    c.in-Ok.size _
     (says-right (format_in c.args.versions c.args.image.now) c.args.image.now c.in-Ok.size (omega arith)
     (sym c.in-Ok.ensures.text)) (omega arith) (omega arith)
 
@@ -31,7 +31,7 @@ returns-in-Ok-3-clause-fits c =
     let room = c.if-not-in_range.ensures in
     let long = c.if-size-count.true in
     misfit-more (format_in c.args.versions c.args.image.now) c.args.image.now c.args.base (length c.args.region.now)
-    c.in-Ok.size
+    c.in-Ok.size _
     (says-right (format_in c.args.versions c.args.image.now) c.args.image.now c.in-Ok.size (omega arith)
     (sym c.in-Ok.ensures.text)) (omega arith) (omega arith)
 

@@ -1,4 +1,4 @@
-use Rattle.image_check.proofs.Common.{Shows, added, ap, arith, both_added, drop, err_from_is_err_and, error_for}
+use Rattle.image_check.proofs.Common.{Shows, added, ap, arith, both_added, drop, err_from_is_err_and}
 use Rattle.image_check.proofs.Common.{format_in, front_of, length, length-drop, subst, sym, take, ℕ, ◌++◌, ◌∙◌, ◌≡◌}
 use Rattle.image_check.proofs.Common.{◌≤◌}
 use Rattle.std.proofs.lemmas.List.{length-append}
@@ -17,7 +17,7 @@ returns-in_err-read_all-clause-on_error g c =
     let new = (g.S.Source.history c.read_all.new.reader).bytes in
     rw (p.1, p.2)
     (front_stops (format_in c.args.versions (drop (length old) new)) old new c.read_all.new.into _ _ _ c.args.base _
-    (error_for c.in_err-read_all.field-0.0)
+    c.in_err-read_all.field-0.0
     (let same = c.read_all.auto.into in let told = c.told-front
     in omega arith) was.on_error.0 was.on_error.1 was.failures)
 
@@ -37,7 +37,7 @@ returns-in_err-read_all-in-Err-clause-on_error g c =
     enough ok.on_ok was.on_error.0.added in
     rw (p.1, p.2)
     (wrong_front_stops (format_in c.args.versions (drop (length old) new)) old mid new front c.read_all-in-Err.new.into
-    _ _ _ c.args.base _ c.in-Err.verdict.class (error_for c.in_err-read_all-in-Err.field-0.0) long
+    _ _ _ c.args.base _ c.in-Err.verdict.class c.in_err-read_all-in-Err.field-0.0 long
     c.read_all-in-Err.auto.into ok.on_ok (ap (λ (f : ℕ). front_of f front) by
     ∙ sym c.in-Err.ensures.text) was.on_error.0 was.on_error.1
     (let first = ok.failures in let next = was.failures in omega arith))
@@ -54,7 +54,7 @@ returns-in_ok-read_all-in-Err-clause-on_error g c =
     let enough : 12 ≤ length front = omega arith in
     let by = since-format c.args.versions old mid new front c.read_all-in-Err.new.into enough ok.on_ok was.on_ok in
     wrong_front_decides (format_in c.args.versions (drop (length old) new)) old mid new front c.read_all-in-Err.new.into
-    _ _ _ c.args.base _ c.in-Err.verdict.class long c.read_all-in-Err.auto.into ok.on_ok
+    _ _ _ c.args.base _ c.in-Err.verdict long c.read_all-in-Err.auto.into ok.on_ok
     (ap (λ (f : ℕ). front_of f front) by ∙ sym c.in-Err.ensures.text) was.on_ok
     (let first = ok.failures in let next = was.failures in omega arith)
 

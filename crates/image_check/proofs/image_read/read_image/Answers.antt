@@ -1,4 +1,4 @@
-use Rattle.image_check.proofs.Common.{IsImageRead, IsNotRead, IsShown, WindowState, ap, arith, drop, error_for}
+use Rattle.image_check.proofs.Common.{IsImageRead, IsNotRead, IsShown, WindowState, ap, arith, drop}
 use Rattle.image_check.proofs.Common.{format_in, length, patched, read_delta, subst, sym, ℕ, ◌∙◌, ◌≤◌}
 use Rattle.raw_region.specs.Regions.{with_bytes}
 use Rattle.image_check.proofs.reading.Buffer.{HasFront-least}
@@ -65,12 +65,12 @@ returns-in-Err-read_rest-clause-reading g c =
     subst (λ (f : ℕ). IsNotRead f (read_delta (g.S.Source.history c.args.reader.now)
     (g.S.Source.history c.read_rest.new.reader)) c.args.region c.args.base (record {
       region = c.into_region.result;
-      cause = error_for c.in-Err-read_rest.cause;
+      cause = c.in-Err-read_rest.cause;
     })) (sym by)
     (begun-stops f0 old mid front c.args.region c.args.base c.in-Ok.size c.write.new.self begun
     new _ (g.S.Source.history c.args.reader.now).failures (g.S.Source.history c.read_front.new.reader).failures
     (g.S.Source.history c.read_rest.new.reader).failures c.read_rest.new.window
-    c.into_region.result (error_for c.in-Err-read_rest.cause) was.history.grows c.in-Ok.ensures.history.counted
+    c.into_region.result c.in-Err-read_rest.cause was.history.grows c.in-Ok.ensures.history.counted
     c.into_region.ensures was.place was.len
     (was.on_error f0 (begun-HasFront f0 old mid front c.args.region c.args.base c.in-Ok.size c.write.new.self begun)))
 

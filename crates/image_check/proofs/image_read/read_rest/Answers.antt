@@ -1,11 +1,10 @@
-use Rattle.image_check.proofs.Common.{ap, arith, drop, err_from_is_err_and, error_for, length, length-drop}
+use Rattle.image_check.proofs.Common.{ap, arith, drop, err_from_is_err_and, length, length-drop}
 use Rattle.image_check.proofs.Common.{length-take-le, take, ◌-◌, ◌∙◌, ◌≡◌}
 use Rattle.std.proofs.lemmas.List.{length-append}
-use Rattle.image_check.specs.Causes.{error_in}
 use Rattle.image_check.proofs.reading.Ends.{more_ends}
 use Rattle.image_check.proofs.reading.Buffer.{filled_short, filled_whole, front-length, rest-filled}
 use Rattle.image_check.proofs.reading.FrontAlone.{end-roomy, short-roomy}
-use Rattle.image_check.proofs.reading.Places.{end-shown, err-in, err-out, whole-shown}
+use Rattle.image_check.proofs.reading.Places.{end-shown, whole-shown}
 use Rattle.image_check.proofs.image_read.read_rest.Goals as goal
 
 pub returns-in_err-read_all-clause-on_error : goal.returns-in_err-read_all-clause-on_error
@@ -16,7 +15,7 @@ returns-in_err-read_all-clause-on_error g c =
     (λ format front start e.
     filled_short format c.args.window.now start (g.S.Source.history c.args.reader.now).bytes
     (g.S.Source.history c.read_all.new.reader).bytes c.read_all.new.into c.size-size.result _ _ _
-    (error_for c.in_err-read_all.field-0.0)
+    c.in_err-read_all.field-0.0
     front c.size-size.ensures (let a = c.read_all.auto.into in let b = c.bytes_mut.ensures.len
     in omega arith) e was.on_error.0 was.on_error.1 was.failures)
 
@@ -31,12 +30,11 @@ returns-in_err-read_all-clause-len g c =
 pub returns-clause-on_error : goal.returns-clause-on_error
 returns-clause-on_error g c =
     let ok = c.in_ok-read_all.ensures in
-    err-out _ c.find_end.result (filled_whole c.args.window.now (g.S.Source.history c.args.reader.now).bytes
+    filled_whole c.args.window.now (g.S.Source.history c.args.reader.now).bytes
     (g.S.Source.history c.read_all.new.reader).bytes (g.S.Source.history c.find_end.new.reader).bytes
-    c.read_all.new.into c.size-size.result _ _ _ _ (error_in c.find_end.result)
+    c.read_all.new.into c.size-size.result _ _ _ _ c.find_end.result
     c.requires.min_len c.size-size.ensures (let a = c.read_all.auto.into in let b = c.bytes_mut.ensures.len
-    in omega arith) ok.on_ok ok.failures (err-in _ c.find_end.result c.find_end.ensures.on_error)
-    c.find_end.ensures.failures)
+    in omega arith) ok.on_ok ok.failures c.find_end.ensures.on_error c.find_end.ensures.failures
 
 pub returns-clause-len : goal.returns-clause-len
 returns-clause-len g c =

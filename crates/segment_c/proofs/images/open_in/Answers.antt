@@ -8,7 +8,7 @@ returns-in-Image c =
     let code = c.class_code.ensures in (
       omega (arith, code),
       why_class c.args.image.now (length c.args.region) _ o.answers.why o.too_small
-          c.in-Image.class c.class_code.result c.in-Image.is code,
+          c.in-Image.verdict c.class_code.result c.in-Image.is code,
     )
 
 pub returns-in-RegionTooSmall : goal.returns-in-RegionTooSmall

@@ -1,30 +1,37 @@
+use Rattle.raw_region.proofs.Laws.{SameSurroundings-trans}
 use Rattle.segment_dump.proofs.Common.{arith, length, refl, ◌∙◌, false≢true}
 use Rattle.segment_dump.proofs.building.Objects.{as-long, build-cut, build-end, build-long, build-more, build-no_line}
 use Rattle.segment_dump.proofs.building.Objects.{build-start}
 use Rattle.segment_dump.proofs.building.build.Goals as goal
 
 pub objects-init : goal.objects-init
-objects-init c = (build-start c.args.segment.now c.args.lines.now c.args.most (length c.args.room.now), refl)
+objects-init c = (
+  build-start c.args.segment.now c.args.lines.now c.args.most (length c.args.room.now),
+  refl,
+  record { before = refl; after = refl },
+)
 
-pub returns-in_err-words : goal.returns-in_err-words
-returns-in_err-words c = build-no_line c.args.segment.now c.objects.segment c.args.lines.now c.objects.lines
+pub returns-in_err-words-clause-objects : goal.returns-in_err-words-clause-objects
+returns-in_err-words-clause-objects c =
+    build-no_line c.args.segment.now c.objects.segment c.args.lines.now c.objects.lines
     c.args.most (length c.args.room.now) c.objects.counter c.objects.invariant.0 c.objects.segment _
     c.next_line.new.self c.from_residual.result c.in_err-words.ensures
 
-pub returns-then-are : goal.returns-then-are
-returns-then-are c = build-end c.args.segment.now c.objects.segment c.args.lines.now c.objects.lines c.args.most
+pub returns-then-are-clause-objects : goal.returns-then-are-clause-objects
+returns-then-are-clause-objects c =
+    build-end c.args.segment.now c.objects.segment c.args.lines.now c.objects.lines c.args.most
     (length c.args.room.now) c.objects.counter c.objects.invariant.0 c.next_line.new.self c.in_ok-words.words
     c.finish.result c.in_ok-words.ensures (c.if-are.ensures.0 refl) c.finish.ensures
 
-pub returns-in_err-build_object : goal.returns-in_err-build_object
-returns-in_err-build_object c =
+pub returns-in_err-build_object-clause-objects : goal.returns-in_err-build_object-clause-objects
+returns-in_err-build_object-clause-objects c =
     build-cut c.args.segment.now c.objects.segment c.args.lines.now c.objects.lines c.args.most
     (length c.args.room.now) c.objects.counter c.objects.invariant.0 c.build_object.new.segment
     c.build_object.new.segment c.next_line.new.self c.in_ok-words.words c.build_object.new.lines _
     c.from_residual-in_err-build_object.result c.in_ok-words.ensures (λ e. false≢true (c.if-are.ensures.1 e))
     (as-long c.objects.segment c.build_object.new.segment c.in_ok-words.words c.next_line.new.self
     c.build_object.new.lines (length c.objects.room) (length c.args.room.now) _ c.objects.invariant.1
-    c.in_err-build_object.ensures)
+    c.in_err-build_object.ensures.object)
 
 pub objects-preserved : goal.objects-preserved
 objects-preserved c = (
@@ -34,13 +41,28 @@ objects-preserved c = (
       c.in_ok-words.ensures (λ e. false≢true (c.if-are.ensures.1 e))
       (as-long c.objects.segment c.build_object.new.segment c.in_ok-words.words c.next_line.new.self
       c.build_object.new.lines (length c.objects.room) (length c.args.room.now) _ c.objects.invariant.1
-      c.in_ok-build_object.ensures),
+      c.in_ok-build_object.ensures.object),
   c.build_object.auto.room ∙ c.objects.invariant.1,
+  SameSurroundings-trans _ _ _ c.objects.invariant.2 c.in_ok-build_object.ensures.place,
 )
 
-pub returns : goal.returns
-returns c = build-long c.args.segment.now c.objects.segment c.args.lines.now c.objects.lines c.args.most
+pub returns-clause-objects : goal.returns-clause-objects
+returns-clause-objects c =
+    build-long c.args.segment.now c.objects.segment c.args.lines.now c.objects.lines c.args.most
     (length c.args.room.now) c.objects.counter c.objects.invariant.0 c.objects.segment _ (omega (
       arith,
       c.objects-test.false,
     ))
+
+pub returns-in_err-words-clause-place : goal.returns-in_err-words-clause-place
+returns-in_err-words-clause-place c = c.objects.invariant.2
+
+pub returns-then-are-clause-place : goal.returns-then-are-clause-place
+returns-then-are-clause-place c = c.objects.invariant.2
+
+pub returns-in_err-build_object-clause-place : goal.returns-in_err-build_object-clause-place
+returns-in_err-build_object-clause-place c =
+    SameSurroundings-trans _ _ _ c.objects.invariant.2 c.in_err-build_object.ensures.place
+
+pub returns-clause-place : goal.returns-clause-place
+returns-clause-place c = c.objects.invariant.2

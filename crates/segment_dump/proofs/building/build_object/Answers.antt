@@ -1,9 +1,10 @@
+use Rattle.raw_region.proofs.Laws.{SameSurroundings-trans}
 use Rattle.segment_dump.proofs.Common.{length, subst, FillsNew}
 use Rattle.segment_dump.proofs.building.Objects.{object-built, object-unstarted}
 use Rattle.segment_dump.proofs.building.build_object.Goals as goal
 
-pub returns-in_err-handle : goal.returns-in_err-handle
-returns-in_err-handle c = object-unstarted c.args.segment.now c.start_next.new.segment c.args.words.now
+pub returns-in_err-handle-clause-object : goal.returns-in_err-handle-clause-object
+returns-in_err-handle-clause-object c = object-unstarted c.args.segment.now c.start_next.new.segment c.args.words.now
     c.start_next.new.segment c.args.lines.now c.args.lines.now (length c.args.room.now) _ c.from_residual.result
     c.in_err-handle.ensures.start
 
@@ -14,8 +15,8 @@ pub fill-requires : goal.fill-requires
 fill-requires c =
     record { segment = c.in_ok-handle.ensures.in_place.segment; object = c.object_here-object.ensures.location.here }
 
-pub returns : goal.returns
-returns c =
+pub returns-clause-object : goal.returns-clause-object
+returns-clause-object c =
     let old = c.args.segment.now in
     let begun = c.start_next.new.segment in
     let new = c.fill.new.segment in
@@ -24,4 +25,10 @@ returns c =
     object-built old begun c.args.words.now new c.args.lines.now c.fill.new.lines room c.in_ok-handle.handle shape
     c.fill.result c.in_ok-handle.ensures.start
     (subst (λ h. FillsNew begun new h shape.kind shape.count c.args.lines.now c.fill.new.lines room c.fill.result)
-    c.object_here-object.ensures.handle c.fill.ensures)
+    c.object_here-object.ensures.handle c.fill.ensures.filling)
+
+pub returns-in_err-handle-clause-place : goal.returns-in_err-handle-clause-place
+returns-in_err-handle-clause-place c = c.in_err-handle.ensures.place
+
+pub returns-clause-place : goal.returns-clause-place
+returns-clause-place c = SameSurroundings-trans _ _ _ c.in_ok-handle.ensures.place c.fill.ensures.place

@@ -1,3 +1,4 @@
+use Rattle.raw_region.proofs.Laws.{SameSurroundings-trans}
 use Rattle.segment_dump.proofs.Common.{arith, length, refl, ◌∙◌}
 use Rattle.segment_dump.proofs.filling.EmptyObjects.{as-room, elements-cut, elements-end, elements-more, elements-start}
 use Rattle.segment_dump.proofs.filling.fill_elements.Goals as goal
@@ -8,10 +9,11 @@ elements-init c = (
       (length c.args.room.now),
   refl,
   c.requires,
+  record { before = refl; after = refl },
 )
 
-pub returns-in_err-add_element : goal.returns-in_err-add_element
-returns-in_err-add_element c =
+pub returns-in_err-add_element-clause-filling : goal.returns-in_err-add_element-clause-filling
+returns-in_err-add_element-clause-filling c =
     elements-cut c.args.segment.now c.elements.segment c.add_element.new.segment c.add_element.new.segment
     c.args.object.handle c.args.shape.kind c.args.shape.count c.args.lines.now c.elements.lines
     c.add_element.new.lines c.add_element.new.lines
@@ -32,10 +34,11 @@ elements-preserved c = (
       c.in_ok-add_element.ensures.visits),
   c.add_element.auto.room ∙ c.elements.invariant.1,
   c.in_ok-add_element.ensures.in_place,
+  SameSurroundings-trans _ _ _ c.elements.invariant.3 c.in_ok-add_element.ensures.place,
 )
 
-pub returns : goal.returns
-returns c =
+pub returns-clause-filling : goal.returns-clause-filling
+returns-clause-filling c =
     elements-end c.args.segment.now c.elements.segment c.args.object.handle c.args.shape.kind c.args.shape.count
     c.args.lines.now c.elements.lines (length c.args.room.now) c.elements.index (omega (
       arith,
@@ -46,3 +49,10 @@ returns c =
 
 pub add_element-requires : goal.add_element-requires
 add_element-requires c = c.elements.invariant.2
+
+pub returns-in_err-add_element-clause-place : goal.returns-in_err-add_element-clause-place
+returns-in_err-add_element-clause-place c =
+    SameSurroundings-trans _ _ _ c.elements.invariant.3 c.in_err-add_element.ensures.place
+
+pub returns-clause-place : goal.returns-clause-place
+returns-clause-place c = c.elements.invariant.3

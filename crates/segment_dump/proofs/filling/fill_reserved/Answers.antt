@@ -1,15 +1,16 @@
+use Rattle.raw_region.proofs.Laws.{SameSurroundings-trans}
 use Rattle.segment_dump.proofs.filling.fill_reserved.Goals as goal
 use Rattle.segment_dump.proofs.{Common.length, Common.refl, building.Presence.still-here}
 use Rattle.segment_dump.proofs.filling.EmptyObjects.{fills-refused, fills-reserved}
 
-pub returns-in-Ok : goal.returns-in-Ok
-returns-in-Ok c = λ v.
+pub returns-in-Ok-clause-filling : goal.returns-in-Ok-clause-filling
+returns-in-Ok-clause-filling c = λ v.
     fills-reserved c.args.segment.now c.reserve.new.self c.args.object.handle c.args.shape.kind c.args.shape.count
     c.args.lines.now (length c.args.room.now) c.reserve.result v c.reserve.ensures.step c.fill_elements.new.segment
-    c.fill_elements.new.lines c.fill_elements.result c.fill_elements.ensures
+    c.fill_elements.new.lines c.fill_elements.result c.fill_elements.ensures.filling
 
-pub returns-in-Err : goal.returns-in-Err
-returns-in-Err c = λ v.
+pub returns-in-Err-clause-filling : goal.returns-in-Err-clause-filling
+returns-in-Err-clause-filling c = λ v.
     fills-refused c.args.segment.now c.reserve.new.self c.args.object.handle c.args.shape.kind c.args.shape.count
     c.args.lines.now (length c.args.room.now) c.reserve.result v c.reserve.ensures.step c.reserve.new.self
     c.args.lines.now c.in-Err.why _ c.in-Err.is
@@ -19,3 +20,10 @@ reserve-requires c = c.requires.object
 
 pub fill_elements-requires : goal.fill_elements-requires
 fill_elements-requires c = still-here c.requires _ _ c.reserve.ensures.step refl
+
+pub returns-in-Ok-clause-place : goal.returns-in-Ok-clause-place
+returns-in-Ok-clause-place c =
+    SameSurroundings-trans _ _ _ c.reserve.ensures.step.stays.place c.fill_elements.ensures.place
+
+pub returns-in-Err-clause-place : goal.returns-in-Err-clause-place
+returns-in-Err-clause-place c = c.reserve.ensures.step.stays.place

@@ -1,19 +1,21 @@
+use Rattle.raw_region.proofs.Laws.{SameSurroundings-trans}
 use Rattle.segment_dump.proofs.filling_texts.fill_string.Goals as goal
 use Rattle.segment_dump.proofs.{Common.arith, Common.refl, building.Presence.still-here}
 use Rattle.segment_dump.proofs.filling.Strings.{string-end, string-more, string-no_first, string-no_line}
 use Rattle.segment_dump.proofs.filling.Strings.{string-no_more}
 use Rattle.segment_dump.proofs.filling.Strings.{string-no_piece, string-refused, string-start}
 
-pub returns-in_err-words : goal.returns-in_err-words
-returns-in_err-words c = λ room. string-no_first c.in_err-words.ensures
+pub returns-in_err-words-clause-filling : goal.returns-in_err-words-clause-filling
+returns-in_err-words-clause-filling c = λ room. string-no_first c.in_err-words.ensures
 
-pub returns-in-Err : goal.returns-in-Err
-returns-in-Err c = λ room. string-refused c.args.segment.now c.reserve.new.self c.args.object.handle room
+pub returns-in-Err-clause-filling : goal.returns-in-Err-clause-filling
+returns-in-Err-clause-filling c =
+    λ room. string-refused c.args.segment.now c.reserve.new.self c.args.object.handle room
     c.args.lines.now c.first_line.new.lines c.in_ok-words.words c.in_ok-words.len c.reserve.result
     c.reserve.ensures.step c.in_ok-words.ensures c.in-Err.is
 
-pub returns-in_err-append_piece : goal.returns-in_err-append_piece
-returns-in_err-append_piece c =
+pub returns-in_err-append_piece-clause-filling : goal.returns-in_err-append_piece-clause-filling
+returns-in_err-append_piece-clause-filling c =
     λ room. string-no_piece c.args.segment.now c.reserve.new.self c.args.object.handle room c.args.lines.now
     c.first_line.new.lines c.in_ok-words.words c.in_ok-words.len c.reserve.result c.reserve.ensures.step
     c.in_ok-words.ensures c.in_err-append_piece.ensures.append
@@ -24,14 +26,15 @@ pieces-init c = (
       c.args.lines.now c.first_line.new.lines c.in_ok-words.words c.in_ok-words.len c.reserve.result
       c.reserve.ensures.step c.in_ok-words.ensures c.in_ok-append_piece.ensures.append,
   c.in_ok-append_piece.ensures.in_place,
+  SameSurroundings-trans _ _ _ c.reserve.ensures.step.stays.place c.in_ok-append_piece.ensures.place,
 )
 
-pub returns-in_err-words-2 : goal.returns-in_err-words-2
-returns-in_err-words-2 c = λ room. string-no_line (c.pieces.invariant.0 room)
+pub returns-in_err-words-2-clause-filling : goal.returns-in_err-words-2-clause-filling
+returns-in_err-words-2-clause-filling c = λ room. string-no_line (c.pieces.invariant.0 room)
     (omega (arith, c.pieces-test.true, c.pieces_behind-end.ensures)) c.in_err-words-2.ensures
 
-pub returns-in_err-append_piece-2 : goal.returns-in_err-append_piece-2
-returns-in_err-append_piece-2 c = λ room. string-no_more (c.pieces.invariant.0 room)
+pub returns-in_err-append_piece-2-clause-filling : goal.returns-in_err-append_piece-2-clause-filling
+returns-in_err-append_piece-2-clause-filling c = λ room. string-no_more (c.pieces.invariant.0 room)
     (omega (arith, c.pieces-test.true, c.pieces_behind-end.ensures)) c.in_ok-words-2.ensures
     c.in_err-append_piece-2.ensures.append
 
@@ -41,10 +44,11 @@ pieces-preserved c = (
       (omega (arith, c.pieces-test.true, c.pieces_behind-end.ensures)) c.in_ok-words-2.ensures
       c.in_ok-append_piece-2.ensures.append,
   c.in_ok-append_piece-2.ensures.in_place,
+  SameSurroundings-trans _ _ _ c.pieces.invariant.2 c.in_ok-append_piece-2.ensures.place,
 )
 
-pub returns : goal.returns
-returns c = λ room. string-end (c.pieces.invariant.0 room)
+pub returns-clause-filling : goal.returns-clause-filling
+returns-clause-filling c = λ room. string-end (c.pieces.invariant.0 room)
     (omega (arith, c.pieces-test.false, c.pieces_behind-end.ensures))
 
 pub reserve-requires : goal.reserve-requires
@@ -55,3 +59,17 @@ append_piece-requires c = still-here c.requires _ _ c.reserve.ensures.step refl
 
 pub append_piece-requires-in-pieces : goal.append_piece-requires-in-pieces
 append_piece-requires-in-pieces c = c.pieces.invariant.1
+
+pub returns-in_err-append_piece-clause-place : goal.returns-in_err-append_piece-clause-place
+returns-in_err-append_piece-clause-place c = SameSurroundings-trans _ _ _ c.reserve.ensures.step.stays.place
+    c.in_err-append_piece.ensures.place
+
+pub returns-in_err-words-2-clause-place : goal.returns-in_err-words-2-clause-place
+returns-in_err-words-2-clause-place c = c.pieces.invariant.2
+
+pub returns-in_err-append_piece-2-clause-place : goal.returns-in_err-append_piece-2-clause-place
+returns-in_err-append_piece-2-clause-place c =
+    SameSurroundings-trans _ _ _ c.pieces.invariant.2 c.in_err-append_piece-2.ensures.place
+
+pub returns-clause-place : goal.returns-clause-place
+returns-clause-place c = c.pieces.invariant.2

@@ -4,9 +4,9 @@ use Rattle.segment_dump.proofs.loading.judge.Goals as goal
 pub returns-in-Err-clause-success : goal.returns-in-Err-clause-success
 returns-in-Err-clause-success c =
     judged-other c.args.segment c.trim.new.segment c.args.text.now c.args.said c.args.size c.compare.result _ _
-    c.trim.ensures c.compare.ensures.on_error c.in-Err.is
+    c.trim.ensures.changes c.compare.ensures.on_error c.in-Err.is
 
 pub returns-else-has_size-clause-success : goal.returns-else-has_size-clause-success
 returns-else-has_size-clause-success c =
-    judged-unlike c.args.segment c.trim.new.segment c.args.text.now c.args.said c.args.size _ c.trim.ensures
+    judged-unlike c.args.segment c.trim.new.segment c.args.text.now c.args.said c.args.size _ c.trim.ensures.changes
     c.if-has_size.ensures.every

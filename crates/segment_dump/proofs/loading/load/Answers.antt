@@ -1,3 +1,5 @@
+use Rattle.std.specs.Prelude.{IfOk}
+use Rattle.segment_dump.specs.Loading.{LiesIn}
 use Rattle.segment_dump.proofs.Common.{length, subst, MatchResult, IsExact, IsLoaded, IsNotLoaded, cause_in, Succeeds}
 use Rattle.std.specs.Prelude.{IfSome}
 use Rattle.segment_dump.specs.Loading.{IsLacking}
@@ -22,3 +24,7 @@ returns-clause-success c = subst (λ t.
 pub returns-clause-cause : goal.returns-clause-cause
 returns-clause-cause c = subst (λ t. IfSome (cause_in c.load_lines.result) (IsLacking t (length c.args.region)
     c.args.base c.args.size (length c.args.room.now))) c.without_notes.ensures c.load_lines.ensures.cause
+
+pub returns-clause-place : goal.returns-clause-place
+returns-clause-place c = subst (λ t. IfOk c.load_lines.result (LiesIn t c.args.region c.args.base c.args.size))
+    c.without_notes.ensures c.load_lines.ensures.place

@@ -1,3 +1,4 @@
+use Rattle.segment_dump.proofs.loading.Placed.{lies-made}
 use Rattle.segment_dump.proofs.loading.load_lines.Goals as goal
 use Rattle.segment_dump.proofs.{Common.length, Common.cause_in, loading.Success.succeeds-lacking}
 use Rattle.segment_dump.proofs.{loading.Success.succeeds-made}
@@ -46,3 +47,9 @@ returns-clause-cause c =
     lacking-made c.args.text.now (length c.args.region) c.args.base c.args.size (length c.args.room.now)
     c.count_dump-counted.result c.refusal_of.result (cause_in c.make.result) c.refusal_of.ensures c.in_default.is
     c.make.ensures.exact
+
+pub returns-clause-place : goal.returns-clause-place
+returns-clause-place c =
+    lies-made c.args.text.now c.args.region c.args.base c.args.size (length c.args.room.now)
+    c.count_dump-counted.result c.make.result c.count_dump-counted.ensures.count (returns-clause-exact c)
+    c.make.ensures.place

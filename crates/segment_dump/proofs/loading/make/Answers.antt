@@ -1,3 +1,4 @@
+use Rattle.segment_dump.proofs.loading.Success.{good-placed}
 use Rattle.segment_dump.proofs.loading.make.Goals as goal
 use Rattle.segment_dump.proofs.{Common.length, Common.refl, loading.Judgement.back-some, loading.Judgement.judged}
 use Rattle.segment_dump.proofs.{loading.Judgement.unlacking, loading.Judgement.wrong-why}
@@ -30,7 +31,7 @@ returns-in-Err-make_objects-clause-success c =
     c.asked_size-asked.result c.declared_size.result c.in-Ok-create.segment c.make_objects.new.segment
     c.make_objects.result
     c.read_front.result c.create.result c.new-lines.ensures c.read_front.ensures c.in-Ok.is c.declared_size.ensures
-    c.asked_size-asked.ensures.value c.create.ensures c.in-Ok-create.is c.make_objects.ensures _ _
+    c.asked_size-asked.ensures.value c.create.ensures c.in-Ok-create.is c.make_objects.ensures.objects _ _
     c.in-Err-make_objects.is
 
 pub returns-clause-completion : goal.returns-clause-completion
@@ -44,7 +45,8 @@ returns-clause-success c =
     c.asked_size-asked.result c.declared_size.result c.in-Ok-create.segment c.make_objects.new.segment
     c.make_objects.result
     c.read_front.result c.create.result c.new-lines.ensures c.read_front.ensures c.in-Ok.is c.declared_size.ensures
-    c.asked_size-asked.ensures.value c.create.ensures c.in-Ok-create.is c.make_objects.ensures _ c.judge.ensures.success
+    c.asked_size-asked.ensures.value c.create.ensures c.in-Ok-create.is c.make_objects.ensures.objects _
+    c.judge.ensures.success
 
 -- ---- what is lacking
 
@@ -60,3 +62,15 @@ pub returns-in-Err-make_objects-clause-exact : goal.returns-in-Err-make_objects-
 returns-in-Err-make_objects-clause-exact c =
     rw c.let_go.ensures.cause (unlacking c.args.text.now (length c.args.region) c.args.base c.args.size
     (length c.args.room.now) c.args.counted c.cause_of.result c.cause_of.ensures)
+
+-- ---- where it lies
+
+pub returns-clause-place : goal.returns-clause-place
+returns-clause-place c =
+    good-placed c.args.text.now (length c.args.region) c.args.base c.args.size (length c.args.room.now)
+    c.args.counted _ _ c.args.region c.new-lines.result c.read_front.new.lines c.in-Ok.front
+    c.asked_size-asked.result c.declared_size.result c.in-Ok-create.segment c.make_objects.new.segment
+    c.make_objects.result
+    c.read_front.result c.create.result c.new-lines.ensures c.read_front.ensures c.in-Ok.is c.declared_size.ensures
+    c.asked_size-asked.ensures.value c.create.ensures c.in-Ok-create.is c.make_objects.ensures.objects _ refl
+    c.make_objects.ensures.place c.judge.ensures.place

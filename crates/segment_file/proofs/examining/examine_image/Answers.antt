@@ -4,7 +4,8 @@ use Rattle.raw_region.specs.Device.{read_delta}
 use Rattle.raw_region.specs.Format.{current}
 use Rattle.segment_manager.specs.declared.modes.Mode.TheVariants.{ReadOnly}
 use Rattle.image_check.specs.declared.versions.AcceptedVersions.TheVariants.{Current}
-use Rattle.image_check.specs.Examining.{Examines}
+use Rattle.image_check.specs.Causes.{IsShown}
+use Rattle.image_check.specs.Opening.{Opens}
 use Rattle.segment_disk.specs.Events.{nothing_given}
 use Rattle.segment_file.specs.Opening.{file_region}
 use Rattle.segment_file.proofs.examining.Outcomes.{unfit-by}
@@ -25,8 +26,9 @@ returns-in_err-region g c =
 pub returns-in-Some : goal.returns-in-Some
 returns-in-Some g c =
     let fresh = c.requires.fresh in
-    let image = read_delta nothing_given (g.S.Source.history c.examine.new.reader.inner) in
-    let x : Examines current image c.in_ok-region.region 0 (Err c.in-Err.refused) =
-    rw fresh at c.in-Err.ensures.examination in
+    let image = read_delta nothing_given (g.S.Source.history c.open.new.reader.inner) in
+    let x : Opens current image c.in_ok-region.region 0 ReadOnly (Err c.in-Err.refused) =
+    rw fresh at c.in-Err.ensures.opening in
+    let told : IsShown current image.bytes c.in-Err.refused.cause = rw fresh at c.in-Err.ensures.place in
     unfit-by (file_region c.args.len 0 image.bytes) (length c.in_ok-region.region) image c.in-Err.refused.cause
-    c.in-Some.unfit x.verifies.answers.why x.shown (sym c.unexamined.ensures ∙ c.in-Some.is)
+    c.in-Some.unfit x.answers.why told (sym c.unexamined.ensures ∙ c.in-Some.is)

@@ -1,7 +1,7 @@
 use Rattle.std.proofs.Common.{◌≡◌, ◌∙◌, ◌+◌, Ok, Err, length, subst, sym}
 use Rattle.std.proofs.lemmas.Result.{err_from_is_err_and}
 use Rattle.raw_region.specs.Device.{ReadDelta}
-use Rattle.image_check.specs.OpeningBytes.{as_given}
+use Rattle.image_check.specs.Opening.{as_given}
 use Rattle.grow_shrink.specs.LargerRegion.{region_len}
 use Rattle.segment_file.specs.Opening.{OpensAt, OpensImage}
 use Rattle.segment_file.proofs.opening.ReadAgain.{given-text, room-text, text-fits, unread-on, unroomed-on}

@@ -2,7 +2,7 @@ use Rattle.std.proofs.Common.{◌∙◌, sym}
 use Rattle.std.proofs.lemmas.Result.{err_from_is_err_and}
 use Rattle.raw_region.specs.Device.{read_delta}
 use Rattle.segment_disk.specs.Events.{nothing_given}
-use Rattle.segment_file.proofs.opening.Refusals.{no-error, no-place, not-opened, opened-at, unread-image}
+use Rattle.segment_file.proofs.opening.Refusals.{no-error, no-place, not-opened, unread-image}
 use Rattle.segment_file.proofs.opening.Refusals.{widened-answer}
 use Rattle.segment_file.proofs.opening.open_image.Goals as goal
 
@@ -25,8 +25,7 @@ returns-in-Ok g c =
     let image = read_delta nothing_given (g.S.Source.history c.open_at.new.reader.inner) in
     widened-answer image c.in_ok-region.region c.args.mode c.in-Ok.segment c.args.versions c.args.len c.args.more
     c.in_ok-region.ensures.len
-    (opened-at c.args.versions image c.in_ok-region.region c.args.mode c.in-Ok.segment c.in-Ok.ensures.opening)
-    c.with_room.result c.with_room.ensures
+    c.in-Ok.ensures.opening.answers c.with_room.result c.with_room.ensures
 
 pub returns-in-Some : goal.returns-in-Some
 returns-in-Some g c =

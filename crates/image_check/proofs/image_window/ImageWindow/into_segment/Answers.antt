@@ -1,11 +1,9 @@
 -- A heap of the image's blocks, with the current version.
 use Rattle.image_check.proofs.Common.{IsImage, IsTrue, LiveSet, RebuildsFreeTree, SameSurroundings, UpgradesFormat}
-use Rattle.image_check.proofs.Common.{WindowState, is_live_in, subst, sym, ◌∙◌, ◌≡◌}
+use Rattle.image_check.proofs.Common.{WindowState, is_live_in, subst, sym, ◌∙◌}
 use Rattle.raw_region.specs.Format.{current}
-use Rattle.best_fit.specs.Heap.{live_of}
 use Rattle.image_check.proofs.block_collection.InLiveSet.{block_live}
-use Rattle.image_check.proofs.opening.AnyFormat.{renewed-segment}
-use Rattle.image_check.proofs.frame.OlderFormats.{image-heap, upgraded, upgraded-live, upgraded-place}
+use Rattle.image_check.proofs.frame.OlderFormats.{image-heap, renewed-segment, upgraded, upgraded-live, upgraded-place}
 use Rattle.image_check.proofs.image_window.ImageWindow.into_segment.Goals as goal
 
 pub as_heap-heap-requires : goal.as_heap-heap-requires

@@ -1,0 +1,149 @@
+-- The kind of a code is what its parts say: the container, the key and the element.
+use Rattle.std.proofs.Common.{◌≡◌, ◌≢◌, refl, sym, ap, subst, ◌∙◌, ℕ, ◌/◌, ◌%◌, ◌≤◌, ◌==◌, Bool, true, false}
+use Rattle.std.proofs.Common.{arith, List, [], ◌∷◌}
+use Rattle.std.proofs.lemmas.Bool.{eqb-true, ne_eqb}
+use Rattle.std.proofs.lemmas.Option.{none-some, same_Some}
+use Rattle.std.specs.Prelude.{Option, Some, None, cond, find, option_map}
+use Rattle.seg_types.specs.Kinds.{code_of, kind_of_code, kinds, scalar_code, scalar_kinds, scalar_of_code}
+use Rattle.seg_types.specs.declared.kinds.ScalarKind.{ScalarKind}
+use Rattle.seg_types.specs.declared.kinds.ScalarKind.TheVariants.{Bool as BoolKind, U8, I32, I64, U64}
+use Rattle.seg_types.specs.declared.kinds.Kind.{Kind}
+use Rattle.seg_types.specs.declared.kinds.Kind.TheVariants.{Scalar, String, Vector, Map, Strings}
+
+-- ---- codes are read
+
+-- the kind of a kind's code
+pub code-read : (k : Kind) → kind_of_code (code_of k) ≡ Some k
+code-read (Scalar BoolKind) = refl
+code-read (Vector BoolKind) = refl
+code-read (Map BoolKind BoolKind) = refl
+code-read (Map U8 BoolKind) = refl
+code-read (Map I32 BoolKind) = refl
+code-read (Map I64 BoolKind) = refl
+code-read (Map U64 BoolKind) = refl
+code-read kind = refl
+
+-- the same at a number that is the code
+kind_is : (k : Kind) (code : ℕ) → code_of k ≡ code → kind_of_code code ≡ Some k
+kind_is k code e = subst (λ c. kind_of_code c ≡ Some k) e (code-read k)
+
+-- no kind is found by a code that none has
+none_among : (code : ℕ) (ks : List Kind) → ((k : Kind) → code_of k ≢ code) → find (λ k. code_of k == code) ks ≡ None
+none_among code [] none = refl
+none_among code (k ∷ ks) none =
+    ap (λ (b : Bool). cond b (Some k) (find (λ l. code_of l == code) ks)) (ne_eqb (code_of k) code (none k))
+    ∙ none_among code ks none
+
+no_kind : (code : ℕ) → ((k : Kind) → code_of k ≢ code) → kind_of_code code ≡ None
+no_kind code none = none_among code kinds none
+
+-- ---- scalars
+
+scalar_least : (k : ScalarKind) → 1 ≤ scalar_code k
+scalar_least BoolKind = omega arith
+scalar_least U8 = omega arith
+scalar_least I32 = omega arith
+scalar_least I64 = omega arith
+scalar_least U64 = omega arith
+
+scalar_most : (k : ScalarKind) → scalar_code k ≤ 5
+scalar_most BoolKind = omega arith
+scalar_most U8 = omega arith
+scalar_most I32 = omega arith
+scalar_most I64 = omega arith
+scalar_most U64 = omega arith
+
+-- the scalar kind of a scalar kind's code
+scalar-read : (k : ScalarKind) → scalar_of_code (scalar_code k) ≡ Some k
+unfolding scalar_of_code
+scalar-read BoolKind = refl
+scalar-read U8 = refl
+scalar-read I32 = refl
+scalar-read I64 = refl
+scalar-read U64 = refl
+
+-- no scalar kind has a code of none
+scalar_none : (code : ℕ) → scalar_of_code code ≡ None → (k : ScalarKind) → scalar_code k ≢ code
+scalar_none code none k e =
+    let some : scalar_of_code code ≡ Some k = subst (λ c. scalar_of_code c ≡ Some k) e (scalar-read k) in
+    none-some k (sym none ∙ some)
+
+holds_if : (code : ℕ) (k l : ScalarKind) (ks : List ScalarKind)
+    → (find (λ s. code == scalar_code s) ks ≡ Some l → code ≡ scalar_code l) → (b : Bool)
+    → (code == scalar_code k) ≡ b → cond b (Some k) (find (λ s. code == scalar_code s) ks) ≡ Some l
+    → code ≡ scalar_code l
+holds_if code k l ks later true e is = eqb-true code (scalar_code k) e ∙ ap scalar_code (same_Some k l is)
+holds_if code k l ks later false e is = later is
+
+found_among : (code : ℕ) (ks : List ScalarKind) (l : ScalarKind) → find (λ s. code == scalar_code s) ks ≡ Some l
+    → code ≡ scalar_code l
+found_among code [] l is = absurd (none-some l is)
+found_among code (k ∷ ks) l is = holds_if code k l ks (found_among code ks l) (code == scalar_code k) refl is
+
+-- the scalar kind of a code has it
+scalar_some : (code : ℕ) (k : ScalarKind) → scalar_of_code code ≡ Some k → code ≡ scalar_code k
+unfolding scalar_of_code
+scalar_some code k is = found_among code scalar_kinds k is
+
+-- ---- kinds by their parts
+
+no_scalar : (code : ℕ) → code / 65536 ≡ 0 → scalar_of_code code ≡ None → (k : Kind) → code_of k ≢ code
+no_scalar code part none (Scalar s) e = scalar_none code none s e
+no_scalar code part none String e = omega arith
+no_scalar code part none (Vector s) e = omega arith
+no_scalar code part none (Map k v) e = omega arith
+no_scalar code part none Strings e = omega arith
+
+scalar_if : (code : ℕ) → code / 65536 ≡ 0 → (o : Option ScalarKind) → scalar_of_code code ≡ o
+    → kind_of_code code ≡ option_map Scalar o
+scalar_if code part None is = no_kind code (no_scalar code part is)
+scalar_if code part (Some k) is = kind_is (Scalar k) code (sym (scalar_some code k is))
+
+-- a code below 65536 is that of a scalar
+pub scalar_part : (code : ℕ) → code / 65536 ≡ 0 → kind_of_code code ≡ option_map Scalar (scalar_of_code code)
+scalar_part code part = scalar_if code part (scalar_of_code code) refl
+
+no_vector : (code : ℕ) → code / 65536 ≡ 2 → scalar_of_code (code % 65536) ≡ None → (k : Kind) → code_of k ≢ code
+no_vector code part none (Scalar s) e = let most = scalar_most s in omega arith
+no_vector code part none String e = omega arith
+no_vector code part none (Vector s) e = let most = scalar_most s in scalar_none (code % 65536) none s (omega arith)
+no_vector code part none (Map k v) e = omega arith
+no_vector code part none Strings e = omega arith
+
+vector_if : (code : ℕ) → code / 65536 ≡ 2 → (o : Option ScalarKind) → scalar_of_code (code % 65536) ≡ o
+    → kind_of_code code ≡ option_map Vector o
+vector_if code part None is = no_kind code (no_vector code part is)
+vector_if code part (Some k) is = let low = scalar_some (code % 65536) k is in kind_is (Vector k) code (omega arith)
+
+-- one from 131072 on that of a vector, whose element the rest says
+pub vector_part : (code : ℕ) → code / 65536 ≡ 2
+    → kind_of_code code ≡ option_map Vector (scalar_of_code (code % 65536))
+vector_part code part = vector_if code part (scalar_of_code (code % 65536)) refl
+
+-- one from 196608 on that of a map, whose key and value the two lowest bytes say
+pub map_part : (code : ℕ) (k v : ScalarKind) → code / 65536 ≡ 3 → scalar_of_code (code / 256 % 256) ≡ Some k
+    → scalar_of_code (code % 256) ≡ Some v → kind_of_code code ≡ Some (Map k v)
+map_part code k v part key value =
+    let high = scalar_some (code / 256 % 256) k key in let low = scalar_some (code % 256) v value in
+    kind_is (Map k v) code (omega arith)
+
+no_map : (code : ℕ) → code / 65536 ≡ 3
+    → ((k v : ScalarKind) → scalar_code k ≡ code / 256 % 256 → scalar_code v ≡ code % 256 → ⊥)
+    → (k : Kind) → code_of k ≢ code
+no_map code part none (Scalar s) e = let most = scalar_most s in omega arith
+no_map code part none String e = omega arith
+no_map code part none (Vector s) e = let most = scalar_most s in omega arith
+no_map code part none (Map k v) e =
+    let most = scalar_most k in let high = scalar_most v in none k v (omega arith) (omega arith)
+no_map code part none Strings e = omega arith
+
+-- without a key there is none
+pub map_without_key : (code : ℕ) → code / 65536 ≡ 3 → scalar_of_code (code / 256 % 256) ≡ None
+    → kind_of_code code ≡ None
+map_without_key code part none =
+    no_kind code (no_map code part (λ k v key value. scalar_none (code / 256 % 256) none k key))
+
+-- nor without a value
+pub map_without_value : (code : ℕ) → code / 65536 ≡ 3 → scalar_of_code (code % 256) ≡ None → kind_of_code code ≡ None
+map_without_value code part none =
+    no_kind code (no_map code part (λ k v key value. scalar_none (code % 256) none v value))

@@ -1,0 +1,448 @@
+/* A part of files.c: files that are committed. Their changes are private until a commit adds a record to the log. */
+
+static bool is_durable(const struct zx_held_file *held) { return held && held->commits; }
+
+/* ---- a private mapping, which may become longer than its file */
+
+/* Maps `len` bytes that begin as the file, and reserves addresses for `room`. */
+static bool map_private(struct zx_held_file *held, uint64_t file_len, uint64_t len, uint64_t room) {
+    int flags = MAP_PRIVATE | MAP_ANONYMOUS | MAP_NORESERVE, protection = PROT_READ | PROT_WRITE;
+    uint64_t end = pages_of(len) * PAGE, from_file = file_len < len ? file_len : len;
+    pthread_mutex_lock(&guard);
+    uint8_t *at = mmap(NULL, room, PROT_NONE, flags, -1, 0);
+    bool is_mapped = at != MAP_FAILED && mmap(at, end, protection, flags | MAP_FIXED, -1, 0) == at &&
+                     mmap(at, from_file, protection, MAP_PRIVATE | MAP_FIXED, held->file, 0) == at;
+    if (is_mapped) {
+        held->at = at;
+        held->len = len;
+        held->room = room;
+    } else if (at != MAP_FAILED) {
+        munmap(at, room);
+    }
+    pthread_mutex_unlock(&guard);
+    return is_mapped;
+}
+
+/* Makes the part of the mapping that may be used as long as is wanted. */
+static zx_code lengthen(zx_file *file, struct zx_held_file *held, uint64_t size, uint64_t wanted) {
+    zx_memory memory;
+    uint64_t from = pages_of(held->len) * PAGE, end = pages_of(wanted) * PAGE;
+    if (end > held->room) return ZX_NO_MEMORY;
+    if (end > from && mmap(held->at + from, end - from, PROT_READ | PROT_WRITE,
+                           MAP_PRIVATE | MAP_ANONYMOUS | MAP_NORESERVE | MAP_FIXED, -1, 0) == MAP_FAILED)
+        return fault(file);
+    (void)zx_detach(&file->segment, &memory);
+    held->len = wanted;
+    return attach(file, held, size, ZX_WRITE);
+}
+
+/* Puts an image into the mapping: only the pages that differ become own. */
+static void lay_over(const struct zx_held_file *held, const struct image *image) {
+    for (uint64_t at = 0; at < image->len; at += PAGE) {
+        size_t len = at_most(image->len - at, PAGE);
+        if (memcmp(held->at + at, image->bytes + at, len) != 0) memcpy(held->at + at, image->bytes + at, len);
+    }
+}
+
+/* ---- commits */
+
+/* What a call returns that needs a name to be on the disk before it goes on. */
+static zx_code synced(zx_code code) { return code == ZX_FILE_UNSYNCED ? (zx_code)ZX_FILE_FAULT : code; }
+
+static void free_pages(struct commits *commits, uint64_t first, uint64_t behind) {
+    for (uint64_t page = first; page < behind; page++) {
+        free(commits->kept[page]);
+        commits->kept[page] = NULL;
+    }
+}
+
+/* Keeps the bytes of a page as committed. The room for them is there. */
+static void keep_page(struct commits *commits, const uint8_t *at, uint64_t size, uint64_t page) {
+    size_t len = page_len(size, page);
+    memcpy(commits->kept[page], at + page * PAGE, len);
+    memset(commits->kept[page] + len, 0, PAGE - len);
+}
+
+/* What a commit writes. */
+struct record {
+    uint64_t size;    /* of the image */
+    uint64_t pages;   /* of the image */
+    uint64_t count;   /* of the pages that changed */
+    uint8_t *changed; /* whether a page changed */
+    uint64_t after;   /* the fingerprint of the image */
+    struct image body;
+};
+
+/* Makes room for each changed page, which keeps what was committed until the record counts. */
+static zx_code make_rooms(zx_file *file, const struct zx_held_file *held, const struct record *record) {
+    for (uint64_t page = 0; page < record->pages; page++) {
+        if (!record->changed[page] || held->commits->kept[page]) continue;
+        uint8_t *room = malloc(PAGE);
+        if (!room) return ZX_NO_MEMORY;
+        if (!committed_page(held, page, room)) {
+            zx_code code = fault(file);
+            free(room);
+            return code;
+        }
+        held->commits->kept[page] = room;
+    }
+    return ZX_DONE;
+}
+
+static void free_record(struct record *record) {
+    free(record->changed);
+    free(record->body.bytes);
+}
+
+/* Finds the pages that changed since the last commit. Behind an end that moved all did. */
+static zx_code find_record(zx_file *file, const struct zx_held_file *held, struct record *record) {
+    zx_code code = zx_size(&file->segment, &record->size);
+    if (code != ZX_DONE) return code;
+    record->pages = pages_of(record->size);
+    record->changed = malloc(record->pages);
+    if (!record->changed) return ZX_NO_MEMORY;
+    errno = 0;
+    if (!find_changed(held, record->pages, record->changed)) return errno ? fault(file) : (zx_code)ZX_NO_MEMORY;
+    uint64_t before = held->commits->len, first = (before < record->size ? before : record->size) / PAGE;
+    if (before != record->size && first < record->pages) memset(record->changed + first, 1, record->pages - first);
+    for (uint64_t page = 0; page < record->pages; page++) record->count += record->changed[page];
+    return ZX_DONE;
+}
+
+/* The share that a page of a length has in a fingerprint. */
+static uint64_t share_of(uint64_t page, const uint8_t *bytes, size_t len) {
+    return len > 0 ? zx_log_page_mark(page, bytes, len) : 0;
+}
+
+/* Computes the fingerprint of the image from the one before and the pages that changed. */
+static bool mark_record(const struct zx_held_file *held, struct record *record) {
+    uint8_t bytes[PAGE];
+    uint64_t before = held->commits->len;
+    record->after = held->commits->after;
+    for (uint64_t page = 0; page < record->pages || page < pages_of(before); page++) {
+        if (page < record->pages && !record->changed[page]) continue;
+        if (!committed_page(held, page, bytes)) return false;
+        record->after -= share_of(page, bytes, page_len(before, page));
+        if (page < record->pages)
+            record->after += share_of(page, held->at + page * PAGE, page_len(record->size, page));
+    }
+    return true;
+}
+
+/* Makes the payload: the changed pages, and zeros up to whole blocks of a disk, so that each gate has its own. */
+static zx_code make_payload(const struct zx_held_file *held, const struct record *record, struct image *payload) {
+    uint64_t most = 8 + FRONT + record->count * (EDIT + PAGE), at = FRONT;
+    *payload = room_for((most + GATE - 1) / GATE * GATE - 8);
+    if (!payload->bytes) return ZX_NO_MEMORY;
+    zx_code code = zx_log_front(record->size, held->commits->base, record->after, payload->bytes, payload->len);
+    for (uint64_t page = 0; code == ZX_DONE && page < record->pages; page++) {
+        if (!record->changed[page]) continue;
+        size_t len = page_len(record->size, page);
+        code = zx_log_edit(page * PAGE, held->at + page * PAGE, len, payload->bytes + at, payload->len - at);
+        at += EDIT + len;
+    }
+    if (code == ZX_DONE) memset(payload->bytes + at, 0, payload->len - at);
+    return code;
+}
+
+static zx_code make_body(const struct zx_held_file *held, struct record *record) {
+    struct image payload;
+    zx_code code = make_payload(held, record, &payload);
+    if (code == ZX_DONE) {
+        record->body = room_for(8 + payload.len + GATE);
+        code = !record->body.bytes
+                   ? (zx_code)ZX_NO_MEMORY
+                   : zx_log_body(payload.bytes, payload.len, record->body.bytes, record->body.len);
+    }
+    free(payload.bytes);
+    return code;
+}
+
+/* Computes the fingerprint of the file, by which its log is known. */
+static zx_code mark_base(zx_file *file, struct zx_held_file *held) {
+    struct commits *commits = held->commits;
+    if (commits->is_marked) return ZX_DONE;
+    uint8_t *at = mmap(NULL, commits->len, PROT_READ, MAP_SHARED, held->file, 0);
+    if (at == MAP_FAILED) return fault(file);
+    commits->base = commits->after = zx_log_fingerprint(at, commits->len);
+    munmap(at, commits->len);
+    commits->is_marked = true;
+    return ZX_DONE;
+}
+
+/* Writes a gate. */
+static bool write_gate(const struct zx_held_file *held, bool is_open, uint64_t at) {
+    uint8_t gate[GATE];
+    return zx_log_gate(is_open, gate, sizeof gate) == ZX_DONE && write_at(held->log, gate, sizeof gate, (off_t)at);
+}
+
+/* Creates the log with the rights of its file, and syncs both names. */
+static zx_code make_log(zx_file *file, struct zx_held_file *held) {
+    char log[PATH_MAX + 8];
+    struct stat old;
+    enum state state = held->state;
+    if (!name_log(held->name, log) || fstat(held->file, &old) != 0) return fault(file);
+    if (!open_listed(&held->log, held->folder, log, O_RDWR | O_CREAT | O_EXCL | O_NOFOLLOW, 0600)) return fault(file);
+    if (take_all_but_bytes(held->log, held->file, &old) && write_gate(held, false, 0) && sync_log(held->log)) {
+        zx_code code = sync_name(file, held);
+        if (code == ZX_DONE) return code;
+    }
+    zx_code code = fault(file);
+    held->state = state;
+    unlinkat(held->folder, log, 0);
+    close_listed(&held->log);
+    return code;
+}
+
+/* Makes the log ready for a record: it exists under its name, and ends with a shut gate that is on the disk. */
+static zx_code ready_log(zx_file *file, struct zx_held_file *held) {
+    struct stat found;
+    if (held->log < 0) return make_log(file, held);
+    if (fstat(held->log, &found) != 0) return fault(file);
+    if (found.st_nlink == 0) return faulty(file, ZX_FILE_REPLACED, ESTALE);
+    return held->state == SAVED ? (zx_code)ZX_DONE : synced(sync_name(file, held));
+}
+
+/* Adds the record to the log. Behind the first byte that is synced nobody knows whether a failed one counts. */
+static zx_code write_record(zx_file *file, struct zx_held_file *held, const struct record *record) {
+    struct commits *commits = held->commits;
+    const struct image *body = &record->body;
+    if (!write_at(held->log, body->bytes, body->len, (off_t)(commits->end + GATE))) return fault(file);
+    if (sync_log(held->log) && write_gate(held, true, commits->end) && sync_log(held->log)) return ZX_DONE;
+    commits->is_unsure = true;
+    return faulty(file, ZX_FILE_UNSURE, errno);
+}
+
+/* Notes what was committed. */
+static void note_record(const zx_file *file, struct zx_held_file *held, const struct record *record) {
+    struct commits *commits = held->commits;
+    for (uint64_t page = 0; page < record->pages; page++)
+        if (record->changed[page]) keep_page(commits, held->at, record->size, page);
+    free_pages(commits, record->pages, pages_of(commits->len));
+    commits->len = record->size;
+    commits->after = record->after;
+    commits->end += record->body.len;
+    held->saved = file->segment.changes;
+}
+
+/* Removes the log, which counts no more. */
+static bool remove_log(struct zx_held_file *held) {
+    char log[PATH_MAX + 8];
+    if (!name_log(held->name, log) || (unlinkat(held->folder, log, 0) != 0 && errno != ENOENT)) return false;
+    close_listed(&held->log);
+    return true;
+}
+
+/* Removes the log, and syncs that: its bytes on the disk may be others than those that were read. */
+static zx_code end_name(zx_file *file, struct zx_held_file *held) {
+    return remove_log(held) ? synced(sync_name(file, held)) : fault(file);
+}
+
+/* Fills a new log with the records of the old one, up to their end, and with its rights. */
+static bool copy_log(struct zx_held_file *held, uint64_t end) {
+    struct stat old;
+    struct image log = room_for(end + GATE);
+    bool is_done = log.bytes && fstat(held->log, &old) == 0 &&
+                   read_at(held->log, log.bytes, end, 0) == (ssize_t)end &&
+                   zx_log_gate(false, log.bytes + end, GATE) == ZX_DONE &&
+                   take_all_but_bytes(held->made, held->log, &old) && write_at(held->made, log.bytes, log.len, 0) &&
+                   sync_one(held->made);
+    int error = errno;
+    free(log.bytes);
+    errno = error;
+    return is_done;
+}
+
+/* Puts a copy in the place of a log that another process left. A sync of that may have failed: then its bytes are read,
+   and are not on the disk. */
+static zx_code renew_log(zx_file *file, struct zx_held_file *held, uint64_t end) {
+    char log[PATH_MAX + 8], spare[40];
+    if (!name_log(held->name, log)) return fault(file);
+    spare_name(spare, log, 0);
+    if (unlinkat(held->folder, spare, 0) != 0 && errno != ENOENT) return fault(file);
+    int how = O_RDWR | O_CREAT | O_EXCL | O_NOFOLLOW;
+    if (!open_listed(&held->made, held->folder, spare, how, 0600)) return fault(file);
+    bool is_done = copy_log(held, end) && renameat(held->folder, spare, held->folder, log) == 0;
+    zx_code code = is_done ? ZX_DONE : fault(file);
+    if (!is_done) unlinkat(held->folder, spare, 0);
+    pthread_mutex_lock(&guard);
+    int before = held->log;
+    if (is_done) held->log = held->made, held->made = before;
+    pthread_mutex_unlock(&guard);
+    close_listed(&held->made);
+    return is_done ? synced(sync_name(file, held)) : code;
+}
+
+/* Puts what was surely committed into the file, in the place of a log that nobody trusts. */
+static zx_code end_log(zx_file *file, struct zx_held_file *held) {
+    struct commits *commits = held->commits;
+    struct image image = room_for(pages_of(commits->len) * PAGE);
+    zx_code code = image.bytes ? ZX_DONE : ZX_NO_MEMORY;
+    for (uint64_t page = 0; code == ZX_DONE && page < pages_of(commits->len); page++)
+        if (!committed_page(held, page, image.bytes + page * PAGE)) code = fault(file);
+    image.len = commits->len;
+    if (code == ZX_DONE && commits->end > 0) code = synced(replace(file, held, &image));
+    free(image.bytes);
+    if (code != ZX_DONE) return code;
+    code = end_name(file, held);
+    if (code != ZX_DONE) return code;
+    commits->is_unsure = false;
+    commits->base = commits->after;
+    commits->end = 0;
+    return ZX_DONE;
+}
+
+/* Makes a log that another process left this one's own. One without a record is removed. */
+static zx_code take_log(zx_file *file, struct zx_held_file *held) {
+    struct commits *commits = held->commits;
+    if (!commits->is_left) return ZX_DONE;
+    zx_code code = commits->end > 0 ? renew_log(file, held, commits->end) : end_name(file, held);
+    if (code == ZX_DONE) commits->is_left = false;
+    return code;
+}
+
+/* Commits the pages that changed. */
+static zx_code commit_pages(zx_file *file, struct zx_held_file *held) {
+    struct record record = { 0 };
+    if (held->commits->is_unsure) return faulty(file, ZX_FILE_UNSURE, EIO);
+    zx_code code = still_named(file, held);
+    if (code == ZX_DONE) code = take_log(file, held);
+    if (code != ZX_DONE || is_committed(file)) return code;
+    code = find_record(file, held, &record);
+    bool is_same_image = code == ZX_DONE && record.count == 0 && record.size == held->commits->len;
+    if (code == ZX_DONE && !is_same_image) {
+        code = mark_base(file, held);
+        if (code == ZX_DONE && !mark_record(held, &record)) code = fault(file);
+        if (code == ZX_DONE) code = make_rooms(file, held, &record);
+        if (code == ZX_DONE) code = make_body(held, &record);
+        if (code == ZX_DONE) code = ready_log(file, held);
+        if (code == ZX_DONE) code = write_record(file, held, &record);
+        if (code == ZX_DONE) note_record(file, held, &record);
+    }
+    if (is_same_image) held->saved = file->segment.changes;
+    free_record(&record);
+    return code;
+}
+
+/* ---- checkpoints: the file becomes the image, and the log empty */
+
+/* Shuts the first gate of a log whose image is the file's. */
+static zx_code empty_log(zx_file *file, struct zx_held_file *held) {
+    if (write_gate(held, false, 0) && sync_log(held->log)) return ZX_DONE;
+    if (held->commits) held->commits->is_unsure = true;
+    return fault(file);
+}
+
+/* Maps the file that has the committed image, so that no page is own any more. */
+static void map_committed(struct zx_held_file *held) {
+    struct commits *commits = held->commits;
+    int protection = PROT_READ | PROT_WRITE;
+    if (mmap(held->at, commits->len, protection, MAP_PRIVATE | MAP_FIXED, held->file, 0) == MAP_FAILED) return;
+    free_pages(commits, 0, pages_of(held->len));
+}
+
+/* Puts the image, which is committed, into the file, and begins the log anew. If the file's name is not synced, the
+   log keeps its records. */
+static zx_code checkpoint(zx_file *file, struct zx_held_file *held) {
+    struct commits *commits = held->commits;
+    struct image image = { held->at, commits->len };
+    if (commits->end == 0) return held->state == SAVED ? (zx_code)ZX_DONE : sync_name(file, held);
+    zx_code code = take_log(file, held);
+    if (code == ZX_DONE) code = replace(file, held, &image);
+    if (code != ZX_DONE) return code;
+    map_committed(held);
+    code = empty_log(file, held);
+    if (code != ZX_DONE) return code;
+    commits->base = commits->after;
+    commits->end = 0;
+    return ZX_DONE;
+}
+
+/* Makes a checkpoint where the log is long. The commit is done, whatever becomes of it. */
+static void shorten_log(zx_file *file, struct zx_held_file *held) {
+    const struct commits *commits = held->commits;
+    uint64_t quarter = commits->len / 4;
+    if (held->steps == 0 && commits->end > (quarter > LONG_LOG ? quarter : LONG_LOG)) (void)checkpoint(file, held);
+    file->error = 0;
+}
+
+/* Commits, and makes a checkpoint. */
+static zx_code save_durable(zx_file *file, struct zx_held_file *held) {
+    zx_code code = held->commits->is_unsure ? end_log(file, held) : (zx_code)ZX_DONE;
+    if (code == ZX_DONE) code = commit_pages(file, held);
+    return code == ZX_DONE ? checkpoint(file, held) : code;
+}
+
+/* Removes a log of this process' own that has no record. */
+static void leave_log(struct zx_held_file *held) {
+    const struct commits *commits = held->commits;
+    bool is_empty = commits->end == 0 && !commits->is_unsure && !commits->is_left;
+    if (held->log >= 0 && is_own(held) && is_empty) (void)remove_log(held);
+}
+
+static void free_commits(struct zx_held_file *held) {
+    if (!held->commits) return;
+    free_pages(held->commits, 0, pages_of(held->len));
+    free(held->commits);
+    held->commits = NULL;
+}
+
+zx_code zx_file_commit(zx_file *file) {
+    struct zx_held_file *held = file->held;
+    file->error = 0;
+    if (!is_durable(held)) return zx_file_flush(file);
+    if (!file->segment.at) return ZX_CLOSED;
+    if (!is_own(held)) return faulty(file, ZX_FILE_FORKED, EPERM);
+    if (held->steps > 0) return faulty(file, ZX_FILE_IN_STEP, EBUSY);
+    zx_code code = commit_pages(file, held);
+    if (code == ZX_DONE) shorten_log(file, held);
+    return answered(file, code);
+}
+
+/* ---- transactions of files, ended */
+
+zx_code zx_file_keep(zx_file *file, zx_step *before) {
+    struct zx_held_file *held = file->held;
+    file->error = 0;
+    if (!before->kept) {
+        zx_commit(&before->copy);
+        return ZX_DONE;
+    }
+    bool is_open = held && held->mapped && held->steps > 0 && is_own(held);
+    bool is_last = is_open && held->steps == 1;
+    zx_code code = !is_last            ? (zx_code)ZX_DONE
+                   : is_durable(held)  ? commit_pages(file, held)
+                   : held->state != READ ? share_own(file, held)
+                                         : (zx_code)ZX_DONE;
+    if (code != ZX_DONE && code != ZX_FILE_UNSURE) return answered(file, code);
+    free_kept(before);
+    if (is_open) held->steps--;
+    if (is_last && code == ZX_DONE && is_durable(held)) shorten_log(file, held);
+    if (is_last && is_shared_writer(held)) (void)fit(file, ZX_DONE);
+    return answered(file, code);
+}
+
+void zx_file_leave(zx_file *file, zx_step *before) {
+    struct zx_held_file *held = file->held;
+    file->error = 0;
+    zx_commit(&before->copy);
+    if (!before->kept) return;
+    free_kept(before);
+    if (!held || !held->mapped || held->steps == 0 || !is_own(held)) return;
+    if (held->steps == 1 && is_shared_writer(held)) (void)share_own(file, held);
+    held->steps--;
+}
+
+zx_code zx_file_undo(zx_file *file, zx_step *before) {
+    struct zx_held_file *held = file->held;
+    file->error = 0;
+    if (!before->kept) return zx_file_rollback(file, &before->copy);
+    if (!held || !held->mapped || held->steps == 0 || !file->segment.at) return ZX_CLOSED;
+    bool was_clean = is_durable(held) && before->kept->count == 0 && before->kept->size == held->commits->len;
+    zx_code code = undo_pages(file, held, before->kept);
+    if (code != ZX_DONE && file->segment.at) return answered(file, code);
+    if (was_clean && code == ZX_DONE) held->saved = file->segment.changes;
+    free_kept(before);
+    held->steps--;
+    return answered(file, code);
+}

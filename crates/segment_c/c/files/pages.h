@@ -1,0 +1,267 @@
+/* A part of files.c: which pages of a private mapping this process changed, and transactions, which keep what the
+   pages held. A private mapping begins as the file; a page of it that is written is the process' own from then on. */
+
+/* How many entries of the page map are read at once. */
+enum { ENTRIES = 4096 };
+
+static uint64_t pages_of(uint64_t len) { return (len + PAGE - 1) / PAGE; }
+
+/* How many bytes of a page belong to an image. */
+static size_t page_len(uint64_t len, uint64_t page) { return page * PAGE < len ? at_most(len - page * PAGE, PAGE) : 0; }
+
+/* Whether an entry of the page map tells of an own page: it is in memory or swapped out, and no file's. */
+static bool is_own_page(uint64_t entry) { return entry >> 62 != 0 && (entry >> 61 & 1) == 0; }
+
+/* Opens the kernel's map of this process' pages. -1 if there is none, or if it does not tell of the page that this
+   function writes. */
+static int open_page_map(void) {
+    volatile uint64_t entry = 0;
+    uint64_t read = 0;
+    if (page_size() != PAGE) return -1;
+    int map = open("/proc/self/pagemap", O_RDONLY | O_CLOEXEC);
+    if (map < 0) return -1;
+    bool is_told = pread(map, &read, 8, (off_t)((uintptr_t)&entry / PAGE * 8)) == 8 && is_own_page(read);
+    if (is_told) return map;
+    close(map);
+    return -1;
+}
+
+/* Sets own[i] for each page that is own, or may be. Returns whether the page map told. */
+static bool find_own(const struct zx_held_file *held, uint64_t pages, uint8_t *own) {
+    uint64_t entries[ENTRIES];
+    int map = open_page_map();
+    uint64_t at = 0;
+    while (map >= 0 && at < pages) {
+        size_t many = at_most(pages - at, ENTRIES);
+        ssize_t got = pread(map, entries, many * 8, (off_t)(((uintptr_t)held->at / PAGE + at) * 8));
+        if (got <= 0) break;
+        for (size_t i = 0; i < (size_t)got / 8; i++) own[at + i] = is_own_page(entries[i]);
+        at += (size_t)got / 8;
+    }
+    if (map >= 0) close(map);
+    bool is_told = map >= 0 && at == pages;
+    if (!is_told) memset(own, 1, pages);
+    return is_told;
+}
+
+/* Reads a page of the file behind a mapping. What is behind the file's end is 0. */
+static bool read_page(int file, uint64_t page, size_t len, uint8_t bytes[PAGE]) {
+    ssize_t got = len > 0 ? read_at(file, bytes, len, (off_t)(page * PAGE)) : 0;
+    if (got < 0) return false;
+    memset(bytes + got, 0, PAGE - (size_t)got);
+    return true;
+}
+
+/* ---- what a file has that is durable: a private mapping of the file, and what its commits left */
+
+struct commits {
+    uint64_t len;    /* of the image that was committed last */
+    uint64_t base;   /* the fingerprint of the file when the log began */
+    uint64_t after;  /* that of the image that was committed last */
+    bool is_marked;  /* whether the two are known */
+    bool is_unsure;  /* a commit failed, and may be in the log or not */
+    bool is_left;    /* another process left the log: nothing is added to it, since a sync of it may have failed */
+    uint64_t end;    /* where the records of the log end */
+    uint8_t *kept[]; /* of each page that a commit changed, what it left; null for those that are the file's */
+};
+
+/* Reads what the last commit left of a page. */
+static bool committed_page(const struct zx_held_file *held, uint64_t page, uint8_t bytes[PAGE]) {
+    const struct commits *commits = held->commits;
+    size_t len = page_len(commits->len, page);
+    if (len == 0 || !commits->kept[page]) return read_page(held->file, page, len, bytes);
+    memcpy(bytes, commits->kept[page], PAGE);
+    return true;
+}
+
+/* Reads what a page was when the mapping began, or by the last commit. */
+static bool old_page(const struct zx_held_file *held, uint64_t page, uint8_t bytes[PAGE]) {
+    return held->commits ? committed_page(held, page, bytes) : read_page(held->file, page, PAGE, bytes);
+}
+
+/* Whether the file may have changed since its last commit. */
+static bool is_committed(const zx_file *file) {
+    return file->held->saved == file->segment.changes && !file->segment.shared;
+}
+
+/* ---- transactions */
+
+/* What pages held when a transaction began. */
+struct zx_kept {
+    uint64_t size;   /* of the image */
+    uint64_t len;    /* of the mapping */
+    uint64_t count;
+    uint64_t *pages; /* rising */
+    uint8_t *bytes;  /* of each, one after another */
+};
+
+static void free_kept(zx_step *before) {
+    if (!before->kept) return;
+    free(before->kept->pages);
+    free(before->kept->bytes);
+    free(before->kept);
+    before->kept = NULL;
+}
+
+/* Whether this process writes a file that is mapped for all to see. */
+static bool is_shared_writer(const struct zx_held_file *held) { return held->state != READ && !held->commits; }
+
+/* Gives pages back what the file has. Memory that is locked does not end, and gets the bytes of the file. */
+static bool forget(const struct zx_held_file *held, uint64_t first, uint64_t behind) {
+    if (first >= behind || madvise(held->at + first * PAGE, (behind - first) * PAGE, MADV_DONTNEED) == 0) return true;
+    uint8_t bytes[PAGE];
+    for (uint64_t page = first; page < behind; page++) {
+        if (!old_page(held, page, bytes)) return false;
+        memcpy(held->at + page * PAGE, bytes, page_len(held->len, page));
+    }
+    return true;
+}
+
+/* Which pages differ from what they were. One that is own and does not differ is given back, so that it is not compared
+   again. Returns false if the file can't be read. */
+static bool find_changed(const struct zx_held_file *held, uint64_t pages, uint8_t *changed) {
+    uint8_t bytes[PAGE];
+    bool is_told = find_own(held, pages, changed);
+    for (uint64_t page = 0; page < pages; page++) {
+        changed[page] |= held->commits && held->commits->kept[page];
+        if (!changed[page] || (is_told && !held->commits)) continue;
+        if (!old_page(held, page, bytes)) return false;
+        changed[page] = memcmp(bytes, held->at + page * PAGE, page_len(held->len, page)) != 0;
+        bool is_alike = is_told && !changed[page] && !held->commits->kept[page];
+        if (is_alike && !forget(held, page, page + 1)) return false;
+    }
+    return true;
+}
+
+/* Copies the pages that differ. */
+static bool copy_changed(const struct zx_held_file *held, struct zx_kept *kept, const uint8_t *changed,
+                         uint64_t pages) {
+    for (uint64_t page = 0; page < pages; page++) kept->count += changed[page];
+    kept->pages = malloc(kept->count * sizeof *kept->pages + 1);
+    kept->bytes = malloc(kept->count * PAGE + 1);
+    if (!kept->pages || !kept->bytes) return false;
+    uint64_t at = 0;
+    for (uint64_t page = 0; page < pages; page++) {
+        if (!changed[page]) continue;
+        kept->pages[at] = page;
+        memcpy(kept->bytes + at++ * PAGE, held->at + page * PAGE, page_len(held->len, page));
+    }
+    return true;
+}
+
+static bool keep_changed(const struct zx_held_file *held, struct zx_kept *kept) {
+    uint64_t pages = pages_of(kept->size);
+    uint8_t *changed = malloc(pages);
+    bool is_done = changed && find_changed(held, pages, changed) && copy_changed(held, kept, changed, pages);
+    free(changed);
+    return is_done;
+}
+
+/* Puts another mapping of the file over the one that it has. */
+static bool map_over(const struct zx_held_file *held, int flags) {
+    return mmap(held->at, held->len, PROT_READ | PROT_WRITE, flags | MAP_FIXED, held->file, 0) != MAP_FAILED;
+}
+
+/* Begins a transaction of a file that is mapped. The first one of a file that all see makes the mapping private. */
+static zx_code begin_pages(zx_file *file, struct zx_held_file *held, zx_step *before) {
+    struct zx_kept *kept = calloc(1, sizeof *kept);
+    if (!kept) return ZX_NO_MEMORY;
+    before->kept = kept;
+    kept->len = held->len;
+    zx_code code = zx_size(&file->segment, &kept->size);
+    bool is_first = is_shared_writer(held) && held->steps == 0;
+    bool is_clean = is_first || (held->commits && is_committed(file));
+    if (code == ZX_DONE && !is_clean && !keep_changed(held, kept)) code = ZX_NO_MEMORY;
+    if (code == ZX_DONE && is_first && !map_over(held, MAP_PRIVATE)) code = fault(file);
+    if (code != ZX_DONE) free_kept(before);
+    else held->steps++;
+    return code;
+}
+
+zx_code zx_file_begin(zx_file *file, zx_step *before) {
+    struct zx_held_file *held = file->held;
+    uint32_t how;
+    file->error = 0;
+    zx_code code = zx_mode(&file->segment, &how);
+    if (code != ZX_DONE) return code;
+    if (how == ZX_READ) return ZX_READ_ONLY;
+    free_kept(before);
+    if (!held || !held->mapped) return zx_begin(&file->segment, &before->copy);
+    zx_close(&before->copy);
+    return begin_pages(file, held, before);
+}
+
+/* Writes the own pages of a transaction to the file that all see. If one can't be written, those before it get their
+   old bytes back. */
+static bool write_own(const struct zx_held_file *held, const struct zx_kept *old) {
+    for (uint64_t i = 0; i < old->count; i++) {
+        uint64_t page = old->pages[i];
+        if (write_at(held->file, held->at + page * PAGE, page_len(held->len, page), (off_t)(page * PAGE))) continue;
+        int error = errno;
+        for (; i-- > 0;)
+            (void)write_at(held->file, old->bytes + i * PAGE, page_len(held->len, old->pages[i]),
+                           (off_t)(old->pages[i] * PAGE));
+        errno = error;
+        return false;
+    }
+    return true;
+}
+
+/* Puts the own pages into the file that all see, and maps that again. */
+static zx_code share_own(zx_file *file, struct zx_held_file *held) {
+    zx_step now = ZX_NO_STEP;
+    struct zx_kept *kept = now.kept = calloc(1, sizeof *kept);
+    if (!kept) return ZX_NO_MEMORY;
+    zx_code code = zx_size(&file->segment, &kept->size);
+    if (code == ZX_DONE && !keep_changed(held, kept)) code = ZX_NO_MEMORY;
+    for (uint64_t i = 0; code == ZX_DONE && i < kept->count; i++)
+        if (!read_page(held->file, kept->pages[i], PAGE, kept->bytes + i * PAGE)) code = fault(file);
+    if (code == ZX_DONE && !(write_own(held, kept) && map_over(held, MAP_SHARED))) code = fault(file);
+    free_kept(&now);
+    return code;
+}
+
+/* Gives each page what it held when the transaction began. `own` says which are own. */
+static bool restore_pages(const struct zx_held_file *held, const struct zx_kept *kept, const uint8_t *own) {
+    uint64_t pages = pages_of(kept->size), first = 0, at = 0;
+    for (uint64_t page = 0; page < pages; page++) {
+        const uint8_t *bytes = held->commits ? held->commits->kept[page] : NULL;
+        bool is_kept = at < kept->count && kept->pages[at] == page;
+        if (is_kept) bytes = kept->bytes + at++ * PAGE;
+        if (!bytes && own[page]) continue;
+        if (!forget(held, first, page)) return false;
+        first = page + 1;
+        if (bytes) memcpy(held->at + page * PAGE, bytes, page_len(held->len, page));
+    }
+    return forget(held, first, pages);
+}
+
+/* Maps a file for all to see again, as long as it was. */
+static bool share_again(struct zx_held_file *held, uint64_t len) {
+    if (!map_over(held, MAP_SHARED)) return false;
+    if (held->len == len) return true;
+    pthread_mutex_lock(&guard);
+    bool is_done = mremap(held->at, held->len, len, 0) != MAP_FAILED;
+    if (is_done) held->len = len;
+    pthread_mutex_unlock(&guard);
+    return is_done && set_length(held->file, len);
+}
+
+/* Restores what a transaction kept, and opens the segment anew. */
+static zx_code undo_pages(zx_file *file, struct zx_held_file *held, const struct zx_kept *kept) {
+    uint64_t pages = pages_of(kept->size), size = 0;
+    zx_memory memory;
+    uint32_t how = ZX_WRITE;
+    uint8_t *own = malloc(pages);
+    if (!own) return ZX_NO_MEMORY;
+    (void)find_own(held, pages, own);
+    (void)zx_size(&file->segment, &size);
+    (void)zx_mode(&file->segment, &how);
+    zx_code code = zx_detach(&file->segment, &memory);
+    bool is_shared = is_shared_writer(held) && held->steps == 1;
+    bool is_done = is_shared ? share_again(held, kept->len) : restore_pages(held, kept, own);
+    int error = errno;
+    free(own);
+    if (code == ZX_DONE) code = attach(file, held, is_done ? kept->size : size, how);
+    return code == ZX_DONE && !is_done ? faulty(file, ZX_FILE_FAULT, error) : code;
+}

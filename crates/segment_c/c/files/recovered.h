@@ -1,0 +1,190 @@
+/* A part of files.c: files that are opened with a log beside them. */
+
+/* Maps a file to read it. Null if that fails. */
+static uint8_t *map_to_read(int file, uint64_t len) {
+    uint8_t *at = mmap(NULL, len, PROT_READ, MAP_SHARED, file, 0);
+    return at == MAP_FAILED ? NULL : at;
+}
+
+/* Reads what the file that is held stands for with its log, which is open. */
+static zx_code recover(zx_file *file, const struct zx_held_file *held, uint64_t len, struct recovered *made) {
+    struct image log;
+    *made = (struct recovered){ .end = 0 };
+    zx_code code = read_log(file, held->log, &log);
+    if (code != ZX_DONE) return code;
+    uint8_t *base = map_to_read(held->file, len);
+    code = base ? replay(file, base, len, &log, made) : fault(file);
+    free(log.bytes);
+    if (base) munmap(base, len);
+    return code;
+}
+
+/* Maps a file privately, with what its log says. */
+static zx_code map_recovered(zx_file *file, struct zx_held_file *held, uint64_t len, uint64_t room,
+                             struct recovered *made) {
+    zx_code code = recover(file, held, len, made);
+    if (code != ZX_DONE) return code;
+    uint64_t now = made->end > 0 ? made->image.len : len;
+    if (now > room) room = now;
+    if (!map_private(held, len, now, room) && !map_private(held, len, now, pages_of(now) * PAGE)) code = fault(file);
+    if (code == ZX_DONE && made->end > 0) lay_over(held, &made->image);
+    free(made->image.bytes);
+    return code;
+}
+
+/* Maps a file that is read, with what its log says. */
+static zx_code read_recovered(zx_file *file, struct zx_held_file *held, uint64_t len, uint32_t how) {
+    struct recovered made;
+    zx_code code = map_recovered(file, held, len, 0, &made);
+    if (code != ZX_DONE) return code;
+    if (how == ZX_READ) mprotect(held->at, held->len, PROT_READ);
+    code = attach(file, held, held->len, how);
+    if (code == ZX_DONE) held->mapped = &file->segment;
+    else unmap_listed(held);
+    return code;
+}
+
+/* Keeps each page in which the recovered image differs from the file. Behind an end that moved all do. */
+static bool keep_recovered(struct zx_held_file *held, uint64_t len) {
+    struct commits *commits = held->commits;
+    uint8_t bytes[PAGE];
+    uint64_t moved = len == held->len ? pages_of(held->len) : (len < held->len ? len : held->len) / PAGE;
+    for (uint64_t page = 0; page < pages_of(held->len); page++) {
+        if (!read_page(held->file, page, page_len(held->len, page), bytes)) return false;
+        if (page < moved && memcmp(bytes, held->at + page * PAGE, page_len(held->len, page)) == 0) continue;
+        commits->kept[page] = malloc(PAGE);
+        if (!commits->kept[page]) return errno = 0, false;
+        keep_page(commits, held->at, held->len, page);
+    }
+    return true;
+}
+
+/* Begins the commits of a file that is mapped, with what its log, if there is one, says. */
+static zx_code begin_commits(zx_file *file, struct zx_held_file *held, uint64_t len) {
+    struct recovered made = { .end = 0 };
+    uint64_t room = pages_of(LARGEST) * PAGE;
+    held->commits = calloc(1, sizeof *held->commits + pages_of(LARGEST) * sizeof held->commits->kept[0]);
+    if (!held->commits) return ZX_NO_MEMORY;
+    zx_code code = open_log(file, held);
+    if (code != ZX_DONE) return code;
+    if (held->log < 0)
+        return map_private(held, len, len, room) || map_private(held, len, len, pages_of(len) * PAGE) ? (zx_code)ZX_DONE
+                                                                                                  : fault(file);
+    code = map_recovered(file, held, len, room, &made);
+    if (code != ZX_DONE) return code;
+    held->commits->base = made.base, held->commits->after = made.after;
+    held->commits->end = made.end, held->commits->is_left = true;
+    held->commits->is_marked = made.end > 0;
+    if (made.end == 0 || keep_recovered(held, len)) return ZX_DONE;
+    code = errno ? fault(file) : (zx_code)ZX_NO_MEMORY;
+    unmap_listed(held);
+    return code;
+}
+
+/* Opens the segment of a file that is to be committed. */
+static zx_code open_durable(zx_file *file, struct zx_held_file *held, const struct stat *found) {
+    uint64_t len = (uint64_t)found->st_size;
+    // no segment has such a size, so the bytes are refused
+    if (len == 0 || len % 16 != 0) return read_segment(file, held->file, ZX_WRITE);
+    zx_code code = begin_commits(file, held, len);
+    if (code != ZX_DONE) return code;
+    code = attach(file, held, held->len, ZX_WRITE);
+    if (code != ZX_DONE) {
+        unmap_listed(held);
+        return code;
+    }
+    held->commits->len = held->len;
+    held->mapped = &file->segment;
+    return ZX_DONE;
+}
+
+/* ---- a log, where its file is opened otherwise */
+
+/* Opens the folder of a file whose name is a path, and keeps its last name. */
+static zx_code open_folder(zx_file *file, struct zx_held_file *held) {
+    const char *name = last_name(held->name);
+    size_t before = (size_t)(name - held->name);
+    char *folder = held->folder == AT_FDCWD ? malloc(before + 2) : NULL;
+    if (held->folder != AT_FDCWD) return ZX_DONE;
+    if (!folder) return ZX_NO_MEMORY;
+    memcpy(folder, held->name, before);
+    memcpy(folder + before, ".", 2);
+    bool is_open = open_listed(&held->folder, AT_FDCWD, folder, O_PATH | O_DIRECTORY, 0);
+    zx_code code = is_open ? ZX_DONE : fault(file);
+    free(folder);
+    if (is_open) memmove(held->name, name, strlen(name) + 1);
+    else held->folder = AT_FDCWD;
+    return code;
+}
+
+/* Makes the file what it stands for with its log. */
+static zx_code replace_recovered(zx_file *file, struct zx_held_file *held, uint64_t len) {
+    struct recovered made = { .end = 0 };
+    zx_code code = len > 0 ? recover(file, held, len, &made) : (zx_code)ZX_DONE;
+    if (code == ZX_DONE && made.end > 0) {
+        code = renew_log(file, held, made.end);
+        if (code == ZX_DONE) code = replace(file, held, &made.image);
+        if (code == ZX_DONE) code = empty_log(file, held);
+    }
+    free(made.image.bytes);
+    return code;
+}
+
+/* Before a file is written otherwise than by commits, the records of its log become the file, and the log ends. */
+static zx_code settle_log(zx_file *file, struct zx_held_file *held, struct stat *found) {
+    zx_code code = open_log(file, held);
+    if (code != ZX_DONE || held->log < 0) return code;
+    code = open_folder(file, held);
+    if (code == ZX_DONE) code = replace_recovered(file, held, (uint64_t)found->st_size);
+    if (code == ZX_DONE) code = end_name(file, held);
+    close_listed(&held->log);
+    if (code == ZX_FILE_UNSYNCED) code = ZX_FILE_FAULT;
+    return code == ZX_DONE && fstat(held->file, found) != 0 ? fault(file) : code;
+}
+
+/* Removes the log of a file that does not exist, or whose bytes are replaced whatever they are. */
+static zx_code drop_log(zx_file *file, struct zx_held_file *held) {
+    char log[PATH_MAX + 8];
+    bool is_gone = name_log(held->name, log) && unlinkat(held->folder, log, 0) == 0;
+    return is_gone ? synced(sync_name(file, held)) : (zx_code)ZX_DONE;
+}
+
+/* ---- a file that is read while another may write it */
+
+/* Opens the segment of what a file stands for with its log. The log was read first: if it does not belong to the file,
+   that changed meanwhile, and AGAIN is returned. */
+static zx_code read_with_log(zx_file *file, int from, const struct image *log, uint32_t how) {
+    struct stat found;
+    struct recovered made;
+    if (fstat(from, &found) != 0) return fault(file);
+    zx_code code = judge(file, &found);
+    if (code != ZX_DONE) return code;
+    struct image image = room_for((uint64_t)found.st_size);
+    ssize_t len = image.bytes ? read_at(from, image.bytes, image.len, 0) : -1;
+    code = !image.bytes ? (zx_code)ZX_NO_MEMORY
+           : len < 0    ? fault(file)
+                        : replay(file, image.bytes, (uint64_t)len, log, &made);
+    if (code == ZX_DONE) {
+        const struct image *whole = made.end > 0 ? &made.image : &image;
+        code = zx_open(&file->segment, whole->bytes, whole->len, (whole->len + 15) / 16 * 16, how);
+        code = explained(file, code, whole->bytes, whole->len);
+        free(made.image.bytes);
+    }
+    free(image.bytes);
+    return code;
+}
+
+/* Opens the log of a path that is read, and reads it. No bytes if there is none, or none that counts. */
+static zx_code log_of(zx_file *file, const char *path, struct image *log) {
+    char name[PATH_MAX + 8];
+    *log = (struct image){ NULL, 0 };
+    if (!name_log(path, name)) return ZX_DONE;
+    int from = open(name, O_RDONLY | O_NONBLOCK | O_NOCTTY | O_CLOEXEC | O_NOFOLLOW);
+    if (from < 0) return is_no_log(errno) ? (zx_code)ZX_DONE : errno == EINTR ? (zx_code)AGAIN : fault(file);
+    zx_code code = read_log(file, from, log);
+    close(from);
+    if (code == ZX_DONE && log->len > 0 && log->bytes[0] == 1) return ZX_DONE;
+    if (code == ZX_DONE) free(log->bytes);
+    log->bytes = NULL;
+    return code;
+}

@@ -1,0 +1,217 @@
+/* durable FOLDER [SMALL]: files that are committed, beside what may stand in their way: a fork, readers, other files under
+   the name, a hard link, a folder that may not be written, and with SMALL, a disk of 1 MiB, a full disk. */
+#define _GNU_SOURCE
+#include "zaluxhoni_files.h"
+
+#include <errno.h>
+#include <signal.h>
+#include <stdio.h>
+#include <stdlib.h>
+#include <sys/stat.h>
+#include <sys/wait.h>
+#include <unistd.h>
+
+static int checks, wrong;
+static char path[400], log_path[410], other[410];
+
+#define IS(got, wanted) is_same((long long)(got), (long long)(wanted), #got, __LINE__)
+#define DONE(call) IS(call, ZX_DONE)
+
+static void is_same(long long got, long long wanted, const char *what, int line) {
+    checks++;
+    if (got == wanted) return;
+    wrong++;
+    printf("durable.c:%d: WRONG %s: %lld, not %lld\n", line, what, got, wanted);
+}
+
+static int64_t number(zx_file *file, const char *name) {
+    zx_key key = zx_name(name);
+    zx_value value = zx_i64(-1);
+    DONE(zx_get(&file->segment, &key, 0, &value));
+    return value.number;
+}
+
+static void set(zx_file *file, const char *name, int64_t to) {
+    zx_key key = zx_name(name);
+    zx_value value = zx_i64(to);
+    uint64_t handle;
+    uint32_t found;
+    DONE(zx_find_or_construct(&file->segment, &key, 1, &value, &handle, &found));
+    DONE(zx_set(&file->segment, &key, 0, &value));
+}
+
+/* Makes a new durable file with the numbers n and m, which are 1. */
+static void make(zx_file *file, const char *folder, uint64_t size) {
+    snprintf(path, sizeof path, "%s/durable.seg", folder);
+    snprintf(log_path, sizeof log_path, "%s-log", path);
+    snprintf(other, sizeof other, "%s-other", path);
+    unlink(path), unlink(log_path), unlink(other);
+    DONE(zx_file_open(file, path, ZX_CREATE_ONLY | ZX_DURABLE, size));
+    set(file, "n", 1), set(file, "m", 1);
+    DONE(zx_file_commit(file));
+}
+
+static void a_fork(const char *folder) {
+    zx_file file = ZX_CLOSED_FILE;
+    make(&file, folder, 8192);
+    set(&file, "n", 2);
+    int status = 1;
+    pid_t child = fork();
+    if (child == 0) {
+        bool is = zx_file_commit(&file) == ZX_CLOSED;
+        zx_file_discard(&file);
+        _exit(is ? 0 : 1);
+    }
+    IS(waitpid(child, &status, 0), child);
+    IS(status, 0);
+    DONE(zx_file_commit(&file));
+    zx_file_discard(&file);
+    DONE(zx_file_open(&file, path, ZX_OPEN_ONLY | ZX_DURABLE, 0));
+    IS(number(&file, "n"), 2);
+    DONE(zx_file_close(&file));
+}
+
+/* One process commits, with checkpoints, and this one reads: both numbers are one, and never smaller than before. */
+static void a_reader(const char *folder) {
+    zx_file file = ZX_CLOSED_FILE, reader = ZX_CLOSED_FILE;
+    make(&file, folder, 300000);
+    zx_file_discard(&file);
+    pid_t child = fork();
+    if (child == 0) {
+        DONE(zx_file_open(&file, path, ZX_OPEN_ONLY | ZX_DURABLE, 0));
+        for (int64_t i = 2;; i++) {
+            set(&file, "n", i), set(&file, "m", i);
+            zx_code code = i % 7 ? zx_file_commit(&file) : zx_file_save(&file);
+            if (code != ZX_DONE) _exit(1);
+        }
+    }
+    int64_t last = 1;
+    for (int i = 0; i < 3000; i++) {
+        zx_code code = zx_file_open(&reader, path, ZX_OPEN_READ_ONLY, 0);
+        IS(code, ZX_DONE);
+        if (code != ZX_DONE) continue;
+        int64_t n = number(&reader, "n");
+        IS(n == number(&reader, "m") && n >= last, true);
+        last = n;
+        zx_file_discard(&reader);
+    }
+    IS(last > 1, true);
+    IS(zx_file_open(&reader, path, ZX_OPEN_ONLY | ZX_DURABLE, 0), ZX_FILE_IN_USE);
+    kill(child, SIGKILL);
+    waitpid(child, NULL, 0);
+}
+
+static void another_file(const char *folder) {
+    zx_file file = ZX_CLOSED_FILE, second = ZX_CLOSED_FILE;
+    make(&file, folder, 8192);
+    // the file moves away
+    set(&file, "n", 2);
+    IS(rename(path, other), 0);
+    IS(zx_file_commit(&file), ZX_FILE_REPLACED);
+    IS(rename(other, path), 0);
+    DONE(zx_file_commit(&file));
+    // the log is removed
+    set(&file, "n", 3);
+    IS(unlink(log_path), 0);
+    IS(zx_file_commit(&file), ZX_FILE_REPLACED);
+    zx_file_discard(&file);
+    // another file comes in its place
+    make(&file, folder, 8192);
+    zx_file_discard(&file);
+    DONE(zx_file_open(&second, other, ZX_CREATE_ONLY, 4096));
+    DONE(zx_file_close(&second));
+    IS(rename(other, path), 0);
+    IS(zx_file_open(&file, path, ZX_OPEN_ONLY | ZX_DURABLE, 0), ZX_FILE_LOG_FOREIGN);
+    IS(zx_file_open(&file, path, ZX_OPEN_ONLY | ZX_MAPPED, 0), ZX_FILE_LOG_FOREIGN);
+    IS(zx_file_open(&file, path, ZX_OPEN_READ_ONLY | ZX_MAPPED, 0), ZX_FILE_LOG_FOREIGN);
+    IS(zx_file_open(&file, path, ZX_OPEN_READ_ONLY, 0), ZX_FILE_LOG_FOREIGN);
+    IS(unlink(log_path), 0);
+    DONE(zx_file_open(&file, path, ZX_OPEN_ONLY | ZX_DURABLE, 0));
+    DONE(zx_file_close(&file));
+}
+
+/* By another name the file is found as it was saved last, and each name keeps what it has. */
+static void a_hard_link(const char *folder) {
+    zx_file file = ZX_CLOSED_FILE;
+    make(&file, folder, 8192);
+    DONE(zx_file_save(&file));
+    set(&file, "n", 2);
+    DONE(zx_file_commit(&file));
+    zx_file_discard(&file);
+    IS(link(path, other), 0);
+    DONE(zx_file_open(&file, other, ZX_OPEN_READ_ONLY, 0));
+    IS(number(&file, "n"), 1);
+    zx_file_discard(&file);
+    DONE(zx_file_open(&file, path, ZX_OPEN_ONLY | ZX_DURABLE, 0));
+    IS(number(&file, "n"), 2);
+    DONE(zx_file_close(&file));
+    DONE(zx_file_open(&file, other, ZX_OPEN_READ_ONLY, 0));
+    IS(number(&file, "n"), 1);
+    zx_file_discard(&file);
+    unlink(other);
+}
+
+/* In a folder that may not be written, what is committed is read, and nothing new is committed. */
+static void a_closed_folder(const char *folder) {
+    zx_file file = ZX_CLOSED_FILE;
+    make(&file, folder, 8192);
+    zx_file_discard(&file);
+    int status = 1;
+    pid_t child = fork();
+    if (child == 0) {
+        checks = wrong = 0;
+        if (chown(path, 65534, 65534) != 0 || chown(log_path, 65534, 65534) != 0 || setuid(65534) != 0) _exit(0);
+        DONE(zx_file_open(&file, path, ZX_OPEN_READ_ONLY, 0));
+        IS(number(&file, "n"), 1);
+        zx_file_discard(&file);
+        DONE(zx_file_open(&file, path, ZX_OPEN_ONLY | ZX_DURABLE, 0));
+        set(&file, "n", 2);
+        IS(zx_file_commit(&file), ZX_FILE_FAULT);
+        IS(file.error, EACCES);
+        zx_file_discard(&file);
+        DONE(zx_file_open(&file, path, ZX_OPEN_READ_ONLY, 0));
+        IS(number(&file, "n"), 1);
+        _exit(wrong > 0);
+    }
+    IS(waitpid(child, &status, 0), child);
+    IS(status, 0);
+}
+
+/* A commit that finds the disk full commits nothing, and may be called again. */
+static void a_full_disk(const char *small) {
+    zx_file file = ZX_CLOSED_FILE;
+    make(&file, small, 200000);
+    char filling[440];
+    static uint8_t zeros[4096];
+    snprintf(filling, sizeof filling, "%s/filling", small);
+    FILE *fill = fopen(filling, "w");
+    while (fill && fwrite(zeros, 1, sizeof zeros, fill) == sizeof zeros && fflush(fill) == 0) {}
+    if (fill) fclose(fill);
+    set(&file, "n", 2);
+    IS(zx_file_commit(&file), ZX_FILE_FAULT);
+    IS(file.error, ENOSPC);
+    zx_file other_file = ZX_CLOSED_FILE;
+    DONE(zx_file_open(&other_file, path, ZX_OPEN_READ_ONLY, 0));
+    IS(number(&other_file, "n"), 1);
+    zx_file_discard(&other_file);
+    unlink(filling);
+    DONE(zx_file_commit(&file));
+    zx_file_discard(&file);
+    DONE(zx_file_open(&file, path, ZX_OPEN_ONLY | ZX_DURABLE, 0));
+    IS(number(&file, "n"), 2);
+    DONE(zx_file_close(&file));
+    unlink(path);
+}
+
+int main(int count, char **words) {
+    if (count < 2) return 2;
+    a_fork(words[1]);
+    a_reader(words[1]);
+    another_file(words[1]);
+    a_hard_link(words[1]);
+    a_closed_folder(words[1]);
+    if (count > 2) a_full_disk(words[2]);
+    unlink(path), unlink(log_path);
+    printf("durable.c: %d checks, %d wrong\n", checks, wrong);
+    return wrong != 0;
+}

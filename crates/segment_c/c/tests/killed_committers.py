@@ -1,0 +1,96 @@
+"""killed_committers.py FOLDER COUNT C CPP: kills committers of one file at random moments.
+
+Committers of C, C++ and Python, one after the other in a random order, add 1 to two numbers of one durable file in a
+transaction, again and again, and say each number that was committed. Each is killed; COUNT of them. It checks that
+- the next opening finds the last number that was said, or the next one, in both numbers;
+- who only reads finds that too;
+- each next committer can go on."""
+import os
+import random
+import select
+import signal
+import sys
+import time
+
+import zaluxhoni
+
+
+def commit_in_python(path, said):
+    while True:
+        file = zaluxhoni.open(path, "w", durable=True)
+        for _ in range(50):
+            with file.transaction():
+                file["n"] += 1
+                file["m"] += 1
+            os.write(said, b"%d\n" % file["n"])
+        if random.random() < 0.5:
+            file.close()
+        else:
+            file.discard()
+
+
+def start(command, path, said):
+    if command is not None:
+        return os.posix_spawn(command, [command, path], os.environ, file_actions=[(os.POSIX_SPAWN_DUP2, said, 1)])
+    child = os.fork()
+    if child == 0:
+        try:
+            commit_in_python(path, said)
+        except BaseException as error:
+            os.write(said, b"WRONG %s\n" % repr(error).encode())
+        finally:
+            os._exit(1)
+    return child
+
+
+def numbers(said):
+    rest = b""
+    while True:
+        more = os.read(said, 1 << 16)
+        if not more:
+            return rest.split(b"\n")[:-1]
+        rest += more
+
+
+def look(path, least):
+    """Returns the number of the file, by one that reads and by one that writes."""
+    with zaluxhoni.open(path, "r") as file:
+        read = file["n"], file["m"]
+    # the system may end the mapping of a killed process, and so its lock, a moment later
+    file = zaluxhoni.open(path, "w", durable=True, timeout=10)
+    written = file["n"], file["m"]
+    file.discard()
+    if read != written or read[0] != read[1] or not least <= read[0] <= least + 1:
+        raise SystemExit(f"WRONG {least} was said, {read} is read, {written} is found")
+    return read[0]
+
+
+def main():
+    folder, count, *commands = sys.argv[1:]
+    path, last, kills = os.path.join(folder, "committed.seg"), 0, 0
+    with zaluxhoni.open(path, "x", size=40000) as made:
+        made["n"] = made["m"] = 0
+        made["filling"] = os.urandom(10000).hex()
+    random.seed(7)
+    while kills < int(count):
+        ends = os.pipe()
+        pid = start(random.choice([*commands, None]), path, ends[1])
+        os.close(ends[1])
+        select.select([ends[0]], [], [], 60)
+        time.sleep(random.random() * 0.004)
+        os.kill(pid, signal.SIGKILL)
+        os.waitpid(pid, 0)
+        lines = numbers(ends[0])
+        os.close(ends[0])
+        if any(line.startswith(b"WRONG") for line in lines):
+            raise SystemExit(f"WRONG {lines[-1].decode()}")
+        for line in lines:
+            if int(line) not in (last + 1, last + 2):
+                raise SystemExit(f"WRONG {int(line)} is said behind {last}")
+            last = int(line)
+        last = look(path, last)
+        kills += 1
+    print(f"{kills} kills, {last} commits")
+
+
+main()

@@ -1,0 +1,52 @@
+"""wrong_protocols.py FOLDER: writes copies of files.c with a protocol that loses commits, one into each folder 0, 1, ..
+below FOLDER, and prints their names. crashes.c must find each."""
+import os
+import shutil
+import sys
+
+HERE = os.path.dirname(os.path.dirname(os.path.abspath(__file__)))
+
+WRONG = [
+    ("the mark is written before the data is synced", "durable.h",
+     "if (sync_log(held->log) && write_gate(held, true, commits->end) && sync_log(held->log)) return ZX_DONE;",
+     "if (write_gate(held, true, commits->end) && sync_log(held->log)) return ZX_DONE;"),
+    ("a commit is answered before its mark is synced", "durable.h",
+     "write_gate(held, true, commits->end) && sync_log(held->log)) return ZX_DONE;",
+     "write_gate(held, true, commits->end)) return ZX_DONE;"),
+    ("the log is emptied before the new file has its name", "durable.h",
+     "    if (code == ZX_DONE) code = replace(file, held, &image);\n    if (code != ZX_DONE) return code;\n    map_committed",
+     "    if (code == ZX_DONE) code = empty_log(file, held);\n    if (code == ZX_DONE) code = replace(file, held, &image);\n"
+     "    if (code != ZX_DONE) return code;\n    map_committed"),
+    ("a record has no shut gate behind it", "durable.h",
+     "    if (!write_at(held->log, body->bytes, body->len, (off_t)(commits->end + GATE))) return fault(file);",
+     "    if (!write_at(held->log, body->bytes, body->len - GATE, (off_t)(commits->end + GATE))) return fault(file);"),
+    ("a log that another process left is added to", "durable.h",
+     "    if (!commits->is_left) return ZX_DONE;", "    if (commits) return ZX_DONE;"),
+    ("a commit behind a failed sync is taken for done", "durable.h",
+     "    commits->is_unsure = true;\n    return faulty(file, ZX_FILE_UNSURE, errno);", "    return ZX_DONE;"),
+    ("a page that was committed is forgotten", "durable.h",
+     "        if (record->changed[page]) keep_page(commits, held->at, record->size, page);",
+     "        if (record->changed[page] && page > 0) keep_page(commits, held->at, record->size, page);"),
+    ("the folder of a new log is not synced", "durable.h",
+     "        zx_code code = sync_name(file, held);\n        if (code == ZX_DONE) return code;\n    }\n    zx_code code = fault(file);\n"
+     "    held->state = state;",
+     "        return ZX_DONE;\n    }\n    zx_code code = fault(file);\n    held->state = state;"),
+]
+
+
+def main():
+    for number, (what, file, old, new) in enumerate(WRONG):
+        folder = os.path.join(sys.argv[1], str(number))
+        shutil.copytree(os.path.join(HERE, "files"), os.path.join(folder, "files"))
+        shutil.copy(os.path.join(HERE, "files.c"), folder)
+        path = os.path.join(folder, "files", file)
+        with open(path) as it:
+            text = it.read()
+        if text.count(old) != 1:
+            sys.exit(f"{what}: the text is there {text.count(old)} times")
+        with open(path, "w") as it:
+            it.write(text.replace(old, new))
+        print(f"{number} {what}")
+
+
+main()

@@ -1,31 +1,30 @@
--- The laws of live sets, gaps and the bytes that lay them out for other crates.
+-- The laws of live sets, gaps and their bytes, for other crates.
 
 -- bytes lay out one live set, and the four changes keep a proper live set proper
 pub use Rattle.best_fit.proofs.tags.OneLiveSet.{lay_out_one}
 pub use Rattle.best_fit.proofs.extents.Changes.{all_keep_proper, is_proper-IsProper}
--- a live set with a placed extent is proper, and what is known of an answer that may be none
+-- a live set with a placed extent is proper; properties of optional results
 pub use Rattle.best_fit.proofs.extents.Inverse.{placed_is_proper}
 pub use Rattle.best_fit.proofs.extents.FirstFit.{IfSome_is, place-holds, shorter-IsShorter}
 pub use Rattle.best_fit.proofs.extents.Requests.{place-serves}
--- a legal size, and what a proper live set says of its first extent and of the holes
+-- a legal size, and the first extent and the holes of a proper live set
 pub use Rattle.best_fit.proofs.tags.TagsAndLiveSet.{IsLegal, legal_size}
 pub use Rattle.best_fit.proofs.extents.Proper.{IsBlock, IsFirst, IsFirst-proper_from, insert-here, insert-past}
 pub use Rattle.best_fit.proofs.extents.Proper.{is_hole-IsHole}
 pub use Rattle.best_fit.proofs.extents.Proper.{proper_from-IsFirst, proper_from-others}
 unfoldable pub use Rattle.best_fit.proofs.extents.Proper.{IsHole}
--- extents in order: one is put in or taken out
+-- extents in order: one is inserted or removed
 pub use Rattle.best_fit.proofs.extents.Order.{AllByRecursion-insert, AllByRecursion-insert_from}
 pub use Rattle.best_fit.proofs.extents.Order.{AllByRecursion-insert_new}
 pub use Rattle.best_fit.proofs.extents.Order.{AllByRecursion-others, insert-comm, list_any-insert, others-comm}
 pub use Rattle.best_fit.proofs.extents.Order.{others-insert}
 pub use Rattle.best_fit.proofs.extents.Order.{others-insert_same}
 pub use Rattle.best_fit.proofs.extents.Proper.{others-here, others-past, proper_from-hole, proper_from-reaches}
--- what stays twice stays, and what of it is kept with a block less
+-- unchanged blocks: two steps one after the other, and all blocks but one
 pub use Rattle.best_fit.proofs.tags.Frames.{AllByRecursion-beside, IsBeside, SameBlock-trans, blocks-trans}
 pub use Rattle.best_fit.proofs.tags.Frames.{keeps-insert}
 pub use Rattle.best_fit.proofs.tags.Frames.{keeps-others, keeps-refl, keeps-trans}
--- a block that was placed is live, with room for what was asked for, and so are those before it; and still where
--- payloads change
+-- a block that was placed is live, with room for the request; blocks placed before stay live, also if payloads change
 pub use Rattle.best_fit.proofs.allocation.NewBlock.{changed-header_blocks, allocated-is_live, allocated-live}
 pub use Rattle.best_fit.proofs.allocation.NewBlock.{allocated-room}
 pub use Rattle.best_fit.proofs.allocation.NewBlock.{allocated-room_before, changed-keeps, changed-keeps_block}
@@ -33,7 +32,7 @@ pub use Rattle.best_fit.proofs.allocation.NewBlock.{changed-live}
 pub use Rattle.best_fit.proofs.allocation.NewBlock.{changed-room, holds-fewer, is_red-payload, names-has_room}
 pub use Rattle.best_fit.proofs.allocation.NewBlock.{released-live}
 pub use Rattle.best_fit.proofs.allocation.NewBlock.{resized-live, still_allocated, still_allocated-block}
--- a tile is free or in use, and what the gaps and the live set of tiles are then
+-- a tile is free or in use; the gaps and the live set of tiles in each case
 pub use Rattle.best_fit.proofs.tags.TileRows.{AreContiguous-Row, free-unused, gaps_of-append, gaps_of-free}
 pub use Rattle.best_fit.proofs.tags.TileRows.{gaps_of-used}
 pub use Rattle.best_fit.proofs.tags.TileRows.{span_between-none, span_between-some, spans_from-row, unused, use_cases}
@@ -48,7 +47,7 @@ pub use Rattle.best_fit.proofs.gaps.Nodes.{NodeAt, node_from, node_len}
 -- gaps in the order of the tree: the same gaps, each once, and rising
 pub use Rattle.best_fit.proofs.gaps.Order.{in_sorted, sorted-is_sorted}
 pub use Rattle.best_fit.proofs.free_tree.Trees.{length-inserted, length-sorted}
--- the gaps of a heap are those of its live set, and links among them hold a tree
+-- the gaps of a heap are the gaps of its live set, and the links among them form a tree
 pub use Rattle.best_fit.proofs.free_tree.Trees.{all_gaps}
 pub use Rattle.best_fit.proofs.free_tree.LinkAndUnlink.{holds_closed}
 -- a walk over the tiles of a window, from one to the next
@@ -56,14 +55,14 @@ pub use Rattle.best_fit.proofs.tile_walk.Walk.{Here, Meets, first_here, meets, n
 pub use Rattle.best_fit.proofs.tile_walk.Walk.{passed_on}
 unfoldable pub use Rattle.best_fit.proofs.tile_walk.Walk.{to_go}
 pub use Rattle.best_fit.proofs.tags.TagsAndLiveSet.{said_row}
--- the fields of a node of a tree away from what changes
+-- the fields of a node of a tree outside the changed bytes
 pub use Rattle.best_fit.proofs.gaps.Setters.{cell_stays, beside_cell}
--- the payload of a block in use: where it lies, what stays beside it, and bytes that lay out what they say
+-- the payload of a block in use: its place, the bytes outside it, and the live set of bytes
 pub use Rattle.best_fit.proofs.heap.BlockLinks.{block_aligned}
 pub use Rattle.best_fit.proofs.tags.Writes.{block_payload, laid-heap, room_block}
 -- no gap is longer than the largest segment, and a number has no more digits than a greater one
 pub use Rattle.best_fit.proofs.allocation.LeastGap.{bits-le, too_long}
--- what stays and what is found where blocks are gone and others came
+-- blocks that stay, and blocks that are found, when some are freed and others allocated
 pub use Rattle.best_fit.proofs.extents.Spacing.{LiesBeside, above, apart-inserted, below, hole-order, insert-inserted}
 pub use Rattle.best_fit.proofs.extents.Spacing.{inserted-comm, live-spaced, rising-inserted, rising-weak, spaced-insert}
 unfoldable pub use Rattle.best_fit.proofs.extents.Spacing.{Differs, Rising}
@@ -79,7 +78,7 @@ pub use Rattle.raw_region.proofs.Laws.{SameBytes-word as word-same}
 pub use Rattle.best_fit.proofs.tags.Writes.{Room}
 pub use Rattle.best_fit.proofs.exchange.OneExchange.{IsRoomy, all-same-but, but-trans, exchanged-written, regrow-serves}
 pub use Rattle.best_fit.proofs.exchange.OneExchange.{regrown-live, roomy, written-but}
--- several exchanges, one after another, and what stays through them
+-- several exchanges, one after another, and the blocks that they keep
 pub use Rattle.best_fit.proofs.exchange.ManyExchanges.{AreInUse, IsFound, IsNone, SameSpread, all-found-in, all-in-use}
 pub use Rattle.best_fit.proofs.exchange.ManyExchanges.{back-again}
 pub use Rattle.best_fit.proofs.exchange.ManyExchanges.{but-apart, exchange-next, exchange-order, exchange-released}
@@ -91,7 +90,7 @@ pub use Rattle.best_fit.proofs.exchange.ManyExchanges.{kept-but}
 pub use Rattle.best_fit.proofs.exchange.ManyExchanges.{kept-found, last-first, middle-first, rest-rises, rising-others}
 pub use Rattle.best_fit.proofs.exchange.ManyExchanges.{spread-before, spread-behind, spread-refl, spread-trans}
 pub use Rattle.best_fit.proofs.exchange.ManyExchanges.{two-apart}
--- a block that is lengthened where it stands, and how that is undone
+-- a block that is lengthened in place, and the undoing of it
 pub use Rattle.best_fit.proofs.in_place_resize.Inverse.{not-wide, taken-back, wide-longer, wide-same, widened-back}
 -- the end of a window moves, and then bytes of it change
 pub use Rattle.best_fit.proofs.ending.TwoMemories.{ends-then}

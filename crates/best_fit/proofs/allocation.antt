@@ -1,4 +1,4 @@
--- Allocation: the new block has room for what was asked for, and the other blocks stay (`NewBlock`).
+-- Allocation: the new block has room for the request, and the other blocks stay (`NewBlock`).
 pub mod NewBlock
 pub mod LeastGap
 pub mod GapToBlock

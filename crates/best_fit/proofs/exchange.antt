@@ -1,3 +1,3 @@
--- Blocks that come in the place of others: once (`OneExchange`), and several times.
+-- Blocks that replace others: once (`OneExchange`), and several times.
 pub mod OneExchange
 pub mod ManyExchanges

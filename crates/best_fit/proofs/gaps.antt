@@ -1,4 +1,4 @@
--- A gap as a node of a tree: where it lies and what its fields say (`Nodes`), and what each setter changes.
+-- A gap as a node of a tree: its place and its fields (`Nodes`), and the effect of each setter.
 pub mod Nodes
 pub mod Order
 pub mod Setters

@@ -1,4 +1,4 @@
--- A block that is lengthened or shortened where it stands (`NewLength`).
+-- A block that is lengthened or shortened in place (`NewLength`).
 pub mod NewLength
 pub mod NextGap
 pub mod CutOff

@@ -1,3 +1,3 @@
--- Payloads that are lent: whatever is written there, the heap stays one (`Payloads.payload_written`).
+-- Lent payloads: any write to a payload keeps the heap (`Payloads.payload_written`).
 pub mod Payloads
 pub mod TwoRanges

@@ -1,4 +1,4 @@
--- The tags of a window and its live set: each says the other (`TagsAndLiveSet`), and what stays if tags change.
+-- The tags of a window and its live set determine each other (`TagsAndLiveSet`), and the effect of changed tags.
 pub mod TagsAndLiveSet
 pub mod TileRows
 pub mod RowParts

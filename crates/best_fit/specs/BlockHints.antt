@@ -1,10 +1,10 @@
--- Handles of blocks in use that are known.
+-- Block hints: known handles of blocks in use.
 use Rattle.std.specs.Prelude.{◌≡◌, ◌≢◌, ℕ, ◌+◌, ◌/◌, ◌%◌, ◌^◌, ◌<◌, ◌⊎◌, List, IsTrue, min, slice_index}
 use Rattle.raw_region.specs.Format.{current}
 use Rattle.best_fit.specs.declared.block_hints.BlockHints.{BlockHints}
 use Rattle.best_fit.specs.Heap.{IsHeap, is_live_in, live_of}
 
--- the place of the piece in which an offset lies, behind 256 others, if pieces have 2 ^ piece bytes
+-- the place of the piece that contains an offset, after 256 other places, if pieces have 2 ^ piece bytes
 abbrev pub place_of : ℕ → ℕ → ℕ
 place_of piece offset = min (offset / 2 ^ (piece % 64) + 256) 18446744073709551615
 
@@ -12,25 +12,25 @@ place_of piece offset = min (offset / 2 ^ (piece % 64) + 256) 184467440737095516
 abbrev pub known_place_of : ℕ → ℕ
 known_place_of h = h / 16 % 256
 
--- the handle is in its own place, or in the place of its piece
+-- the handle is remembered, or is the hint of its piece
 abbrev pub IsHinted : BlockHints → ℕ → Type 0
 IsHinted p h = (0 < h)
     × ((slice_index p.handles (known_place_of h) ≡ h) ⊎ (slice_index p.handles (place_of p.piece h) ≡ h))
 
--- the handle does not stand in the place, and each number that is not 0 stood where it stands
+-- the place no longer contains the handle; each other number is unchanged or 0
 pub record LacksHandle (old new : List ℕ) (place handle : ℕ) : Type 0 where
   pub gone : 0 < handle → slice_index new place ≢ handle
   pub others : (i : ℕ) → (slice_index new i ≡ slice_index old i) ⊎ (slice_index new i ≡ 0)
 
--- no handle is hinted
+-- there is no hint
 abbrev pub AreNone : BlockHints → Type 0
 AreNone p = (h : ℕ) → IsHinted p h → ⊥
 
--- each is the handle of a block in use
+-- each hint is the handle of a block in use
 abbrev pub LeadToBlocks : BlockHints → List ℕ → Type 0
 LeadToBlocks p b = (h : ℕ) → IsHinted p h → IsTrue (is_live_in (live_of b) h)
 
--- the bytes of a heap, with block hints that lead to its blocks
+-- the bytes of a heap, with hints that are handles of its blocks
 pub record IsHintedHeap (b : List ℕ) (p : BlockHints) : Type 0 where
   pub heap : IsHeap current b
   pub hints : LeadToBlocks p b

@@ -55,7 +55,7 @@ length-payloads (g ∷ gs) = ap suc (length-payloads gs)
 small_size : (n : ℕ) → IsTrue (is_legal_size n) → n ≤ 1073741824
 small_size n h = (legal n h).high
 
--- the parts of the test
+-- the parts of `is_good`
 pub record IsGoodHeap (c : WindowState) : Type 0 where
   pub size : IsTrue (is_legal_size (length c.bytes))
   pub tags : IsTrue (has_tags current (bytes_of c.bytes) (length c.bytes))

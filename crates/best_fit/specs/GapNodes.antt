@@ -1,5 +1,5 @@
--- The gaps of a window as the nodes of a tree: each is named by its payload, where its two links stand, and its colour
--- is in its tag.
+-- The gaps of a window as the nodes of a tree. The payload of a gap is its name and contains its two links; its tag has
+-- the colour.
 use Rattle.std.specs.Prelude.{ℕ, ◌+◌, Bool, false, ◌&&◌, ◌||◌, not, Option, Some, None, List, length, map, filter_map}
 use Rattle.std.specs.Prelude.{find, ◌==◌, nat_le, nat_lt, if◌then◌else◌}
 use Rattle.std.specs.List.{list_all, list_any}
@@ -14,7 +14,7 @@ use Rattle.best_fit.specs.Extents.{Gap}
 use Rattle.best_fit.specs.FreeTree.{cells_of, payloads}
 use Rattle.best_fit.specs.declared.heap.nodes.GapProbe.{GapProbe}
 
--- the tiles that the tags of a window say
+-- the tiles of a window's tags
 abbrev pub tiles_in : WindowState → List Tile
 tiles_in c = tiles_of (bytes_of c.bytes) (length c.bytes)
 
@@ -37,11 +37,11 @@ gaps_in c = gaps_of (tiles_in c)
 abbrev pub len_in : List Gap → ℕ → ℕ
 len_in gs n = elim (find (λ (g : Gap). g.offset + 16 == n) gs) [ None ↦ 0 | Some g ↦ g.len ]
 
--- by length, and then by offset
+-- one gap precedes another: by length, and then by offset
 abbrev pub comes_before : List Gap → ℕ → ℕ → Bool
 comes_before gs a b = nat_lt (len_in gs a) (len_in gs b) || ((len_in gs a == len_in gs b) && nat_lt a b)
 
--- the gap is shorter than the probe, or as long and at a lesser offset
+-- whether the gap is shorter than the probe, or as long and at a lesser offset
 abbrev pub stands_before : List Gap → GapProbe → ℕ → Bool
 stands_before gs sought n =
     nat_lt (len_in gs n) sought.len || ((len_in gs n == sought.len) && nat_lt n sought.from)
@@ -54,18 +54,18 @@ from_first wanted = record { len = wanted; from = 0 }
 abbrev pub own_probe : List Gap → ℕ → GapProbe
 own_probe gs n = record { len = len_in gs n; from = n }
 
--- both links of a node lead to nodes, or nowhere
+-- whether each of a node's two links is null or leads to a node
 abbrev pub links_among : Memory → List ℕ → ℕ → Bool
 links_among m ns n = leads (λ k. is_in k ns) (cells_of m n).left && leads (λ k. is_in k ns) (cells_of m n).right
 
 abbrev pub has_links : WindowState → Bool
 has_links c = list_all (links_among (bytes_of c.bytes) (payloads (gaps_in c))) (payloads (gaps_in c))
 
--- good tags, and the links of all gaps lead to gaps
+-- whether the tags are good, and each link of a gap is null or leads to a gap
 abbrev pub is_good : WindowState → Bool
 is_good c = is_legal_size (length c.bytes) && has_tags current (bytes_of c.bytes) (length c.bytes) && has_links c
 
--- if tags and links are good, the gaps are the nodes
+-- whether the window has good tags and links, and the number is the payload of a gap
 unfoldable pub is_gap_node : WindowState → ℕ → Bool
 is_gap_node c n = is_good c && is_in n (payloads (gaps_in c))
 
@@ -76,26 +76,26 @@ unfoldable pub gap_cells : WindowState → ℕ → Cell
 unfolding is_gap_node
 gap_cells c n = if is_good c && is_in n (payloads (gaps_in c)) then cells_of (bytes_of c.bytes) n else no_cell
 
--- ---- what no change of links and colours of gaps changes
+-- ---- the state that a change of links and colours of gaps keeps
 
 -- a tile, black if it is free
 abbrev pub plain : Tile → Tile
 plain t = record t { red = not (is_free t) && t.red }
 
--- where the bytes of a tile begin after its tag, and after the links of a free one
+-- the offset of a tile's bytes after its tag and, if it is free, its links
 abbrev pub own_from : Tile → ℕ
 own_from t = t.offset + (if is_free t then 32 else 16)
 
--- the byte is one of these
+-- whether the byte is one of the bytes after the tags and links of these tiles
 abbrev pub lies_behind : List Tile → ℕ → Bool
 lies_behind ts k = list_any (λ (t : Tile). nat_le (own_from t) k && nat_lt k (t.offset + t.len)) ts
 
--- the byte lies in the header, in the payload of a block in use or among the free bytes of a gap
+-- whether the byte lies in the header, in the payload of a block in use or in the free bytes of a gap
 abbrev pub is_kept : List Tile → ℕ → Bool
 is_kept ts k = nat_lt k 128 || lies_behind ts k
 
--- what lies round the window, its tiles but for the colours of the free ones, the header, the payloads of blocks and
--- the free bytes of gaps
+-- the bytes around the window, its tiles except the colours of gaps, the header, the payloads of blocks and the free
+-- bytes of gaps
 pub record GapTreeFrame : Type 0 where
   pub before : List ℕ
   pub after : List ℕ

@@ -1,4 +1,4 @@
--- Trees of gaps while a heap changes: the tree at word 24 has some of the gaps, and nothing else changes.
+-- Trees of gaps while a heap changes: the tree at word 24 contains some of the gaps.
 use Rattle.std.specs.Prelude.{◌≡◌, ℕ, ◌+◌, ◌≤◌, ◌<◌, ◌⊎◌, Bool, true, Option, Some, None, IfSome, if◌then◌else◌, List}
 use Rattle.std.specs.Prelude.{[], ◌∷◌, ◌++◌, length, map, IsTrue, nat_le}
 use Rattle.std.specs.List.{AllByRecursion}
@@ -21,16 +21,16 @@ node_of g = g.offset + 16
 abbrev pub is_long : ℕ → Gap → Bool
 is_long wanted g = nat_le wanted g.len
 
--- the lengths that searches read are the lengths of the gaps
+-- the first list gives each gap of the second its length
 abbrev pub HaveGapLengths : List Gap → List Gap → Type 0
 HaveGapLengths gs hs = AllByRecursion (λ (h : Gap). len_in gs (h.offset + 16) ≡ h.len) hs
 
--- gaps in order of offset, from a place on
+-- gaps in order of offset, from an offset on
 abbrev pub AreAscending : ℕ → List Gap → Type 0
 AreAscending at [] = Unit {0}
 AreAscending at (h ∷ hs) = (at ≤ h.offset) × AreAscending (h.offset + 1) hs
 
--- some of the gaps, in order of offset
+-- the second list has some of the gaps of the first, in order of offset
 pub record AreSomeGaps (gs hs : List Gap) : Type 0 where
   pub fits : HaveGapLengths gs hs
   pub rises : AreAscending 0 hs
@@ -43,23 +43,23 @@ pub record HasGapTree (c : WindowState) (hs : List Gap) : Type 0 where
   pub some : AreSomeGaps (gaps_in c) hs
   pub tree : IsTreeOf (bytes_of c.bytes) 24 (payloads (sorted_gaps hs))
 
--- where the link to the tree leads
+-- the root of the tree of gaps
 abbrev pub root_of_gaps : WindowState → Option ℕ
 root_of_gaps c = link_at (bytes_of c.bytes) 24
 
--- where the removal of a node of the tree may begin: at the root, or at its exit
+-- a point at which the removal of a node can begin: the root, or its exit
 pub record CanBeginRemoval (c : WindowState) (node : ℕ) (exit : Option ℕ) : Type 0 where
   pub begins : (hs : List Gap) (h : HasGapTree c hs)
       → IfSome exit (λ n. remove_point_of (comes_before (gaps_in c)) node h.tree.tree ≡ Some n)
 
--- good tags, and a tree of all gaps but one, whose links may be anything
+-- good tags, and a tree of all gaps except one, whose links are arbitrary
 pub record LacksGap (c : WindowState) (xs : List Gap) (g : Gap) (ys : List Gap) : Type 0 where
   pub said : EncodesTiles c (tiles_in c)
   pub merged : IsTrue (is_merged (tiles_in c))
   pub gaps : gaps_in c ≡ xs ++ (g ∷ ys)
   pub tree : IsTreeOf (bytes_of c.bytes) 24 (payloads (sorted_gaps (xs ++ ys)))
 
--- nothing changes but word 24, and the links and the colours of gaps
+-- only word 24, and the links and colours of gaps change
 pub record ChangesGapTree (old new : WindowState) : Type 0 where
   pub place : SameSurroundings old new
   pub size : length new.bytes ≡ length old.bytes
@@ -67,7 +67,7 @@ pub record ChangesGapTree (old new : WindowState) : Type 0 where
   pub bytes : (k : ℕ) → is_kept (tiles_in old) k ≡ true → (k < 24) ⊎ (32 ≤ k)
       → bytes_of new.bytes k ≡ bytes_of old.bytes k
 
--- a gap that is not in the tree, in which all others are
+-- this gap is not in the tree, which contains all others
 pub record IsUnlinkedGap (c : WindowState) (at len : ℕ) : Type 0 where
   pub front : List Tile
   pub tile : Tile
@@ -78,22 +78,22 @@ pub record IsUnlinkedGap (c : WindowState) (at len : ℕ) : Type 0 where
   pub len_is : tile.len ≡ len
   pub tree : HasGapTree c (gaps_of front ++ gaps_of back)
 
--- a tile, or none
+-- a list of the tile, if there is one
 abbrev pub tile_list : Option Tile → List Tile
 tile_list None = []
 tile_list (Some t) = t ∷ []
 
--- where a tile begins with the free one before it
+-- the offset of the free tile before, if there is one, otherwise this offset
 abbrev pub start_of : Option Tile → ℕ → ℕ
 start_of None at = at
 start_of (Some t) at = if is_free t then t.offset else at
 
--- where a tile begins that is free
+-- the offset of a tile, if there is one and it is free
 abbrev pub gap_offset : Option Tile → Option ℕ
 gap_offset None = None
 gap_offset (Some t) = if is_free t then Some t.offset else None
 
--- where the first gap begins
+-- the offset of the first gap
 abbrev pub offset_of : List Gap → Option ℕ
 offset_of [] = None
 offset_of (g ∷ gs) = Some g.offset

@@ -1,4 +1,4 @@
--- Building of the tree of gaps.
+-- Builds the tree of gaps.
 use Rattle.std.specs.Prelude.{◌≡◌, ℕ, ◌+◌, ◌<◌, ◌≤◌, ◌⊎◌, List, ◌∷◌, ◌++◌, length}
 use Rattle.std.specs.List.{AllByRecursion}
 use Rattle.raw_region.specs.Memory.{WindowState, SameBytes, bytes_of}
@@ -7,18 +7,18 @@ use Rattle.best_fit.specs.GapNodes.{gaps_in}
 use Rattle.best_fit.specs.GapTrees.{HasGapTree}
 use Rattle.best_fit.specs.Heap.{KeepsBlocks, EncodesLiveSet, live_of}
 
--- the tree has the gaps before this one, and not those from it on
+-- the tree contains exactly the gaps before this one
 pub record IsNextGap (c : WindowState) (xs : List Gap) (g : Gap) : Type 0 where
   pub behind : List Gap
   pub gaps : gaps_in c ≡ xs ++ (g ∷ behind)
   pub tree : HasGapTree c xs
 
--- only word 24 and the tags and links of gaps change
+-- the byte lies outside the gap
 abbrev pub IsBesideGap : ℕ → Gap → Type 0
 IsBesideGap k g = (k < g.offset) ⊎ (g.offset + g.len ≤ k)
 
--- the blocks in use keep their bytes and colours, and there is a tree of the gaps; nothing changes but word 24, and the
--- tags and links of gaps
+-- the blocks in use keep their bytes and colours, and there is a tree of the gaps; only word 24, and the tags and links
+-- of gaps change
 pub record RebuildsFreeTree (format : ℕ) (old new : WindowState) : Type 0 where
   pub live : EncodesLiveSet format new.bytes (live_of old.bytes)
   pub keeps : KeepsBlocks old new (live_of old.bytes).extents

@@ -1,4 +1,4 @@
-//! A gap, or the front of one, becomes a block in use.
+//! Turns a gap, or the front of one, into a block in use.
 ghost use Rattle.std.specs.Prelude.{◌≡◌, ℕ, ◌+◌, ◌*◌, ◌%◌, ◌^◌, ◌<◌, ◌≤◌, List, false, true, is_ok, length, nat_le};
 ghost use Rattle.std.specs.Prelude.{Some};
 ghost use Rattle.raw_region.specs.Memory.{bytes_of};
@@ -19,7 +19,7 @@ use crate::refusal::NoSpace;
 use crate::sizes::{MIN_BLOCK_LEN, room};
 use block_tags::{MAX_SEGMENT_LEN, Role, TAG_LEN};
 
-/// Takes a block for `n` bytes into use and returns its handle, or refuses if no gap is long enough.
+/// Allocates a block for `n` bytes and returns its handle; fails if no gap is long enough.
 pub fn allocate(touches: &mut TouchCounter, n: u64, role: Role) -> Result<u64, NoSpace>
     requires heap { IsHeap current touches.old.gaps.now.window.bytes }
     requires count { touches.old.count ≡ 0 }
@@ -40,7 +40,7 @@ pub fn allocate(touches: &mut TouchCounter, n: u64, role: Role) -> Result<u64, N
 }
 
 /// Allocates `wanted` bytes at the front of a gap that is not in the tree, or the whole gap if less than 32 bytes would
-/// be left. The rest enters the tree.
+/// remain. The remainder enters the tree.
 fn take(touches: &mut TouchCounter, at: u64, wanted: u64, role: Role)
     requires gap { (len : ℕ) × IsUnlinkedGap touches.old.gaps.now.window at len × (wanted ≤ len) }
     requires min_len { MIN_BLOCK_LEN ≤ wanted }
@@ -69,8 +69,8 @@ fn take(touches: &mut TouchCounter, at: u64, wanted: u64, role: Role)
     }
 }
 
-/// Cuts the tile at `at` to `len` bytes and returns true. The rest is free. Nothing changes if less than 32 bytes would
-/// be left.
+/// Cuts the tile at `at` to `len` bytes, frees the remainder and returns true. If the remainder would have less than 32
+/// bytes, it changes nothing and returns false.
 pub fn split_tail(touches: &mut TouchCounter, at: u64, len: u64) -> bool
     requires tile { HasTileAt touches.old.gaps.now.window at }
     requires min_len { MIN_BLOCK_LEN ≤ len }

@@ -1,29 +1,28 @@
-//! Block hints: handles of blocks in use that are known, so that a handle is found at once, or looked for from the
-//! nearest one on.
+//! Block hints: known handles of blocks in use. A search for a handle finds it there, or starts at the nearest hint.
 ghost use Rattle.std.specs.Prelude.{◌≡◌, ◌≢◌, ℕ, ◌⊎◌, ◌<◌, ◌≤◌, IfSome, slice_index, true};
 ghost use Rattle.best_fit.specs.BlockHints.{AreNone, IsHinted, LacksHandle, known_place_of, place_of};
 
 use raw_region::Notes;
 
-/// The first pieces have 2 to this many bytes.
+/// The binary logarithm of the first length of the pieces, in bytes.
 const SHORTEST: u32 = 11;
 
 /// The number of places for remembered handles. The places of the pieces follow.
 const KNOWN: usize = 256;
 
-/// Remembered handles, each in the place for its number, and at most one handle for each piece of a window. All pieces
-/// have the same length. Their number depends on the room for notes that came with the window's region; without it
-/// there are no hints.
+/// Remembered handles, each in the one place that its number allows, and at most one handle for each piece of a window.
+/// All pieces have the same length. Their number depends on the room for notes that came with the window's region;
+/// without it there are no hints.
 #[derive(Drop)]
 pub struct BlockHints {
-    /// The remembered handles, and then the least known handle of each piece; 0 for an empty place.
+    /// The remembered handles, then the least known handle of each piece; 0 for an empty place.
     handles: Notes,
-    /// The number of bytes of a piece is 2 to this.
+    /// The binary logarithm of the length of a piece, in bytes.
     piece: u32,
 }
 
 impl BlockHints {
-    /// Makes hints that lead to no block, in the room of notes that are 0.
+    /// Makes empty hints in the room of notes that are all 0.
     pub fn none_in(handles: Notes) -> BlockHints
         requires { (i : ℕ) → slice_index handles i ≡ 0 }
         ensures { AreNone result }
@@ -34,13 +33,14 @@ impl BlockHints {
         }
     }
 
-    /// Returns the room.
+    /// Returns the room for notes.
     pub fn into_notes(self) -> Notes {
         let BlockHints { handles, piece: _ } = self;
         handles
     }
 
-    /// Notes a handle if no lower one is known in its piece. If it stands after all pieces, these become longer.
+    /// Notes a handle if no lower one is known in its piece. If the handle lies after all pieces, it first lengthens
+    /// them.
     pub fn insert(&mut self, handle: u64)
         ensures { (h : ℕ) → IsHinted self.new h → (h ≡ handle) ⊎ IsHinted self.old h }
     {
@@ -51,7 +51,7 @@ impl BlockHints {
         }
     }
 
-    /// Makes each piece twice as long.
+    /// Doubles the length of each piece.
     fn widen(&mut self)
         ensures { (h : ℕ) → IsHinted self.new h → IsHinted self.old h }
     {
@@ -60,7 +60,7 @@ impl BlockHints {
         self.piece = wider;
     }
 
-    /// Stores a handle in its own place, over the handle there.
+    /// Remembers a handle. It replaces the handle in the same place.
     pub(crate) fn insert_known(&mut self, handle: u64)
         ensures { (h : ℕ) → IsHinted self.new h → (h ≡ handle) ⊎ IsHinted self.old h }
     {
@@ -69,14 +69,14 @@ impl BlockHints {
         }
     }
 
-    /// Tells whether a handle stands in its own place.
+    /// Returns true if the handle is remembered.
     pub(crate) fn is_known(&self, handle: u64) -> bool
         ensures { result ≡ true → IsHinted self.now handle }
     {
         handle != 0 && self.handles.get(known_place(handle)) as u64 == handle
     }
 
-    /// Takes a handle out, and returns whether it was noted in its piece.
+    /// Removes a handle, and returns true if it was the hint of its piece.
     pub(crate) fn remove(&mut self, handle: u64) -> bool
         ensures { (h : ℕ) → IsHinted self.new h → (h ≢ handle) × IsHinted self.old h }
     {
@@ -84,7 +84,7 @@ impl BlockHints {
         clear(&mut self.handles, place(self.piece, handle), handle)
     }
 
-    /// Returns the nearest noted handle at or before this one, if there is one.
+    /// Returns the greatest hint of a piece that is at most `handle`, if there is one.
     pub(crate) fn nearest(&self, handle: u64) -> Option<u64>
         ensures { IfSome result (λ h. IsHinted self.now h × (h ≤ handle)) }
     {
@@ -102,7 +102,7 @@ impl BlockHints {
     }
 }
 
-/// Notes a handle in its piece if no lower one is known there.
+/// Notes a handle as the hint of its piece if no lower one is known there.
 fn note(handles: &mut Notes, piece: u32, handle: u64)
     ensures { (i : ℕ) → (slice_index handles.new i ≡ slice_index handles.old i)
         ⊎ ((i ≡ place_of piece handle) × (slice_index handles.new i ≡ handle)) }
@@ -116,7 +116,7 @@ fn note(handles: &mut Notes, piece: u32, handle: u64)
     }
 }
 
-/// Empties a place if the handle stands there, and returns whether it did.
+/// Empties a place if it contains the handle, and returns true if it did.
 fn clear(handles: &mut Notes, place: usize, handle: u64) -> bool
     ensures { LacksHandle handles.old handles.new place handle }
 {
@@ -127,7 +127,7 @@ fn clear(handles: &mut Notes, place: usize, handle: u64) -> bool
     false
 }
 
-/// Notes the handles of shorter pieces in wider ones.
+/// Moves the hints of shorter pieces to wider ones.
 fn spread(handles: &mut Notes, shorter: u32, wider: u32)
     ensures piece { (h : ℕ) → 0 < h → slice_index handles.new (place_of wider h) ≡ h
         → slice_index handles.old (place_of shorter h) ≡ h }
@@ -142,7 +142,7 @@ fn spread(handles: &mut Notes, shorter: u32, wider: u32)
     }
 }
 
-/// Returns the place of the piece in which an offset lies.
+/// Returns the place of the piece that contains an offset.
 fn place(piece: u32, offset: u64) -> usize
     ensures { result ≡ place_of piece offset }
 {

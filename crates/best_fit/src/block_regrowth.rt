@@ -1,4 +1,4 @@
-//! Regrowth: a longer block in place, or a new block.
+//! Regrowth: lengthens a block in place, or replaces it by a new block.
 ghost use Rattle.std.specs.Prelude.{◌≤◌, IfSome, IsTrue};
 ghost use Rattle.raw_region.specs.Format.{current};
 ghost use Rattle.best_fit.specs.Exchange.{Regrows, Replaces};
@@ -10,13 +10,13 @@ use block_tags::Role;
 use raw_region::Steps;
 
 impl Heap {
-    /// Returns the handle of a block for `n` bytes in place of the one of a handle, and keeps its first `used` bytes.
-    /// If the block has the room, it stays, and no byte changes. Otherwise it is lengthened in place if possible, or a
-    /// new block of role storage is allocated before the old one is freed. Without a handle the block is new.
+    /// Makes room for `n` bytes in a block and returns its handle; the block keeps its first `used` bytes.
+    /// If the block has the room, it stays, and no byte changes. Otherwise the call lengthens it in place if possible,
+    /// or allocates a new block of role storage before it frees the old one. Without a handle the block is new.
     ///
     /// # Errors
     ///
-    /// `NoSpace` if a new block is needed and has no gap that is long enough. Nothing changes.
+    /// `NoSpace` if a new block is needed and no gap is long enough. Nothing changes.
     pub fn regrow(&mut self, storage: Option<u64>, n: u64, used: u64) -> Result<u64, NoSpace>
         requires fits { used ≤ n }
         requires room { IfSome storage (λ h. IsTrue (has_room (live_of self.old.bytes) h used)) }
@@ -38,7 +38,8 @@ impl Heap {
         }
     }
 
-    /// Returns a new block in the place of one, of which the first `used` bytes are kept.
+    /// Allocates a new block for `n` bytes, copies the first `used` bytes of the old block to it, frees the old block,
+    /// and returns the new handle; fails if no gap is long enough.
     fn replace(&mut self, handle: u64, n: u64, used: u64) -> Result<u64, NoSpace>
         requires fits { used ≤ n }
         requires room { IsTrue (has_room (live_of self.old.bytes) handle used) }

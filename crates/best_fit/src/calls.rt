@@ -12,8 +12,8 @@ use block_tags::{Role, TAG_LEN};
 use raw_region::Steps;
 
 impl Heap {
-    /// Takes a block for `n` bytes into use and returns its handle. The block is the front of the least gap that is
-    /// long enough, or all of it if less than 32 bytes would be left. Of gaps as long the first one is taken.
+    /// Allocates a block for `n` bytes and returns its handle. The block is the front of the shortest gap that is long
+    /// enough, or all of it if less than 32 bytes would remain. Of gaps with the same length it uses the first.
     ///
     /// # Errors
     ///
@@ -33,7 +33,7 @@ impl Heap {
         result
     }
 
-    /// Frees the block of a handle: it becomes one gap with the gaps before and after it.
+    /// Frees a block. It becomes one gap with the gaps before and after it.
     pub fn deallocate(&mut self, handle: u64, steps: &mut Steps)
         requires { IsTrue (is_live_in (live_of self.old.bytes) handle) }
         ensures released { Deallocates current self.old self.new handle }
@@ -46,8 +46,8 @@ impl Heap {
         steps.add(touches.count());
     }
 
-    /// Lengthens the block of a handle in place, to hold `n` bytes, and tells whether it did. It does if the block is
-    /// too short, and long enough with the gap after it. All of the gap is taken if less than 32 bytes would be left.
+    /// Lengthens a block in place to hold `n` bytes, and returns true if it did. It does so if the block is too short,
+    /// and long enough together with the gap after it. It uses all of the gap if less than 32 bytes would remain.
     /// Otherwise nothing changes.
     pub fn try_extend(&mut self, handle: u64, n: u64, steps: &mut Steps) -> bool
         requires { IsTrue (is_live_in (live_of self.old.bytes) handle) }
@@ -62,8 +62,8 @@ impl Heap {
         longer
     }
 
-    /// Shortens the block of a handle in place, to hold `n` bytes, if it is longer and a gap stands after it or at
-    /// least 32 bytes are cut off. Otherwise nothing changes.
+    /// Shortens a block in place to hold `n` bytes, if it is longer. A gap must follow the block, or the part cut off
+    /// must have at least 32 bytes. Otherwise nothing changes.
     pub fn shrink_in_place(&mut self, handle: u64, n: u64, steps: &mut Steps)
         requires { IsTrue (is_live_in (live_of self.old.bytes) handle) }
         ensures changes { ShrinksInPlace current self.old self.new handle n }

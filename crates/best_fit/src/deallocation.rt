@@ -1,4 +1,4 @@
-//! Deallocation, and the joining of gaps.
+//! Frees blocks and joins gaps.
 ghost use Rattle.std.specs.Prelude.{◌≡◌, ℕ, ◌+◌, ◌*◌, ◌^◌, ◌<◌, ◌≤◌, List, Some, ◌++◌, IsTrue, length, true};
 ghost use Rattle.block_tags.specs.declared.tile.Tile.{Tile as ATile};
 ghost use Rattle.raw_region.specs.Format.{current};
@@ -40,7 +40,7 @@ pub fn release(touches: &mut TouchCounter, at: u64)
     touches.link_gap(start(before, at) + TAG_LEN);
 }
 
-/// Takes the gap at an offset out of the tree, if there is one.
+/// Removes the gap at an offset from the tree, if there is an offset.
 pub fn unlink_if_gap(touches: &mut TouchCounter, gap: Option<u64>)
     requires tree { (xs gs ys : List Gap) × (gap ≡ offset_of gs) × (length gs ≤ 1)
         × HasGapTree touches.old.gaps.now.window (xs ++ (gs ++ ys)) }
@@ -59,7 +59,7 @@ pub fn unlink_if_gap(touches: &mut TouchCounter, gap: Option<u64>)
     }
 }
 
-/// Returns where a tile begins, if there is one and it is free.
+/// Returns the offset of a tile, if there is one and it is free.
 pub fn gap_at(tile: Option<Tile>) -> Option<u64>
     ensures { result ≡ gap_offset tile }
 {
@@ -69,7 +69,7 @@ pub fn gap_at(tile: Option<Tile>) -> Option<u64>
     }
 }
 
-/// Returns where the tile at `at` begins with the one before it, if that is free.
+/// Returns the offset of the tile before, if that is free; otherwise `at`.
 fn start(before: Option<Tile>, at: u64) -> u64
     ensures { result ≡ start_of before at }
 {
@@ -79,7 +79,7 @@ fn start(before: Option<Tile>, at: u64) -> u64
     }
 }
 
-/// Joins the tile at `at` with the gap after it, if there is one. `gap` is where that begins.
+/// Joins the tile at `at` with the gap after it, if there is one. `gap` is the gap's offset.
 pub fn coalesce_next(touches: &mut TouchCounter, at: u64, gap: Option<u64>)
     requires tile { HasTileAt touches.old.gaps.now.window at }
     requires gap { (ts : List ATile) → EncodesTiles touches.old.gaps.now.window ts
@@ -98,7 +98,7 @@ pub fn coalesce_next(touches: &mut TouchCounter, at: u64, gap: Option<u64>)
     }
 }
 
-/// Returns the length of the gap after the tile at `at`, or 0 if there is none.
+/// Returns the length of the gap after the tile at `at`, or 0 if no gap follows.
 pub fn next_gap_len(touches: &mut TouchCounter, at: u64) -> u64
     requires tile { HasTileAt touches.old.gaps.now.window at }
     requires no_overflow { touches.old.count + 1 < 2 ^ 64 }
@@ -113,7 +113,7 @@ pub fn next_gap_len(touches: &mut TouchCounter, at: u64) -> u64
     }
 }
 
-/// Joins the free tile at `at` with the gap before it, if there is one. `gap` is where that begins.
+/// Joins the free tile at `at` with the gap before it, if there is one. `gap` is the gap's offset.
 fn coalesce_previous(touches: &mut TouchCounter, at: u64, gap: Option<u64>)
     requires tile { HasTileAt touches.old.gaps.now.window at }
     requires free { (ts : List ATile) (t : ATile) → EncodesTiles touches.old.gaps.now.window ts

@@ -1,4 +1,4 @@
-//! The end of a heap's window, which is moved in its region.
+//! Moves the end of a heap's window in its region.
 ghost use Rattle.std.specs.Prelude.{◌≡◌, ◌+◌, ◌*◌, ◌%◌, ◌^◌, ◌<◌, ◌≤◌, ◌++◌, ◌∷◌, [], length, None, List};
 ghost use Rattle.raw_region.specs.Memory.{whole};
 ghost use Rattle.raw_region.specs.Format.{current};
@@ -17,8 +17,8 @@ use block_tags::{Role, TAG_LEN};
 use raw_region::Steps;
 
 impl Heap {
-    /// Lengthens the window by `extra` bytes of the region after it: a multiple of 16, at least 32. They are a gap, or
-    /// part of the gap that stood at the end. All blocks stay.
+    /// Lengthens the window by `extra` bytes of the region after it: a multiple of 16, at least 32. They become a gap,
+    /// or part of the gap at the old end. All blocks stay.
     pub fn extend_end(&mut self, extra: u64, steps: &mut Steps)
         requires min_len { 32 ≤ extra }
         requires multiple { extra % 16 ≡ 0 }
@@ -35,7 +35,7 @@ impl Heap {
     }
 
     /// Shortens the window by the gap at its end, if there is one, so that it ends after the last block. A window
-    /// without blocks has 144 bytes then. All blocks stay, and without such a gap every byte does.
+    /// without blocks shrinks to 144 bytes. All blocks stay. Without such a gap no byte changes.
     pub fn cut_end(&mut self, steps: &mut Steps)
         ensures changes { MovesEnd current self.old self.new (least_size (live_of self.old.bytes)) }
         ensures unchanged { least_size (live_of self.old.bytes) ≡ length self.old.bytes → self.new ≡ self.old }
@@ -48,8 +48,8 @@ impl Heap {
     }
 }
 
-/// Lengthens a heap's window by `extra` bytes, which become a block in use after all others, and returns where its tag
-/// begins.
+/// Lengthens a heap's window by `extra` bytes, which become a block in use after all others, and returns the offset of
+/// its tag.
 fn append_block(touches: &mut TouchCounter, extra: u64) -> u64
     requires heap { IsHeap current touches.old.gaps.now.window.bytes }
     requires min_len { MIN_BLOCK_LEN ≤ extra }
@@ -92,7 +92,7 @@ fn cut_gap(touches: &mut TouchCounter)
     }
 }
 
-/// Shortens a window by the gap at its end, which is not in the tree of the others.
+/// Shortens a window by the gap at its end, which is not in the tree of the other gaps.
 fn drop_gap(touches: &mut TouchCounter)
     requires tree { (front : List ATile) × (t : ATile) × (tiles_in touches.old.gaps.now.window ≡ front ++ t ∷ [])
         × (t.use_of ≡ None)

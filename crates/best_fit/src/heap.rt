@@ -1,4 +1,4 @@
-//! A heap: a window that blocks and gaps fill.
+//! A heap: a window full of blocks and gaps.
 ghost use Rattle.std.specs.Prelude.{◌≡◌, ◌≢◌, ◌-◌, ◌%◌, ◌<◌, ◌+◌, ◌≤◌, IsTrue, List, Option, Some, ℕ, length};
 ghost use Rattle.std.specs.Prelude.{option_map, slice_get};
 ghost use Rattle.std.specs.Borrow.{sem};
@@ -26,16 +26,16 @@ use nodes::{FREE_TREE_ROOT, GapTree, plant_first};
 use raw_region::{ByteRange, Window};
 use std::marker::Model;
 
-/// A window that blocks and gaps fill from byte 128 to its end tag of 16 bytes. The header before them is the caller's,
-/// but for its word at 24, the link to the tree of the gaps.
+/// A window full of blocks and gaps, from byte 128 to its end tag of 16 bytes. The header before them belongs to the
+/// caller, except its word at 24, the link to the tree of the gaps.
 ///
 /// A block in use has a role, and is named by its handle: the offset in bytes of its payload from the window's start.
-/// An offset in a block counts from its handle. The live set, as contracts have it, are the blocks in use by offset.
+/// An offset in a block counts from its handle. The live set in contracts is the list of blocks in use, by offset.
 #[derive(Drop)]
 pub struct Heap {
     pub(crate) gaps: GapTree,
-    /// Places at which a search for a handle begins. No byte and no result depends on them. Their room came with the
-    /// window's region.
+    /// Handles at which a search for a handle can begin. No byte and no result depends on them. Their room came with
+    /// the window's region.
     pub(crate) hints: BlockHints,
 }
 
@@ -53,8 +53,8 @@ impl Model for Heap {
 impl Heap {
     ghost use Rattle.best_fit.specs.Lent.{LendsBlock};
 
-    /// Returns a heap without blocks, over a window of 144 bytes or of a multiple of 16 from 176 to 1073741824. It
-    /// writes only the tags, the links of the one gap and the word at 24.
+    /// Formats a window as a heap without blocks. The window has 144 bytes, or a multiple of 16 from 176 to 1073741824.
+    /// It writes only the tags, the links of the one gap and the word at 24.
     pub fn fresh(window: Window) -> Heap
         requires { IsTrue (is_legal_size (length window.bytes)) }
         ensures { FormatsHeap current window result }
@@ -65,8 +65,8 @@ impl Heap {
         Heap::adopt_without_hints(window)
     }
 
-    /// Returns the heap that the bytes of a window already are: good tags, and at the word at 24 a good tree of the
-    /// gaps. No byte changes.
+    /// Makes a heap of a window that already contains one: good tags, and a good tree of the gaps at the word at 24. No
+    /// byte changes. It reads all tiles to find hints.
     pub fn adopt(window: Window) -> Heap
         requires { IsHeap current window.bytes }
         ensures { result ≡ window }
@@ -76,7 +76,7 @@ impl Heap {
         heap
     }
 
-    /// Makes a heap as `adopt` does, without hints, which `insert_hint` notes. It reads no tile.
+    /// Makes a heap as `adopt` does, but without hints. It reads no tile. `insert_hint` adds hints.
     pub fn adopt_without_hints(window: Window) -> Heap
         requires { IsHeap current window.bytes }
         ensures { result ≡ window }
@@ -87,8 +87,8 @@ impl Heap {
         Heap { gaps, hints }
     }
 
-    /// Notes the handle of a block in use, from which blocks after it are looked for. No byte changes, and no tile is
-    /// read.
+    /// Adds the handle of a block in use to the hints: a search for a later block can begin there. No byte changes, and
+    /// it reads no tile.
     pub fn insert_hint(&mut self, handle: u64)
         requires { IsTrue (is_live_in (live_of self.old.bytes) handle) }
         ensures { self.new ≡ self.old }
@@ -96,15 +96,15 @@ impl Heap {
         self.hints.insert(handle);
     }
 
-    /// Notes a handle if a block in use has it, so that `is_live` tells so at once. Any number may be given. No byte
-    /// changes.
+    /// Remembers a handle, which can be any number, if a block in use has it: `is_live` then needs no search for it. No
+    /// byte changes.
     pub fn remember(&mut self, handle: u64)
         ensures { self.new ≡ self.old }
     {
         tile_walk::remember(&self.gaps.window, &mut self.hints, handle);
     }
 
-    /// Returns the heap's window, with the bytes that it has now. The room for hints goes with it.
+    /// Returns the heap's window with its current bytes. The room for hints goes with it.
     pub fn into_window(self) -> Window
         ensures window { result ≡ self }
         ensures heap { IsHeap current result.bytes }
@@ -157,14 +157,14 @@ impl Heap {
         self.gaps.window.write_u64(at, value);
     }
 
-    /// Returns true if a block in use has this handle. The number can be any number.
+    /// Returns true if a block in use has this handle, which can be any number.
     pub fn is_live(&self, handle: u64) -> bool
         ensures { result ≡ is_live_in (live_of self.now.bytes) handle }
     {
         tile_walk::is_live(&self.gaps.window, &self.hints, handle)
     }
 
-    /// Returns the role of the block of a handle.
+    /// Returns the role of a block.
     pub fn role(&self, handle: u64) -> Role
         requires { IsTrue (is_live_in (live_of self.now.bytes) handle) }
         ensures { option_map (λ (x : Extent). x.role) (extent_at (live_of self.now.bytes) handle) ≡ Some result }
@@ -174,7 +174,7 @@ impl Heap {
             .unwrap()
     }
 
-    /// Returns the number of bytes that the block of a handle has room for.
+    /// Returns the length of a block's payload in bytes.
     pub fn room(&self, handle: u64) -> u64
         requires { IsTrue (is_live_in (live_of self.now.bytes) handle) }
         ensures { option_map (λ (x : Extent). x.len - 16) (extent_at (live_of self.now.bytes) handle) ≡ Some result }
@@ -182,7 +182,7 @@ impl Heap {
         block_tags::tile_at(&self.gaps.window, handle - TAG_LEN).len - TAG_LEN
     }
 
-    /// Returns the word at `at` in the block of a handle.
+    /// Returns the word at `at` in a block.
     pub fn word(&self, handle: u64, at: u64) -> u64
         requires { IsTrue (has_room (live_of self.now.bytes) handle (at + 8)) }
         ensures { result ≡ word_at (bytes_of self.now.bytes) (handle + at) }
@@ -190,7 +190,7 @@ impl Heap {
         self.gaps.window.read_u64(handle + at)
     }
 
-    /// Returns the `len` bytes from `at` on in the block of a handle.
+    /// Returns the `len` bytes from `at` on in a block.
     pub fn bytes(&self, handle: u64, at: u64, len: u64) -> &[u8]
         requires { IsTrue (has_room (live_of self.now.bytes) handle (at + len)) }
         ensures { result.now ≡ read (bytes_of self.now.bytes) (handle + at) len }
@@ -198,7 +198,7 @@ impl Heap {
         self.gaps.window.bytes(handle + at, len)
     }
 
-    /// Writes the word at `at` in the block of a handle.
+    /// Writes the word at `at` in a block.
     pub fn set_word(&mut self, handle: u64, at: u64, value: u64)
         requires { IsTrue (has_room (live_of self.old.bytes) handle (at + 8)) }
         ensures changes { ChangesBytes current self.old self.new (handle + at) 8 }
@@ -207,7 +207,7 @@ impl Heap {
         self.gaps.window.write_u64(handle + at, value);
     }
 
-    /// Writes bytes at `at` in the block of a handle.
+    /// Writes bytes at `at` in a block.
     pub fn write(&mut self, handle: u64, at: u64, bytes: &[u8])
         requires { IsTrue (has_room (live_of self.old.bytes) handle (at + length bytes.now)) }
         ensures changes { ChangesBytes current self.old self.new (handle + at) (length bytes.now) }
@@ -216,8 +216,8 @@ impl Heap {
         self.gaps.window.write(handle + at, bytes);
     }
 
-    /// Copies the `n` bytes from `from_at` on in the block `from` to `to_at` in the block `to`. It may be one block,
-    /// and the two ranges may overlap.
+    /// Copies the `n` bytes from `from_at` on in the block `from` to `to_at` in the block `to`. Both can be the same
+    /// block, and the ranges can overlap.
     pub fn copy(&mut self, from: u64, from_at: u64, to: u64, to_at: u64, n: u64)
         requires source { IsTrue (has_room (live_of self.old.bytes) from (from_at + n)) }
         requires target { IsTrue (has_room (live_of self.old.bytes) to (to_at + n)) }
@@ -228,7 +228,7 @@ impl Heap {
         self.gaps.window.move_within(from + from_at, to + to_at, n);
     }
 
-    /// Returns the payload of the block of a handle: its bytes after the tag, at least as many as were requested.
+    /// Returns the payload of a block: the bytes after its tag, at least as many as were requested.
     pub fn block(&self, handle: u64) -> &[u8]
         requires { IsTrue (is_live_in (live_of self.now.bytes) handle) }
         ensures { result.now ≡ payload_at self.now.bytes (live_of self.now.bytes) handle }
@@ -237,7 +237,7 @@ impl Heap {
         self.gaps.window.bytes(handle, len - TAG_LEN)
     }
 
-    /// Returns the payload of the block of a handle, mutably.
+    /// Returns the payload of a block, mutably.
     pub fn block_mut(&mut self, handle: u64) -> &mut [u8]
         requires { IsTrue (is_live_in (live_of self.old.bytes) handle) }
         ensures* writes_back { sem 𝓛 (LendsBlock self.entry handle result) }
@@ -247,7 +247,7 @@ impl Heap {
         self.gaps.window.bytes_mut(handle, len - TAG_LEN)
     }
 
-    /// Calls `change` with the payloads of two blocks, the first to be read and the second to be written.
+    /// Calls `change` with the payloads of two blocks, the first for reading and the second for writing.
     pub fn two<F: FnOnce(&[u8], &mut [u8])>(&mut self, first: u64, second: u64, change: F)
         requires first { IsTrue (is_live_in (live_of self.old.bytes) first) }
         requires second { IsTrue (is_live_in (live_of self.old.bytes) second) }
@@ -273,7 +273,7 @@ impl Heap {
         on_two(bytes, a, b, change);
     }
 
-    /// Returns the block or gap that stands first, or nothing if there is none.
+    /// Returns the first block or gap, or `None` if there is none.
     pub fn first_tile(&self) -> Option<Tile>
         ensures tile { result ≡ slice_get (tiles_of (bytes_of self.now.bytes) (length self.now.bytes)) 0 }
         ensures span { option_map span result ≡ slice_get (spans (live_of self.now.bytes)) 0 }
@@ -281,7 +281,7 @@ impl Heap {
         block_tags::first(&self.gaps.window)
     }
 
-    /// Returns the block or gap after one of the heap's, or nothing if that is the last.
+    /// Returns the block or gap after `tile`, or `None` if that is the last.
     pub fn next_tile(&self, tile: Tile) -> Option<Tile>
         requires { IsTileOf self.now.bytes tile }
         ensures tile { (i : ℕ) → slice_get (tiles_of (bytes_of self.now.bytes) (length self.now.bytes)) i ≡ Some tile
@@ -292,7 +292,7 @@ impl Heap {
         block_tags::next(&self.gaps.window, tile.offset)
     }
 
-    /// Returns the block or gap with `index` others before it, or nothing if there are no more.
+    /// Returns the block or gap with `index` others before it, or `None` if there are fewer.
     pub fn tile(&self, index: u64) -> Option<Tile>
         ensures tile { result ≡ slice_get (tiles_of (bytes_of self.now.bytes) (length self.now.bytes)) index }
         ensures span { option_map span result ≡ slice_get (spans (live_of self.now.bytes)) index }
@@ -307,21 +307,21 @@ impl Heap {
         tile_walk::live_count(&self.gaps.window)
     }
 
-    /// Returns the bytes of all gaps, their tags included.
+    /// Returns the number of bytes in all gaps, their tags included.
     pub fn free_bytes(&self) -> u64
         ensures { result ≡ free_bytes_of (live_of self.now.bytes) }
     {
         summing::free_bytes(&self.gaps)
     }
 
-    /// Makes the free bytes of each gap zero: those after its tag and its two links. No other byte changes.
+    /// Sets the free bytes of each gap, which follow its tag and its two links, to 0. No other byte changes.
     pub fn zero_free(&mut self)
         ensures { ZeroesFree current self.old self.new }
     {
         zeroing::zero_gaps(&mut self.gaps.window);
     }
 
-    /// Tells whether the tags are whole, as they are in each heap.
+    /// Checks the tags and returns true if they are whole, as they are in each heap.
     pub fn sanity(&self) -> bool
         ensures result { IsTrue result }
         ensures tags { result ≡ has_tags current (bytes_of self.now.bytes) (length self.now.bytes) }

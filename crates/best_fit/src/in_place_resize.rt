@@ -1,4 +1,4 @@
-//! A block that becomes longer or shorter where it stands.
+//! Lengthens and shortens a block in place.
 ghost use Rattle.std.specs.Prelude.{◌≡◌, ◌≢◌, true, ◌+◌, ◌*◌, ◌%◌, ◌^◌, ◌<◌, ◌≤◌, ◌||◌, IsTrue, length, nat_le, nat_lt};
 ghost use Rattle.raw_region.specs.Format.{current};
 ghost use Rattle.link_tree.specs.Tree.{bits};
@@ -12,7 +12,8 @@ use crate::heap::touch_counter::TouchCounter;
 use crate::sizes::{MIN_BLOCK_LEN, room};
 use block_tags::{MAX_SEGMENT_LEN, TAG_LEN};
 
-/// Lengthens the block whose tag begins at `at` to hold `n` bytes, if it is too short and the gap after it allows.
+/// Lengthens the block whose tag begins at `at` to hold `n` bytes, and returns true if it did. It does so if the block
+/// is too short, and long enough with the gap after it.
 pub fn extend(touches: &mut TouchCounter, at: u64, n: u64) -> bool
     requires heap { IsHeap current touches.old.gaps.now.window.bytes }
     requires live { IsTrue (is_live_in (live_of touches.old.gaps.now.window.bytes) (at + TAG_LEN)) }
@@ -39,7 +40,7 @@ pub fn extend(touches: &mut TouchCounter, at: u64, n: u64) -> bool
     true
 }
 
-/// Shortens the block whose tag begins at `at` to hold `n` bytes, if the part that is cut off can be a gap.
+/// Shortens the block whose tag begins at `at` to hold `n` bytes, if the part cut off can become a gap.
 pub fn shorten(touches: &mut TouchCounter, at: u64, n: u64)
     requires heap { IsHeap current touches.old.gaps.now.window.bytes }
     requires live { IsTrue (is_live_in (live_of touches.old.gaps.now.window.bytes) (at + TAG_LEN)) }
@@ -64,15 +65,16 @@ pub fn shorten(touches: &mut TouchCounter, at: u64, n: u64)
     }
 }
 
-/// Returns true if the part that is cut off a block joins the gap after it, or is long enough for a gap of its own.
+/// Returns true if the part cut off a block can become a gap: it joins the gap after the block, or has at least 32
+/// bytes.
 fn leaves_gap(cut: u64, behind: u64) -> bool
     ensures { result ≡ (nat_lt 0 behind || nat_le 32 cut) }
 {
     behind > 0 || cut >= MIN_BLOCK_LEN
 }
 
-/// Gives the block whose tag begins at `at` all of the gap after it, and cuts it to `wanted` bytes if enough for a gap
-/// is left. That gap enters the tree.
+/// Joins the block whose tag begins at `at` with the gap after it, and cuts the block to `wanted` bytes if the
+/// remainder can be a gap. The remainder then enters the tree.
 pub fn absorb_and_split(touches: &mut TouchCounter, at: u64, wanted: u64)
     requires heap { IsHeap current touches.old.gaps.now.window.bytes }
     requires live { IsTrue (is_live_in (live_of touches.old.gaps.now.window.bytes) (at + TAG_LEN)) }

@@ -1,4 +1,4 @@
-//! Two ranges of bytes lent together for the time of a call.
+//! Lends two ranges of bytes for one call.
 ghost use Rattle.std.specs.Prelude.{◌≡◌, ◌+◌, ◌≤◌, ℕ, List, length};
 ghost use Rattle.std.specs.List.{refill};
 ghost use Rattle.raw_region.specs.Memory.{part, patched};
@@ -7,7 +7,7 @@ ghost use Rattle.best_fit.specs.Pairs.{CallsOnTwo, TakesTwo};
 
 use raw_region::{ByteRange, two_mut};
 
-/// Calls `change` with two ranges of the bytes, the first to be read and the second to be written.
+/// Calls `change` with two ranges of the bytes, the first for reading and the second for writing.
 pub fn on_two<F: FnOnce(&[u8], &mut [u8])>(bytes: &mut [u8], a: ByteRange, b: ByteRange, change: F)
     requires first_in_bounds { a.from + a.len ≤ length bytes.old }
     requires second_in_bounds { b.from + b.len ≤ length bytes.old }

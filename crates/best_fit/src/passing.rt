@@ -1,4 +1,4 @@
-//! Block hints of freed blocks: the hint then leads to the next block.
+//! Updates the block hints when a block is freed: its hint moves to the next block.
 ghost use Rattle.std.specs.Prelude.{◌≡◌, ◌≢◌, ℕ, ◌+◌, ◌^◌, ◌<◌, ◌≤◌, IfSome, IsTrue};
 ghost use Rattle.raw_region.specs.Format.{current};
 ghost use Rattle.best_fit.specs.Heap.{IsHeap, is_live_in, live_of};
@@ -8,7 +8,8 @@ use crate::block_hints::BlockHints;
 use crate::heap::touch_counter::TouchCounter;
 use block_tags::TAG_LEN;
 
-/// Removes a handle from the block hints. A hint of a piece then leads to the block after it, if there is one.
+/// Removes a handle from the block hints. If it was the hint of a piece, the next block in use becomes a hint, if there
+/// is one.
 pub fn retarget_hint(touches: &mut TouchCounter, hints: &mut BlockHints, handle: u64)
     requires heap { IsHeap current touches.old.gaps.now.window.bytes }
     requires hints { LeadToBlocks hints.old touches.old.gaps.now.window.bytes }
@@ -28,7 +29,7 @@ pub fn retarget_hint(touches: &mut TouchCounter, hints: &mut BlockHints, handle:
     }
 }
 
-/// Returns the handle of the next block in use after the one of a handle, if there is one.
+/// Returns the handle of the next block in use after a block, if there is one.
 fn block_behind(touches: &mut TouchCounter, handle: u64) -> Option<u64>
     requires heap { IsHeap current touches.old.gaps.now.window.bytes }
     requires live { IsTrue (is_live_in (live_of touches.old.gaps.now.window.bytes) handle) }

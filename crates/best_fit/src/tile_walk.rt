@@ -10,8 +10,8 @@ use crate::block_hints::BlockHints;
 use block_tags::{TAG_LEN, Tile, first, next, tile_at};
 use raw_region::Window;
 
-/// Returns true if a block in use has this handle, which can be any number. A remembered handle is known at once; any
-/// other is searched from the nearest block hint on.
+/// Returns true if a block in use has this handle, which can be any number. It finds a remembered handle at once, and
+/// searches for any other from the nearest block hint on.
 pub fn is_live(window: &Window, hints: &BlockHints, handle: u64) -> bool
     requires { IsHintedHeap window.now.bytes hints.now }
     ensures { result ≡ is_live_in (live_of window.now.bytes) handle }
@@ -22,7 +22,7 @@ pub fn is_live(window: &Window, hints: &BlockHints, handle: u64) -> bool
     is_reached(window, hints, handle)
 }
 
-/// Tells whether a walk from the nearest block hint reaches a block in use of this handle.
+/// Searches for a handle from the nearest block hint on, and returns true if a block in use has it.
 fn is_reached(window: &Window, hints: &BlockHints, handle: u64) -> bool
     requires { IsHintedHeap window.now.bytes hints.now }
     ensures { result ≡ is_live_in (live_of window.now.bytes) handle }
@@ -40,7 +40,7 @@ fn is_reached(window: &Window, hints: &BlockHints, handle: u64) -> bool
     false
 }
 
-/// Notes a handle if a block in use has it, so that `is_live` tells so at once. Any number may be given.
+/// Remembers a handle, which can be any number, if a block in use has it: `is_live` then needs no search for it.
 pub fn remember(window: &Window, hints: &mut BlockHints, handle: u64)
     requires { IsHintedHeap window.now.bytes hints.old }
     ensures { LeadToBlocks hints.new window.now.bytes }
@@ -50,7 +50,7 @@ pub fn remember(window: &Window, hints: &mut BlockHints, handle: u64)
     }
 }
 
-/// Notes the first block in use of each piece of a heap's window, and reads all tiles.
+/// Notes the first block in use of each piece of a heap's window. It reads all tiles.
 pub fn note_blocks(window: &Window, hints: &mut BlockHints)
     requires { IsHintedHeap window.now.bytes hints.old }
     ensures { LeadToBlocks hints.new window.now.bytes }
@@ -80,7 +80,7 @@ pub fn live_count(window: &Window) -> u64
     count
 }
 
-/// Returns the tile with `index` tiles before it, or nothing if there are no more.
+/// Returns the tile with `index` tiles before it, or `None` if there are fewer.
 pub fn tile(window: &Window, index: u64) -> Option<Tile>
     requires { IsHeap current window.now.bytes }
     ensures { result ≡ slice_get (tiles_of (bytes_of window.now.bytes) (length window.now.bytes)) index }

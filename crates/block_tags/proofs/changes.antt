@@ -1,5 +1,5 @@
--- What the tags say after words of them are written: `WrittenTags` says it of any change, and the others of one call
--- each.
+-- The tiles of the tags after words are written: `WrittenTags` covers any change, each other file the change of one
+-- call.
 pub mod WrittenTags
 pub mod Split
 pub mod Merge

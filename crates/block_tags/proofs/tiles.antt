@@ -1,4 +1,4 @@
--- Tags and the tiles that they say: the tags of a window say one list of tiles, the one that is read off
+-- Tags and their tiles: the tags of a window describe one list of tiles, the list that is read
 -- (`ReadOff.say_one_list`).
 pub mod ReadOff
 pub mod TagsSayTiles

@@ -5,7 +5,7 @@ use Rattle.block_tags.specs.declared.tile.Role.{Role}
 use Rattle.block_tags.specs.declared.tile.Tile.{Tile}
 use Rattle.block_tags.specs.Tiles.{is_tile}
 
--- tiles of one format that fill the bytes from an offset up to another, one after the other
+-- tiles of one format that fill the bytes from an offset up to another, without a space
 abbrev pub AreContiguous : ℕ → ℕ → List Tile → ℕ → Type 0
 AreContiguous format from [] to = from ≡ to
 AreContiguous format from (t ∷ ts) to = (t.offset ≡ from) × IsTrue (is_tile format t)
@@ -28,7 +28,7 @@ abbrev pub next_in : List Tile → ℕ → Option Tile
 next_in [] at = None
 next_in (t ∷ ts) at = if t.offset == at then first_in ts else next_in ts at
 
--- the tile before the one at an offset, if this one stands before the list
+-- the tile before the one at an offset, if `before` is the tile before the list
 abbrev pub previous_from : Option Tile → List Tile → ℕ → Option Tile
 previous_from before [] at = None
 previous_from before (t ∷ ts) at = if t.offset == at then before else previous_from (Some t) ts at
@@ -54,11 +54,11 @@ abbrev pub changed_at : ℕ → (Tile → List Tile → List Tile) → List Tile
 changed_at at change [] = []
 changed_at at change (t ∷ ts) = if t.offset == at then change t ts else t ∷ changed_at at change ts
 
--- a tile in two: the first has this length, and the second is free
+-- a tile in two parts: the first has this length, and the second is free
 abbrev pub in_two : ℕ → Tile → List Tile → List Tile
 in_two len t ts = record t { len = len } ∷ free_tile (t.offset + len) (t.len - len) ∷ ts
 
--- a tile and the one after it in one
+-- a tile joined with the next one
 abbrev pub in_one : Tile → List Tile → List Tile
 in_one t [] = t ∷ []
 in_one t (u ∷ ts) = record t { len = t.len + u.len } ∷ ts
@@ -69,23 +69,23 @@ used_for use_of t ts = record t { use_of = use_of } ∷ ts
 abbrev pub of_colour : Bool → Tile → List Tile → List Tile
 of_colour red t ts = record t { red = red } ∷ ts
 
--- the list with the tile at an offset as two
+-- the list with the tile at an offset split
 abbrev pub split_at : ℕ → ℕ → List Tile → List Tile
 split_at at len ts = changed_at at (in_two len) ts
 
--- the list with a tile and the next one as one
+-- the list with the tile at an offset joined with the next one
 abbrev pub joined_at : ℕ → List Tile → List Tile
 joined_at at ts = changed_at at in_one ts
 
--- the list with another use of a tile
+-- the list with the use of one tile changed
 abbrev pub with_use_at : ℕ → Option Role → List Tile → List Tile
 with_use_at at use_of ts = changed_at at (used_for use_of) ts
 
--- the list with another colour of a tile
+-- the list with the colour of one tile changed
 abbrev pub with_red_at : ℕ → Bool → List Tile → List Tile
 with_red_at at red ts = changed_at at (of_colour red) ts
 
--- a list and a free tile from an offset up to another
+-- a list with a free tile appended, from an offset up to another
 abbrev pub with_free : List Tile → ℕ → ℕ → List Tile
 with_free ts from to = ts ++ free_tile from (to - from) ∷ []
 

@@ -1,4 +1,4 @@
--- Tiles: the parts that fill a segment from 128 to its end tag, and the tags that say so.
+-- Tiles: the parts that fill a segment from 128 to its end tag, and their tags.
 use Rattle.std.specs.Prelude.{◌≡◌, ℕ, zero, suc, ◌+◌, ◌-◌, ◌*◌, ◌%◌, Bool, true, false, ◌&&◌, ◌||◌, not, Option, Some}
 use Rattle.std.specs.Prelude.{None, List, [], ◌∷◌, IsTrue, ◌==◌, nat_le, nat_lt, ◌/◌, ◌<◌, ◌^◌, if◌then◌else◌, is_none}
 use Rattle.raw_region.specs.Memory.{Memory, word_at}
@@ -6,7 +6,7 @@ use Rattle.block_tags.specs.declared.tile.Role.{Role}
 use Rattle.block_tags.specs.declared.tile.Tile.{Tile}
 use Rattle.block_tags.specs.declared.tile.Role.TheVariants.{Object, Index, Storage, Node}
 
--- the role of a block in its tag: bits 2 and 3; bit 0 says that it is in use, bit 1 that it is red
+-- the role of a block in its tag, in bits 2 and 3; bit 0 means in use, and bit 1 means red
 abbrev pub role_bits : Role → ℕ
 role_bits Object = 0
 role_bits Index = 4
@@ -21,7 +21,7 @@ abbrev pub red_bit : Bool → ℕ
 red_bit true = 2
 red_bit false = 0
 
--- only nodes may be red and, from format 1 on, free tiles
+-- whether a tile with this use can be red: nodes can, and from format 1 on free tiles
 abbrev pub may_be_red : ℕ → Option Role → Bool
 may_be_red zero None = false
 may_be_red (suc format) None = true
@@ -30,7 +30,7 @@ may_be_red format (Some Index) = false
 may_be_red format (Some Storage) = false
 may_be_red format (Some Node) = true
 
--- a tile has a length of at least 32, a multiple of 16, and a colour that it may have
+-- whether the tile has a length of at least 32, a multiple of 16, and a colour that its use allows
 abbrev pub is_tile : ℕ → Tile → Bool
 is_tile format t = nat_le 32 t.len && (t.len % 16 == 0) && (not t.red || may_be_red format t.use_of)
 
@@ -38,28 +38,28 @@ is_tile format t = nat_le 32 t.len && (t.len % 16 == 0) && (not t.red || may_be_
 abbrev pub tag_word : Tile → ℕ
 tag_word t = t.len + use_bits t.use_of + red_bit t.red
 
--- the tags from an offset on, after a tile of length before, say these tiles, which reach to the end tag
+-- the tags from an offset on, after a tile of length before, describe these tiles, which reach to the end tag
 abbrev pub AreTags : ℕ → Memory → ℕ → ℕ → List Tile → ℕ → Type 0
 AreTags format m at before [] end = (at ≡ end) × (word_at m at ≡ before) × (word_at m (at + 8) ≡ 1)
 AreTags format m at before (t ∷ ts) end =
     (t.offset ≡ at) × IsTrue (is_tile format t) × (word_at m at ≡ before) × (word_at m (at + 8) ≡ tag_word t)
     × AreTags format m (at + t.len) t.len ts end
 
--- the tags of a segment of this size say these tiles
+-- the tags of a segment of this size describe these tiles
 abbrev pub AreTilesOf : ℕ → Memory → ℕ → List Tile → Type 0
 AreTilesOf format m size ts = AreTags format m 128 0 ts (size - 16)
 
--- the tile is a gap
+-- whether the tile is a gap
 abbrev pub is_free : Tile → Bool
 is_free t = is_none t.use_of
 
--- no two free tiles are neighbours
+-- whether no two free tiles are neighbours
 abbrev pub is_merged : List Tile → Bool
 is_merged [] = true
 is_merged (t ∷ []) = true
 is_merged (t ∷ u ∷ ts) = not (is_free t && is_free u) && is_merged (u ∷ ts)
 
--- ---- the tiles that the tags say, read off going from 128 by lengths
+-- ---- the tiles of the tags, read from 128 on by their lengths
 
 abbrev pub role_of_bits : ℕ → Role
 role_of_bits b = if b == 0 then Object else if b == 4 then Index else if b == 8 then Storage else Node
@@ -74,7 +74,7 @@ tile_of_word at w =
       red = (w / 2 % 2 == 1);
     }
 
--- the tile that the second word at an offset says
+-- the tile that the second word at an offset describes
 abbrev pub tile_at : Memory → ℕ → Tile
 tile_at m at = tile_of_word at (word_at m (at + 8))
 
@@ -95,11 +95,11 @@ are_tags format m at before (t ∷ ts) end =
     (t.offset == at) && is_tile format t && (word_at m at == before) && (word_at m (at + 8) == tag_word t)
     && are_tags format m (at + t.len) t.len ts end
 
--- the tags are whole, and no two free tiles are neighbours
+-- whether the tags are whole, and no two free tiles are neighbours
 abbrev pub has_tags : ℕ → Memory → ℕ → Bool
 has_tags format m size = are_tags format m 128 0 (tiles_of m size) (size - 16) && is_merged (tiles_of m size)
 
--- the law: the tags say one list of tiles
+-- the law: the tags describe one list of tiles
 abbrev pub SayOneList : Type 0
 SayOneList = (format size : ℕ) (m : Memory) (ts : List Tile) → size < 2 ^ 63 → AreTilesOf format m size ts
     → tiles_of m size ≡ ts

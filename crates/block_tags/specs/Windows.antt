@@ -1,4 +1,4 @@
--- Words of contracts about a window: its tags encode a list of tiles. Records that bear the name of a need are
+-- Words of contracts about a window: its tags encode a list of tiles. Records with a name like `HasFreeNext` are
 -- conditions.
 use Rattle.std.specs.Prelude.{◌≡◌, ℕ, ◌+◌, ◌-◌, ◌%◌, ◌<◌, ◌≤◌, Bool, ◌||◌, not, Option, Some, List, length, IsTrue}
 use Rattle.raw_region.specs.Memory.{WindowState, SameSurroundings, SameBytesExcept, bytes_of, word_at}
@@ -9,7 +9,7 @@ use Rattle.block_tags.specs.Format.{is_legal_size}
 use Rattle.block_tags.specs.Tiles.{AreTilesOf, is_free, may_be_red}
 use Rattle.block_tags.specs.Lists.{tile_in, next_in, last_in, IsBesideTags}
 
--- the window has a legal size, and its tags say these tiles
+-- the window has a legal size, and its tags describe these tiles
 pub record EncodesTiles (c : WindowState) (ts : List Tile) : Type 0 where
   pub size : IsTrue (is_legal_size (length c.bytes))
   pub tags : AreTilesOf current (bytes_of c.bytes) (length c.bytes) ts
@@ -20,14 +20,14 @@ pub record FrontSaysTiles (c : WindowState) (n : ℕ) (ts : List Tile) : Type 0 
   pub within : n ≤ length c.bytes
   pub tags : AreTilesOf current (bytes_of c.bytes) n ts
 
--- nothing changes but the tags of the old tiles and of the new ones, and the end tag
+-- only the tags of the old tiles and of the new tiles change, and the end tag
 pub record SameExceptTags (old new : WindowState) (ts us : List Tile) : Type 0 where
   pub place : SameSurroundings old new
   pub size : length new.bytes ≡ length old.bytes
   pub bytes : (k : ℕ) → IsBesideTags ts k → IsBesideTags us k → k < length old.bytes - 16
       → bytes_of new.bytes k ≡ bytes_of old.bytes k
 
--- the tags say some tiles
+-- the tags describe tiles
 pub record IsTiledWindow (c : WindowState) : Type 0 where
   pub tiles : List Tile
   pub said : EncodesTiles c tiles
@@ -39,7 +39,7 @@ pub record HasTileAt (c : WindowState) (at : ℕ) : Type 0 where
   pub tile : Tile
   pub stands : tile_in tiles at ≡ Some tile
 
--- the tile there has this many bytes, and at least 32 more
+-- the tile at this offset has len bytes, and at least 32 more
 pub record CanSplit (c : WindowState) (at len : ℕ) : Type 0 where
   pub tiles : List Tile
   pub said : EncodesTiles c tiles
@@ -59,7 +59,7 @@ pub record HasFreeNext (c : WindowState) (at : ℕ) : Type 0 where
   pub behind : next_in tiles at ≡ Some next
   pub free : IsTrue (is_free next)
 
--- the tile there may keep its colour if it is used for this
+-- the tile at this offset keeps a legal colour if its use becomes use_of
 pub record CanTakeUse (c : WindowState) (at : ℕ) (use_of : Option Role) : Type 0 where
   pub tiles : List Tile
   pub said : EncodesTiles c tiles
@@ -67,7 +67,7 @@ pub record CanTakeUse (c : WindowState) (at : ℕ) (use_of : Option Role) : Type
   pub stands : tile_in tiles at ≡ Some tile
   pub colour : IsTrue (not tile.red || may_be_red current use_of)
 
--- the tile there may have this colour
+-- the tile at this offset can have this colour
 pub record MayHaveColour (c : WindowState) (at : ℕ) (red : Bool) : Type 0 where
   pub tiles : List Tile
   pub said : EncodesTiles c tiles

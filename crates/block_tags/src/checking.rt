@@ -1,4 +1,4 @@
-//! Whether the tags of any window say tiles.
+//! Checks the tags of any window.
 ghost use Rattle.std.specs.Prelude.{◌≡◌, ◌+◌, ◌*◌, ◌≤◌, ◌<◌, ◌^◌, ◌==◌, ◌&&◌, IsTrue, false, is_ok, length};
 ghost use Rattle.raw_region.specs.Memory.{bytes_of, word_at};
 ghost use Rattle.raw_region.specs.Format.{current};
@@ -11,26 +11,26 @@ use crate::tile::{BadTag, Tile};
 use crate::words::{END_MARK, may_be_red, tag_word, tile_there};
 use raw_region::Window;
 
-/// The number of the format that is written.
+/// The number of the current format.
 const FORMAT: u64 = 2;
 
-/// The result of a check of all tags: whether all are right, the number of tags that it read, and where it ended.
+/// The result of a check of all tags.
 #[derive(Clone, Copy, Debug, PartialEq, Eq)]
 pub struct CheckedTags {
-    /// Whether the tags say tiles that fill the window.
+    /// True if the tags describe tiles that fill the window.
     pub are_good: bool,
-    /// The number of tags that were read: the good tiles, and one more, which is the end tag or the first wrong tag.
+    /// The number of tags read: one for each good tile, and one for the end tag or the first bad tag.
     pub tags: u64,
-    /// Where the last tag that was read stands.
+    /// The offset of the last tag read.
     pub at: u64,
 }
 
-/// Reads all tags of a window of 144 bytes, or of a multiple of 16 from 176 to 2 to the 30th, whatever its bytes are.
+/// Checks all tags of a window with any bytes, of 144 bytes or a multiple of 16 from 176 to 2 to the 30th.
 ///
 /// # Errors
 ///
-/// `BadTag` unless the tags say tiles that fill the window from its header to its end tag, no two free ones side by
-/// side.
+/// `BadTag` unless the tags describe tiles that fill the window from its header to its end tag, with no two free tiles
+/// side by side.
 #[tactic(auto, unfolding(raw_region::specs::Format::current))]
 pub fn check(window: &Window) -> Result<(), BadTag>
     requires { IsTrue (is_legal_size (length window.now.bytes)) }
@@ -43,8 +43,8 @@ pub fn check(window: &Window) -> Result<(), BadTag>
     }
 }
 
-/// Reads all tags of such a window up to the first that is wrong in the format, and counts them. There is at most one
-/// for each 32 bytes after the header. If all are right, these are one for each tile and the end tag.
+/// Reads the tags of such a window in the format up to the first bad one, and counts them. There is at most one tag for
+/// each 32 bytes after the header. If all are good, there is one for each tile, and the end tag.
 pub fn check_counted(format: u64, window: &Window) -> CheckedTags
     requires { IsTrue (is_legal_size (length window.now.bytes)) }
     ensures good { result.are_good ≡ has_tags format (bytes_of window.now.bytes) (length window.now.bytes) }
@@ -78,7 +78,7 @@ pub fn check_counted(format: u64, window: &Window) -> CheckedTags
     CheckedTags { are_good, tags, at }
 }
 
-/// Tells whether the end tag stands at `end`, after a tile of `before` bytes.
+/// Returns true if the end tag is at `end`, after a tile of `before` bytes.
 fn ends_well(window: &Window, end: u64, before: u64) -> bool
     requires max_size { end < 2 ^ 63 }
     requires in_bounds { end + TAG_LEN ≤ length window.now.bytes }
@@ -88,7 +88,7 @@ fn ends_well(window: &Window, end: u64, before: u64) -> bool
     window.read_u64(end) == before && window.read_u64(end + 8) == END_MARK
 }
 
-/// Tells whether a tag that is good in the format stands at `at`, of a tile that ends by `end`, after one of `before`
+/// Returns true if a good tag of the format is at `at`, for a tile that ends by `end` and follows a tile of `before`
 /// bytes.
 #[tactic(auto, unfolding(crate::specs::Checks::is_good_tile))]
 fn is_good(format: u64, window: &Window, at: u64, before: u64, behind_free: bool, end: u64) -> bool
@@ -110,7 +110,7 @@ fn is_good(format: u64, window: &Window, at: u64, before: u64, behind_free: bool
     is_whole(format, tile, window.read_u64(at + 8))
 }
 
-/// Returns true if the tile can be in a window of the format, and this is the second word of its tag.
+/// Returns true if the tile can occur in a window of the format and `word` is the second word of its tag.
 fn is_whole(format: u64, tile: Tile, word: u64) -> bool
     requires { tile.len < 2 ^ 63 }
     ensures { result ≡ is_tagged format tile word }

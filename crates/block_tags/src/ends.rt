@@ -1,4 +1,4 @@
-//! Where the tiles end: a window is laid out, and tiles are added and taken away at its end.
+//! The end of the tiles: lays out a window, and adds and removes tiles at its end.
 ghost use Rattle.std.specs.Prelude.{◌-◌, List, [], IsTrue, length};
 ghost use Rattle.block_tags.specs.declared.tile.Tile.{Tile};
 ghost use Rattle.block_tags.specs.Format.{is_legal_size};
@@ -9,7 +9,8 @@ use crate::sizes::{HEADER_LEN, TAG_LEN};
 use crate::words::{END_MARK, put_word};
 use raw_region::Window;
 
-/// Writes the tags of one free tile that fills the window after the header, or of none if there is no room for one.
+/// Writes the tags of one free tile that fills the window after the header. It writes only an end tag if there is no
+/// room for a tile.
 pub fn lay(window: &mut Window)
     requires { IsTrue (is_legal_size (length window.old.bytes)) }
     ensures tags { EncodesTiles window.new (laid (length window.old.bytes)) }
@@ -17,15 +18,15 @@ pub fn lay(window: &mut Window)
 {
     let end = window.size() - TAG_LEN;
     let room = end - HEADER_LEN;
-    // Where there is no room, the end tag takes the place of the tile's tag.
+    // Without room for a tile, the end tag is at the place of the first tile's tag.
     put_word(window, HEADER_LEN, 0);
     put_word(window, HEADER_LEN + 8, room);
     put_word(window, end, room);
     put_word(window, end + 8, END_MARK);
 }
 
-/// Adds a free black tile if the tags fill the first `old_size` bytes of the window: it reaches from their end tag
-/// to the window's.
+/// Adds a free black tile to a window whose tags fill its first `old_size` bytes. The tile reaches from the old end tag
+/// to the window's end.
 pub fn append_free(window: &mut Window, old_size: u64)
     requires { CanAppend window.old old_size }
     ensures tags { (ts : List Tile) → FrontSaysTiles window.old old_size ts
@@ -42,8 +43,7 @@ pub fn append_free(window: &mut Window, old_size: u64)
     put_word(window, end + 8, END_MARK);
 }
 
-/// Takes away the last tile, which is free, and returns the number of bytes that the other tiles fill with the header
-/// and an end tag.
+/// Removes the last tile, which is free. It returns the number of bytes of the header, the other tiles and an end tag.
 pub fn drop_last(window: &mut Window) -> u64
     requires { HasFreeLast window.old }
     ensures tags { (ts : List Tile) → EncodesTiles window.old ts

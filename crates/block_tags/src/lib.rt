@@ -1,5 +1,5 @@
-//! Tiles: the parts of a segment from its header to its end tag, and the boundary tags (Knuth, The Art of Computer
-//! Programming, volume 1, section 2.5) that say where each begins, its length and its use.
+//! Tiles: the parts of a segment from its header to its end tag. Boundary tags (Knuth, The Art of Computer Programming,
+//! volume 1, section 2.5) hold the offset, the length and the use of each tile.
 //!
 //! The calls are functions of a `Window`, which the caller owns. The tags in the window are the only state.
 #![tactic(auto)]

@@ -1,4 +1,4 @@
-//! The tiles that the tags say. An offset is a number of bytes from the window's start.
+//! Reads tiles from the tags. An offset is a number of bytes from the window's start.
 ghost use Rattle.std.specs.Prelude.{◌≡◌, Some, List};
 ghost use Rattle.block_tags.specs.declared.tile.Tile.{Tile};
 ghost use Rattle.block_tags.specs.Lists.{first_in, last_in, next_in, previous_in, tile_in};
@@ -17,7 +17,7 @@ pub fn tile_at(window: &Window, at: u64) -> Tile
     tile_there(window, at)
 }
 
-/// Returns the tile after the header, or nothing if there is none.
+/// Returns the first tile, or `None` if there is no tile.
 pub fn first(window: &Window) -> Option<Tile>
     requires { IsTiledWindow window.now }
     ensures { (ts : List Tile) → EncodesTiles window.now ts → result ≡ first_in ts }
@@ -29,7 +29,7 @@ pub fn first(window: &Window) -> Option<Tile>
     }
 }
 
-/// Returns the tile before the end tag, or nothing if there is none.
+/// Returns the last tile, or `None` if there is no tile.
 pub fn last(window: &Window) -> Option<Tile>
     requires { IsTiledWindow window.now }
     ensures { (ts : List Tile) → EncodesTiles window.now ts → result ≡ last_in ts }
@@ -43,7 +43,7 @@ pub fn last(window: &Window) -> Option<Tile>
     }
 }
 
-/// Returns the tile after the one at `at`, or nothing if that is the last.
+/// Returns the tile after the one at `at`, or `None` if that is the last tile.
 pub fn next(window: &Window, at: u64) -> Option<Tile>
     requires { HasTileAt window.now at }
     ensures { (ts : List Tile) → EncodesTiles window.now ts → result ≡ next_in ts at }
@@ -56,7 +56,7 @@ pub fn next(window: &Window, at: u64) -> Option<Tile>
     }
 }
 
-/// Returns the tile before the one at `at`, or nothing if that is the first.
+/// Returns the tile before the one at `at`, or `None` if that is the first tile.
 pub fn previous(window: &Window, at: u64) -> Option<Tile>
     requires { HasTileAt window.now at }
     ensures { (ts : List Tile) → EncodesTiles window.now ts → result ≡ previous_in ts at }
@@ -69,7 +69,7 @@ pub fn previous(window: &Window, at: u64) -> Option<Tile>
     }
 }
 
-/// Tells whether the tile at `at` is red.
+/// Returns true if the tile at `at` is red.
 pub fn red(window: &Window, at: u64) -> bool
     requires { HasTileAt window.now at }
     ensures { (ts : List Tile) (tile : Tile) → EncodesTiles window.now ts → tile_in ts at ≡ Some tile

@@ -1,4 +1,4 @@
-//! What holds of the tiles that tags say. Each law is the contract of a function that does nothing.
+//! Laws of the tiles in the tags. Each law is the contract of a function that does nothing.
 
 ghost use Rattle.block_tags.specs.Laws.{FrontIsAWindow, GoodTagsSayTiles, HeaderIsBesideTags, HeaderMayChange};
 ghost use Rattle.block_tags.specs.Laws.{LastTileEndsList, OneTileAtAnOffset, PayloadIsBesideTags, PayloadMayChange};
@@ -7,22 +7,22 @@ ghost use Rattle.block_tags.specs.Laws.{TilesFillTheWindow};
 ghost use Rattle.block_tags.specs.Tiles.{SayOneList};
 ghost use Rattle.block_tags.specs.Worked.{WorkedTiles};
 
-/// States that the tags of a segment say one list of tiles.
+/// States that the tags of a segment describe exactly one list of tiles.
 pub fn tags_say_one_list()
     ensures { SayOneList }
 {}
 
-/// States that the tiles of the tags are those that a reading from the header on finds.
+/// States that the tiles of the tags are the tiles that a reading from the header on finds.
 pub fn tiles_are_read_off()
     ensures { TilesAreReadOff }
 {}
 
-/// States that a tile that the tags say is read off from its own tag.
+/// States that each tile of the tags can be read from its own tag.
 pub fn tile_is_read_off()
     ensures { TileIsReadOff }
 {}
 
-/// States that tags are good exactly if they say tiles of which no two free ones are neighbours.
+/// States that tags are good exactly if they describe tiles of which no two free ones are neighbours.
 pub fn good_tags_say_tiles()
     ensures { GoodTagsSayTiles }
 {}
@@ -42,7 +42,7 @@ pub fn payload_is_beside_tags()
     ensures { PayloadIsBesideTags }
 {}
 
-/// States that the tile at an offset stands between those before it and those after it.
+/// States that the tile at an offset splits the list into the tiles before it and the tiles after it.
 pub fn tile_stands_in_list()
     ensures { TileStandsInList }
 {}
@@ -52,32 +52,32 @@ pub fn one_tile_at_an_offset()
     ensures { OneTileAtAnOffset }
 {}
 
-/// States that a list of tiles is those without the last, and the last.
+/// States that the last tile is the end of the list.
 pub fn last_tile_ends_list()
     ensures { LastTileEndsList }
 {}
 
-/// States that tags whose bytes stay say the same tiles.
+/// States that equal tags describe equal tiles.
 pub fn tags_that_stay_say_the_same()
     ensures { TagsThatStaySayTheSame }
 {}
 
-/// States that the tags say the same tiles if bytes of a payload change.
+/// States that a change of bytes in a payload keeps the tiles.
 pub fn payload_may_change()
     ensures { PayloadMayChange }
 {}
 
-/// States that the tags say the same tiles if bytes of the header change.
+/// States that a change of bytes in the header keeps the tiles.
 pub fn header_may_change()
     ensures { HeaderMayChange }
 {}
 
-/// States that the first bytes of a window say the tiles that they say as a window of their own.
+/// States that the front of a window describes the same tiles as a window of its own.
 pub fn front_is_a_window()
     ensures { FrontIsAWindow }
 {}
 
-/// States the definitions at the tiles of one window, as a worked example.
+/// States examples of the definitions, for the tiles of one window.
 pub fn worked_tiles()
     ensures { WorkedTiles }
 {}

@@ -1,11 +1,11 @@
-//! A tile, its use, and the one refusal of this crate.
+//! A tile, its use, and the error of this crate.
 
 use thiserror::Error;
 
 /// The use of a tile.
 #[derive(Clone, Copy, Debug, PartialEq, Eq)]
 pub enum Role {
-    /// A value under a name, as the one of its kind, or under its handle alone.
+    /// The value of an object: a named, a unique or an anonymous one.
     Object,
     /// The entries of one of the two indexes.
     Index,
@@ -15,20 +15,20 @@ pub enum Role {
     Node,
 }
 
-/// A part of a segment: its payload, and the tag of 16 bytes in front of it.
+/// A part of a segment: its tag of 16 bytes, and the payload after the tag.
 #[derive(Clone, Copy, Debug, PartialEq, Eq)]
 pub struct Tile {
-    /// Where the tag begins, in bytes from the segment's start: a multiple of 16.
+    /// The offset of the tag, in bytes from the segment's start: a multiple of 16.
     pub offset: u64,
-    /// The number of bytes with the tag: a multiple of 16, at least 32.
+    /// The number of bytes, including the tag: a multiple of 16, at least 32.
     pub len: u64,
-    /// The use of the payload, or nothing if the tile is free.
+    /// The use of the payload; `None` if the tile is free.
     pub use_of: Option<Role>,
-    /// The tile's colour in a tree of tiles, red or black.
+    /// The tile's colour in a tree of tiles: red if true, otherwise black.
     pub red: bool,
 }
 
-/// The bytes between the header and the end of a window are not filled by tiles with whole tags.
+/// The error of a check: the tags do not describe tiles that fill the window after its header.
 #[derive(Clone, Copy, Debug, PartialEq, Eq, Error)]
 #[error("the tags do not fill the segment with tiles")]
 pub struct BadTag;

@@ -1,5 +1,5 @@
-//! Calls that split and join tiles, and change their use and colour. They write only tags: those of the named tiles,
-//! and the length in the tag after them, so that a tile is found from either side without a search.
+//! Calls that split and join tiles, and change their use and colour. They write only the tag of the named tile and the
+//! length in the next tag. This length lets a reader find the tile before a tag without a search.
 ghost use Rattle.std.specs.Prelude.{◌+◌, List};
 ghost use Rattle.raw_region.specs.Memory.{SameBytesExcept, bytes_of};
 ghost use Rattle.block_tags.specs.declared.tile.Tile.{Tile};
@@ -11,8 +11,8 @@ use crate::tile::{Role, Tile};
 use crate::words::{put_word, tag_word, tile_there};
 use raw_region::Window;
 
-/// Cuts the tile at `at` in two: the first has `len` bytes and keeps its use and colour, and the rest is a free black
-/// tile. `len` is a multiple of 16, at least 32, and at least 32 bytes are left.
+/// Splits the tile at `at`. The first part has `len` bytes and keeps its use and colour; the rest becomes a free black
+/// tile. `len` is a multiple of 16, at least 32, and the rest has at least 32 bytes.
 pub fn split(window: &mut Window, at: u64, len: u64)
     requires { CanSplit window.old at len }
     ensures tags { (ts : List Tile) → EncodesTiles window.old ts
@@ -33,7 +33,7 @@ pub fn split(window: &mut Window, at: u64, len: u64)
     put_word(window, at + tile.len, rest.len);
 }
 
-/// Joins the tile after the one at `at`, which is free, to it. The use and the colour of the tile at `at` stay.
+/// Joins the tile at `at` with the free tile after it. The tile at `at` keeps its use and colour.
 pub fn merge_next(window: &mut Window, at: u64)
     requires { HasFreeNext window.old at }
     ensures tags { (ts : List Tile) → EncodesTiles window.old ts
@@ -50,8 +50,8 @@ pub fn merge_next(window: &mut Window, at: u64)
     put_word(window, at + joined.len, joined.len);
 }
 
-/// Gives the tile at `at` another use, or none, in which it may have the colour that it has. No byte changes but the
-/// second word of its tag.
+/// Sets the use of the tile at `at`, or frees it. Its colour stays and must suit the new use. Only the second word of
+/// its tag changes.
 pub fn set_use(window: &mut Window, at: u64, use_of: Option<Role>)
     requires { CanTakeUse window.old at use_of }
     ensures tags { (ts : List Tile) → EncodesTiles window.old ts
@@ -64,7 +64,8 @@ pub fn set_use(window: &mut Window, at: u64, use_of: Option<Role>)
     put_word(window, at + 8, tag_word(Tile { use_of, ..tile }));
 }
 
-/// Makes the tile at `at` red, which only some tiles may be, or black. No byte changes but the second word of its tag.
+/// Sets the colour of the tile at `at`: red if `red` is true, which needs a tile that can be red. Only the second word
+/// of its tag changes.
 pub fn set_red(window: &mut Window, at: u64, red: bool)
     requires { MayHaveColour window.old at red }
     ensures tags { (ts : List Tile) → EncodesTiles window.old ts

@@ -10,7 +10,7 @@ use crate::sizes::TAG_LEN;
 use crate::tile::{Role, Tile};
 use raw_region::Window;
 
-/// The second word of the end tag: a tile in use of no length.
+/// The second word of the end tag: a tile in use with length 0.
 pub const END_MARK: u64 = 1;
 
 fn role_bits(role: Role) -> u64
@@ -48,7 +48,7 @@ pub fn tag_word(tile: Tile) -> u64
     tile.len + used + red
 }
 
-/// Returns the tile at `at` whose tag has this second word.
+/// Returns the tile at `at` whose tag has the second word `word`.
 pub fn tile_of_word(at: u64, word: u64) -> Tile
     ensures { result ≡ tile_of at word }
 {
@@ -65,7 +65,7 @@ pub fn tile_of_word(at: u64, word: u64) -> Tile
     }
 }
 
-/// Tells whether a tile used for this may be red in the format.
+/// Returns true if a tile with this use can be red in the format.
 pub fn may_be_red(format: u64, use_of: Option<Role>) -> bool
     ensures { result ≡ may_be_red_in format use_of }
 {
@@ -76,7 +76,7 @@ pub fn may_be_red(format: u64, use_of: Option<Role>) -> bool
     }
 }
 
-/// Returns the tile that the 16 bytes at `at` say.
+/// Returns the tile whose tag is the 16 bytes at `at`.
 pub fn tile_there(window: &Window, at: u64) -> Tile
     requires max_size { at < 2 ^ 63 }
     requires in_bounds { at + TAG_LEN ≤ length window.now.bytes }
@@ -85,7 +85,7 @@ pub fn tile_there(window: &Window, at: u64) -> Tile
     tile_of_word(at, window.read_u64(at + 8))
 }
 
-/// Writes the word at `at`, one of the two of a tag.
+/// Writes the word at `at`, one of the two words of a tag.
 pub fn put_word(window: &mut Window, at: u64, word: u64)
     requires { at + 8 ≤ length window.old.bytes }
     ensures { WritesWord window.old window.new at word }

@@ -1,5 +1,5 @@
-//! A box as the pointer to what it holds, and the box again: for a struct that crosses to C, which may hold a pointer
-//! and no box. After `Box::into_raw` and `Box::from_raw` of Rust's standard library.
+//! Converts a box into its raw pointer and back. A struct that crosses to C can hold the pointer but no box. After
+//! `Box::into_raw` and `Box::from_raw` of Rust's standard library.
 #![tactic(auto)]
 
 ghost use Rattle.std.specs.Prelude.{◌≡◌};
@@ -8,11 +8,11 @@ ghost use Rattle.std.specs.Box.Ownership.{box_owns};
 use std::alloc::Allocator;
 use std::marker::Model;
 
-/// A box that is taken apart: it owns what its pointer leads to, as the box did.
+/// A box as raw parts. It owns the value behind its pointer, as the box did.
 pub struct RawBox<T, A: Allocator> {
-    /// Where the value lies.
+    /// The address of the value.
     pub at: *mut T,
-    /// What gives its memory back.
+    /// The allocator that frees the memory.
     pub alloc: A,
     /// The value.
     pub ghost value: { T },
@@ -23,7 +23,7 @@ impl<T, A: Allocator> Model for RawBox<T, A> {
 }
 
 impl<T: Drop, A: Allocator> RawBox<T, A> {
-    /// Takes a box apart. It costs nothing.
+    /// Converts a box into its raw parts. It neither allocates nor copies the value.
     pub fn from_box(whole: Box<T, A>) -> RawBox<T, A>
         ensures { result.value ≡ whole.value }
     {
@@ -31,7 +31,7 @@ impl<T: Drop, A: Allocator> RawBox<T, A> {
         RawBox { at, alloc }
     }
 
-    /// Makes the box again. It costs nothing.
+    /// Converts the raw parts back into the box. It neither allocates nor copies the value.
     pub fn into_box(self) -> Box<T, A>
         ensures { result.value ≡ self.value }
     {

@@ -1,4 +1,4 @@
--- Six small images, as their words: their class, and what those of an object say. And what is counted of three tiles.
+-- Six small images, as their words: their class, and the words of their object. And the counts of three tiles.
 use Rattle.image_check.proofs.Common.{Anonymous, AreCounted, BadObject, Bytes, List, None, Numbers, Pairs, Some}
 use Rattle.image_check.proofs.Common.{Storage, Texts, Tile, [], class_of, false, flat_map, refl, true, ℕ, ◌++◌, ◌∷◌}
 use Rattle.image_check.proofs.Common.{◌≡◌}
@@ -19,7 +19,7 @@ abbrev fresh : List ℕ
 fresh = words (4993446653039301453 ∷ 2 ∷ 176 ∷ 120 ∷ 1 ∷ 0 ∷ 0 ∷ 1 ∷ 0 ∷ 0 ∷ []) ++ zeros 48
     ++ words (0 ∷ 32 ∷ 1 ∷ 1 ∷ 32 ∷ 1 ∷ [])
 
--- it has no class
+-- the image has no class
 fresh_accepted : class_of current fresh ≡ None
 unfolding word_at word_bytes half_word_at zeros current
 fresh_accepted = refl
@@ -29,12 +29,12 @@ abbrev one : List ℕ
 one = words (4993446653039301453 ∷ 2 ∷ 224 ∷ 168 ∷ 1 ∷ 0 ∷ 0 ∷ 1 ∷ 0 ∷ 0 ∷ []) ++ zeros 48
     ++ words (0 ∷ 49 ∷ 4294967300 ∷ 0 ∷ 18446744073709551614 ∷ 77 ∷ 48 ∷ 32 ∷ 1 ∷ 1 ∷ 32 ∷ 1 ∷ [])
 
--- it has no class
+-- the image has no class
 one_accepted : class_of current one ≡ None
 unfolding word_at word_bytes half_word_at zeros current
 one_accepted = refl
 
--- and says an anonymous object with -2
+-- and denotes an anonymous object with -2
 one_says : read_off current one
     ≡ record {
       size = 224;
@@ -55,12 +55,12 @@ abbrev text : List ℕ
 text = words (4993446653039301453 ∷ 2 ∷ 240 ∷ 184 ∷ 1 ∷ 0 ∷ 0 ∷ 1 ∷ 0 ∷ 0 ∷ []) ++ zeros 48
     ++ words (0 ∷ 65 ∷ 4295032832 ∷ 0 ∷ 1 ∷ 0 ∷ 0 ∷ 77 ∷ 64 ∷ 32 ∷ 1 ∷ 1 ∷ 32 ∷ 1 ∷ [])
 
--- it has no class
+-- the image has no class
 text_accepted : class_of current text ≡ None
 unfolding word_at word_bytes half_word_at zeros current
 text_accepted = refl
 
--- and says that text
+-- and denotes this text
 text_says : read_off current text
     ≡ record {
       size = 240;
@@ -81,12 +81,12 @@ abbrev texts : List ℕ
 texts = words (4993446653039301453 ∷ 2 ∷ 240 ∷ 184 ∷ 1 ∷ 0 ∷ 0 ∷ 1 ∷ 0 ∷ 0 ∷ []) ++ zeros 48
     ++ words (0 ∷ 65 ∷ 4295229440 ∷ 0 ∷ 1 ∷ 0 ∷ 0 ∷ 77 ∷ 64 ∷ 32 ∷ 1 ∷ 1 ∷ 32 ∷ 1 ∷ [])
 
--- it has no class
+-- the image has no class
 texts_accepted : class_of current texts ≡ None
 unfolding word_at word_bytes half_word_at zeros current
 texts_accepted = refl
 
--- and says that vector
+-- and denotes this vector
 texts_says : read_off current texts
     ≡ record {
       size = 240;
@@ -107,12 +107,12 @@ abbrev map : List ℕ
 map = words (4993446653039301453 ∷ 2 ∷ 240 ∷ 184 ∷ 1 ∷ 0 ∷ 0 ∷ 1 ∷ 0 ∷ 0 ∷ []) ++ zeros 48
     ++ words (0 ∷ 65 ∷ 4295164932 ∷ 0 ∷ 1 ∷ 0 ∷ 0 ∷ 77 ∷ 64 ∷ 32 ∷ 1 ∷ 1 ∷ 32 ∷ 1 ∷ [])
 
--- it has no class
+-- the image has no class
 map_accepted : class_of current map ≡ None
 unfolding word_at word_bytes half_word_at zeros current
 map_accepted = refl
 
--- and says that map
+-- and denotes this map
 map_says : read_off current map
     ≡ record {
       size = 240;
@@ -133,7 +133,7 @@ abbrev wrong : List ℕ
 wrong = words (4993446653039301453 ∷ 2 ∷ 224 ∷ 168 ∷ 1 ∷ 0 ∷ 0 ∷ 1 ∷ 0 ∷ 0 ∷ []) ++ zeros 48
     ++ words (0 ∷ 49 ∷ 4 ∷ 0 ∷ 18446744073709551614 ∷ 77 ∷ 48 ∷ 32 ∷ 1 ∷ 1 ∷ 32 ∷ 1 ∷ [])
 
--- it is no object
+-- the image has the class `BadObject`
 wrong_class : class_of current wrong ≡ Some BadObject
 unfolding word_at word_bytes half_word_at zeros current
 wrong_class = refl
@@ -148,6 +148,6 @@ three =
 three_counted : AreCounted three (record { free = 1; used = 2 })
 three_counted = record { free = refl; used = refl }
 
--- of no tiles nothing is counted
+-- without tiles both counts are 0
 none_counted : AreCounted [] (record { free = 0; used = 0 })
 none_counted = record { free = refl; used = refl }

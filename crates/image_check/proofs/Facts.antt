@@ -4,7 +4,7 @@ pub use Rattle.image_check.proofs.reading.Deciding.{all_decided}
 pub use Rattle.image_check.proofs.reading.Ends.{ends_at_most_once}
 pub use Rattle.image_check.proofs.law.OneDirectory.{one_directory}
 pub use Rattle.image_check.proofs.containers.MapMeaning.{tests_mean_relations}
--- And what is true of the tests of indexes and objects, whoever reads the bytes.
+-- And facts about the tests of indexes and objects, for any reader of the bytes.
 pub use Rattle.image_check.proofs.indexes.AllEntries.{targets-split}
 pub use Rattle.image_check.proofs.objects.HeadBytes.{element-spelled, named-right, padding-read}
 pub use Rattle.image_check.proofs.indexes.LinkOrder.{entry-among, entry-some}

@@ -1,5 +1,5 @@
--- The fields that name the blocks of a directory are those that count in the image (`CountedClaims.claimed-counted`),
--- and no two of them lead to one block (`DisjointBlocks`).
+-- The fields that name the blocks of a directory are the fields that count in the image
+-- (`CountedClaims.claimed-counted`), and no two of them lead to one block (`DisjointBlocks`).
 pub mod Fields
 pub mod CountedClaims
 pub mod CountedFields

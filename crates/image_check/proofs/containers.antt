@@ -1,4 +1,4 @@
--- Tests of containers: a vector or map that passes is one (`MapMeaning`), and what the walk over them counts.
+-- Tests of containers: a vector or map that passes is valid (`MapMeaning`), and the visits of the walk over them.
 pub mod Walk
 pub mod Weights
 pub mod Meaning

@@ -1,4 +1,4 @@
--- Opening an image: what is decided of it, and why it is refused.
+-- Opening an image: its decided classes, and the reasons of a refusal.
 pub mod Decisions
 pub mod InRegion
 pub mod InMemory

@@ -1,4 +1,4 @@
--- The directory that bytes say, read off: values, objects and indexes (`Directory.read_off`).
+-- The directory of bytes, read from them: values, objects and indexes (`Directory.read_off`).
 pub mod Directory
 pub mod Values
 pub mod Objects

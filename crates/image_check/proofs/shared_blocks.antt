@@ -1,4 +1,4 @@
--- Owners of blocks: what is noted of all links decides which blocks are shared and which have no owner (`Meaning`).
+-- Owners of blocks: the entered links decide which blocks are shared and which have no owner (`Meaning`).
 pub mod Meaning
 pub mod AllNoted
 pub mod Tiles

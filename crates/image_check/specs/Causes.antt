@@ -1,4 +1,4 @@
--- Why an image is refused, and the place that shows it.
+-- The reason why an image is refused, and the offset that shows it.
 use Rattle.std.specs.Prelude.{◌≡◌, ℕ, List, Result, Ok, Err, ⊤}
 use Rattle.image_check.specs.declared.classes.ImageClass.{ImageClass}
 use Rattle.image_check.specs.declared.classes.ImageClass.TheVariants.{Truncated, BadSize}
@@ -7,26 +7,26 @@ use Rattle.image_check.specs.declared.errors.OpenError.TheVariants.{Image, Regio
 use Rattle.image_check.specs.declared.verdict.Verdict.{Verdict}
 use Rattle.image_check.specs.Verdicts.{Shows}
 
--- the class of a pass's answer, without the place
+-- the class in the result of a pass, without the offset
 abbrev pub class_in : {A : Type 0} → Result A Verdict → Result A ImageClass
 class_in (Ok x) = Ok x
 class_in (Err v) = Err v.class
 
--- a place that is told shows the class
+-- the reported offset shows the class
 abbrev pub IsShown : ℕ → List ℕ → OpenError → Type 0
 IsShown format b (Image v) = Shows format b v.class v.place
 IsShown format b RegionTooSmall = ⊤
 IsShown format b (OutOfMemory refusal) = ⊤
 IsShown format b ReadFault = ⊤
 
--- what is told of bytes that end too early is their end
+-- the reported offset of bytes that end too early is their end
 abbrev pub IsEnd : ℕ → OpenError → Type 0
 IsEnd n (Image v) = (v.class ≡ Truncated) × (v.place ≡ n)
 IsEnd n RegionTooSmall = ⊤
 IsEnd n (OutOfMemory refusal) = ⊤
 IsEnd n ReadFault = ⊤
 
--- of bytes that go on after a size it is that size
+-- the reported offset of bytes that continue after their size is this size
 abbrev pub IsExcess : ℕ → OpenError → Type 0
 IsExcess n (Image v) = (v.class ≡ BadSize) × (v.place ≡ n)
 IsExcess n RegionTooSmall = ⊤

@@ -1,4 +1,4 @@
--- What the check of an image that stands in its window finds.
+-- The result of the check of an image in its window.
 use Rattle.std.specs.Prelude.{◌≡◌, ℕ, Bool, false, Option, Some, None, List, IsTrue, if◌then◌else◌, MatchResult, Result}
 use Rattle.raw_region.specs.Memory.{Memory, SameSurroundings, WindowState, whole}
 use Rattle.block_tags.specs.declared.tile.Tile.{Tile}
@@ -27,12 +27,12 @@ late_by indexes objects shared containers orphaned =
     (if containers then (if orphaned then Some OrphanBlock else None) else Some BadContainer))
     else Some BadObject) else Some BadIndex
 
--- of the blocks that the tiles say
+-- the first class from the eighth on, for the blocks of the tiles
 unfoldable pub late_class : ℕ → Memory → List Tile → Option ImageClass
 late_class format m ts = late_by (has_indexes m ts) (has_objects format m ts) (is_shared format m ts)
     (has_containers format m ts) (is_orphaned format m ts)
 
--- why an image that stands in its window is refused
+-- the reason why an image in its window is refused
 abbrev pub IsWhyRefused : ℕ → List ℕ → OpenError → Type 0
 IsWhyRefused format b (Image v) = IsVerdict format b v
 IsWhyRefused format b (OutOfMemory refusal) =
@@ -40,7 +40,7 @@ IsWhyRefused format b (OutOfMemory refusal) =
 IsWhyRefused format b RegionTooSmall = ⊥
 IsWhyRefused format b ReadFault = ⊥
 
--- all passes over an image went well: the map has its blocks, and they spent no more than they may
+-- all passes over an image succeeded: the map has its blocks, and the passes kept within their bound of visits
 pub record PassesImage (b : List ℕ) (es : Blocks) (old new : ℕ) : Type 0 where
   pub tiles : HasTiles b
   pub frame : frames es ≡ frames (entries_of (tiles_in b))
@@ -49,14 +49,14 @@ pub record PassesImage (b : List ℕ) (es : Blocks) (old new : ℕ) : Type 0 whe
 
 -- ---- an image in its window
 
--- the image denotes a directory, which the segment in the window's place has by the current format
+-- the image denotes a directory, and the segment at the window's place has this directory in the current format
 pub record OpensWindowOk (format : ℕ) (w : WindowState) (how : Mode) (s : SegmentState) : Type 0 where
   pub image : IsImage format w.bytes
   pub place : SameSurroundings w s.cut
   pub upgrade : UpgradesFormat format w.bytes s.cut.bytes
   pub mode : s.mode ≡ how
 
--- the image is refused, and its region comes back as it was
+-- the image is refused, and its region is returned unchanged
 pub record OpensWindowErr (format : ℕ) (w : WindowState) (refused : OpenRefused) : Type 0 where
   pub why : IsWhyRefused format w.bytes refused.cause
   pub region : refused.region ≡ whole w

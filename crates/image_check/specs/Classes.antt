@@ -1,4 +1,4 @@
--- Why bytes stand for no directory: twelve classes, each a test of the whole list, and the class of the bytes.
+-- The reasons why bytes denote no directory: twelve classes, each a test of the whole list, and the class of the bytes.
 use Rattle.std.specs.Prelude.{◌≡◌, ℕ, Bool, not, ◌&&◌, Option, Some, List, [], ◌∷◌, ◌++◌, codes, find, IsTrue}
 use Rattle.raw_region.specs.Memory.{Memory, are_bytes, bytes_of}
 use Rattle.block_tags.specs.Tiles.{tiles_of}
@@ -14,11 +14,11 @@ use Rattle.image_check.specs.Fields.{is_shared, is_orphaned, has_containers}
 
 -- ---- the classes
 
--- something of the tiles that the tags say
+-- a test of the tiles of the tags
 abbrev pub of_tiles : ℕ → List ℕ → (Memory → List Tile → Bool) → Bool
 of_tiles format b test = is_tiled format b && test (bytes_of b) (tiles_of (bytes_of b) (size_word b))
 
--- the class is true of the bytes
+-- whether the bytes show the class
 abbrev pub holds : ℕ → List ℕ → ImageClass → Bool
 holds format b Truncated = is_truncated format b
 holds format b BadMagic = not (has_magic b)
@@ -39,7 +39,7 @@ classes =
     Truncated ∷ BadMagic ∷ UnsupportedVersion ∷ BadSize ∷ BadReserved ∷ BadTag
     ∷ BadFreeTree ∷ BadIndex ∷ BadObject ∷ SharedBlock ∷ BadContainer ∷ OrphanBlock ∷ []
 
--- the class of the bytes: the first that holds
+-- the class of the bytes: the first that they show
 abbrev pub class_of : ℕ → List ℕ → Option ImageClass
 class_of format b = find (holds format b) classes
 
@@ -58,7 +58,7 @@ number_of SharedBlock = 10
 number_of BadContainer = 11
 number_of OrphanBlock = 12
 
--- the words of a class
+-- the text of a class
 abbrev pub words_of : ImageClass → List ℕ
 words_of Truncated = codes "the image ends too early"
 words_of BadMagic = codes "the image does not begin with the magic"

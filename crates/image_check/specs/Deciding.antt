@@ -1,4 +1,4 @@
--- Which class the bytes read so far decide, as a test of their first three words.
+-- The class that the bytes read so far decide, as a test of their first three words.
 use Rattle.std.specs.Prelude.{◌≡◌, ℕ, Bool, List, length, nat_lt, Option, Some, None, if◌then◌else◌}
 use Rattle.image_check.specs.declared.classes.ImageClass.{ImageClass}
 use Rattle.image_check.specs.declared.classes.ImageClass.TheVariants.{BadMagic, UnsupportedVersion, BadSize}
@@ -14,7 +14,7 @@ decided_by short magic version size =
     Some BadMagic
 
 -- No class is decided before 144 bytes, since there may be no more. After that, the magic and the version decide, and a
--- size that no segment has or that is less than what was read.
+-- size that is not legal or is less than the number of bytes read.
 unfoldable pub decided : ℕ → List ℕ → Option ImageClass
 decided format front = decided_by (nat_lt (length front) 144) (has_magic front) (has_version format front)
     (has_size front)
@@ -24,15 +24,15 @@ pub record IsDecided (format : ℕ) (front : List ℕ) : Type 0 where
   pub some : (c : ImageClass) → decided format front ≡ Some c → DecidesClass format front c
   pub none : decided format front ≡ None → (c : ImageClass) → DecidesClass format front c → ⊥
 
--- the law: the bytes read so far decide a class exactly if `decided` says so
+-- the law: the bytes read so far decide a class exactly if it is the result of `decided`
 abbrev pub AllDecided : Type 0
 AllDecided = (format : ℕ) (front : List ℕ) → IsDecided format front
 
--- what `decided` says of these first bytes holds for images of any of the three formats
+-- the result of `decided` for these first bytes holds for images of any of the three formats
 pub record IsDecidedAny (front : List ℕ) : Type 0 where
   pub some : (c : ImageClass) → decided (format_of front) front ≡ Some c → DecidesAny front c
   pub none : decided (format_of front) front ≡ None → (c : ImageClass) → DecidesAny front c → ⊥
 
--- the law: so it is for images of any of the three formats
+-- the law for images of any of the three formats
 abbrev pub AllDecidedAny : Type 0
 AllDecidedAny = (front : List ℕ) → IsDecidedAny front

@@ -1,4 +1,4 @@
--- The tests that come before the objects: of the front, of the tags and of the free tree.
+-- The tests before the objects: of the front, of the tags and of the free tree.
 use Rattle.std.specs.Prelude.{ℕ, zero, suc, Bool, false, ◌&&◌, ◌||◌, Some, None, List, ◌++◌, length, map, filter, ◌==◌}
 use Rattle.std.specs.Prelude.{nat_lt, nat_le, nat_eq}
 use Rattle.std.specs.List.{list_all, list_any}
@@ -13,22 +13,22 @@ use Rattle.block_tags.specs.Format.{is_legal_size}
 use Rattle.best_fit.specs.FreeTree.{cells_of, sorted_gaps, payloads}
 use Rattle.segment_manager.specs.Denotes.{magic_number}
 
--- the size that the header says
+-- the size in the header
 abbrev pub size_word : List ℕ → ℕ
 size_word b = word_at (bytes_of b) 16
 
--- the first word is the magic
+-- whether the first word is the magic
 abbrev pub has_magic : List ℕ → Bool
 has_magic b = word_at (bytes_of b) 0 == magic_number
 
 abbrev pub has_version : ℕ → List ℕ → Bool
 has_version format b = half_word_at (bytes_of b) 8 == format
 
--- magic, version and a legal size word stand in front
+-- whether the bytes begin with the magic, the version and a legal size
 abbrev pub has_front : ℕ → List ℕ → Bool
 has_front format b = has_magic b && has_version format b && is_legal_size (size_word b)
 
--- ---- the classes that come before the tiles
+-- ---- the classes before the tiles
 
 abbrev pub is_truncated : ℕ → List ℕ → Bool
 is_truncated format b = nat_lt (length b) 144 || (has_front format b && nat_lt (length b) (size_word b))
@@ -42,7 +42,7 @@ is_zero = list_all (λ c. c == 0)
 abbrev pub has_reserved : List ℕ → Bool
 has_reserved b = is_zero (read (bytes_of b) 12 4 ++ read (bytes_of b) 80 48)
 
--- the tags are right
+-- whether the tags are good
 abbrev pub is_tiled : ℕ → List ℕ → Bool
 is_tiled format b = has_tags format (bytes_of b) (size_word b)
 
@@ -58,8 +58,7 @@ free_payloads ts = payloads (sorted_gaps (free_gaps ts))
 abbrev pub is_among : List ℕ → ℕ → Bool
 is_among xs x = list_any (λ y. x == y) xs
 
--- the nodes that are reached from word 24 are the free tiles in order, each once, in a red-black tree; format 0 has
--- none
+-- whether the nodes behind word 24 are the free tiles in order, each once, in a red-black tree; format 0 has no tree
 abbrev pub has_free_tree : ℕ → Memory → List Tile → Bool
 has_free_tree zero m ts = word_at m 24 == 1
 has_free_tree (suc format) m ts =

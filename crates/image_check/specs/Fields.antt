@@ -1,4 +1,4 @@
--- The fields that lead to blocks, and the tests of what they lead to: shared blocks, containers and orphans.
+-- The fields with links to blocks, and the tests of their blocks: shared blocks, containers and orphans.
 use Rattle.std.specs.Prelude.{ℕ, zero, suc, ◌+◌, ◌-◌, ◌*◌, ◌/◌, min, ℤ, Bool, true, false, not, ◌&&◌, ◌||◌, Option}
 use Rattle.std.specs.Prelude.{Some, None, List, [], ◌∷◌, ◌++◌, length, map, filter_map, flat_map, is_some, option_map}
 use Rattle.std.specs.Prelude.{◌==◌, nat_lt, nat_le, if◌then◌else◌, int_lt}
@@ -20,9 +20,9 @@ use Rattle.image_check.specs.EarlyTests.{is_among}
 use Rattle.image_check.specs.ObjectTests.{is_use, tile_of, good_for, leads_to, is_table_link, payload, index_capacity}
 use Rattle.image_check.specs.ObjectTests.{object_tiles, value_offset, kind_at, are_spellings, rise_by}
 
--- ---- the fields that lead to blocks
+-- ---- the fields with links to blocks
 
--- a link that is good for its role: its offset, and the payload that it leads to
+-- a link to a block of the right role: its offset, and the payload that it leads to
 pub record Field : Type 0 where
   pub at : ℕ
   pub target : ℕ
@@ -37,7 +37,7 @@ field_at m ts role at = elim (good_for ts role (link_at m at)) [
 abbrev pub index_field : Memory → List Tile → ℕ → List Field
 index_field m ts at = if index_capacity m at == 0 then [] else field_at m ts Index at
 
--- kinds and offsets of the objects' values
+-- the kinds and the offsets of the objects' values
 abbrev pub values : ℕ → Memory → List Tile → List (Kind × ℕ)
 values format m ts = filter_map (λ t.
     option_map (λ k. (k, value_offset m (payload t))) (kind_at format m (payload t))) (object_tiles ts)
@@ -53,11 +53,12 @@ has_storage Strings = true
 abbrev pub storage_field : Memory → List Tile → Kind × ℕ → List Field
 storage_field m ts (k, at) = if has_storage k && nat_lt 0 (word_at m (at + 16)) then field_at m ts Storage at else []
 
--- the offsets of the first n of the elements of 16 bytes from an offset on
+-- the offsets of the first n elements of 16 bytes, from an offset on
 abbrev pub element_offsets : ℕ → ℕ → List ℕ
 element_offsets at n = map (λ i. at + 16 * i) (range_with_len 0 n)
 
--- the element links of an array that is reached: of the first length elements, and not more than its payload holds
+-- the links of the elements of an array that a link leads to: the first `length` elements, but at most as many as its
+-- payload holds
 abbrev pub element_fields : Memory → List Tile → Kind × ℕ → List Field
 element_fields m ts (Strings, at) = elim (storage_array m ts at) [
   | None ↦ []
@@ -69,13 +70,14 @@ element_fields m ts (Strings, at) = elim (storage_array m ts at) [
     storage_array m ts at = if word_at m (at + 16) == 0 then None else good_for ts Storage (link_at m at)
 element_fields m ts (k, at) = []
 
--- where the root link of a map stands
+-- the offset of the root link of a map
 abbrev pub root_link : Kind × ℕ → List ℕ
 root_link (Map k v, at) = at ∷ []
 root_link (k, at) = []
 
--- The good ones of these links to nodes, and of the links of the nodes that are reached by them. The links of a node
--- are gone through where it is first met, and these have been met. At most this many links are gone through.
+-- The links of the second list that lead to nodes, and the links of the nodes behind them that lead to nodes. The links
+-- of a node are visited when the node is first met; the first list contains the nodes met so far. At most this many
+-- links are visited.
 abbrev pub node_fields : ℕ → Memory → List Tile → List ℕ → List ℕ → List Field
 node_fields zero m ts met links = []
 node_fields (suc more) m ts met [] = []
@@ -95,7 +97,7 @@ counted_fields format m ts =
     ++ flat_map (element_fields m ts) (values format m ts)
     ++ node_fields (2 * length ts) m ts [] (flat_map root_link (values format m ts))
 
--- two different fields have one target
+-- whether two different fields have one target
 abbrev pub share_target : Field → Field → Bool
 share_target f g = not (f.at == g.at) && (f.target == g.target)
 
@@ -103,7 +105,7 @@ abbrev pub share_some : List Field → Bool
 share_some [] = false
 share_some (f ∷ fs) = list_any (share_target f) fs || share_some fs
 
--- two links that count lead to one block
+-- whether two fields that count lead to one block
 abbrev pub is_shared : ℕ → Memory → List Tile → Bool
 is_shared format m ts = share_some (counted_fields format m ts)
 
@@ -113,27 +115,27 @@ needs_owner t = is_use Index t || is_use Storage t || is_use Node t
 abbrev pub leads_there : Tile → Field → Bool
 leads_there t f = f.target == payload t
 
--- a tile is the target of no field, and is to be that of one
+-- whether the tile needs an owner, and is the target of no field
 abbrev pub is_left : List Field → Tile → Bool
 is_left fields t = needs_owner t && not (list_any (leads_there t) fields)
 
 abbrev pub leave_some : List Tile → List Field → Bool
 leave_some ts fields = list_any (is_left fields) ts
 
--- no link that counts leads to some block
+-- whether there is a block that needs an owner, and no field that counts leads to it
 abbrev pub is_orphaned : ℕ → Memory → List Tile → Bool
 is_orphaned format m ts = leave_some ts (counted_fields format m ts)
 
 -- ---- containers
 
--- a vector or string is right
+-- whether a vector or string is valid
 abbrev pub is_storage_at : Memory → List Tile → ScalarKind → ℕ → Bool
 is_storage_at m ts k at =
     if nat_le (word_at m (at + 8)) (word_at m (at + 16))
     && is_table_link ts Storage (link_at m at) (size_of k) (word_at m (at + 16))
     then elim (link_at m at) [ None ↦ true | Some block ↦ are_spellings m k block (word_at m (at + 8)) ] else false
 
--- a node with room for its key and value, both of them spelled
+-- whether a node has room for its key and value, and both are valid
 abbrev pub is_node_of : Memory → List Tile → ScalarKind → ScalarKind → ℕ → Bool
 is_node_of m ts k v n = leads_to ts Node (Some n) (16 + size_of k + size_of v) && are_spellings m k (n + 16) 1
     && are_spellings m v (n + 16 + size_of k) 1
@@ -141,24 +143,24 @@ is_node_of m ts k v n = leads_to ts Node (Some n) (16 + size_of k + size_of v) &
 abbrev pub key_at : Memory → ScalarKind → ℕ → ℤ
 key_at m k n = value_of k (little_number (size_of k) (read m (n + 16) (size_of k)))
 
--- nodes that are reached, in order, and make up the map at an offset
+-- whether the nodes behind the root link, in order, are the pairs of the map at an offset
 abbrev pub are_pairs : Memory → List Tile → ScalarKind → ScalarKind → ℕ → List ℕ → Bool
 are_pairs m ts k v at nodes =
     list_all (is_node_of m ts k v) nodes && rise_by (λ a b. int_lt (key_at m k a) (key_at m k b)) nodes
     && (word_at m (at + 8) == length nodes) && (word_at m (at + 16) == 0)
 
--- a map is right
+-- whether a map is valid
 abbrev pub is_map_at : Memory → List Tile → ScalarKind → ScalarKind → ℕ → Bool
 is_map_at m ts k v at = elim (tree_from (length ts) (λ n. is_some (tile_of ts Node n)) (cells_of m) (link_at m at)) [
   | None ↦ false
   | Some t ↦ is_red_black t && are_pairs m ts k v at (nodes_of t)
 ]
 
--- an element of a vector of texts: a link to a block that holds its bytes, and null if it has none
+-- whether an element of a vector of texts links to a block with room for its bytes; null if it has no bytes
 abbrev pub is_element_at : Memory → List Tile → ℕ → Bool
 is_element_at m ts at = is_table_link ts Storage (link_at m at) 1 (word_at m (at + 8))
 
--- an array of texts is right
+-- whether an array of texts is valid
 abbrev pub is_array_at : Memory → List Tile → ℕ → Bool
 is_array_at m ts at =
     if nat_le (word_at m (at + 8)) (word_at m (at + 16))
@@ -168,7 +170,7 @@ is_array_at m ts at =
       | Some block ↦ list_all (is_element_at m ts) (element_offsets block (word_at m (at + 8)))
     ] else false
 
--- the value of an object is right, if it is a container
+-- whether the value of an object is valid, if it is a container
 abbrev pub is_container : Memory → List Tile → Kind × ℕ → Bool
 is_container m ts (Scalar k, at) = true
 is_container m ts (String, at) = is_storage_at m ts U8 at
@@ -176,6 +178,6 @@ is_container m ts (Vector k, at) = is_storage_at m ts k at
 is_container m ts (Map k v, at) = is_map_at m ts k v at
 is_container m ts (Strings, at) = is_array_at m ts at
 
--- each container is right
+-- whether each container is valid
 abbrev pub has_containers : ℕ → Memory → List Tile → Bool
 has_containers format m ts = list_all (is_container m ts) (values format m ts)

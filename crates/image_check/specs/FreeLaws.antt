@@ -1,4 +1,4 @@
--- The laws of these places as nodes.
+-- The laws of the offsets at which a payload can begin, as nodes.
 use Rattle.std.proofs.Common.{◌≡◌, refl, sym, ap, subst, ℕ, zero, suc, ◌+◌, ◌*◌, ◌/◌, ◌%◌, ◌^◌, ◌<◌, ◌≤◌, ◌⊎◌, inl, inr}
 use Rattle.std.proofs.Common.{true, false, ◌&&◌, List, [], ◌∷◌, length, arith, nat_le, ◌==◌, IsTrue}
 use Rattle.std.specs.Prelude.{Option, Some, None, if◌then◌else◌}
@@ -36,7 +36,7 @@ in_multiples (suc k) i l = by_test (cases_lt i k) (in_multiples k i)
 pub small_size : (n : ℕ) → IsTrue (is_legal_size n) → n ≤ 1073741824
 small_size n h = grind arith
 
--- a place where a payload may begin, in a window of a legal size
+-- an offset at which a payload can begin, in a window of a legal size
 pub record PayloadBounds (c : WindowState) (n : ℕ) : Type 0 where
   pub size : IsTrue (is_legal_size (length c.bytes))
   pub whole : n % 16 ≡ 0

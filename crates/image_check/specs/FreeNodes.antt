@@ -1,4 +1,4 @@
--- The places of a window where a payload may begin, as the nodes of a tree whose links nobody vouches for.
+-- The offsets of a window at which a payload can begin, as the nodes of a tree with links of any value.
 use Rattle.std.specs.Prelude.{ℕ, ◌+◌, ◌-◌, ◌*◌, ◌/◌, Bool, true, ◌&&◌, not, Option, Some, None, List, length}
 use Rattle.std.specs.Prelude.{if◌then◌else◌}
 use Rattle.raw_region.specs.Memory.{Memory, WindowState, bytes_of, word_at}
@@ -12,16 +12,16 @@ use Rattle.block_tags.specs.Tiles.{is_free}
 use Rattle.best_fit.specs.FreeTree.{is_red}
 use Rattle.best_fit.specs.GapLaws.{comes}
 
--- a place where a payload may begin
+-- whether a payload can begin at the offset
 unfoldable pub is_place : WindowState → ℕ → Bool
 is_place c n = is_legal_size (length c.bytes) && is_handle_place (length c.bytes) n
 
--- where a link leads: nowhere, if that is no such place
+-- the target of a link; none if no payload can begin there
 unfoldable pub placed : ℕ → Option ℕ → Option ℕ
 placed size None = None
 placed size (Some n) = if is_handle_place size n then Some n else None
 
--- untrusted links as cells: each place of a handle is a node, and any other link is null
+-- the links as cells: each offset at which a payload can begin is a node, and a link to any other offset is null
 unfoldable pub place_cells : WindowState → ℕ → Cell
 unfolding placed
 place_cells c n =
@@ -31,23 +31,23 @@ place_cells c n =
       red = is_red (bytes_of c.bytes) n;
     }
 
--- the length that the tag in front of a payload says
+-- the length in the tag before a payload
 abbrev pub len_at : Memory → ℕ → ℕ
 len_at m n = word_at m (n - 8) / 16 * 16
 
--- by length, and then by offset
+-- one node precedes another: by length, and then by offset
 abbrev pub stands_before : Memory → ℕ → ℕ → Bool
 stands_before m a b = comes (len_at m a) a (len_at m b) b
 
--- before a node of this length at this place
+-- whether a node precedes a node of this length at this offset
 abbrev pub is_before : Memory → ℕ → ℕ → ℕ → Bool
 is_before m len node n = comes (len_at m n) n len node
 
--- both links of a node are null or lead to such places
+-- whether each of a node's two links is null or leads to an offset at which a payload can begin
 abbrev pub has_good_links : WindowState → ℕ → Bool
 has_good_links c n = not (is_bad (length c.bytes) (link_at (bytes_of c.bytes) n))
     && not (is_bad (length c.bytes) (link_at (bytes_of c.bytes) (n + 8)))
 
--- a tile that is free is one of these nodes, and its links are good
+-- whether the tile is in use, or is one of these nodes with good links
 abbrev pub is_planted : WindowState → List ℕ → Tile → Bool
 is_planted c ns t = if is_free t then is_in (t.offset + 16) ns && has_good_links c (t.offset + 16) else true

@@ -1,4 +1,4 @@
--- The place in the first 128 bytes that shows that an image is wrong.
+-- The offset in the first 128 bytes that shows that an image is wrong.
 use Rattle.std.specs.Prelude.{◌≡◌, ◌≢◌, ◌<◌, ◌≤◌, ◌⊎◌, ℕ, List, false, codes, length, slice_index, if◌then◌else◌}
 use Rattle.raw_region.specs.Memory.{AreZero, Memory, bytes_of}
 use Rattle.block_tags.specs.Format.{is_legal_size}
@@ -8,13 +8,13 @@ use Rattle.image_check.specs.declared.classes.ImageClass.TheVariants.{BadReserve
 use Rattle.image_check.specs.declared.classes.ImageClass.TheVariants.{BadObject, SharedBlock, BadContainer, OrphanBlock}
 use Rattle.image_check.specs.EarlyTests.{size_word}
 
--- the first byte that is not the one of the list at its place
+-- the first byte that differs from the byte of the list at its offset
 pub record IsFirstOther (b wanted : List ℕ) (at : ℕ) : Type 0 where
   pub inside : at < length wanted
   pub other : slice_index b at ≢ slice_index wanted at
   pub same : (i : ℕ) → i < at → slice_index b i ≡ slice_index wanted i
 
--- the first byte of those from an offset on, below another, that is not 0
+-- the first byte from an offset on, below another, that is not 0
 pub record IsFirstNonzero (m : Memory) (from to at : ℕ) : Type 0 where
   pub above : from ≤ at
   pub below : at < to
@@ -26,11 +26,11 @@ abbrev pub IsFirstReserved : List ℕ → ℕ → Type 0
 IsFirstReserved b at = IsFirstNonzero (bytes_of b) 12 16 at
     ⊎ (AreZero (bytes_of b) 12 16 × IsFirstNonzero (bytes_of b) 80 128 at)
 
--- the size that is none of a segment, or otherwise the first byte after a segment of that size
+-- the size, if it is not legal, and otherwise the offset of the first byte after a segment of this size
 abbrev pub shown_size : List ℕ → ℕ
 shown_size b = if is_legal_size (size_word b) then size_word b else 16
 
--- the place that shows what is wrong with the first words
+-- the offset that shows what is wrong with the first words
 abbrev pub IsFrontPlace : List ℕ → ImageClass → ℕ → Type 0
 IsFrontPlace b BadMagic at = IsFirstOther b (codes "MSEGFILE") at
 IsFrontPlace b UnsupportedVersion at = at ≡ 8

@@ -1,4 +1,4 @@
--- The laws of these pairs as nodes.
+-- The laws of the pairs of a map in an image, as nodes.
 use Rattle.std.proofs.Common.{◌≡◌, refl, ap, ◌∙◌, ℕ, ◌+◌, ◌^◌, ◌≤◌, inl, inr, Bool, true, false, ◌&&◌, List, length}
 use Rattle.std.proofs.Common.{arith, IsTrue}
 use Rattle.std.specs.Prelude.{Option, Some, None, ℤ, pos, negsuc, int_lt}

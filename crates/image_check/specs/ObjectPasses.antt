@@ -1,4 +1,4 @@
--- What the pass over the objects tests, part by part, and how often it looks.
+-- The tests of the pass over the objects, part by part, and its visits.
 use Rattle.std.specs.Prelude.{◌≡◌, ℕ, ◌+◌, ◌*◌, ◌<◌, ◌≤◌, Bool, true, false, ◌&&◌, Option, Some, None, List, ◌==◌}
 use Rattle.std.specs.Prelude.{nat_le, if◌then◌else◌}
 use Rattle.std.specs.List.{list_all}
@@ -17,61 +17,61 @@ use Rattle.image_check.specs.Visits.{Rates}
 
 -- ---- one object
 
--- the value of an object is right, in a payload that ends there
+-- whether the value of an object is valid, in a payload with this end
 abbrev pub has_value : ℕ → Memory → ℕ → ℕ → Bool
 has_value format m at end = elim (kind_at format m at) [
   | None ↦ false
   | Some k ↦ is_value_in m k (count_at m at) (value_offset m at) end
 ]
 
--- the object at an offset is right, in a payload that ends there
+-- whether the object at an offset is valid, in a payload with this end
 abbrev pub is_object_at : ℕ → Memory → ℕ → ℕ → Bool
 is_object_at format m at end =
     if has_name format m at then has_value format m at end && has_padding m at && is_indexed m at else false
 
--- the count of a value is right, and it lies before the end
+-- whether the count of a value is legal, and the value ends by the end
 abbrev pub is_value_room : Kind → ℕ → ℕ → ℕ → Bool
 is_value_room (Scalar k) count at end = nat_le 1 count && nat_le count 1048576 && nat_le (at + size_of k * count) end
 is_value_room k count at end = (count == 1) && nat_le (at + 24) end
 
--- whether the elements of a container are spellings, if they are scalars
+-- whether the elements are valid, if they are scalars
 abbrev pub is_spelled : Memory → Kind → ℕ → ℕ → Bool
 is_spelled m (Scalar k) count at = are_spellings m k at count
 is_spelled m k count at = true
 
--- a tile that is no object's, or one of an object that is right
+-- whether the tile holds no wrong object
 abbrev pub is_right_tile : ℕ → Memory → Tile → Bool
 is_right_tile format m t = if is_use Object t then is_object_tile format m t else true
 
 -- ---- the entries of an index
 
--- the key of an object of a class stands before that of another: of class 1 by the names, of class 2 by the kinds
+-- whether the key of an object of a class precedes the key of another: in class 1 by the names, in class 2 by the kinds
 abbrev pub key_before : ℕ → Memory → ℕ → ℕ → Bool
 key_before class m g h = if class == 1 then name_before m g h else code_before m g h
 
--- the objects are all of a class, and their keys rise
+-- whether the objects all have a class, and their keys rise
 abbrev pub are_ranked : ℕ → Memory → List ℕ → Bool
 are_ranked class m xs = list_all (λ at. class_at m at == class) xs && rise_by (key_before class m) xs
 
--- an object of the class whose key stands after that of the last one, if there is one
+-- whether the object has the class, and its key follows the key of the last object, if there is one
 abbrev pub follows : ℕ → Memory → Option ℕ → ℕ → Bool
 follows class m last here = (class_at m here == class) && elim last [ None ↦ true | Some g ↦ key_before class m g here ]
 
--- where the objects of an index lie, with their names
+-- the object of an index has a head and a name that can be read
 abbrev pub HaveHeads : Memory → ℕ → ℕ → Type 0
 HaveHeads m at size = (n : ℕ) → is_among (targets m at) n ≡ true → n + 16 + name_len_at m n ≤ size
 
--- the links in the first places of a block lead to heads of objects
+-- the first links of a block lead to heads of objects
 abbrev pub LeadToHeads : Memory → ℕ → ℕ → ℕ → Type 0
 LeadToHeads m block count size = (i n : ℕ) → i < count → link_at m (block + 8 * i) ≡ Some n
     → n + 16 + name_len_at m n ≤ size
 
 -- ---- visits
 
--- of the walk over the objects
+-- the rates of the walk over the objects
 abbrev pub object_walk_rates : Rates
 object_walk_rates = record { free = 1; object = 22; index = 1; storage = 1; node = 1 }
 
--- of both indexes
+-- the rates of both indexes
 abbrev pub entry_rates : Rates
 entry_rates = record { free = 0; object = 0; index = 12; storage = 0; node = 0 }

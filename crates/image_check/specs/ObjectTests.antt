@@ -20,29 +20,29 @@ use Rattle.image_check.specs.EarlyTests.{is_zero, is_among}
 
 -- ---- links to tiles
 
--- the tile has this role
+-- whether the tile has this role
 abbrev pub is_use : Role → Tile → Bool
 is_use role t = elim t.use_of [ None ↦ false | Some r ↦ same_role role r ]
 
--- the tile of a role whose payload begins there
+-- the tile of a role whose payload begins at this offset
 abbrev pub tile_of : List Tile → Role → ℕ → Option Tile
 tile_of ts role target = find (λ (t : Tile). is_use role t && (t.offset + 16 == target)) ts
 
--- the tile that a link is good for
+-- the tile of a role that a link leads to
 abbrev pub good_for : List Tile → Role → Option ℕ → Option Tile
 good_for ts role None = None
 good_for ts role (Some target) = tile_of ts role target
 
--- a link that is good for the role, to a payload of this many bytes
+-- whether a link leads to a tile of the role with room for this many bytes of payload
 abbrev pub leads_to : List Tile → Role → Option ℕ → ℕ → Bool
 leads_to ts role link n = elim (good_for ts role link) [ None ↦ false | Some t ↦ nat_le (n + 16) t.len ]
 
--- a link of a block that has this many places: null if there are none
+-- whether a link leads to a block with room for this capacity; with capacity 0 it must be null
 abbrev pub is_table_link : List Tile → Role → Option ℕ → ℕ → ℕ → Bool
 is_table_link ts role link each capacity =
     if capacity == 0 then is_none link else leads_to ts role link (each * capacity)
 
--- the offset of the bytes of a tile
+-- the offset of a tile's payload
 abbrev pub payload : Tile → ℕ
 payload t = t.offset + 16
 
@@ -51,18 +51,18 @@ payload t = t.offset + 16
 abbrev pub index_capacity : Memory → ℕ → ℕ
 index_capacity m at = word_at m (at + 16)
 
--- the links in the first count places of the index whose words stand at an offset
+-- the first `count` links of the index whose words are at an offset
 abbrev pub entries : Memory → ℕ → List (Option ℕ)
 entries m at = elim (link_at m at) [
   | None ↦ []
   | Some block ↦ map (λ i. link_at m (block + 8 * i)) (range_with_len 0 (word_at m (at + 8)))
 ]
 
--- where the links of an index lead
+-- the targets of the links of an index
 abbrev pub targets : Memory → ℕ → List ℕ
 targets m at = flat_map option_to_list (entries m at)
 
--- the words and the entries of an index are right
+-- whether the words and the entries of an index are valid
 abbrev pub has_index : Memory → List Tile → ℕ → Bool
 has_index m ts at =
     if nat_le (word_at m (at + 8)) (index_capacity m at)
@@ -73,16 +73,16 @@ abbrev pub are_distinct : List ℕ → Bool
 are_distinct [] = true
 are_distinct (x ∷ xs) = not (is_among xs x) && are_distinct xs
 
--- both indexes are right, and no object has two entries
+-- whether both indexes are valid, and no object has two entries
 abbrev pub has_indexes : Memory → List Tile → Bool
 has_indexes m ts = has_index m ts 32 && has_index m ts 56 && are_distinct (targets m 32 ++ targets m 56)
 
--- ---- objects: what their payloads say, by the words of an index entry
+-- ---- objects: the contents of their payloads
 
 abbrev pub object_tiles : List Tile → List Tile
 object_tiles = filter (is_use Object)
 
--- where the value of an object begins
+-- the offset of an object's value
 abbrev pub value_offset : Memory → ℕ → ℕ
 value_offset m at = at + 16 + padded (name_len_at m at)
 
@@ -93,11 +93,11 @@ kind_at format m at = elim (kind_of_code (code_at m at)) [
   | Some k ↦ if is_kind_of format k then Some k else None
 ]
 
--- the n elements of a kind from an offset on are spellings
+-- whether the n elements of a kind from an offset on are valid
 abbrev pub are_spellings : Memory → ScalarKind → ℕ → ℕ → Bool
 are_spellings m k at n = list_all (λ i. is_spelling k (read m (at + size_of k * i) (size_of k))) (range_with_len 0 n)
 
--- the count is right, and the value lies in the payload, which ends there; the scalars are spellings
+-- whether the count is legal, the value ends by the end of the payload, and the scalars are valid
 abbrev pub is_value_in : Memory → Kind → ℕ → ℕ → ℕ → Bool
 is_value_in m (Scalar k) count at end =
     if nat_le 1 count && nat_le count 1048576
@@ -116,7 +116,7 @@ padding_at m at = let n = name_len_at m at in read m (at + 16 + n) (padded n - n
 abbrev pub has_padding : Memory → ℕ → Bool
 has_padding m at = is_zero (padding_at m at)
 
--- a class 1 object is in the named index and a class 2 object in the unique one
+-- whether an object of class 1 is in the named index, and an object of class 2 in the unique one
 abbrev pub is_indexed : Memory → ℕ → Bool
 is_indexed m at =
     if class_at m at == 1 then is_among (targets m 32) at
@@ -138,7 +138,7 @@ rise_by lt [] = true
 rise_by lt (x ∷ []) = true
 rise_by lt (x ∷ y ∷ xs) = lt x y && rise_by lt (y ∷ xs)
 
--- each object is right, and the keys of the entries rise
+-- whether each object is valid, and the keys of the entries rise
 abbrev pub has_objects : ℕ → Memory → List Tile → Bool
 has_objects format m ts =
     list_all (is_object_tile format m) (object_tiles ts)

@@ -1,10 +1,10 @@
--- The place that shows that two links lead to one block.
+-- The offset that shows that two links lead to one block.
 use Rattle.std.specs.Prelude.{◌≢◌, ℕ, List}
 use Rattle.raw_region.specs.Memory.{Memory}
 use Rattle.block_tags.specs.declared.tile.Tile.{Tile}
 use Rattle.image_check.specs.Meaning.{IsCountedLink}
 
--- the link at a place counts, and so does another that leads where it leads
+-- the link at this offset counts, and another link that counts has the same target
 pub record IsSharedAt (format : ℕ) (m : Memory) (ts : List Tile) (place : ℕ) : Type 0 where
   pub target : ℕ
   pub other : ℕ

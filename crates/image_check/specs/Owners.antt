@@ -1,4 +1,4 @@
--- The owners of blocks: what the map of them says, and what is known while links are gone through.
+-- The owners of blocks: the map of them, and its state while links are followed.
 use Rattle.std.specs.Prelude.{◌≡◌, ◌≢◌, ℕ, filter_map, map, ◌+◌, ◌*◌, ◌/◌, ◌%◌, ◌≤◌, ◌<◌, ◌⊎◌, ◌||◌, not, Bool, is_some}
 use Rattle.std.specs.Prelude.{IsTrue, Contains, Option, Some, None, List, [], ◌∷◌, length, nat_eq, IsSome}
 use Rattle.std.specs.Prelude.{if◌then◌else◌}
@@ -26,7 +26,7 @@ use Rattle.image_check.specs.OwnerPlaces.{IsSharedAt}
 abbrev pub Blocks : Type 0
 Blocks = List (ℕ × Block)
 
--- the map: its entries, and how many more it has room for
+-- the map: its entries, and the number of entries for which it has room left
 pub record BlockMap : Type 0 where
   pub entries : Blocks
   pub room : ℕ
@@ -43,21 +43,21 @@ abbrev pub entry_in : Option Block → Option Owner
 entry_in None = None
 entry_in (Some b) = if same_role b.role Object then b.owner else None
 
--- the link that was met to lead to the payload of an index, a storage or a node
+-- the link that leads to the payload of an index, a storage or a node
 abbrev pub owner_at : Blocks → ℕ → Option Owner
 owner_at es n = owner_in (block_at es n)
 
--- the entry of an index that was met to lead to an object
+-- the entry of an index that leads to an object
 abbrev pub entry_at : Blocks → ℕ → Option Owner
 entry_at es n = entry_in (block_at es n)
 
--- a tile of the role and length of this block
+-- the tile at this offset has the role and the length of the block
 pub record IsTileAt (ts : List Tile) (n : ℕ) (b : Block) : Type 0 where
   pub tile : Tile
   pub is : tile_of ts b.role n ≡ Some tile
   pub len : tile.len ≡ b.len
 
--- a block of the role and length of this tile
+-- the block at this offset has the role and the length of the tile
 pub record IsBlockAt (es : Blocks) (n : ℕ) (role : Role) (t : Tile) : Type 0 where
   pub block : Block
   pub is : block_at es n ≡ Some block
@@ -69,11 +69,11 @@ pub record AreBlocks (ts : List Tile) (es : Blocks) : Type 0 where
   pub tiles : (n : ℕ) (b : Block) → block_at es n ≡ Some b → IsTileAt ts n b
   pub blocks : (n : ℕ) (role : Role) (t : Tile) → tile_of ts role n ≡ Some t → IsBlockAt es n role t
 
--- each is a block of the live set
+-- each entry is a block of the live set
 abbrev pub AreBlocksIn : LiveSet → Blocks → Type 0
 AreBlocksIn live es = (n : ℕ) (b : Block) → block_at es n ≡ Some b → IsTrue (is_live_in live n)
 
--- The visits that the links behind a block may take once a link is met to lead to it: six for a node, and three for
+-- The visits that are allowed for the links in a block after a link to it is entered: six for a node, and three for
 -- each 16 bytes of storage.
 abbrev pub visit_budget : Role → ℕ → ℕ
 visit_budget Object len = 0
@@ -84,7 +84,7 @@ visit_budget Node len = 6
 abbrev pub due_of : Block → ℕ
 due_of b = elim b.owner [ None ↦ visit_budget b.role b.len | Some o ↦ 0 ]
 
--- of all blocks that no link was met to lead to
+-- the sum over all blocks without an entered link
 abbrev pub unspent_budget : Blocks → ℕ
 unspent_budget [] = 0
 unspent_budget (e ∷ es) = due_of e.1 + unspent_budget es
@@ -92,12 +92,12 @@ unspent_budget (e ∷ es) = due_of e.1 + unspent_budget es
 abbrev pub tile_due : Tile → ℕ
 tile_due t = elim t.use_of [ None ↦ 0 | Some role ↦ visit_budget role t.len ]
 
--- of all tiles
+-- the sum over all tiles
 abbrev pub debts : List Tile → ℕ
 debts [] = 0
 debts (t ∷ ts) = tile_due t + debts ts
 
--- ---- the blocks of tiles, before a link was met
+-- ---- the blocks of tiles, before a link is entered
 
 abbrev pub new_block : Role → ℕ → Block
 new_block role len = record { role = role; len = len; owner = None; next = None }
@@ -110,7 +110,7 @@ entry_of t = elim t.use_of [ None ↦ None | Some role ↦ Some (t.offset + 16, 
 abbrev pub entries_of : List Tile → Blocks
 entries_of ts = filter_map entry_of ts
 
--- role and length of each block, by payload
+-- the payload, the role and the length of a block
 abbrev pub frame_of : ℕ × Block → ℕ × Role × ℕ
 frame_of e = (e.0, e.1.role, e.1.len)
 
@@ -120,7 +120,7 @@ frames es = map frame_of es
 
 -- ---- the nodes whose links are to be followed
 
--- the links of an owned node are not followed yet, and it names the next such node
+-- the node is owned, its links are not followed yet, and it names the next waiting node
 pub record IsWaiting (es : Blocks) (n : ℕ) (next : Option ℕ) : Type 0 where
   pub block : Block
   pub is : block_at es n ≡ Some block
@@ -128,45 +128,45 @@ pub record IsWaiting (es : Blocks) (n : ℕ) (next : Option ℕ) : Type 0 where
   pub owned : IsSome block.owner
   pub next_is : block.next ≡ next
 
--- from the first of them each names the next
+-- each waiting node names the next, from the first on
 abbrev pub IsChain : Blocks → Option ℕ → List ℕ → Type 0
 IsChain es head [] = head ≡ None
 IsChain es head (n ∷ ns) = (next : Option ℕ) × (head ≡ Some n) × IsWaiting es n next × IsChain es next ns
 
--- the list has the number
+-- the list contains the number
 abbrev pub IsMember : ℕ → List ℕ → Type 0
 IsMember n [] = ⊥
 IsMember n (x ∷ xs) = (n ≡ x) ⊎ IsMember n xs
 
--- ---- links that are gone through
+-- ---- following links
 
--- a link of this role at this place would count
+-- a link of this role at this offset counts if it leads to a block of the role
 abbrev pub MayCount : ℕ → Memory → List Tile → Role → ℕ → Type 0
 MayCount format m ts role at = (target : ℕ) → LeadsTo m ts role at target → IsCountedLink format m ts at target
 
--- where a link stands to which the links from a start lead
+-- a link at an offset, with the first link on its way
 abbrev pub owner : ℕ → ℕ → Owner
 owner at root = record { at = at; root = root }
 
--- the link at a place is noted, if it leads to a block of the role
+-- the link at an offset is entered, if it leads to a block of the role
 abbrev pub IsMarkedLink : Memory → List Tile → Blocks → Role → ℕ → ℕ → Type 0
 IsMarkedLink m ts es role at root = (target : ℕ) → LeadsTo m ts role at target
     → owner_at es target ≡ Some (owner at root)
 
--- no link was met but those of entries of indexes
+-- only entries of indexes are entered
 pub record IsUnmarked (ts : List Tile) (es : Blocks) : Type 0 where
   pub frame : frames es ≡ frames (entries_of ts)
   pub none : (n : ℕ) → owner_at es n ≡ None
 
--- both links of a node are noted, as led to from where the node is
+-- both links of a node are entered, with the first link of the node
 abbrev pub IsFollowed : Memory → List Tile → Blocks → ℕ → ℕ → Type 0
 IsFollowed m ts es n root = IsMarkedLink m ts es Node n root × IsMarkedLink m ts es Node (n + 8) root
 
--- a place that is no link of a node
+-- the offset is not that of a link of a node
 abbrev pub IsStart : List Tile → ℕ → Type 0
 IsStart ts at = (n : ℕ) (t : Tile) → tile_of ts Node n ≡ Some t → (at ≢ n) × (at ≢ n + 8)
 
--- a link of a node to which a link was noted to lead
+-- the link is in a node that has an owner
 pub record IsNodeLink (ts : List Tile) (es : Blocks) (at : ℕ) : Type 0 where
   pub node : ℕ
   pub tile : Tile
@@ -175,7 +175,7 @@ pub record IsNodeLink (ts : List Tile) (es : Blocks) (at : ℕ) : Type 0 where
   pub noted : owner_at es node ≡ Some led
   pub link : (at ≡ node) ⊎ (at ≡ node + 8)
 
--- where the links begin that lead to a link: there, or where those begin that lead to its node
+-- the first link of a link: itself, or the first link of its node
 abbrev pub IsRooted : List Tile → Blocks → Owner → Type 0
 IsRooted ts es o = (IsStart ts o.at × (o.root ≡ o.at)) ⊎ ((w : IsNodeLink ts es o.at) × (o.root ≡ w.led.root))
 
@@ -183,8 +183,7 @@ IsRooted ts es o = (IsStart ts o.at × (o.root ≡ o.at)) ⊎ ((w : IsNodeLink t
 abbrev pub AreAligned : List Tile → Type 0
 AreAligned ts = (n : ℕ) (t : Tile) → tile_of ts Node n ≡ Some t → n % 16 ≡ 0
 
--- What is noted counts. The links of each node that is owned are noted, but of those that wait and of the one whose
--- turn it is.
+-- Each entered link counts. The links of each owned node are entered, unless the node waits or is the current one.
 pub record IsMarking (format : ℕ) (m : Memory) (ts : List Tile) (now : Option ℕ) (es : Blocks) (pending : Option ℕ)
     (waiting : ℕ) : Type 0 where
   pub blocks : AreBlocks ts es
@@ -199,11 +198,11 @@ pub record IsMarking (format : ℕ) (m : Memory) (ts : List Tile) (now : Option 
   pub followed : (n : ℕ) (o : Owner) (t : Tile) → tile_of ts Node n ≡ Some t → owner_at es n ≡ Some o
       → IsMember n chain ⊎ ((now ≡ Some n) ⊎ IsFollowed m ts es n o.root)
 
--- all that was noted stays noted
+-- all entered links stay entered
 abbrev pub KeepsMarks : Blocks → Blocks → Type 0
 KeepsMarks old es = (n : ℕ) (o : Owner) → owner_at old n ≡ Some o → owner_at es n ≡ Some o
 
--- one link more is noted, and what was noted stays
+-- one more link is entered, and all entered links stay
 pub record MarksLink (format : ℕ) (m : Memory) (ts : List Tile) (now : Option ℕ) (role : Role) (link : Owner)
     (old : Blocks) (waited : ℕ) (es : Blocks) (pending : Option ℕ) (waiting : ℕ) : Type 0 where
   pub marking : IsMarking format m ts now es pending waiting
@@ -211,18 +210,18 @@ pub record MarksLink (format : ℕ) (m : Memory) (ts : List Tile) (now : Option 
   pub keeps : KeepsMarks old es
   pub only : (n : ℕ) (o : Owner) → owner_at es n ≡ Some o → (owner_at old n ≡ Some o) ⊎ (o ≡ link)
   pub less : 6 * waiting + unspent_budget es ≤ 6 * waited + unspent_budget old
-  -- what is due for storage that was met first is taken off
+  -- the visits allowed for a newly entered storage are subtracted
   pub paid : role ≡ Storage → (target : ℕ) (t : Tile) → link_at m link.at ≡ Some target
       → tile_of ts Storage target ≡ Some t → owner_at old target ≡ None
       → 6 * waiting + unspent_budget es + 3 * (t.len / 16) ≤ 6 * waited + unspent_budget old
 
 -- ---- of an image
 
--- the links of an image that are noted count, and those of owned nodes are noted
+-- the entered links of an image count, and the links of owned nodes are entered
 abbrev pub IsMarkingOf : ℕ → List ℕ → Option ℕ → Blocks → Option ℕ → ℕ → Type 0
 IsMarkingOf format b now es pending waiting = IsMarking format (bytes_of b) (tiles_in b) now es pending waiting
 
--- a link at the offset counts, and another that counts has its target
+-- the link at the offset counts, and another link that counts has its target
 abbrev pub IsSharedIn : ℕ → List ℕ → ℕ → Type 0
 IsSharedIn format b at = IsSharedAt format (bytes_of b) (tiles_in b) at
 
@@ -231,15 +230,15 @@ abbrev pub next_in : Option Block → Option ℕ
 next_in None = None
 next_in (Some b) = b.next
 
--- what waits after a node
+-- the node that waits after a node
 abbrev pub next_at : Blocks → ℕ → Option ℕ
 next_at es n = next_in (block_at es n)
 
--- where the first link stands of those that lead to a block
+-- the first link of a block
 abbrev pub root_in : Option Block → ℕ → ℕ
 root_in block n = elim (owner_in block) [ None ↦ n | Some o ↦ o.root ]
 
--- one node's links were noted
+-- the links of one node were entered
 pub record IsTurn (format : ℕ) (b : List ℕ) (old : Blocks) (waited : ℕ) (es : Blocks) (pending : Option ℕ)
     (waiting : ℕ) : Type 0 where
   pub marking : IsMarkingOf format b None es pending waiting
@@ -252,9 +251,9 @@ pub record FollowsAll (format : ℕ) (b : List ℕ) (old es : Blocks) (pending :
   pub none : pending ≡ None
   pub keeps : KeepsMarks old es
 
--- ---- all fields that count
+-- ---- all links that count
 
--- The links of the indexes, of storage, of elements and of roots are noted, and those of the nodes that were met.
+-- The links of the indexes, of storage, of elements and of roots are entered, and the links of the owned nodes.
 pub record IsWholeMarking (format : ℕ) (m : Memory) (ts : List Tile) (es : Blocks) (waiting : ℕ) : Type 0 where
   pub marking : IsMarking format m ts None es None waiting
   pub named : 0 < index_capacity m 32 → IsMarkedLink m ts es Index 32 32
@@ -267,11 +266,11 @@ pub record IsWholeMarking (format : ℕ) (m : Memory) (ts : List Tile) (es : Blo
       → IsMarkedLink m ts es Storage (payload array + 16 * i) (payload array + 16 * i)
   pub root : (k v : ScalarKind) (at : ℕ) → Contains (values format m ts) (Map k v, at) → IsMarkedLink m ts es Node at at
 
--- all links of an image that count are noted
+-- all links of an image that count are entered
 abbrev pub IsWholeMarkingOf : ℕ → List ℕ → Blocks → ℕ → Type 0
 IsWholeMarkingOf format b es waiting = IsWholeMarking format (bytes_of b) (tiles_in b) es waiting
 
--- a tile needs no owner or has one
+-- whether the tile has an owner or needs none
 abbrev pub has_owner : Blocks → Tile → Bool
 has_owner es t = not (needs_owner t) || is_some (owner_at es (payload t))
 

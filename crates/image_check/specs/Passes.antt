@@ -1,4 +1,4 @@
--- What a pass over an image answers.
+-- The results of a pass over an image.
 use Rattle.std.specs.Prelude.{◌≡◌, ℕ, ◌+◌, ◌≤◌, Bool, true, false, List, filter_map, length, is_some, IsTrue, Result}
 use Rattle.std.specs.Prelude.{MatchResult}
 use Rattle.std.specs.List.{list_any}
@@ -16,11 +16,11 @@ use Rattle.image_check.specs.Visits.{Rates, weigh}
 abbrev pub tiles_in : List ℕ → List Tile
 tiles_in b = tiles_of (bytes_of b) (length b)
 
--- a tile is in use
+-- whether a tile is in use
 abbrev pub has_block : List ℕ → Bool
 has_block b = list_any (λ (t : Tile). is_some t.use_of) (tiles_in b)
 
--- how many blocks in use an image has
+-- the number of blocks in use in an image
 abbrev pub blocks_in : List ℕ → ℕ
 blocks_in b = length (filter_map (λ (t : Tile). t.use_of) (tiles_in b))
 
@@ -29,11 +29,11 @@ pub record HasTiles (b : List ℕ) : Type 0 where
   pub size : IsTrue (is_legal_size (length b))
   pub tags : IsTrue (has_tags current (bytes_of b) (length b))
 
--- a pass that answers a place that shows it exactly if its test fails
+-- a pass returns an error, with the offset that shows it, exactly if its test fails
 abbrev pub ChecksClass : {A : Type 0} → Bool → (ℕ → Type 0) → Result A ℕ → Type 0
 ChecksClass fine Shows result = MatchResult result (λ done. fine ≡ true) (λ at. (fine ≡ false) × Shows at)
 
--- a pass raises the count by no more than this many, and this many for each 16 bytes of a tile
+-- a pass raises the count by at most this number, and these rates for each 16 bytes of a tile
 abbrev pub Spends : Rates → ℕ → List ℕ → ℕ → ℕ → Type 0
 Spends rates more b old new = (old ≤ new) × (new ≤ old + (more + weigh rates (tiles_in b)))
 
@@ -41,11 +41,11 @@ Spends rates more b old new = (old ≤ new) × (new ≤ old + (more + weigh rate
 abbrev pub CountsTiles : List ℕ → ℕ → ℕ → Type 0
 CountsTiles b old new = old + length (tiles_in b) ≤ new
 
--- a pass counts one more for each block that is in use
+-- a pass counts at least one visit for each block in use
 abbrev pub CountsBlocks : List ℕ → ℕ → ℕ → Type 0
 CountsBlocks b old new = old + length (tiles_in b) + blocks_in b ≤ new
 
--- the refusal names as many blocks as the image has
+-- the error names as many blocks as the image has
 abbrev pub IsRefusalFor : List ℕ → NoBlockMemory → Type 0
 IsRefusalFor b refusal = refusal.blocks ≡ blocks_in b
 

@@ -1,4 +1,4 @@
--- What the parts of an opening read, and why they stop.
+-- The reads in the parts of an opening, and their reasons to stop.
 use Rattle.std.specs.Prelude.{◌≡◌, ◌≤◌, ⊤, ℕ, ◌+◌, Bool, true, false, List, [], ◌∷◌, ◌++◌, length}
 use Rattle.std.specs.Prelude.{IsTrue, if◌then◌else◌, Result, Ok, Err}
 use Rattle.raw_region.specs.Memory.{WindowState, SameSurroundings, cut_at, whole}
@@ -17,7 +17,7 @@ use Rattle.image_check.specs.Opening.{IsHandedBack, IsReadToEnd, IsOpenCause, Is
 
 -- ---- the first words
 
--- the size that the first 24 bytes say, or what is wrong with them
+-- the size in the first 24 bytes, or the class of what is wrong with them
 abbrev pub front_of : ℕ → List ℕ → Result ℕ ImageClass
 front_of format b =
     if has_magic b then (if has_version format b then
@@ -26,27 +26,27 @@ front_of format b =
 
 -- ---- reading
 
--- why fewer bytes came than were asked for: the reader failed, or it ended
+-- the reason why fewer bytes were read than requested: the reader failed, or it ended
 abbrev pub IsShort : Bool → OpenError → Type 0
 IsShort ended (Image v) = (v.class ≡ Truncated) × (ended ≡ true)
 IsShort ended RegionTooSmall = ⊥
 IsShort ended (OutOfMemory refusal) = ⊥
 IsShort ended ReadFault = ⊤
 
--- Why a reader that was asked for one byte after the image did not end: it failed, or it gave one.
+-- The reason why a read of one byte after the image did not meet the end: the reader failed, or it returned a byte.
 abbrev pub ReadsPastEnd : List ℕ → List ℕ → OpenError → Type 0
 ReadsPastEnd old new (Image v) = (v.class ≡ BadSize) × ((byte : ℕ) × (new ≡ old ++ byte ∷ []))
 ReadsPastEnd old new RegionTooSmall = ⊥
 ReadsPastEnd old new (OutOfMemory refusal) = ⊥
 ReadsPastEnd old new ReadFault = new ≡ old
 
--- why no image is in the region, when these bytes were read
+-- the reason why no image is in the region, after these bytes were read
 pub record Stops (format : ℕ) (image : ReadDelta) (base capacity : ℕ) (cause : OpenError) : Type 0 where
   pub why : IsOpenCause format image base capacity cause
   pub too_small : IsTooSmallFor format image base capacity → cause ≡ RegionTooSmall
   pub early : is_late cause ≡ false
 
--- the first 24 bytes were read and say a size for which there is room
+-- the first 24 bytes were read, and the region has room for the size in them
 pub record ReadsFrontOk (format : ℕ) (old new front : List ℕ) (base capacity size : ℕ) : Type 0 where
   pub read : new ≡ old ++ front
   pub long : length front ≡ 24
@@ -54,12 +54,12 @@ pub record ReadsFrontOk (format : ℕ) (old new front : List ℕ) (base capacity
   pub says : size ≡ size_word front
   pub room : base + size ≤ capacity
 
--- a window begins with the first 24 bytes of an image, which say its size
+-- a window begins with the first 24 bytes of an image, and has the size in them
 pub record HasFront (format : ℕ) (w : WindowState) : Type 0 where
   pub right : IsTrue (has_front format w.bytes)
   pub says : size_word w.bytes ≡ length w.bytes
 
--- a whole image stands in its place in the region
+-- a whole image is at its place in the region
 pub record IsImageRead (format : ℕ) (image : ReadDelta) (region : List ℕ) (base : ℕ) (w : WindowState) : Type 0 where
   pub read : IsReadToEnd image
   pub bytes : w.bytes ≡ image.bytes
@@ -68,46 +68,46 @@ pub record IsImageRead (format : ℕ) (image : ReadDelta) (region : List ℕ) (b
   pub capacity : length (whole w) ≡ length region
   pub front : HasFront format w
 
--- no image is in the region, which comes back
+-- no image is in the region, which is returned
 pub record IsNotRead (format : ℕ) (image : ReadDelta) (region : List ℕ) (base : ℕ) (refused : OpenRefused) : Type
     0 where
   pub stops : Stops format image base (length region) refused.cause
   pub handed_back : IsHandedBack format image region base refused.region
 
--- ---- by the format that the first words say, if it is one of those that are read
+-- ---- by the format in the first words, if that is an accepted one
 
--- reading an image of the accepted versions stops, for this cause
+-- reading an image of the accepted versions stops, for this reason
 abbrev pub StopsBy : AcceptedVersions → ReadDelta → ℕ → ℕ → OpenError → Type 0
 StopsBy versions image = Stops (format_in versions image.bytes) image
 
--- an image of the accepted versions stands in its place in the region
+-- an image of the accepted versions is at its place in the region
 abbrev pub IsReadBy : AcceptedVersions → ReadDelta → List ℕ → ℕ → WindowState → Type 0
 IsReadBy versions image = IsImageRead (format_in versions image.bytes) image
 
--- no image of the accepted versions is in the region, for this cause
+-- no image of the accepted versions is in the region, for this reason
 abbrev pub IsNotReadBy : AcceptedVersions → ReadDelta → List ℕ → ℕ → OpenRefused → Type 0
 IsNotReadBy versions image = IsNotRead (format_in versions image.bytes) image
 
--- a place that is told shows the class, by the accepted versions
+-- the reported offset shows the class, by the accepted versions
 abbrev pub IsShownBy : AcceptedVersions → ReadDelta → OpenError → Type 0
 IsShownBy versions image = IsShown (format_in versions image.bytes) image.bytes
 
--- ---- bytes that lie in memory
+-- ---- bytes in memory
 
--- the bytes are as many as their first words say, and there is room for them
+-- the number of bytes is the size in their first words, and the region has room for it
 pub record FitsIn (format : ℕ) (b : List ℕ) (base capacity size : ℕ) : Type 0 where
   pub front : IsTrue (has_front format b)
   pub says : size ≡ size_word b
   pub long : length b ≡ size
   pub room : base + size ≤ capacity
 
--- why the bytes are not put into the region
+-- the reason why the bytes are not copied to the region
 pub record IsMisfit (format : ℕ) (b : List ℕ) (base capacity : ℕ) (cause : OpenError) : Type 0 where
   pub why : IsOpenCause format (as_given b) base capacity cause
   pub too_small : IsTooSmallFor format (as_given b) base capacity → cause ≡ RegionTooSmall
   pub early : is_late cause ≡ false
 
--- the bytes are not put into the region, which comes back as it was
+-- the bytes are not copied to the region, which is returned unchanged
 pub record IsNotPlaced (format : ℕ) (b region : List ℕ) (base : ℕ) (refused : OpenRefused) : Type 0 where
   pub misfit : IsMisfit format b base (length region) refused.cause
   pub back : refused.region ≡ region

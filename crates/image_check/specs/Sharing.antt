@@ -1,4 +1,4 @@
--- What noting the fields that count comes to, value by value.
+-- The effect of entering the links of an image that count, value by value.
 use Rattle.std.specs.Prelude.{◌≡◌, ◌≢◌, ℕ, ◌+◌, ◌*◌, ◌/◌, ◌%◌, ◌≤◌, ◌<◌, ◌⊎◌, Bool, true, false, IsTrue, Contains}
 use Rattle.std.specs.Prelude.{Option, Some, None, List, length, Result, MatchResult, ◌==◌, if◌then◌else◌}
 use Rattle.raw_region.specs.Memory.{Memory, bytes_of, word_at}
@@ -16,7 +16,7 @@ use Rattle.image_check.specs.Owners.{owner_at}
 use Rattle.image_check.specs.Passes.{tiles_in}
 use Rattle.image_check.specs.Visits.{Rates}
 
--- links at such places were noted, and what was noted before stays
+-- the links at such offsets were entered, and all entered links stay
 pub record MarksLinks (format : ℕ) (b : List ℕ) (At : ℕ
     → Type 0) (old : Blocks) (waited : ℕ) (es : Blocks) (pending : Option ℕ) (waiting : ℕ) : Type 0 where
   pub marking : IsMarkingOf format b None es pending waiting
@@ -24,27 +24,27 @@ pub record MarksLinks (format : ℕ) (b : List ℕ) (At : ℕ
   pub only : (n : ℕ) (o : Owner) → owner_at es n ≡ Some o → (owner_at old n ≡ Some o) ⊎ At o.at
   pub less : 6 * waiting + unspent_budget es ≤ 6 * waited + unspent_budget old
 
--- a pass makes at most this many visits besides those that were due for the blocks that it met
+-- a pass makes at most this many visits, in addition to the visits allowed for the blocks that it met
 abbrev pub Pays : {A E : Type 0} → ℕ → Result A E → ℕ → ℕ → ℕ → ℕ → Type 0
 Pays n result old owed new owes =
     (old ≤ new) × MatchResult result (λ done. new + owes ≤ old + (owed + n)) (λ class. new ≤ old + (owed + n))
 
 -- ---- one link
 
--- the link of an index that has places is noted
+-- the link of an index is entered, if its capacity is not 0
 pub record IsIndexNoted (format : ℕ) (b : List ℕ) (at : ℕ) (old : Blocks) (waited : ℕ) (es : Blocks)
     (pending : Option ℕ) (waiting : ℕ) : Type 0 where
   pub grown : MarksLinks format b (λ p. p ≡ at) old waited es pending waiting
   pub noted : 0 < index_capacity (bytes_of b) at → IsMarkedLink (bytes_of b) (tiles_in b) es Index at at
 
--- the links of both indexes are noted, and these alone
+-- the links of both indexes are entered, and no others
 pub record AreIndexesNoted (format : ℕ) (b : List ℕ) (es : Blocks) (pending : Option ℕ) (waiting : ℕ) : Type 0 where
   pub marking : IsMarkingOf format b None es pending waiting
   pub named : 0 < index_capacity (bytes_of b) 32 → IsMarkedLink (bytes_of b) (tiles_in b) es Index 32 32
   pub unique : 0 < index_capacity (bytes_of b) 56 → IsMarkedLink (bytes_of b) (tiles_in b) es Index 56 56
   pub front : (n : ℕ) (o : Owner) → owner_at es n ≡ Some o → o.at < 128
 
--- the storage link of a value that has places is noted
+-- the storage link of a value is entered, if its capacity is not 0
 pub record IsStorageNoted (format : ℕ) (b : List ℕ) (at : ℕ) (old : Blocks) (waited : ℕ) (es : Blocks)
     (pending : Option ℕ) (waiting : ℕ) : Type 0 where
   pub grown : MarksLinks format b (λ p. p ≡ at) old waited es pending waiting
@@ -55,21 +55,21 @@ pub record IsStorageNoted (format : ℕ) (b : List ℕ) (at : ℕ) (old : Blocks
 
 -- ---- elements
 
--- the place of one of the first n elements of an array
+-- the offset of one of the first n elements of an array
 abbrev pub IsElementPlace : ℕ → ℕ → ℕ → Type 0
 IsElementPlace array n p = (i : ℕ) × (i < n) × (p ≡ array + 16 * i)
 
--- the links of the first n elements of an array are noted
+-- the links of the first n elements of an array are entered
 pub record AreElementsNoted (format : ℕ) (b : List ℕ) (array n : ℕ) (old : Blocks) (waited : ℕ) (es : Blocks)
     (pending : Option ℕ) (waiting : ℕ) : Type 0 where
   pub grown : MarksLinks format b (IsElementPlace array n) old waited es pending waiting
   pub noted : (i : ℕ) → i < n → IsMarkedLink (bytes_of b) (tiles_in b) es Storage (array + 16 * i) (array + 16 * i)
 
--- a link there would count, and is none of a node
+-- a link at the offset counts if it leads to storage, and is not in a node
 abbrev pub IsStorageStart : ℕ → List ℕ → ℕ → Type 0
 IsStorageStart format b at = IsStart (tiles_in b) at × MayCount format (bytes_of b) (tiles_in b) Storage at
 
--- a place in the payload of a storage
+-- an offset in the payload of a storage
 pub record IsInStorage (ts : List Tile) (p : ℕ) : Type 0 where
   pub start : ℕ
   pub tile : Tile
@@ -77,19 +77,19 @@ pub record IsInStorage (ts : List Tile) (p : ℕ) : Type 0 where
   pub from : start ≤ p
   pub to : p + 16 < start + tile.len
 
--- something of each element of the array that a value leads to
+-- a property of each element of the array of a value
 abbrev pub AllElements : Memory → List Tile → ℕ → (ℕ → Type 0) → Type 0
 AllElements m ts at Is = (array : Tile) (i : ℕ) → 0 < word_at m (at + 16)
     → good_for ts Storage (link_at m at) ≡ Some array → i < word_at m (at + 8) → 16 * i + 32 ≤ array.len
     → Is (payload array + 16 * i)
 
--- the links of the elements of a vector of texts are noted
+-- the links of the elements of a vector of texts are entered
 pub record AreTextsNoted (format : ℕ) (b : List ℕ) (at : ℕ) (old : Blocks) (waited : ℕ) (es : Blocks)
     (pending : Option ℕ) (waiting : ℕ) : Type 0 where
   pub grown : MarksLinks format b (IsInStorage (tiles_in b)) old waited es pending waiting
   pub noted : AllElements (bytes_of b) (tiles_in b) at (λ p. IsMarkedLink (bytes_of b) (tiles_in b) es Storage p p)
 
--- how many visits the elements of an array take
+-- the visits of the elements of an array
 abbrev pub array_cost : Memory → List Tile → ℕ → ℕ
 array_cost m ts at = if word_at m (at + 16) == 0 then 0 else elim (good_for ts Storage (link_at m at)) [
   | None ↦ 0
@@ -102,13 +102,13 @@ abbrev pub has_link : Kind → Bool
 has_link (Scalar k) = false
 has_link k = true
 
--- the links behind a value are noted, but those of nodes
+-- the links behind a value are entered, except links in nodes
 pub record IsValueNoted (m : Memory) (ts : List Tile) (kind : Kind) (at : ℕ) (es : Blocks) : Type 0 where
   pub storage : IsTrue (has_storage kind) → 0 < word_at m (at + 16) → IsMarkedLink m ts es Storage at at
   pub element : kind ≡ Strings → AllElements m ts at (λ p. IsMarkedLink m ts es Storage p p)
   pub root : (k v : ScalarKind) → kind ≡ Map k v → IsMarkedLink m ts es Node at at
 
--- a value of which no link was noted
+-- no link of the value is entered
 pub record IsValueReady (format : ℕ) (b : List ℕ) (kind : Kind) (at : ℕ) (es : Blocks) : Type 0 where
   pub value : Contains (values format (bytes_of b) (tiles_in b)) (kind, at)
   pub inside : IsTrue (has_link kind) → at + 24 ≤ length b
@@ -117,7 +117,7 @@ pub record IsValueReady (format : ℕ) (b : List ℕ) (kind : Kind) (at : ℕ) (
   pub fresh : IsTrue (has_link kind) → (n : ℕ) (o : Owner) → owner_at es n ≡ Some o → o.at ≢ at
   pub elements : kind ≡ Strings → AllElements (bytes_of b) (tiles_in b) at (IsStorageStart format b)
 
--- the links of a value are noted
+-- the links of a value are entered
 pub record IsValueGrown (format : ℕ) (b : List ℕ) (kind : Kind) (at : ℕ) (old : Blocks) (waited : ℕ) (es : Blocks)
     (pending : Option ℕ) (waiting : ℕ) : Type 0 where
   pub grown : MarksLinks format b (λ p. (IsTrue (has_link kind) × (p ≡ at))
@@ -126,12 +126,12 @@ pub record IsValueGrown (format : ℕ) (b : List ℕ) (kind : Kind) (at : ℕ) (
 
 -- ---- objects
 
--- what is said of the value of the object in a tile, if it is one
+-- a property of the value of the object in a tile, if the tile holds one
 abbrev pub OfObject : ℕ → Memory → Tile → (Kind → ℕ → Type 0) → Type 0
 OfObject format m t Is = (kind : Kind) → IsTrue (is_use Object t) → kind_at format m (payload t) ≡ Some kind
     → Is kind (value_offset m (payload t))
 
--- the place of the link of the object in a tile
+-- the offset of the link of the object in a tile
 pub record IsLinkOf (format : ℕ) (m : Memory) (t : Tile) (p : ℕ) : Type 0 where
   pub kind : Kind
   pub object : IsTrue (is_use Object t)
@@ -139,24 +139,24 @@ pub record IsLinkOf (format : ℕ) (m : Memory) (t : Tile) (p : ℕ) : Type 0 wh
   pub link : IsTrue (has_link kind)
   pub place : p ≡ value_offset m (payload t)
 
--- a link of the tile's object, or of an element, stands at the offset
+-- a link of the tile's object, or of an element, is at the offset
 abbrev pub IsPlaceOf : ℕ → Memory → List Tile → Tile → ℕ → Type 0
 IsPlaceOf format m ts t p = IsLinkOf format m t p ⊎ IsInStorage ts p
 
--- the links of a tile's object are noted
+-- the links of a tile's object are entered
 pub record IsTileGrown (format : ℕ) (b : List ℕ) (t : Tile) (old : Blocks) (waited : ℕ) (es : Blocks)
     (pending : Option ℕ) (waiting : ℕ) : Type 0 where
   pub grown : MarksLinks format b (IsPlaceOf format (bytes_of b) (tiles_in b) t) old waited es pending waiting
   pub noted : OfObject format (bytes_of b) t (λ kind at. IsValueNoted (bytes_of b) (tiles_in b) kind at es)
 
--- the links behind all values are noted, but those of nodes
+-- the links behind all values are entered, except links in nodes
 pub record NotesValues (format : ℕ) (b : List ℕ) (old es : Blocks) (pending : Option ℕ) (waiting : ℕ) : Type 0 where
   pub marking : IsMarkingOf format b None es pending waiting
   pub keeps : KeepsMarks old es
   pub noted : (kind : Kind) (at : ℕ) → Contains (values format (bytes_of b) (tiles_in b)) (kind, at)
       → IsValueNoted (bytes_of b) (tiles_in b) kind at es
 
--- the visits of an object besides those of its elements
+-- the visits of an object, without the visits of its elements
 abbrev pub object_cost : Tile → ℕ
 object_cost t = if is_use Object t then 4 else 0
 

@@ -1,4 +1,4 @@
--- What becomes of the bytes of an image of any of the three formats, when it is opened.
+-- The change of an image's bytes, of any of the three formats, when it is opened.
 use Rattle.std.specs.Prelude.{◌≡◌, ◌⊎◌, ◌<◌, ◌≤◌, ℕ, List, length}
 use Rattle.std.specs.List.{AllByRecursion}
 use Rattle.raw_region.specs.Memory.{SameBytes, SameBytesExcept, bytes_of, half_word_at}
@@ -10,20 +10,20 @@ use Rattle.segment_manager.specs.Directory.{Directory, IsDirectory}
 use Rattle.segment_manager.specs.Denotes.{Denotes}
 use Rattle.segment_manager.specs.State.{DenotesCurrent}
 
--- ---- what becomes of the bytes
+-- ---- the change of the bytes
 
--- nothing changes but the version, which is the current one
+-- only the version changes, to the current one
 pub record UpgradesVersion (old new : List ℕ) : Type 0 where
   pub version : half_word_at (bytes_of new) 8 ≡ current
   pub rest : SameBytesExcept (bytes_of old) (bytes_of new) 8 4
 
--- the byte is none of the version, and none of the link to the tree
+-- the byte is outside the version and the link to the tree
 pub record IsBesideHead (k : ℕ) : Type 0 where
   pub version : (k < 8) ⊎ (12 ≤ k)
   pub root : (k < 24) ⊎ (32 ≤ k)
 
--- There is a tree of the gaps, and the version is the current one. The blocks in use stay with their bytes and colours,
--- and nothing changes but the version, word 24 and the bytes of gaps.
+-- There is a tree of the gaps, and the version is the current one. The blocks in use keep their bytes and colours; only
+-- the version, word 24 and the bytes of gaps change.
 pub record RebuildsTree (old new : List ℕ) : Type 0 where
   pub heap : EncodesLiveSet current new (live_of old)
   pub version : half_word_at (bytes_of new) 8 ≡ current
@@ -34,22 +34,22 @@ pub record RebuildsTree (old new : List ℕ) : Type 0 where
   pub rest : (k : ℕ) → k < length old → IsBesideHead k → AllByRecursion (IsBesideGap k) (gaps (live_of old))
       → bytes_of new k ≡ bytes_of old k
 
--- bytes by a format become bytes by the current one, which denote the same directory
+-- bytes of a format become bytes of the current one that denote the same directory
 pub record UpgradesFormat (format : ℕ) (old new : List ℕ) : Type 0 where
   pub size : length new ≡ length old
   pub denotes : (d : Directory) → Denotes format old d → DenotesCurrent new d
-  -- what is of the current format already stays byte for byte; from format 1 on the version changes alone
+  -- an image of the current format stays byte for byte; from format 1 on only the version changes
   pub same : format ≡ current → new ≡ old
   pub version : format ≡ 1 → UpgradesVersion old new
   pub replanted : format ≡ 0 → RebuildsTree old new
 
 -- ---- the laws
 
--- the law: a directory of any format is one of the current format
+-- the law: a directory of any format is a directory of the current one
 abbrev pub OlderDirectoriesStand : Type 0
 OlderDirectoriesStand = (format : ℕ) (d : Directory) → IsDirectory format d → IsDirectory current d
 
--- what denotes a directory by format 1 stands for it with the current version
+-- the law: bytes that denote a directory in format 1 denote it with the current version
 abbrev pub NewVersionsStand : Type 0
 NewVersionsStand = (b b' : List ℕ) (d : Directory) → Denotes 1 b d → length b' ≡ length b → UpgradesVersion b b'
     → DenotesCurrent b' d

@@ -1,4 +1,4 @@
--- The place in an image that shows why it is refused.
+-- The offset in an image that shows why it is refused.
 use Rattle.std.specs.Prelude.{◌≡◌, ℕ, List, Some, None, Result, MatchResult, length, codes}
 use Rattle.raw_region.specs.Memory.{bytes_of}
 use Rattle.block_tags.specs.Tiles.{tiles_of}
@@ -18,15 +18,15 @@ use Rattle.image_check.specs.ObjectPlaces.{IsFirstTile, IsFirstWrongTile, IsWron
 use Rattle.image_check.specs.OwnerPlaces.{IsSharedAt}
 use Rattle.block_tags.specs.Checks.{StopsAt}
 
--- the tiles that the tags say, by the size that the header says
+-- the tiles of the tags, by the size in the header
 abbrev pub said_tiles : List ℕ → List Tile
 said_tiles b = tiles_of (bytes_of b) (size_word b)
 
--- The place that shows a class that holds: the end of what is too short; the first byte that is not the magic's; the
--- version; the size that is none, or otherwise the first byte after it; the first reserved byte that is not zero; the
--- first tag that is wrong; the root link of the free tree; the word or entry of an index that is wrong; the first
--- object that is wrong, or otherwise the first entry of an index out of order; a link that leads where another does;
--- the first object whose container is wrong; and the first block to which no link leads.
+-- The offset that shows a class: the end of bytes that are too short; the first byte that differs from the magic; the
+-- version; the size if it is not legal, otherwise the first byte after it; the first reserved byte that is not 0; the
+-- first bad tag; the root link of the free tree; the wrong word or entry of an index; the first wrong object, otherwise
+-- the first entry of an index out of order; a link with the target of another; the first object with a wrong container;
+-- and the first block without an owner.
 abbrev pub Shows : ℕ → List ℕ → ImageClass → ℕ → Type 0
 Shows format b Truncated at = at ≡ length b
 Shows format b BadMagic at = IsFirstOther b (codes "MSEGFILE") at
@@ -42,10 +42,10 @@ Shows format b BadContainer at = IsFirstWrongTile (has_container format (bytes_o
 Shows format b OrphanBlock at =
     IsFirstTile (is_left (counted_fields format (bytes_of b) (said_tiles b))) (said_tiles b) at
 
--- the class of the bytes, and a place that shows it
+-- the class of the bytes, and an offset that shows it
 abbrev pub IsVerdict : ℕ → List ℕ → Verdict → Type 0
 IsVerdict format b v = (class_of format b ≡ Some v.class) × Shows format b v.class v.place
 
--- a pass answers the verdict if a class holds
+-- a pass returns the verdict if the bytes show a class
 abbrev pub AnswersVerdict : {A : Type 0} → ℕ → List ℕ → Result A Verdict → Type 0
 AnswersVerdict format b result = MatchResult result (λ done. class_of format b ≡ None) (IsVerdict format b)

@@ -1,14 +1,14 @@
--- How often an image is looked at while it is checked: so often for each 16 bytes of a tile, by what the tile is for.
+-- The number of visits of the check of an image, for each 16 bytes of a tile, by the tile's use.
 use Rattle.std.specs.Prelude.{ℕ, ◌≤◌, ◌+◌, ◌*◌, ◌/◌, Option, Some, None, List, [], ◌∷◌}
 use Rattle.block_tags.specs.declared.tile.Role.{Role}
 use Rattle.block_tags.specs.declared.tile.Role.TheVariants.{Object, Index, Storage, Node}
 use Rattle.block_tags.specs.declared.tile.Tile.{Tile}
 
--- a pass makes at most this many visits more
+-- a pass makes at most this many visits
 abbrev pub AddsVisits : ℕ → ℕ → ℕ → Type 0
 AddsVisits n old new = (old ≤ new) × (new ≤ old + n)
 
--- how often a pass visits for each 16 bytes of a gap, and of a block in use by its role
+-- the visits of a pass for each 16 bytes of a gap, and of a block in use by its role
 pub record Rates : Type 0 where
   pub free : ℕ
   pub object : ℕ
@@ -24,12 +24,12 @@ rate_of r (Some Index) = r.index
 rate_of r (Some Storage) = r.storage
 rate_of r (Some Node) = r.node
 
--- all tiles together
+-- the sum over all tiles
 abbrev pub weigh : Rates → List Tile → ℕ
 weigh r [] = 0
 weigh r (t ∷ ts) = rate_of r t.use_of * (t.len / 16) + weigh r ts
 
--- two passes together
+-- the sum of the rates of two passes
 abbrev pub both : Rates → Rates → Rates
 both r s = record {
   free = r.free + s.free;
@@ -39,11 +39,11 @@ both r s = record {
   node = r.node + s.node;
 }
 
--- what each pass may take: the tags, the free tree with a search for each gap, and the passes over the blocks
+-- bounds for each pass: the tags, the free tree with a search for each gap, and the passes over the blocks
 abbrev pub tag_rates : Rates
 tag_rates = record { free = 1; object = 1; index = 1; storage = 1; node = 1 }
 
--- a search of a tree of at most 2^26 - 2 nodes goes to no more than 52 of them
+-- a search of a tree of at most 2^26 - 2 nodes visits at most 52 of them
 abbrev pub planting_visits : Option Role → ℕ
 planting_visits None = 53
 planting_visits (Some role) = 0
@@ -52,7 +52,7 @@ planting_visits (Some role) = 0
 abbrev pub planting_rates : Rates
 planting_rates = record { free = 27; object = 1; index = 1; storage = 1; node = 1 }
 
--- the steps of the check of the tree, over links that may be anything
+-- the steps of the check of the tree, over links of any value
 abbrev pub step_rates : Rates
 step_rates = record { free = 5; object = 5; index = 5; storage = 5; node = 5 }
 
@@ -68,7 +68,7 @@ index_rates = record { free = 0; object = 4; index = 12; storage = 0; node = 0 }
 abbrev pub object_rates : Rates
 object_rates = record { free = 1; object = 22; index = 13; storage = 1; node = 1 }
 
--- the visits of the gathering of blocks, for 16 bytes
+-- the visits of the collection of blocks, for 16 bytes
 abbrev pub gathering_rates : Rates
 gathering_rates = record { free = 1; object = 1; index = 1; storage = 1; node = 1 }
 
@@ -95,6 +95,6 @@ block_rates = both index_rates (both object_rates (both sharing_rates (both cont
 abbrev pub all_rates : Rates
 all_rates = both frame_rates (both gathering_rates block_rates)
 
--- the rates of noting the blocks of which a segment is made
+-- the rates of adding the blocks to the hints of the new heap
 abbrev pub note_rates : Rates
 note_rates = record { free = 0; object = 1; index = 1; storage = 1; node = 1 }

@@ -1,4 +1,4 @@
-//! Whether the storage of vectors and strings is what their three words say: link, length and capacity.
+//! Checks the storage of vectors and strings against their three words: link, length and capacity.
 ghost use Rattle.std.specs.Prelude.{◌≡◌, ◌↔◌, ◌+◌, ◌≤◌, ◌<◌, ◌%◌, ◌*◌, IsTrue, List, length};
 ghost use Rattle.std.specs.List.{list_all};
 ghost use Rattle.raw_region.specs.Memory.{bytes_of, word_at};
@@ -19,11 +19,11 @@ use crate::spellings::are_spellings;
 use block_tags::{Role, TAG_LEN};
 use seg_types::ScalarKind;
 
-/// The bytes of an element of an array of texts: a link and a length.
+/// The length in bytes of an element of an array of texts: a link and a length.
 const ELEMENT: u64 = 16;
 
-/// Tells whether the link is that of a block for this role with `capacity` places of `each` bytes: null if there are
-/// none.
+/// Returns true if the link leads to a block of this role with room for `capacity` elements of `each` bytes. With
+/// capacity 0 the link must be null.
 pub(crate) fn is_table(
     blocks: &BlockTable,
     visits: &mut VisitCounter,
@@ -45,7 +45,7 @@ pub(crate) fn is_table(
     }
 }
 
-/// Tells whether a tile of `len` bytes has room for `capacity` places of `each` bytes.
+/// Returns true if a tile of `len` bytes has room for `capacity` elements of `each` bytes.
 fn has_room(len: u64, each: u64, capacity: u64) -> bool
     ensures { IsTrue result ↔ (each * capacity + 16 ≤ len) }
 {
@@ -55,7 +55,7 @@ fn has_room(len: u64, each: u64, capacity: u64) -> bool
     }
 }
 
-/// Tells whether the three words of the value are those of a string or a vector of this kind.
+/// Returns true if the three words of the value are a valid string, or a valid vector of this kind.
 pub(crate) fn is_storage(
     window: &ImageWindow,
     blocks: &BlockTable,
@@ -88,7 +88,7 @@ pub(crate) fn is_storage(
     }
 }
 
-/// Tells whether the element at `at` leads to a storage block with room for its text.
+/// Returns true if the element at `at` leads to a storage block with room for its text.
 fn is_element(window: &ImageWindow, blocks: &BlockTable, visits: &mut VisitCounter, at: u64) -> bool
     requires size { IsTrue (is_legal_size (length window.now.bytes)) }
     requires aligned { at % 8 ≡ 0 }
@@ -101,7 +101,7 @@ fn is_element(window: &ImageWindow, blocks: &BlockTable, visits: &mut VisitCount
     is_table(blocks, visits, Role::Storage, link, 1, len)
 }
 
-/// Tells whether the first `n` elements of the array at `at` lead to their texts.
+/// Returns true if the first `n` elements of the array at `at` lead to storage blocks with room for their texts.
 fn are_elements(
     window: &ImageWindow,
     blocks: &BlockTable,
@@ -125,7 +125,7 @@ fn are_elements(
     true
 }
 
-/// Tells whether the three words of the value are those of an array of texts.
+/// Returns true if the three words of the value are a valid array of texts.
 pub(crate) fn is_array(
     window: &ImageWindow,
     blocks: &BlockTable,

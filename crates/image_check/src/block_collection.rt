@@ -1,4 +1,4 @@
-//! Gathering the blocks in use.
+//! Collects the blocks in use.
 ghost use Rattle.std.specs.Prelude.{◌≡◌, ◌+◌, ◌++◌, ◌<◌, ◌≤◌, ◌^◌, IfErr, IfOk, IsOk, None, OnOk, [], length};
 ghost use Rattle.std.specs.Prelude.{option_to_list};
 ghost use Rattle.image_check.specs.Counting.{AreCounted};
@@ -15,12 +15,12 @@ use crate::room::{NoBlockMemory, room_for};
 use block_tags::Tile;
 use std::alloc::Global;
 
-/// Returns the blocks in use by payload, to none of which a link was met, where the tiles were counted. Memory is asked
-/// for once, and not if no block is in use.
+/// Returns the blocks in use by payload, each without an owner. `counts` are the numbers of tiles. It allocates memory
+/// once, and only if a block is in use.
 ///
 /// # Errors
 ///
-/// If there is no memory for them.
+/// If the allocator refuses the memory.
 pub(crate) fn collect_blocks(
     alloc: Global,
     window: &ImageWindow,
@@ -50,7 +50,7 @@ pub(crate) fn collect_blocks(
     }
 }
 
-/// Adds the blocks in use to a map with room for them. One or two visits for each tile.
+/// Adds the blocks in use to a map with room for them. It takes one or two visits for each tile.
 fn add_all(window: &ImageWindow, blocks: &mut BlockTable, visits: &mut VisitCounter)
     requires tiles { HasTiles window.now.bytes }
     requires empty { blocks.old.entries ≡ [] }
@@ -68,7 +68,8 @@ fn add_all(window: &ImageWindow, blocks: &mut BlockTable, visits: &mut VisitCoun
     }
 }
 
-/// Adds the block of a tile, if it is in use, after all others to a map with room for it. At most one visit.
+/// Adds the block of a tile, if the tile is in use, after all others to a map with room for it. It takes at most one
+/// visit.
 fn add(blocks: &mut BlockTable, tile: Tile, visits: &mut VisitCounter)
     requires max_size { tile.offset + 16 < 2 ^ 32 }
     requires max_len { tile.len < 2 ^ 32 }

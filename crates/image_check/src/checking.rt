@@ -1,4 +1,4 @@
-//! Whether a whole image is that of a directory.
+//! Checks a whole image.
 ghost use Rattle.std.specs.Prelude.{◌≡◌, ◌≤◌, ℕ, IfErr, IfOk, IsTrue, None, Some, MatchResult, OnErr, OnOk};
 ghost use Rattle.std.specs.Prelude.{false, length, true};
 ghost use Rattle.image_check.specs.Checking.{IsWhyRefused, OpensWindow, PassesImage};
@@ -39,13 +39,13 @@ use std::alloc::Global;
 use std::mem;
 pub(crate) use visit_counter::VisitCounter;
 
-/// Opens the image that its window has, whose first words are right by a format from 0 to 2. A visit is a step: if a
-/// segment is answered, or a class from `BadIndex` on, there is at least one for each tile.
+/// Opens the image in its window, whose first words are valid in a format from 0 to 2. A step is a visit: if the result
+/// is a segment, or a class from `BadIndex` on, there is at least one visit for each tile.
 ///
 /// # Errors
 ///
-/// The first class that holds. `OutOfMemory` only if none of the classes before `BadIndex` holds and a tile is in
-/// use. The region comes back as it was.
+/// The first class that the image shows. `OutOfMemory` only if it shows none of the classes before `BadIndex` and a
+/// tile is in use. The error returns the region unchanged.
 pub fn open_window(
     alloc: Global,
     window: ImageWindow,
@@ -78,8 +78,8 @@ pub fn open_window(
     }
 }
 
-/// Returns the owners of the blocks of a window whose first words are right by a format, if it is the image of a
-/// directory.
+/// Returns the owners of the blocks of a window whose first words are valid in a format, if the window is the image of
+/// a directory.
 ///
 /// # Errors
 ///
@@ -113,12 +113,12 @@ fn pass_all(
     Ok(owners)
 }
 
-/// Returns the count of the tiles of a window whose first words are right, if its reserved bytes, tags and free tree
-/// are right too.
+/// Checks the reserved bytes, the tags and the free tree of a window whose first words are valid, and returns the
+/// numbers of its tiles.
 ///
 /// # Errors
 ///
-/// The first of `BadReserved`, `BadTag` and `BadFreeTree` that holds, and the place that shows it.
+/// The first of `BadReserved`, `BadTag` and `BadFreeTree` that the image shows, and the offset that shows it.
 fn check_frame(
     format: u64,
     window: &ImageWindow,
@@ -154,12 +154,12 @@ fn check_frame(
     Ok(counts)
 }
 
-/// Looks for the classes that are about blocks, one after another, with the blocks in use as they were gathered.
+/// Checks the blocks in use for the classes about blocks, one class after another.
 ///
 /// # Errors
 ///
-/// The first of `BadIndex`, `BadObject`, `SharedBlock`, `BadContainer` and `OrphanBlock` that holds, and the place that
-/// shows it.
+/// The first of `BadIndex`, `BadObject`, `SharedBlock`, `BadContainer` and `OrphanBlock` that the image shows, and the
+/// offset that shows it.
 fn check_blocks(
     format: u64,
     window: &ImageWindow,
@@ -197,12 +197,12 @@ fn check_blocks(
     Ok(())
 }
 
-/// Checks that all bytes of the header that are kept for later are zero: the upper half of the word of the format, and
-/// those after the indexes.
+/// Checks that all reserved bytes of the header are 0: the upper half of the word of the format, and the bytes after
+/// the indexes.
 ///
 /// # Errors
 ///
-/// The place of the first that is not.
+/// The offset of the first byte that is not 0.
 fn check_reserved(window: &ImageWindow) -> Result<(), Offset>
     requires { 128 ≤ length window.now.bytes }
     ensures { ChecksClass (is_reserved window.now.bytes) (IsFirstReserved window.now.bytes) result }

@@ -1,41 +1,41 @@
-//! Why bytes are no image of a directory.
+//! The reasons why bytes are not the image of a directory.
 ghost use Rattle.std.specs.Prelude.{◌≡◌, Some};
 ghost use Rattle.image_check.specs.Classes.{number_of, words_of};
 
 use std::fmt;
 use thiserror::Error;
 
-/// Why bytes are no image of a directory, in the order in which the classes are looked at.
+/// The reason why bytes are not the image of a directory, in the order in which the check looks for them.
 #[derive(Clone, Copy, Debug, PartialEq, Eq, Error)]
 pub enum ImageClass {
-    /// There are fewer than 144 bytes, the least that a segment has, or fewer than the header says.
+    /// There are fewer than 144 bytes, the least size of a segment, or fewer than the header's size.
     Truncated,
     /// The first eight bytes are not `MSEGFILE`.
     BadMagic,
-    /// The version is not the one that is read.
+    /// The version is not an accepted one.
     UnsupportedVersion,
-    /// The size is not that of a segment, or there are more bytes than it says.
+    /// The size is not a legal size of a segment, or there are more bytes than this size.
     BadSize,
-    /// A byte of the header that is kept for later is not zero.
+    /// A reserved byte of the header is not 0.
     BadReserved,
     /// The tags do not fill the segment with tiles.
     BadTag,
-    /// The free blocks do not make up a tree by length and offset.
+    /// The free blocks do not form a tree by length and offset.
     BadFreeTree,
     /// An index has a wrong count, capacity, block or entry.
     BadIndex,
-    /// An object has a wrong kind, count, name, class, padding or value, or stands in the wrong index.
+    /// An object has a wrong kind, count, name, class, padding or value, or is in the wrong index.
     BadObject,
     /// Two links lead to one block.
     SharedBlock,
     /// The block, elements, pairs or counts of a container are wrong.
     BadContainer,
-    /// A block belongs to nothing.
+    /// A block belongs to no object and no index.
     OrphanBlock,
 }
 
 impl ImageClass {
-    /// Returns the place of the class in the order in which the classes are looked at, from 1 to 12.
+    /// Returns the number of the class in the order of the check, from 1 to 12.
     pub fn number(self) -> u8
         ensures { result ≡ number_of self }
     {
@@ -55,7 +55,7 @@ impl ImageClass {
         }
     }
 
-    /// Returns the words of the class.
+    /// Returns the text of the class.
     fn words(self) -> &'static str
         ensures { result.now ≡ words_of self }
     {

@@ -1,4 +1,4 @@
-//! Whether each container of an image is what the words of its object say.
+//! Checks that each container of an image agrees with the words of its object.
 ghost use Rattle.std.specs.Prelude.{◌≡◌, ◌+◌, ◌<◌, ◌≤◌, ◌%◌, ◌^◌, Contains, true, false, length, ℕ};
 ghost use Rattle.std.specs.List.{list_all};
 ghost use Rattle.raw_region.specs.Memory.{bytes_of};
@@ -23,7 +23,7 @@ use crate::verdict::Offset;
 use block_tags::{TAG_LEN, Tile};
 use seg_types::{Kind, ScalarKind};
 
-/// Tells whether the value of this kind is no container, or one whose words, link and elements are right.
+/// Returns true unless a value of this kind is a container with wrong words, a wrong link or wrong elements.
 fn is_right(
     window: &ImageWindow,
     blocks: &BlockTable,
@@ -51,7 +51,7 @@ fn is_right(
     }
 }
 
-/// Tells whether the tile is no object's, or its value is no container, or one that is right.
+/// Returns true unless the tile holds an object whose container is wrong.
 fn is_right_tile(
     format: u64,
     window: &ImageWindow,
@@ -78,11 +78,11 @@ fn is_right_tile(
     }
 }
 
-/// Checks that all containers of the image are right. No tag is read.
+/// Checks all containers of the image. It reads no tag.
 ///
 /// # Errors
 ///
-/// The place of the payload of the first object with one that is not.
+/// The offset of the payload of the first object with a wrong container.
 fn are_right(
     format: u64,
     window: &ImageWindow,
@@ -115,12 +115,12 @@ fn are_right(
     Ok(())
 }
 
-/// Checks that each container of the image is what its words say. Its storage has room for its capacity, its used
-/// elements are spelled, and its map is an ordered red-black tree of as many pairs as it counts.
+/// Checks that each container of the image agrees with its words. Its storage has room for its capacity, and its
+/// elements are values of their kind. A map is an ordered red-black tree with as many pairs as its count.
 ///
 /// # Errors
 ///
-/// The place of the payload of the first object with one that is not.
+/// The offset of the payload of the first object with a wrong container.
 pub(crate) fn check_containers(
     format: u64,
     window: &ImageWindow,

@@ -1,4 +1,4 @@
-//! Entries of indexes, noted in the map of owners at the objects that they lead to.
+//! Enters the entries of indexes in the map of owners, at their objects.
 ghost use Rattle.std.specs.Prelude.{◌≡◌, false, MatchBool};
 ghost use Rattle.image_check.specs.Visits.{AddsVisits};
 ghost use Rattle.image_check.specs.Entered.{EntersLink, can_enter, is_new_block};
@@ -7,8 +7,8 @@ use crate::checking::VisitCounter;
 use crate::owners::{Block, Owner, Owners, is_same};
 use block_tags::Role;
 
-/// Notes the entry at `place` of the index whose own link stands at `root`, if the entry's link leads to an object
-/// that has no entry yet; whether it does.
+/// Enters the entry at `place` at its object, and returns true, if its link leads to an object without an entry.
+/// Otherwise returns false. The index's own link is at `root`.
 pub(crate) fn enter(
     owners: &mut Owners,
     visits: &mut VisitCounter,
@@ -40,7 +40,7 @@ pub(crate) fn enter(
     true
 }
 
-/// Tells whether the block is an object that has no entry yet.
+/// Returns true if the block is an object without an entry.
 fn is_new(block: Block) -> bool
     ensures { result ≡ is_new_block block }
 {

@@ -1,4 +1,4 @@
-//! Why no segment is opened.
+//! The errors of the calls that open an image.
 ghost use Rattle.std.specs.Prelude.{◌≡◌};
 
 use crate::room::NoBlockMemory;
@@ -7,46 +7,46 @@ use raw_region::{OutOfMemory, RawRegion};
 use std::fmt;
 use thiserror::Error;
 
-/// Why no segment is opened.
+/// The reason why no segment was opened.
 #[derive(Clone, Copy, Debug, PartialEq, Eq, Error)]
 pub enum OpenError {
-    /// The image denotes no directory: the first class that holds, and the byte that shows it.
+    /// The image denotes no directory: the first class that it shows, and the byte that shows it.
     #[error("image refused: {0}")]
     Image(Verdict),
-    /// The region ends before base plus the size that the image says.
+    /// The region ends before base plus the size in the image.
     #[error("region too small")]
     RegionTooSmall,
-    /// Memory was refused. The check of an image requests it for the image's blocks.
+    /// The allocator refused memory. The check of an image allocates memory for the image's blocks.
     #[error("out of memory")]
     OutOfMemory(MemoryFault),
-    /// The reader failed before the bytes that it gave decided a class.
+    /// The reader failed before the bytes read so far decided a class.
     #[error("read fault")]
     ReadFault,
 }
 
-/// Which request for memory was refused, if more than one thing asks: each variant holds what only that request makes.
+/// The refused allocation, if several are possible. Each variant holds an error that only one allocation makes.
 #[derive(Clone, Copy, Debug, PartialEq, Eq, Error)]
 #[error("out of memory")]
 pub enum MemoryFault {
-    /// That for the bytes of a region or a text.
+    /// The allocation of the bytes of a region or a text.
     Bytes(OutOfMemory),
-    /// That for the blocks of an image that is checked.
+    /// The allocation for the blocks of an image in a check.
     BlockMap(NoBlockMemory),
 }
 
-/// No segment is opened. The region comes back. Its bytes are as they were but for the window from the base on that the
-/// image's front says, if there is room for that. As text it is its cause.
+/// The error of an opening. It returns the region. The region's bytes are unchanged, except the window at the base with
+/// the size in the image's front, if the region has room for it. It is printed as its cause.
 #[derive(Drop, Error)]
 #[error("{cause}")]
 pub struct OpenRefused {
-    /// The region that was handed in.
+    /// The region from the call.
     pub region: RawRegion,
-    /// Why.
+    /// The reason.
     pub cause: OpenError,
 }
 
 impl OpenRefused {
-    /// Returns the region that was handed in, and why.
+    /// Returns the region from the call, and the reason.
     pub fn into_parts(self) -> (RawRegion, OpenError)
         ensures region { result.0 ≡ self.region }
         ensures cause { result.1 ≡ self.cause }
@@ -54,7 +54,7 @@ impl OpenRefused {
         (self.region, self.cause)
     }
 
-    /// Returns the region that was handed in.
+    /// Returns the region from the call.
     pub fn into_region(self) -> RawRegion
         ensures { result ≡ self.region }
     {
@@ -62,7 +62,7 @@ impl OpenRefused {
     }
 }
 
-/// Its cause. The region's bytes are left out.
+/// Prints the cause, without the region's bytes.
 impl fmt::Debug for OpenRefused {
     fn fmt<W: fmt::Write>(&self, f: &mut fmt::Formatter<W>) -> fmt::Result {
         write!(f, "OpenRefused({:?})", self.cause)

@@ -1,5 +1,5 @@
-//! Whether the free tiles of a window make up the tree that the header's link leads to, whatever its links say. In
-//! format 0 there is none.
+//! Checks that the free tiles of a window form the tree behind the header's link, for links of any value. In format 0
+//! there is no tree.
 ghost use Rattle.std.specs.Prelude.{◌≡◌, ◌+◌, ◌-◌, ◌≤◌, ◌<◌, ◌%◌, ◌^◌, true, IfSome, IsTrue, is_some, length};
 ghost use Rattle.std.specs.List.{list_all};
 ghost use Rattle.raw_region.specs.Memory.{bytes_of};
@@ -26,8 +26,7 @@ use best_fit::FREE_TREE_ROOT;
 use block_tags::{TAG_LEN, Tile};
 use offset_link::NULL;
 
-/// Returns the count of the tiles, if the free ones make up the tree that they do in the format, or the link is null
-/// in format 0.
+/// Returns the numbers of tiles if the free tiles form the tree of the format; in format 0 the link must be null.
 pub(crate) fn check_gaps(
     format: u64,
     window: &ImageWindow,
@@ -47,7 +46,7 @@ pub(crate) fn check_gaps(
     Some(count_tiles(window, visits))
 }
 
-/// Returns the count of the tiles. One visit for each.
+/// Returns the numbers of tiles. It takes one visit for each.
 fn count_tiles(window: &ImageWindow, visits: &mut VisitCounter) -> Counts
     requires tiles { HasTiles window.now.bytes }
     ensures steps_lower { AreCounted (tiles_in window.now) result }
@@ -63,11 +62,11 @@ fn count_tiles(window: &ImageWindow, visits: &mut VisitCounter) -> Counts
     counts
 }
 
-/// Returns the count of the tiles, if the tree at word 24 is red-black, with each free tile as a node once, ordered by
-/// length and then by offset. The links may be any words.
+/// Returns the numbers of tiles if the tree at word 24 is red-black and contains each free tile once, ordered by length
+/// and then by offset. The links can be any words.
 ///
-/// A tree of as many nodes as there are free tiles, in which each of them is found, has no other node. Each is searched
-/// for to the depth of a red-black tree of that size.
+/// A tree with as many nodes as there are free tiles, in which each free tile is found, has no other node. Each search
+/// goes down to the depth of a red-black tree of that size.
 fn check_free_tree(window: &ImageWindow, visits: &mut VisitCounter) -> Option<Counts>
     requires size { IsTrue (is_legal_size (length window.now.bytes)) }
     requires tags { IsTrue (has_tags current (bytes_of window.now.bytes) (length window.now.bytes)) }
@@ -93,7 +92,7 @@ fn check_free_tree(window: &ImageWindow, visits: &mut VisitCounter) -> Option<Co
     Some(counts)
 }
 
-/// Returns the count of the tiles, if each free one is a node of the tree, and its links are good.
+/// Returns the numbers of tiles if each free tile is a node of the tree with good links.
 fn count_planted(
     window: &ImageWindow,
     root: Option<u64>,
@@ -123,7 +122,7 @@ fn count_planted(
     Some(counts)
 }
 
-/// Tells whether the tile is in use, or a node of the tree with good links.
+/// Returns true if the tile is in use, or is a node of the tree with good links.
 fn is_planted(
     window: &ImageWindow,
     root: Option<u64>,
@@ -152,7 +151,7 @@ fn is_planted(
     is_reached(window, root, sought, visits) && has_good_links(window, node, visits)
 }
 
-/// Tells whether the node is one of the tree.
+/// Returns true if the tree contains the node.
 fn is_reached(
     window: &ImageWindow,
     root: Option<u64>,

@@ -14,22 +14,22 @@ use block_tags::{HEADER_LEN, TAG_LEN, is_legal_size};
 use raw_region::word_in;
 use segment_manager::layout::{FORMAT_AT, MAGIC, MAGIC_AT, SIZE_AT};
 
-/// How an image begins, byte by byte.
+/// The first bytes of an image.
 const SPELLED: &[u8; 8] = b"MSEGFILE";
 
-/// How many bytes at the front of an image say its magic, its version and its size.
+/// The number of bytes at the front of an image that hold its magic, its version and its size.
 pub const FRONT: usize = SIZE_AT as usize + 8;
 
-/// The fewest bytes that an image has.
+/// The least size of an image in bytes.
 pub const LEAST: usize = (HEADER_LEN + TAG_LEN) as usize;
 
-/// Returns the size in bytes of an image that begins with these bytes, of which it reads the first [`FRONT`]. The size
-/// is 144, or a multiple of 16 from 176 to 2^30. It is what the front says, and no promise that the rest is an image.
+/// Returns the size in bytes of an image that begins with these bytes. It reads the first [`FRONT`] of them. The size
+/// is 144, or a multiple of 16 from 176 to 2^30. The front alone does not show that the rest is an image.
 ///
 /// # Errors
 ///
-/// `BadMagic` if the bytes do not begin with the magic, then `UnsupportedVersion` for any other version than the one
-/// that is read, then `BadSize` for a size that no segment has.
+/// `BadMagic` if the bytes do not begin with the magic, then `UnsupportedVersion` for any version but the current one,
+/// then `BadSize` for a size that is not legal.
 pub fn size_in(front: &[u8]) -> Result<u64, ImageClass>
     requires { 24 ≤ length front.now }
     ensures { result ≡ front_of current front.now }
@@ -40,11 +40,11 @@ pub fn size_in(front: &[u8]) -> Result<u64, ImageClass>
     }
 }
 
-/// Returns the size in bytes of an image of any of the three formats that begins with these bytes.
+/// Returns the size in bytes of an image, of any of the three formats, that begins with these bytes.
 ///
 /// # Errors
 ///
-/// As [`size_in`], and `UnsupportedVersion` for a version above the current one.
+/// As [`size_in`], but `UnsupportedVersion` only for a version above the current one.
 pub fn size_in_any(front: &[u8]) -> Result<u64, ImageClass>
     requires { 24 ≤ length front.now }
     ensures { result ≡ front_of (format_of front.now) front.now }
@@ -55,12 +55,12 @@ pub fn size_in_any(front: &[u8]) -> Result<u64, ImageClass>
     }
 }
 
-/// Returns the size that the front of an image of one of these versions says, or the verdict with the place that is
-/// wrong.
+/// Returns the size in the front of an image of an accepted version.
 ///
 /// # Errors
 ///
-/// As [`size_in`]: the first byte that is not the magic's, the version, or the size.
+/// As [`size_in`], with the offset that shows the class: the first byte that differs from the magic, the version, or
+/// the size.
 pub(crate) fn judge_front(versions: AcceptedVersions, front: &[u8]) -> Result<u64, Verdict>
     requires { 24 ≤ length front.now }
     ensures text { class_in result ≡ front_of (format_in versions front.now) front.now }
@@ -85,7 +85,7 @@ pub(crate) fn judge_front(versions: AcceptedVersions, front: &[u8]) -> Result<u6
     Ok(size)
 }
 
-/// Returns the place of the first byte that is not the magic's, of bytes that do not begin with it.
+/// Returns the offset of the first byte that differs from the magic, for bytes that do not begin with it.
 fn other_place(front: &[u8]) -> Offset
     requires min_len { 24 ≤ length front.now }
     requires magic { has_magic front.now ≡ false }

@@ -1,4 +1,4 @@
-//! What the head of an object says, and whether it and the value after it are right, part by part.
+//! Checks the parts of an object's head, and the value after the head.
 ghost use Rattle.std.specs.Prelude.{◌≡◌, ◌+◌, ◌^◌, ◌<◌, ◌≤◌, true, length};
 ghost use Rattle.raw_region.specs.Memory.{bytes_of};
 ghost use Rattle.seg_index.specs.Keys.{name_len_at};
@@ -17,13 +17,13 @@ use block_tags::Role;
 use seg_types::{Kind, MAX_ARRAY_LEN, MAX_NAME_LEN, is_name};
 use segment_manager::layout::{CONTAINER_LEN, NAMED_AT, UNIQUE_AT};
 
-/// The class of the objects with a name.
+/// The code of the class of named objects.
 pub(crate) const NAMED: u64 = 1;
 
-/// The class of the objects that are the only ones of their kind in the unique index.
+/// The code of the class of unique objects.
 pub(crate) const UNIQUE: u64 = 2;
 
-/// Returns the kind of the object, if it has one of the format.
+/// Returns the kind of the object, if its code is a kind of the format.
 pub(crate) fn kind_of(format: u64, window: &ImageWindow, object: Object) -> Option<Kind>
     requires { object.at + 8 ≤ length window.now.bytes }
     ensures { result ≡ kind_at format (bytes_of window.now.bytes) object.at }
@@ -34,7 +34,7 @@ pub(crate) fn kind_of(format: u64, window: &ImageWindow, object: Object) -> Opti
     }
 }
 
-/// Tells whether the count of a value is right for its kind, and the value lies before `end`.
+/// Returns true if the count of a value is legal for its kind, and the value ends by `end`.
 pub(crate) fn has_room(kind: Kind, count: u64, start: u64, end: u64) -> bool
     requires { start < 2 ^ 63 + 2 ^ 33 }
     ensures { result ≡ is_value_room kind count start end }
@@ -47,7 +47,7 @@ pub(crate) fn has_room(kind: Kind, count: u64, start: u64, end: u64) -> bool
     }
 }
 
-/// Tells whether the name and the class of the object are right.
+/// Returns true if the name and the class of the object are valid.
 pub(crate) fn has_name(format: u64, window: &ImageWindow, object: Object) -> bool
     requires max_size { length window.now.bytes < 2 ^ 63 }
     requires in_bounds { object.at + 16 + name_len_at (bytes_of window.now.bytes) object.at ≤ length window.now.bytes }
@@ -61,7 +61,7 @@ pub(crate) fn has_name(format: u64, window: &ImageWindow, object: Object) -> boo
     class <= UNIQUE && object.name_len(window) == 0
 }
 
-/// Tells whether the bytes between the name and the value of the object are zero.
+/// Returns true if the bytes between the name and the value of the object are 0.
 pub(crate) fn has_padding(window: &ImageWindow, object: Object) -> bool
     requires max_size { length window.now.bytes < 2 ^ 63 }
     requires in_bounds { value_offset (bytes_of window.now.bytes) object.at ≤ length window.now.bytes }
@@ -70,14 +70,14 @@ pub(crate) fn has_padding(window: &ImageWindow, object: Object) -> bool
     is_zero(object.padding(window))
 }
 
-/// Tells whether all bytes are 0.
+/// Returns true if all bytes are 0.
 fn is_zero(bytes: &[u8]) -> bool
     ensures { result ≡ are_zeros bytes.now }
 {
     bytes.iter().all(|byte| *byte == 0)
 }
 
-/// Tells whether the value is no scalars, or each of them is spelled. One visit for each.
+/// Returns true if every scalar of the value is valid (true for containers). It takes one visit for each.
 pub(crate) fn has_spellings(
     window: &ImageWindow,
     visits: &mut VisitCounter,
@@ -96,8 +96,8 @@ pub(crate) fn has_spellings(
     }
 }
 
-/// Returns where the index has its link that has an entry of the object at `at`, whose block may be that of number
-/// `guess`.
+/// Returns the offset of the link of the index that has an entry for the object at `at`. The object's block can have
+/// the number `guess`.
 fn index_of(blocks: &BlockTable, guess: usize, at: u64, visits: &mut VisitCounter) -> Option<u64>
     ensures test { result ≡ listing_index blocks.now.entries at }
     ensures visits { AddsVisits 1 visits.old visits.new }
@@ -112,8 +112,8 @@ fn index_of(blocks: &BlockTable, guess: usize, at: u64, visits: &mut VisitCounte
     }
 }
 
-/// Tells whether the object, whose block may be that of number `guess`, has an entry in the index of its class, if
-/// there is one.
+/// Returns true if the object has an entry in the index of its class, or its class has no index. Its block can have the
+/// number `guess`.
 pub(crate) fn is_indexed(
     window: &ImageWindow,
     blocks: &BlockTable,

@@ -1,4 +1,4 @@
-//! The copying of an image that lies in memory into its place in a region, and the finding of one that stands there.
+//! Copies an image from memory into its place in a region, or finds an image in its place.
 ghost use Rattle.std.specs.Prelude.{◌≡◌, ◌+◌, ◌%◌, ◌<◌, ◌≤◌, length, IfErr, IfOk, MatchResult};
 ghost use Rattle.raw_region.specs.Format.{current};
 ghost use Rattle.image_check.specs.Causes.{IsShown};
@@ -15,11 +15,11 @@ use crate::verdict::Verdict;
 use crate::versions::AcceptedVersions;
 use raw_region::{RawRegion, Window};
 
-/// Copies a whole image of one of these versions into the window of the region from `base` on that its first words say.
+/// Copies a whole image of an accepted version into the region, from `base` on. The size is the one in its first words.
 ///
 /// # Errors
 ///
-/// As [`size_for`]. The region comes back as it was.
+/// As [`size_for`]. The error returns the region unchanged.
 pub fn copy_image(
     versions: AcceptedVersions,
     image: &[u8],
@@ -42,12 +42,12 @@ pub fn copy_image(
     }
 }
 
-/// Returns the window of the region from `base` on that the first words of an image there say, which has `len` bytes.
-/// Nothing is written.
+/// Returns the window of an image in the region, from `base` on, which has `len` bytes. The size is the one in its
+/// first words. It writes nothing.
 ///
 /// # Errors
 ///
-/// As [`size_for`]. The region comes back as it was.
+/// As [`size_for`]. The error returns the region unchanged.
 pub fn find_image(region: RawRegion, base: u64, len: u64) -> Result<ImageWindow, OpenRefused>
     requires aligned { base % 16 ≡ 0 }
     requires in_bounds { base + len ≤ length region }
@@ -67,13 +67,13 @@ pub fn find_image(region: RawRegion, base: u64, len: u64) -> Result<ImageWindow,
     }
 }
 
-/// Returns the size of an image, which its first words say and its bytes have, and for which there is room in the
-/// region from `base` on.
+/// Returns the size in the first words of an image. It is the number of the image's bytes, and the region has room for
+/// it from `base` on.
 ///
 /// # Errors
 ///
-/// `RegionTooSmall` if the first words say a size for which there is no room. `Truncated`, or what is wrong with the
-/// first words, or `BadSize` if there are more bytes than they say.
+/// `RegionTooSmall` if the region has no room for the size in the first words. `Truncated`, the class of wrong first
+/// words, or `BadSize` if there are more bytes than this size.
 fn size_for(
     versions: AcceptedVersions,
     image: &[u8],

@@ -1,4 +1,4 @@
-//! The opening of an image: from a reader, from bytes in memory, and where it stands in a region.
+//! Opens an image from a reader, from bytes in memory, or in its place in a region.
 ghost use Rattle.std.specs.Prelude.{◌≡◌, ◌+◌, ◌-◌, ◌%◌, ◌^◌, ◌<◌, ◌≤◌, IfErr, MatchResult, OnOk, Result};
 ghost use Rattle.std.specs.Prelude.{length, true};
 ghost use Rattle.raw_region.specs.Device.{ReadsSource, read_delta};
@@ -23,24 +23,27 @@ use raw_region::{RawRegion, Source, Steps};
 use segment_manager::{Mode, Segment};
 use std::alloc::Global;
 
-/// Reads an image of one of these versions into the region, from `base` on, which is a multiple of 16, and opens it as
-/// a segment of the current format. The image is checked by the rules of the format that it says. One of the current
-/// format stays byte for byte. In one of format 1 the version alone changes, and from format 0 the gaps get a free tree
-/// as well. If the segment is dropped, this is the check of an image.
+/// Reads an image of an accepted version into the region, from `base` on, a multiple of 16, and opens it as a segment
+/// of the current format. It checks the image by the rules of the image's own format. An image of the current format
+/// stays byte for byte. In an image of format 1 only the version changes; from format 0 the gaps also get a free tree.
+/// To only check an image, drop the segment.
 ///
 /// # Errors
 ///
-/// `RegionTooSmall` as soon as the magic, the version and a legal size are read and the region ends before base plus
-/// size; no more is read then. A class of the image if it denotes no directory, the first that holds, if it was read
-/// to its end or what was read decides it. The class comes with the byte that shows it: for an image that ends too
-/// early its end, and otherwise the first byte or link that is wrong by the rules of the class. `ReadFault` if the
-/// reader failed before that; it is not asked again after an error, nor after its end. `OutOfMemory` if memory for the
-/// check of the blocks was refused: only if no class before `BadIndex` holds and a tile is in use. The region comes
-/// back.
+/// - `RegionTooSmall` as soon as the magic, the version and a legal size are read and the region ends before base plus
+///   size; it then reads no more.
+/// - A class of the image if the image denotes no directory: the first class that it shows, once it is read to its end
+///   or the bytes so far decide the class. The class comes with the offset that shows it: the end of an image that is
+///   too short, otherwise the first byte or link that is wrong by the rules of the class.
+/// - `ReadFault` if the reader fails before that. It makes no read after an error, nor after the end.
+/// - `OutOfMemory` if the allocator refuses memory for the check of the blocks: only if the image shows no class before
+///   `BadIndex` and a tile is in use.
 ///
-/// Each visit of the check raises `steps`: by no more than 64 for each 16 bytes of the size, and 64. If a segment is
-/// answered, or a class from `BadIndex` on, it rises by at least one for each tile. No tile is read uncounted. The
-/// writing of a free tree is not counted.
+/// The error returns the region.
+///
+/// Each visit of the check raises `steps`: by at most 64 for each 16 bytes of the size, and 64. If the result is a
+/// segment, or a class from `BadIndex` on, `steps` rises by at least one for each tile. It counts each tile that it
+/// reads, but not the writing of a free tree.
 pub fn open_image<S: Source>(
     alloc: Global,
     versions: AcceptedVersions,
@@ -154,7 +157,7 @@ pub fn open_any<S: Source>(
 ///
 /// # Errors
 ///
-/// Those of [`open`], for the same reasons. The region comes back as it does there, and `steps` is raised as there.
+/// As [`open`], with the same region. `steps` rises as there.
 pub fn verify<S: Source>(
     alloc: Global,
     reader: &mut S,
@@ -185,14 +188,15 @@ pub fn verify<S: Source>(
     }
 }
 
-/// Copies an image of one of these versions into the region, from `base` on, which is a multiple of 16, and opens it as
-/// [`open_image`] does. The bytes are all of the image.
+/// Copies an image of an accepted version into the region, from `base` on, a multiple of 16, and opens it as
+/// [`open_image`] does. `image` is all of the image.
 ///
 /// # Errors
 ///
-/// As [`open_image`], but `ReadFault` never. The region comes back, as it was if the bytes are not as many as they say.
+/// As [`open_image`], but never `ReadFault`. The error returns the region, unchanged if the number of bytes is not the
+/// size in the image.
 ///
-/// `steps` is raised as there.
+/// `steps` rises as there.
 pub fn open_bytes(
     alloc: Global,
     versions: AcceptedVersions,
@@ -217,14 +221,14 @@ pub fn open_bytes(
     open_window(alloc, window, mode, steps)
 }
 
-/// Opens the image of the current format that stands in the region from `base` on, which is a multiple of 16. It has
-/// `len` bytes. No byte of the region is written or copied.
+/// Opens the image of the current format in the region, from `base` on, a multiple of 16. The image has `len` bytes. It
+/// writes and copies no byte of the region.
 ///
 /// # Errors
 ///
-/// As [`open_bytes`]. The region comes back as it was.
+/// As [`open_bytes`]. The error returns the region unchanged.
 ///
-/// `steps` is raised as there.
+/// `steps` rises as there.
 pub fn open_here(
     alloc: Global,
     region: RawRegion,

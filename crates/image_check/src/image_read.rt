@@ -1,4 +1,4 @@
-//! The reading of an image into its place in a region.
+//! Reads an image into its place in a region.
 ghost use Rattle.std.specs.Prelude.{◌≡◌, ◌≢◌, ◌+◌, ◌-◌, ◌%◌, ◌^◌, ◌<◌, ◌≤◌, List, ℕ, ◌++◌, true, false, length, take};
 ghost use Rattle.std.specs.Prelude.{drop, IfOk, OnOk, IfErr, MatchResult};
 ghost use Rattle.raw_region.specs.Answers.{AppendsProperPrefix};
@@ -20,12 +20,12 @@ use crate::verdict::Verdict;
 use crate::versions::AcceptedVersions;
 use raw_region::{RawRegion, Source, Window, read_full};
 
-/// Reads a whole image of one of these versions, which fills the window of the region from `base` on that it says.
+/// Reads a whole image of an accepted version into the region, from `base` on. The size is the one in its first words.
 ///
 /// # Errors
 ///
-/// `RegionTooSmall` as soon as the first words say a size for which there is no room. `Truncated`, or what is wrong
-/// with the first words, or `BadSize` if more bytes follow. `ReadFault` if the reader failed before that.
+/// `RegionTooSmall` as soon as the first words have a size for which the region has no room. `Truncated`, the class of
+/// wrong first words, or `BadSize` if more bytes follow. `ReadFault` if the reader fails before that.
 pub(crate) fn read_image<S: Source>(
     versions: AcceptedVersions,
     reader: &mut S,
@@ -61,11 +61,11 @@ pub(crate) fn read_image<S: Source>(
     }
 }
 
-/// Reads the first 24 bytes of an image, and returns the size that they say.
+/// Reads the first 24 bytes of an image, and returns the size in them.
 ///
 /// # Errors
 ///
-/// As `read_image`. If the bytes begin no image, more are read, since fewer than 144 are too short whatever they
+/// As `read_image`. If the bytes begin no image, it reads on, since fewer than 144 bytes are `Truncated`, whatever they
 /// are.
 fn read_front<S: Source>(
     versions: AcceptedVersions,
@@ -97,7 +97,7 @@ fn read_front<S: Source>(
     }
 }
 
-/// Reads the bytes after the first 24, which stand in the window and say its size, and finds that the image ends there.
+/// Reads the bytes after the first 24, which are in the window and hold its size, and checks that the image ends there.
 ///
 /// # Errors
 ///
@@ -128,11 +128,11 @@ fn read_rest<S: Source>(reader: &mut S, window: &mut Window) -> Result<(), OpenE
     find_end(reader, size)
 }
 
-/// Fills the slice with the bytes of an image after `before` others.
+/// Fills the slice with the bytes of an image that follow `before` others.
 ///
 /// # Errors
 ///
-/// `ReadFault` if the reader failed, and `Truncated` if it ended, before the slice was full.
+/// `ReadFault` if the reader fails, and `Truncated` if it ends, before the slice is full.
 fn read_all<S: Source>(reader: &mut S, into: &mut [u8], before: u64) -> Result<(), OpenError>
     requires reader { (S.history reader.old).failures < 2 ^ 64 - 1 }
     requires max_count { before ≤ 24 }
@@ -158,11 +158,11 @@ fn read_all<S: Source>(reader: &mut S, into: &mut [u8], before: u64) -> Result<(
     Ok(())
 }
 
-/// Asks for one byte more, of which there is none after a whole image of `size` bytes.
+/// Tries to read one byte after a whole image of `size` bytes, where the reader must end.
 ///
 /// # Errors
 ///
-/// `ReadFault` if the reader failed, and `BadSize` if it gave one.
+/// `ReadFault` if the reader fails, and `BadSize` if it returns a byte.
 fn find_end<S: Source>(reader: &mut S, size: u64) -> Result<(), OpenError>
     requires { (S.history reader.old).failures < 2 ^ 64 - 1 }
     ensures unchanged { OnOk result ((S.history reader.new).bytes ≡ (S.history reader.old).bytes) }

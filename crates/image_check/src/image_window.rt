@@ -1,5 +1,5 @@
-//! The one way to the bytes of an image that is checked, and to its blocks in use: calls that count what they reach.
-//! Bytes that nobody counts are seen by this module and those in it alone.
+//! The only access to the bytes of an image in a check, and to its blocks in use: calls that count their visits. Only
+//! this module and its submodules see uncounted bytes.
 ghost use Rattle.std.specs.Prelude.{◌≡◌, ◌+◌, ◌*◌, ◌%◌, ◌≤◌, ◌↔◌, IfOk, IsTrue, List, MatchOption, false, is_err};
 ghost use Rattle.std.specs.Prelude.{length};
 ghost use Rattle.raw_region.specs.Memory.{AreZero, bytes_of, part, whole, word_at, are_bytes};
@@ -32,7 +32,7 @@ pub(crate) use places::{TileProbe, check_places, find_tile, has_good_links};
 use raw_region::{RawRegion, Window, bytes_are_octets};
 use std::marker::Model;
 
-/// The window of an image that is checked.
+/// The window of an image in a check.
 #[derive(Drop)]
 pub struct ImageWindow {
     window: Window,
@@ -54,7 +54,7 @@ impl ImageWindow {
         ImageWindow { window }
     }
 
-    /// Returns the whole region, with the bytes that it has now.
+    /// Returns the whole region, with its current bytes.
     pub fn into_region(self) -> RawRegion
         ensures { result ≡ whole self }
     {
@@ -68,7 +68,7 @@ impl ImageWindow {
         self.window.size()
     }
 
-    /// Tells whether `len` bytes from `from` on lie inside.
+    /// Returns true if the `len` bytes from `from` on lie in the window.
     pub fn in_range(&self, from: u64, len: u64) -> bool
         ensures { IsTrue result ↔ (from + len ≤ length self.now.bytes) }
     {
@@ -92,7 +92,7 @@ impl ImageWindow {
         self.window.read_u64(at)
     }
 
-    /// Returns where the link at `at` leads.
+    /// Returns the target of the link at `at`, or `None` if it is null.
     fn load(&self, at: u64) -> Option<u64>
         requires aligned { at % 8 ≡ 0 }
         requires in_bounds { at + 8 ≤ length self.now.bytes }
@@ -101,11 +101,11 @@ impl ImageWindow {
         load(&self.window, at)
     }
 
-    /// Returns where the link at `at` leads, if that is nowhere or a place of a payload.
+    /// Returns the target of the link at `at`, or `None` if it is null.
     ///
     /// # Errors
     ///
-    /// `BadLink` if it is no place of a payload.
+    /// `BadLink` if no payload can begin at the target.
     fn load_checked(&self, at: u64) -> Result<Option<u64>, BadLink>
         requires aligned { at % 8 ≡ 0 }
         requires in_bounds { at + 8 ≤ length self.now.bytes }
@@ -115,7 +115,7 @@ impl ImageWindow {
         checked(&self.window, at)
     }
 
-    /// Returns the version that the first bytes say.
+    /// Returns the version in the first bytes.
     pub fn version(&self) -> u64
         requires { 24 ≤ length self.now.bytes }
         ensures { result ≡ version_word self.now.bytes }
@@ -132,7 +132,7 @@ impl ImageWindow {
         self.window.read_u64(at)
     }
 
-    /// Returns where the link of the header at `at` leads.
+    /// Returns the target of the header's link at `at`, or `None` if it is null.
     pub fn header_link(&self, at: u64) -> Option<u64>
         requires header { at + 8 ≤ 128 }
         requires aligned { at % 8 ≡ 0 }
@@ -142,11 +142,11 @@ impl ImageWindow {
         load(&self.window, at)
     }
 
-    /// Returns where the link of the header at `at` leads, if that is nowhere or a place of a payload.
+    /// Returns the target of the header's link at `at`, or `None` if it is null.
     ///
     /// # Errors
     ///
-    /// `BadLink` if it is no place of a payload.
+    /// `BadLink` if no payload can begin at the target.
     pub fn checked_header_link(&self, at: u64) -> Result<Option<u64>, BadLink>
         requires header { at + 8 ≤ 128 }
         requires aligned { at % 8 ≡ 0 }
@@ -157,7 +157,7 @@ impl ImageWindow {
         checked(&self.window, at)
     }
 
-    /// Returns the first byte of the header from `from` on, below `to`, that is not 0.
+    /// Returns the offset of the first byte of the header from `from` on, below `to`, that is not 0.
     pub fn first_nonzero(&self, from: u64, to: u64) -> Option<u64>
         requires header { to ≤ 128 }
         requires in_bounds { to ≤ length self.now.bytes }
@@ -174,7 +174,7 @@ impl ImageWindow {
         bytes_are_octets(self.window.bytes(0, self.window.size()));
     }
 
-    /// Returns the `len` bytes of an element at `from`, at most 8. One visit.
+    /// Returns the `len` bytes of an element at `from`, at most 8. It takes one visit.
     pub fn element(&self, from: u64, len: u64, visits: &mut VisitCounter) -> &[u8]
         requires max_len { len ≤ 8 }
         requires in_bounds { from + len ≤ length self.now.bytes }
@@ -186,7 +186,8 @@ impl ImageWindow {
         self.window.bytes(from, len)
     }
 
-    /// Returns where the entry of an index or the element at `at` leads, which is a link or begins with one. One visit.
+    /// Returns the target of the link at `at`: the entry of an index, or the first word of an element. It takes one
+    /// visit.
     pub fn link(&self, at: u64, visits: &mut VisitCounter) -> Option<u64>
         requires aligned { at % 8 ≡ 0 }
         requires in_bounds { at + 8 ≤ length self.now.bytes }
@@ -197,7 +198,7 @@ impl ImageWindow {
         load(&self.window, at)
     }
 
-    /// Returns where the element at `at` of an array of texts leads, and the length of its text. One visit.
+    /// Returns the target of the element at `at` of an array of texts, and the length of its text. It takes one visit.
     pub fn text(&self, at: u64, visits: &mut VisitCounter) -> (Option<u64>, u64)
         requires size { IsTrue (is_legal_size (length self.now.bytes)) }
         requires aligned { at % 8 ≡ 0 }
@@ -209,7 +210,7 @@ impl ImageWindow {
         (self.link(at, visits), self.window.read_u64(at + 8))
     }
 
-    /// Returns where the two links of the node at `at` lead. One visit.
+    /// Returns the targets of the two links of the node at `at`. It takes one visit.
     pub fn links(&self, at: u64, visits: &mut VisitCounter) -> (Option<u64>, Option<u64>)
         requires size { IsTrue (is_legal_size (length self.now.bytes)) }
         requires aligned { at % 8 ≡ 0 }
@@ -221,7 +222,7 @@ impl ImageWindow {
         (self.link(at, visits), load(&self.window, at + 8))
     }
 
-    /// Reads all tags up to the first that is wrong in the format. One visit for each.
+    /// Reads all tags up to the first that is wrong in the format. It takes one visit for each.
     pub fn check_counted(&self, format: u64, visits: &mut VisitCounter) -> CheckedTags
         requires { IsTrue (is_legal_size (length self.now.bytes)) }
         ensures good { result.are_good ≡ has_tags format (bytes_of self.now.bytes) (length self.now.bytes) }
@@ -235,7 +236,7 @@ impl ImageWindow {
         tags
     }
 
-    /// Returns the tile after the header, or nothing if there is none.
+    /// Returns the first tile, or `None` if there is no tile.
     pub fn first(&self) -> Option<UnreadTile>
         requires { IsTiledWindow self.now }
         ensures { (ts : List ATile) → EncodesTiles self.now ts → result ≡ first_in ts }
@@ -246,7 +247,7 @@ impl ImageWindow {
         }
     }
 
-    /// Returns the tile after the one at `at`, or nothing if that is the last.
+    /// Returns the tile after the one at `at`, or `None` if that is the last.
     pub fn next(&self, at: u64) -> Option<UnreadTile>
         requires { HasTileAt self.now at }
         ensures { (ts : List ATile) → EncodesTiles self.now ts → result ≡ next_in ts at }
@@ -258,7 +259,7 @@ impl ImageWindow {
     }
 }
 
-/// Returns the first byte from `from` on, below `to`, that is not 0.
+/// Returns the offset of the first byte from `from` on, below `to`, that is not 0.
 fn first_nonzero(bytes: &[u8], from: u64, to: u64) -> Option<u64>
     requires { to ≤ length bytes.now }
     ensures { MatchOption result (AreZero (bytes_of bytes.now) from to) (IsFirstNonzero (bytes_of bytes.now) from to) }
@@ -271,7 +272,7 @@ fn first_nonzero(bytes: &[u8], from: u64, to: u64) -> Option<u64>
     None
 }
 
-/// A tile whose tags nobody has looked at. What they say is told by `read` alone, which counts it.
+/// A tile whose tags are not read yet. Only `read` returns their contents, and counts a visit.
 #[derive(Drop)]
 pub struct UnreadTile {
     tile: Tile,
@@ -286,7 +287,7 @@ impl Model for UnreadTile {
 }
 
 impl UnreadTile {
-    /// Returns what the tags say. One visit.
+    /// Returns the contents of the tags. It takes one visit.
     pub fn read(self, visits: &mut VisitCounter) -> Tile
         ensures tile { result ≡ self }
         ensures visits { visits.new ≡ visits.old + 1 }

@@ -1,4 +1,4 @@
-//! Whether the two indexes have blocks that are long enough, and entries that lead to objects, each to another.
+//! Checks that the blocks of the two indexes are long enough, and that their entries lead to objects, each to another.
 ghost use Rattle.std.specs.Prelude.{◌≡◌, ℕ, ◌+◌, ◌*◌, ◌%◌, ◌^◌, ◌<◌, ◌≤◌, true, false, None, List, length, MatchResult};
 ghost use Rattle.std.specs.Prelude.{OnOk};
 ghost use Rattle.raw_region.specs.Memory.{bytes_of};
@@ -21,13 +21,13 @@ use crate::verdict::Offset;
 use block_tags::Role;
 use segment_manager::layout::{NAMED_AT, UNIQUE_AT};
 
-/// Checks both indexes, and notes their entries at the objects that they lead to.
+/// Checks both indexes, and enters their entries at their objects.
 ///
 /// # Errors
 ///
-/// The place of the first word or entry that is wrong, of the named index before the unique one. A count above the
-/// capacity is wrong, and a link to no block, to a short one, or of an index without places. An entry is wrong if it
-/// leads to no object, or to one that has an entry already.
+/// The offset of the first wrong word or entry, of the named index before the unique one. A count above the capacity is
+/// wrong; so is a link to no block or to a block that is too short, and a link of an index with capacity 0. An entry is
+/// wrong if it leads to no object, or to one that already has an entry.
 pub(crate) fn check_indexes(
     window: &ImageWindow,
     owners: &mut Owners,
@@ -57,11 +57,11 @@ pub(crate) fn check_indexes(
     Ok(())
 }
 
-/// Notes the entries of the index whose words stand at `at`.
+/// Enters the entries of the index whose words are at `at`.
 ///
 /// # Errors
 ///
-/// The place of the first word or entry that is wrong, as of [`check_indexes`].
+/// The offset of the first wrong word or entry, as in [`check_indexes`].
 fn enter_index(
     window: &ImageWindow,
     owners: &mut Owners,
@@ -101,11 +101,12 @@ fn enter_index(
     }
 }
 
-/// Checks that the index has no more entries than places, and a block with room for its places if it has any.
+/// Checks that the index has at most as many entries as its capacity, and a block with room for its capacity if that is
+/// not 0.
 ///
 /// # Errors
 ///
-/// The place of its count, or else of its link, if that is not so.
+/// The offset of its count if that is wrong, otherwise of its link.
 fn check_head(
     window: &ImageWindow,
     blocks: &BlockTable,
@@ -132,11 +133,11 @@ fn check_head(
     }
 }
 
-/// Notes the entries in the first `count` places of a block.
+/// Enters the first `count` entries of a block.
 ///
 /// # Errors
 ///
-/// The place of the first that leads to no object or to one that has an entry already.
+/// The offset of the first entry that leads to no object, or to one that already has an entry.
 fn enter_all(
     window: &ImageWindow,
     owners: &mut Owners,

@@ -1,4 +1,4 @@
-//! Noting the links of indexes, of storage and of elements.
+//! Enters the links of indexes, storage and elements in the map of owners.
 ghost use Rattle.std.specs.Prelude.{◌≡◌, ◌+◌, ◌*◌, ◌%◌, ◌<◌, ◌≤◌, ℕ, MatchResult, None, length};
 ghost use Rattle.raw_region.specs.Memory.{bytes_of, word_at};
 ghost use Rattle.image_check.specs.Owners.{IsIndexPlace, IsMarkingOf, IsSharedIn};
@@ -13,11 +13,11 @@ use crate::owners::{Owner, Owners};
 use crate::verdict::Offset;
 use block_tags::Role;
 
-/// Notes the link of the index whose words stand at `at`, if it has places. At most two visits.
+/// Enters the link of the index whose words are at `at`, if its capacity is not 0. It takes at most two visits.
 ///
 /// # Errors
 ///
-/// The link's place, if another link leads there.
+/// The link's offset, if another link leads to the same block.
 pub(crate) fn mark_index(
     window: &ImageWindow,
     owners: &mut Owners,
@@ -46,11 +46,11 @@ pub(crate) fn mark_index(
     mark(owners, Role::Index, link, window.header_link(at), visits)
 }
 
-/// Notes the storage link of the value, if it has places. At most two visits.
+/// Enters the storage link of the value, if its capacity is not 0. It takes at most two visits.
 ///
 /// # Errors
 ///
-/// The link's place, if another link leads there.
+/// The link's offset, if another link leads to the same block.
 pub(crate) fn mark_storage(
     window: &ImageWindow,
     owners: &mut Owners,
@@ -79,11 +79,11 @@ pub(crate) fn mark_storage(
     mark(owners, Role::Storage, owner, value.link(window), visits)
 }
 
-/// Notes the links of the first `count` elements of the array at `array`. At most three visits for each.
+/// Enters the links of the first `count` elements of the array at `array`. It takes at most three visits for each.
 ///
 /// # Errors
 ///
-/// The link's place, if one of them leads to a block to which another link leads.
+/// The offset of the first link that leads to a block to which another link leads.
 pub(crate) fn mark_elements(
     window: &ImageWindow,
     owners: &mut Owners,

@@ -1,4 +1,4 @@
-//! Whether the pairs of a map are an ordered red-black tree, whatever its links say.
+//! Checks that the pairs of a map form an ordered red-black tree, for links of any value.
 ghost use Rattle.std.specs.Prelude.{◌≡◌, ◌+◌, ◌≤◌, ◌%◌, ◌^◌, length};
 ghost use Rattle.raw_region.specs.Memory.{bytes_of};
 ghost use Rattle.image_check.specs.Owners.{IsMarkedLink};
@@ -12,7 +12,7 @@ use crate::checking::VisitCounter;
 use crate::image_window::{BlockTable, ImageWindow, Value, check_pairs};
 use seg_types::ScalarKind;
 
-/// Tells whether the three words of the value are those of a map: a tree of pairs, as many as are counted, and a zero.
+/// Returns true if the three words of the value are a valid map: a tree of as many pairs as its count, and a zero.
 pub(crate) fn is_map(
     window: &ImageWindow,
     blocks: &BlockTable,

@@ -1,4 +1,4 @@
-//! Noting the links that lead to blocks, and following those of the nodes that are met.
+//! Enters the links that lead to blocks, and follows the links of the nodes that they reach.
 ghost use Rattle.std.specs.Prelude.{◌≡◌, ◌+◌, ◌*◌, ◌<◌, ◌≤◌, ◌^◌, false, IsTrue, List, MatchResult, Option, Some, None};
 ghost use Rattle.std.specs.Prelude.{ℕ, length};
 ghost use Rattle.raw_region.specs.Memory.{Memory};
@@ -19,11 +19,11 @@ use crate::owners::{Block, Owner, Owners, is_same};
 use crate::verdict::Offset;
 use block_tags::Role;
 
-/// Notes that a link with this target leads to a block of the role, if it does. At most two visits.
+/// Enters a link at the block to which it leads, if the block has the role. It takes at most two visits.
 ///
 /// # Errors
 ///
-/// The link's place, if a link at another place leads there.
+/// The link's offset, if a link at another offset leads to the same block.
 pub(crate) fn mark(
     owners: &mut Owners,
     role: Role,
@@ -80,7 +80,7 @@ fn next_in(block: Option<Block>) -> Option<u32>
     }
 }
 
-/// Returns where the first link stands of those that lead to a block at `target`.
+/// Returns the offset of the first link to the block at `target`.
 fn root_in(block: Option<Block>, target: u32) -> u32
     ensures { result ≡ root_there block target }
 {
@@ -93,11 +93,11 @@ fn root_in(block: Option<Block>, target: u32) -> u32
     }
 }
 
-/// Takes the first node that waits, and notes its links. At most six visits.
+/// Takes the first waiting node, and enters its links. It takes at most six visits.
 ///
 /// # Errors
 ///
-/// The link's place, if one of them leads to a node to which another link leads.
+/// The offset of a link that leads to a node to which another link leads.
 fn follow_next(
     window: &ImageWindow,
     owners: &mut Owners,
@@ -130,12 +130,11 @@ fn follow_next(
     }
 }
 
-/// Notes the links of all nodes that wait, and of the nodes that are met by them. At most six visits for each node that
-/// is met.
+/// Enters the links of all waiting nodes, and of the nodes that they reach. It takes at most six visits for each node.
 ///
 /// # Errors
 ///
-/// The link's place, if two of them lead to one node.
+/// The offset of a link that leads to a node to which another link leads.
 pub(crate) fn follow(
     window: &ImageWindow,
     owners: &mut Owners,

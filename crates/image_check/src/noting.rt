@@ -1,4 +1,4 @@
-//! The block hints of a heap, from the map of the blocks of an image.
+//! Makes the block hints of a heap from the map of an image's blocks.
 ghost use Rattle.std.specs.Prelude.{◌≡◌, ◌+◌, length};
 ghost use Rattle.best_fit.specs.Heap.{live_of};
 ghost use Rattle.image_check.specs.Owners.{AreBlocksIn};
@@ -7,7 +7,8 @@ use crate::checking::VisitCounter;
 use crate::image_window::BlockTable;
 use best_fit::Heap;
 
-/// Enters each block in use into the heap's block hints. Costs one visit a block, reads no tag and changes no byte.
+/// Adds each block in use to the heap's block hints. It takes one visit for each block, reads no tag and changes no
+/// byte.
 pub(crate) fn note_blocks(blocks: &BlockTable, heap: &mut Heap, visits: &mut VisitCounter)
     requires { AreBlocksIn (live_of heap.old.bytes) blocks.now.entries }
     ensures unchanged { heap.new ≡ heap.old }

@@ -1,4 +1,4 @@
-//! Whether each object is right, and the entries of the indexes lead to objects of their class in order.
+//! Checks each object, and the order of the entries of each index.
 ghost use Rattle.std.specs.Prelude.{◌≡◌, ℕ, ◌+◌, ◌-◌, ◌*◌, ◌/◌, ◌%◌, ◌^◌, ◌<◌, ◌≤◌, true, length};
 ghost use Rattle.std.specs.List.{list_all};
 ghost use Rattle.raw_region.specs.Memory.{bytes_of};
@@ -21,14 +21,15 @@ use crate::verdict::Offset;
 use block_tags::{Role, TAG_LEN, Tile};
 use segment_manager::layout::{NAMED_AT, UNIQUE_AT};
 
-/// Checks each object by itself, then the order of the entries of each index. The indexes are those of class 8, and
-/// their entries are noted.
+/// Checks each object by itself, and then the order of the entries of each index. The indexes have passed the check for
+/// `BadIndex`, and their entries are entered.
 ///
 /// # Errors
 ///
-/// The place of the payload of the first object whose kind, class, count, name, padding or value is wrong, or that has
-/// no entry in the index of its class. If there is none, the place of the first entry of an index that leads to an
-/// object of another class or to one whose key does not rise.
+/// - The offset of the payload of the first wrong object. Its kind, class, count, name, padding or value is wrong, or
+///   it lacks an entry in the index of its class.
+/// - If there is none, the offset of the first entry of an index that leads to an object of another class, or to one
+///   whose key does not rise.
 pub(crate) fn check_objects(
     format: u64,
     window: &ImageWindow,
@@ -55,11 +56,11 @@ pub(crate) fn check_objects(
     Ok(())
 }
 
-/// Checks that each tile is no object's or one of an object that is right. No tag is read.
+/// Checks the objects in all tiles. It reads no tag.
 ///
 /// # Errors
 ///
-/// The place of the payload of the first object that is not.
+/// The offset of the payload of the first wrong object.
 fn are_right(
     format: u64,
     window: &ImageWindow,
@@ -86,7 +87,7 @@ fn are_right(
     Ok(())
 }
 
-/// Tells whether the tile is no object's or one of an object that is right. Its block may be that of number `guess`.
+/// Returns true unless the tile holds a wrong object. Its block can have the number `guess`.
 fn is_right(
     format: u64,
     window: &ImageWindow,
@@ -113,8 +114,8 @@ fn is_right(
     }
 }
 
-/// Tells whether the object, whose payload ends at `end` and whose block may be that of number `guess`, is right. One
-/// visit, and one for each scalar of its value.
+/// Returns true if the object, whose payload ends at `end`, is valid. Its block can have the number `guess`. It takes
+/// one visit, and one for each scalar of its value.
 fn is_object(
     format: u64,
     window: &ImageWindow,

@@ -1,4 +1,4 @@
-//! Whether a link was met to lead to each block but the objects.
+//! Checks that a link leads to each block that is not an object.
 ghost use Rattle.std.specs.Prelude.{◌≡◌, ℕ, List, not, length};
 ghost use Rattle.std.specs.List.{list_all};
 ghost use Rattle.raw_region.specs.Memory.{WindowState, bytes_of};
@@ -15,11 +15,11 @@ use crate::owners::{Block, Owners, is_same};
 use crate::verdict::Offset;
 use block_tags::Role;
 
-/// Checks that a link leads to each index, storage and node of an image. No tile of it is looked at.
+/// Checks that a link leads to each index, storage and node of an image. It reads no tile.
 ///
 /// # Errors
 ///
-/// The place of the payload of the first to which none leads.
+/// The offset of the payload of the first block without an owner.
 pub(crate) fn check_orphans(owners: &Owners, visits: &mut VisitCounter) -> Result<(), Offset>
     ensures verdict { (format : ℕ) (window : WindowState) → HasTiles window.bytes
         → IsWholeMarkingOf format window.bytes owners.now.blocks.entries owners.now.waiting
@@ -33,11 +33,11 @@ pub(crate) fn check_orphans(owners: &Owners, visits: &mut VisitCounter) -> Resul
     are_owned(&owners.blocks, visits)
 }
 
-/// Checks that each block needs no owner or has one. One visit for each that is looked at.
+/// Checks that each block has an owner or needs none. It takes one visit for each block.
 ///
 /// # Errors
 ///
-/// The place of the payload of the first that lacks one.
+/// The offset of the payload of the first block without an owner.
 fn are_owned(blocks: &BlockTable, visits: &mut VisitCounter) -> Result<(), Offset>
     ensures verdict { (window : WindowState) → HasTiles window.bytes
         → frames blocks.now.entries ≡ frames (entries_of (tiles_in window.bytes))
@@ -56,7 +56,7 @@ fn are_owned(blocks: &BlockTable, visits: &mut VisitCounter) -> Result<(), Offse
     Ok(())
 }
 
-/// Tells whether the block needs no owner or has one.
+/// Returns true if the block has an owner or needs none.
 fn is_owned(block: Block) -> bool
     ensures { result ≡ is_owned_block block }
 {

@@ -1,5 +1,4 @@
-//! The owners of the blocks in use: by the payload of each its role, its length, and the link that was met to lead to
-//! it.
+//! The owners of the blocks in use: for the payload of each block its role, its length, and the link that leads to it.
 ghost use Rattle.std.specs.Prelude.{◌≡◌, ◌+◌, ◌≤◌, List, Some, option_map};
 ghost use Rattle.block_tags.specs.declared.tile.Tile.{Tile};
 ghost use Rattle.best_fit.specs.Table.{same_role};
@@ -12,38 +11,38 @@ use crate::checking::VisitCounter;
 use crate::image_window::BlockTable;
 use block_tags::{Role, TAG_LEN, Tile};
 
-/// A link that leads to a block. Places are numbers of four bytes, since no image is longer than 2^30 bytes: there is a
-/// row for each block, and they are gone through many times.
+/// A link that leads to a block. Offsets are numbers of four bytes, since no image is longer than 2^30 bytes. This
+/// keeps a row short: there is one for each block, and the check reads the rows many times.
 #[derive(Clone, Copy)]
 pub(crate) struct Owner {
-    /// Where it stands.
+    /// The link's offset.
     pub(crate) at: u32,
-    /// Where the first link stands of those that lead there: itself, or for a link of a node the root link of its map.
-    /// Of an entry of an index it is the index's own link.
+    /// The offset of the first link on the way to the block. For a link of a node this is the root link of its map, for
+    /// an entry of an index the index's own link, and otherwise the link itself.
     pub(crate) root: u32,
 }
 
-/// A block in use, and what was found of it.
+/// A block in use, with the results of the check so far.
 #[derive(Clone, Copy)]
 pub(crate) struct Block {
-    /// What it is for.
+    /// The block's role.
     pub(crate) role: Role,
-    /// The length of its tile.
+    /// The length of its tile in bytes.
     pub(crate) len: u32,
-    /// The link that leads to it, if one was met; to an object that is an entry of an index.
+    /// The link that leads to it, if the check has met one. For an object it is the entry of an index.
     pub(crate) owner: Option<Owner>,
-    /// The node that waits after this one to have its links followed.
+    /// The node that waits after this one for its links to be followed.
     pub(crate) next: Option<u32>,
 }
 
-/// The blocks in use by payload, and the nodes whose links are to be followed.
+/// The blocks in use by payload, and the nodes whose links are not followed yet.
 #[derive(Drop)]
 pub(crate) struct Owners {
     /// The blocks, by offset of the payload.
     pub(crate) blocks: BlockTable,
-    /// The node whose turn is next.
+    /// The first waiting node.
     pub(crate) pending: Option<u32>,
-    /// How many nodes wait.
+    /// The number of waiting nodes.
     pub(crate) waiting: u64,
 }
 
@@ -54,7 +53,7 @@ pub(crate) fn is_same(a: Role, b: Role) -> bool
     a == b
 }
 
-/// Tells whether the tile is that of an object.
+/// Returns true if the tile holds an object.
 pub(crate) fn is_object(tile: Tile) -> bool
     ensures { result ≡ is_use Object tile }
 {
@@ -64,7 +63,8 @@ pub(crate) fn is_object(tile: Tile) -> bool
     }
 }
 
-/// Returns the tile of the block whose payload begins at `payload`, as the map says it: black, whatever its tags say.
+/// Returns the tile of the block whose payload begins at `payload`, from the map. Its colour is black, whatever its tag
+/// says.
 pub(crate) fn tile_of(payload: u32, block: Block) -> Tile
     requires { 16 ≤ payload }
     ensures place { result.offset + 16 ≡ payload }
@@ -79,7 +79,8 @@ pub(crate) fn tile_of(payload: u32, block: Block) -> Tile
     }
 }
 
-/// Returns how long the tile is that the link is good for, with its tag. At most one visit.
+/// Returns the length of the tile behind the link, with its tag, if the link leads to a block of the role. It takes at
+/// most one visit.
 pub(crate) fn good_len(
     blocks: &BlockTable,
     role: Role,

@@ -1,4 +1,4 @@
-//! Whether the entries of an index lead to objects of its class, whose keys rise.
+//! Checks that the entries of an index lead to objects of its class whose keys rise.
 ghost use Rattle.std.specs.Prelude.{◌≡◌, ℕ, ◌+◌, ◌*◌, ◌%◌, ◌^◌, ◌<◌, ◌≤◌, true, Some, IsSome, length};
 ghost use Rattle.raw_region.specs.Memory.{bytes_of};
 ghost use Rattle.offset_link.specs.Link.{link_at};
@@ -17,11 +17,11 @@ use crate::heads::NAMED;
 use crate::image_window::{ImageWindow, Object};
 use crate::verdict::Offset;
 
-/// Checks that the entries of the index whose words stand at `at` lead to objects of a class, whose keys rise.
+/// Checks that the entries of the index whose words are at `at` lead to objects of a class whose keys rise.
 ///
 /// # Errors
 ///
-/// The place of the first entry that does not, or whose object has a key that does not rise.
+/// The offset of the first entry that leads to an object of another class, or to one whose key does not rise.
 pub(crate) fn has_order(
     window: &ImageWindow,
     visits: &mut VisitCounter,
@@ -43,11 +43,11 @@ pub(crate) fn has_order(
     }
 }
 
-/// Checks that the links in the first `count` places of a block lead to objects of a class, whose keys rise.
+/// Checks that the first `count` links of a block lead to objects of a class whose keys rise.
 ///
 /// # Errors
 ///
-/// The place of the first that does not, or whose object has a key that does not rise.
+/// The offset of the first link that leads to an object of another class, or to one whose key does not rise.
 fn rise(
     window: &ImageWindow,
     visits: &mut VisitCounter,
@@ -81,8 +81,8 @@ fn rise(
     Ok(())
 }
 
-/// Tells whether an object is of the class, and its key stands after that of the last one, if there was one. At most
-/// two visits.
+/// Returns true if an object has the class, and its key follows the key of the last object, if there is one. It takes
+/// at most two visits.
 fn follows(
     window: &ImageWindow,
     visits: &mut VisitCounter,
@@ -107,7 +107,7 @@ fn follows(
     }
 }
 
-/// Tells whether the key of an object stands before that of another, both of the class.
+/// Returns true if the key of an object precedes the key of another. Both have the class.
 fn precedes(window: &ImageWindow, class: u64, one: Object, other: Object) -> bool
     requires max_size { length window.now.bytes < 2 ^ 63 }
     requires first_in_bounds { one.at + 16 + name_len_at (bytes_of window.now.bytes) one.at ≤ length window.now.bytes }

@@ -1,4 +1,4 @@
-//! Room for the blocks in use: the one place where the check of an image asks for memory.
+//! Room for the blocks in use: the only allocation of the check of an image.
 ghost use Rattle.std.specs.Prelude.{◌≡◌, ◌≤◌, IfErr, IfOk, IsOk, OnErr, [], ⊤, ℕ};
 ghost use Rattle.indexmap.specs.IndexMap.{IsEmpty, spare};
 
@@ -7,25 +7,25 @@ use crate::rows::Row;
 use indexmap::IndexMap;
 use std::alloc::{AllocError, Global};
 
-/// The allocator refused memory for the blocks of an image. One field is private: only `room_for` makes one, where a
-/// request was refused.
+/// The error of the allocation for the blocks of an image. Its private field means that only `room_for` makes it, after
+/// a refusal.
 #[derive(Clone, Copy, Debug, PartialEq, Eq)]
 pub struct NoBlockMemory {
-    /// For how many blocks memory was asked.
+    /// The number of blocks of the request.
     pub blocks: usize,
     _made: (),
 }
 
-/// An allocator that is asked for the map of the blocks of an image.
+/// An allocator for the map of the blocks of an image.
 pub(crate) trait MapAllocator {
-    // A request for a map of this many blocks was refused. Nothing else is known of it, so only a request shows it.
+    // The allocator refused a map for this many blocks. Only a request makes this fact.
     ghost refuses: { Self → ℕ → Type 0 };
 
-    /// Makes a map without blocks, with room for `count`.
+    /// Makes an empty map with room for `count` blocks.
     ///
     /// # Errors
     ///
-    /// If the request is refused. For no blocks there is none.
+    /// If the allocator refuses the memory. With a count of 0 it needs none.
     fn block_map(&self, count: usize) -> Result<IndexMap<u32, Row>, AllocError>
         ensures empty { IfOk result IsEmpty }
         ensures room { IfOk result (λ map. count ≤ spare map) }
@@ -41,11 +41,11 @@ impl MapAllocator for Global {
     }
 }
 
-/// Makes a table of no blocks, with room for `count`. This is the one request of an opening.
+/// Makes an empty table with room for `count` blocks. This is the only allocation of an opening.
 ///
 /// # Errors
 ///
-/// If the allocator refuses it.
+/// If the allocator refuses the memory.
 pub(crate) fn room_for<A: MapAllocator>(
     alloc: &A,
     count: usize,

@@ -5,15 +5,15 @@ use crate::owners::{Block, Owner};
 use block_tags::Role;
 use std::marker::Model;
 
-/// A block in use. It has 20 bytes; two `Option`s would take 8 more: there is one for each block, and each page
-/// of them is a new one of the system's.
+/// A block in use, in 20 bytes. Two `Option`s would take 8 more; there is one row for each block, and the system must
+/// provide each page of them.
 #[derive(Drop)]
 pub(crate) struct Row {
     len: u32,
-    /// Where the link stands that leads to the block, if one does, and where its root link stands.
+    /// The offset of the link to the block, if there is one, and of its root link.
     at: u32,
     root: u32,
-    /// The node that waits after the block, if one does.
+    /// The node that waits after the block, if there is one.
     next: u32,
     role: Role,
     is_owned: bool,

@@ -1,4 +1,4 @@
-//! The saving of an image.
+//! Writes images.
 ghost use Rattle.std.specs.Prelude.{◌-◌, ◌^◌, ◌<◌};
 ghost use Rattle.raw_region.specs.Device.{Writes};
 ghost use Rattle.segment_manager.specs.Directory.{Directory};
@@ -17,8 +17,8 @@ fn write_image<W: Sink>(bytes: &[u8], out: &mut W) -> Result<(), DeviceFault>
     write_all(out, bytes)
 }
 
-/// Writes the image of a segment, which is all bytes that the segment has now. A check of the image accepts it, for the
-/// directory that the segment stands for. A fault leaves a proper prefix of it written.
+/// Writes the image of a segment, which is all its current bytes. A check accepts the image, with the directory of the
+/// segment. If the writer fails, a proper prefix of the image is written.
 pub fn save<W: Sink>(segment: &Segment, out: &mut W) -> Result<(), DeviceFault>
     requires { (W.history out.old).failures < 2 ^ 64 - 1 }
     ensures output { Writes (W.history out.old) (W.history out.new) result segment.now.cut.bytes }

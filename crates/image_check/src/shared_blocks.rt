@@ -1,4 +1,4 @@
-//! Whether two links lead to one block.
+//! Checks that no two links lead to one block.
 ghost use Rattle.std.specs.Prelude.{◌≡◌, ◌+◌, ◌*◌, ◌%◌, ◌<◌, ◌≤◌, ◌^◌, ℕ, IsTrue, MatchResult, None, OnOk, Some, not};
 ghost use Rattle.std.specs.Prelude.{true, length};
 ghost use Rattle.raw_region.specs.Memory.{bytes_of, word_at};
@@ -27,7 +27,7 @@ use block_tags::{Role, TAG_LEN, Tile};
 use seg_types::Kind;
 use segment_manager::layout::{NAMED_AT, UNIQUE_AT};
 
-/// Returns how many of the first `length` elements of 16 bytes lie in a tile of `len` bytes.
+/// Returns the number of the first `length` elements of 16 bytes that fit in a tile of `len` bytes.
 fn elements_in(length: u64, len: u64) -> u64
     requires { 16 ≤ len }
     ensures in_bounds { result ≤ length }
@@ -38,11 +38,11 @@ fn elements_in(length: u64, len: u64) -> u64
     if length < room { length } else { room }
 }
 
-/// Notes the links of the elements of a vector of texts, if it has places.
+/// Enters the links of the elements of a vector of texts, if its capacity is not 0.
 ///
 /// # Errors
 ///
-/// The link's place, if one of them leads to a block to which another link leads.
+/// The offset of a link that leads to a block to which another link leads.
 fn mark_texts(
     window: &ImageWindow,
     owners: &mut Owners,
@@ -77,11 +77,11 @@ fn mark_texts(
     mark_elements(window, owners, array, count, visits)
 }
 
-/// Notes the storage link of a vector of texts, and the links of its elements.
+/// Enters the storage link of a vector of texts, and the links of its elements.
 ///
 /// # Errors
 ///
-/// The link's place, if one of them leads to a block to which another link leads.
+/// The offset of a link that leads to a block to which another link leads.
 fn mark_array(
     window: &ImageWindow,
     owners: &mut Owners,
@@ -106,11 +106,11 @@ fn mark_array(
     }
 }
 
-/// Notes the links of a value, and those of its elements.
+/// Enters the links of a value, and the links of its elements.
 ///
 /// # Errors
 ///
-/// The link's place, if one of them leads to a block to which another link leads.
+/// The offset of a link that leads to a block to which another link leads.
 fn mark_value(
     window: &ImageWindow,
     owners: &mut Owners,
@@ -143,11 +143,11 @@ fn mark_value(
     }
 }
 
-/// Notes the links of the value of the object in a tile, if it is one.
+/// Enters the links of the value of the object in a tile, if the tile holds one.
 ///
 /// # Errors
 ///
-/// The link's place, if one of them leads to a block to which another link leads.
+/// The offset of a link that leads to a block to which another link leads.
 fn mark_object(
     format: u64,
     window: &ImageWindow,
@@ -181,11 +181,11 @@ fn mark_object(
     }
 }
 
-/// Notes the links of the values of all objects. No tag is read.
+/// Enters the links of the values of all objects. It reads no tag.
 ///
 /// # Errors
 ///
-/// The link's place, if one of them leads to a block to which another link leads.
+/// The offset of a link that leads to a block to which another link leads.
 fn mark_values(
     format: u64,
     window: &ImageWindow,
@@ -219,11 +219,11 @@ fn mark_values(
     Ok(())
 }
 
-/// Notes the links of the two indexes.
+/// Enters the links of the two indexes.
 ///
 /// # Errors
 ///
-/// The link's place, if both lead to one block.
+/// The link's offset, if both lead to one block.
 fn mark_indexes(
     window: &ImageWindow,
     owners: &mut Owners,
@@ -245,11 +245,11 @@ fn mark_indexes(
     }
 }
 
-/// Checks that no two links lead to one block, and notes all links that count.
+/// Checks that no two links lead to one block, and enters all links.
 ///
 /// # Errors
 ///
-/// The link's place, if two lead to one.
+/// The offset of a link that leads to a block to which another link leads.
 pub(crate) fn check_sharing(
     format: u64,
     window: &ImageWindow,

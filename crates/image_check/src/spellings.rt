@@ -1,4 +1,4 @@
-//! Whether the bytes of scalars in a row spell values of their kind.
+//! Checks that the bytes of several scalars are values of their kind.
 ghost use Rattle.std.specs.Prelude.{◌≡◌, ◌+◌, ◌*◌, ◌^◌, ◌<◌, ◌≤◌, length};
 ghost use Rattle.raw_region.specs.Memory.{bytes_of};
 ghost use Rattle.seg_types.specs.Kinds.{size_of};
@@ -9,7 +9,7 @@ use crate::checking::VisitCounter;
 use crate::image_window::ImageWindow;
 use seg_types::ScalarKind;
 
-/// Tells whether the `count` elements of a kind from `start` on spell values of it. One visit for each.
+/// Returns true if the `count` elements from `start` on are values of the kind. It takes one visit for each.
 pub(crate) fn are_spellings(
     window: &ImageWindow,
     visits: &mut VisitCounter,

@@ -1,21 +1,21 @@
-//! Which versions of the format are read.
+//! The versions of the format that a call accepts.
 ghost use Rattle.std.specs.Prelude.{◌≡◌, ◌≤◌, length};
 ghost use Rattle.image_check.specs.Formats.{is_taken, version_word};
 
 use byteorder::{ByteOrder, LittleEndian};
 use segment_manager::layout::{FORMAT, FORMAT_AT};
 
-/// Which versions of the format are read.
+/// The versions of the format that a call accepts.
 #[derive(Clone, Copy)]
 pub enum AcceptedVersions {
-    /// The one that is written.
+    /// The current format.
     Current,
     /// The current format and the two before it.
     All,
 }
 
 impl AcceptedVersions {
-    /// Tells whether a version is one of them.
+    /// Returns true if a version is accepted.
     pub fn has(self, version: u64) -> bool
         ensures { result ≡ is_taken self version }
     {
@@ -26,7 +26,7 @@ impl AcceptedVersions {
     }
 }
 
-/// Returns the version that the front of an image says.
+/// Returns the version in the front of an image.
 pub fn version_in(front: &[u8]) -> u64
     requires { 12 ≤ length front.now }
     ensures { result ≡ version_word front.now }

@@ -5,10 +5,9 @@ use Rattle.link_tree.specs.Nodes.{is_in}
 use Rattle.link_tree.proofs.trees.NodeCount as limits
 -- trees that links lead to: when one stays where it is, and that its root is one of its nodes
 pub use Rattle.link_tree.proofs.trees.Linked.{holds_same, none_some, root_in, some_same, tree_same}
--- what is read off links is the tree there, and the test of red-black trees is exact
+-- the tree read from links is the tree there, and the test of red-black trees is exact
 pub use Rattle.link_tree.proofs.checking.ReadOff.{reads_off}
--- what stands in a list of nodes, what holds of all of them, and order, where a node precedes what a node precedes that
--- it precedes
+-- lists of nodes: membership, properties of all nodes, and the order, which is transitive
 pub use Rattle.link_tree.proofs.trees.OrderedLists.{above_more, all_at, all_from, in_left, in_middle, in_parts}
 pub use Rattle.link_tree.proofs.trees.OrderedLists.{in_right}
 pub use Rattle.link_tree.proofs.searching.Neighbours.{first_itself}
@@ -16,7 +15,7 @@ pub use Rattle.link_tree.proofs.inserting.Insertion.{rises_put}
 pub use Rattle.link_tree.proofs.removing.Removal.{without_none}
 -- how high a red-black tree of n nodes can be
 pub use Rattle.link_tree.proofs.trees.Heights.{bits_most, bounds_height}
--- where a change begins, by what is asked of the nodes of the tree alone
+-- the point at which a change begins depends only on the nodes of the tree
 pub use Rattle.link_tree.proofs.searching.ChangePoints.{entry_same, exit_same}
 
 -- an ordered tree of nodes of a list has no more nodes than the list

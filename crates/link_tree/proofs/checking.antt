@@ -1,3 +1,3 @@
--- The check: a tree whose parts pass is a tree (`Soundness`), and the one that is read off is the tree there.
+-- The check: a tree whose parts pass is a tree (`Soundness`), and the tree that is read is the tree there.
 pub mod Soundness
 pub mod ReadOff

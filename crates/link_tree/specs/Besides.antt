@@ -4,7 +4,7 @@ use Rattle.std.proofs.Common.{◌∙◌, ap, refl}
 use Rattle.std.proofs.lemmas.Bool.{false≢true}
 use Rattle.link_tree.specs.Nodes.{is_in, leads}
 
--- if preceding one probe implies preceding another, then not preceding the other implies not preceding the one
+-- if each node before one probe is before another, then each node not before the other is not before the first
 pub stays_behind : (p q : Bool) → (p ≡ true → q ≡ true) → not q ≡ true → not p ≡ true
 stays_behind true q f h = absurd (false≢true (sym (ap not (f refl)) ∙ h))
 stays_behind false q f h = refl

@@ -1,12 +1,12 @@
--- Nodes that stand between two others.
+-- Nodes between two bounds.
 use Rattle.std.specs.Prelude.{ℕ, ◌+◌, Bool, true, ◌&&◌, Option, Some, None, List, [], ◌∷◌, if◌then◌else◌}
 
--- whether the node stands after `low`, if there is a `low`
+-- whether the node follows `low`; true if there is no `low`
 abbrev pub is_above : (ℕ → ℕ → Bool) → Option ℕ → ℕ → Bool
 is_above precedes None n = true
 is_above precedes (Some low) n = precedes low n
 
--- whether the node stands before `high`, if there is a `high`
+-- whether the node precedes `high`; true if there is no `high`
 abbrev pub is_below : (ℕ → ℕ → Bool) → ℕ → Option ℕ → Bool
 is_below precedes n None = true
 is_below precedes n (Some high) = precedes n high

@@ -6,13 +6,13 @@ use Rattle.link_tree.specs.Tree.{has_black_height}
 use Rattle.link_tree.specs.Nodes.{is_in, leads}
 use Rattle.link_tree.specs.Between.{is_between}
 
--- links from nodes of the list lead to nodes of the list
+-- each link of a node of the list leads to a node of the list
 pub record IsLinkClosed (cells : ℕ → Cell) (ns : List ℕ) : Type 0 where
   pub left : (n : ℕ) → is_in n ns ≡ true → leads (λ m. is_in m ns) (cells n).left ≡ true
   pub right : (n : ℕ) → is_in n ns ≡ true → leads (λ m. is_in m ns) (cells n).right ≡ true
 
--- the link leads to a tree that is ordered and red-black as a part of one: between two nodes, and below a red node or
--- not
+-- the link leads to an ordered tree with nodes between `low` and `high` and this many black nodes on each path; it is
+-- red-black, and its root is black if the node above is red
 pub record IsSound (precedes : ℕ → ℕ → Bool) (cells : ℕ → Cell) (link low high : Option ℕ) (red_above : Bool)
     (t : Tree) (blacks : ℕ) : Type 0 where
   pub tree : IsTree cells link t

@@ -6,7 +6,7 @@ use Rattle.link_tree.specs.Turning.{BecomesTree, painted, rebalanced, blackened,
 use Rattle.link_tree.specs.declared.cursor.Side.{Side}
 use Rattle.link_tree.specs.declared.cursor.Side.TheVariants.{Left, Right}
 
--- a tree after a removal, and whether each of its paths has fewer black nodes than before
+-- a tree after a removal, and whether each of its paths has one black node fewer than before
 pub record RemovedSubtree : Type 0 where
   pub tree : Tree
   pub fell : Bool
@@ -16,7 +16,7 @@ pub record IsOrderedTree (precedes : ℕ → ℕ → Bool) (cells : ℕ → Cell
   pub tree : IsTree cells link t
   pub ordered : is_sorted precedes (nodes_of t) ≡ true
 
--- the link leads to the tree after the removal, and no other node's cell changed
+-- the link leads to the tree after the removal, and the cells of nodes outside the tree are unchanged
 pub record RemovesTo (cells cells' : ℕ
     → Cell) (ns : List ℕ) (link : Option ℕ) (has_fallen : Bool) (rest : RemovedSubtree) : Type 0
   where
@@ -27,7 +27,7 @@ pub record RemovesTo (cells cells' : ℕ
 abbrev pub reddened : Tree → Tree
 reddened t = painted true t
 
--- if the tree on the far side has fallen, the heavy tree near by gives a black node away, after Filliâtre
+-- if the tree on the far side lost a black node, the near tree, which is heavier, gives up one, after Filliâtre
 abbrev pub mended_at : Side → Bool → Tree → ℕ → Tree → RemovedSubtree
 mended_at side red leaf n far = record { tree = joined_at side red leaf n far; fell = false }
 mended_at side red (fork false left m right) n far =
@@ -45,13 +45,13 @@ mended side leaf = record { tree = leaf; fell = false }
 mended side (fork red left n right) = mended_at side red (tree_on side left right) n
     (tree_on (opposite side) left right)
 
--- a node over the changed subtree on this side
+-- a node over a changed subtree on this side, rebalanced
 abbrev pub settled : Side → Bool → RemovedSubtree → ℕ → Tree → RemovedSubtree
 settled side red rest n far =
     if rest.fell then mended_at (opposite side) red far n rest.tree else record
     { tree = joined_at side red rest.tree n far; fell = false }
 
--- a tree in the place of its parent, which had no other
+-- a tree that replaces its parent, which had no other subtree
 abbrev pub sunk : Bool → Tree → RemovedSubtree
 sunk red t =
     if red then record { tree = t; fell = false }
@@ -88,6 +88,6 @@ after_remove precedes x (fork red left n right) =
     else (if precedes x n then settled Left red (after_remove precedes x left) n right else settled Right red
     (after_remove precedes x right) n left)
 
--- steps that are kept in hand while the tree falls
+-- the steps that remain for the repair while a tree lacks a black node
 abbrev pub spare : Bool → ℕ
 spare fell = if fell then 7 else 0

@@ -1,4 +1,4 @@
--- Ordered red-black trees over nodes that are numbers, and links that lead from node to node.
+-- Ordered red-black trees over numbered nodes, and the links between the nodes.
 use Rattle.std.specs.Prelude.{◌≡◌, ℕ, zero, suc, ◌+◌, ◌*◌, ◌≤◌, max, Bool, true, false, not, ◌&&◌, Option, Some, None}
 use Rattle.std.specs.Prelude.{List, [], ◌∷◌, ◌++◌, length, IsTrue, ◌==◌, if◌then◌else◌, ◌↔◌}
 use Rattle.std.specs.List.{list_all}
@@ -25,7 +25,7 @@ abbrev pub nodes_of : Tree → List ℕ
 nodes_of leaf = []
 nodes_of (fork red left n right) = nodes_of left ++ n ∷ nodes_of right
 
--- the cell of each node of the tree says its colour and its two trees
+-- the cell of each node of the tree holds its colour and the links to its two subtrees
 abbrev pub AreCellsOf : (ℕ → Cell) → Tree → Type 0
 AreCellsOf cells leaf = Unit {0}
 AreCellsOf cells (fork red left n right) =
@@ -37,7 +37,7 @@ pub record IsTree (cells : ℕ → Cell) (link : Option ℕ) (t : Tree) : Type 0
   pub root : link ≡ root_of t
   pub holds : AreCellsOf cells t
 
--- each node precedes all that stand after it, so that none stands twice
+-- each node precedes all nodes after it, so no node is in the list twice
 abbrev pub is_sorted : (ℕ → ℕ → Bool) → List ℕ → Bool
 is_sorted precedes [] = true
 is_sorted precedes (n ∷ ns) = list_all (precedes n) ns && is_sorted precedes ns
@@ -85,15 +85,15 @@ bits n = length (digits_of 2 n)
 abbrev pub BoundsHeight : Type 0
 BoundsHeight = (t : Tree) → IsRedBlack t → height t ≤ 2 * bits (length (nodes_of t) + 1)
 
--- ---- a tree read off
+-- ---- a tree read from links
 
 -- the tree of a node, if both trees below it are there
 abbrev pub joined : ℕ → Bool → Option Tree → Option Tree → Option Tree
 joined n red None right = None
 joined n red (Some left) right = elim right [ None ↦ None | Some right ↦ Some (fork red left n right) ]
 
--- the tree that a link leads to, read off to this depth; none if it is deeper, or if a node is met that is not
--- good
+-- the tree behind a link, down to this depth; none if the tree is deeper, or if a link leads to a number that is no
+-- node
 abbrev pub tree_from : ℕ → (ℕ → Bool) → (ℕ → Cell) → Option ℕ → Option Tree
 tree_from zero good cells link = elim link [ None ↦ Some leaf | Some n ↦ None ]
 tree_from (suc depth) good cells link = elim link [
@@ -112,7 +112,7 @@ left_blacks (fork false left n right) = suc (left_blacks left)
 abbrev pub is_red_black : Tree → Bool
 is_red_black t = has_black_root t && has_no_red_pair t && has_black_height t (left_blacks t)
 
--- the laws of both: a tree that is read off is the tree there, and a tree there within the depth is read off
+-- two laws of the reading: a tree that is read is the tree there, and each tree within the depth is read
 pub record ReadsOff : Type 0 where
   pub sound : (depth : ℕ) (good : ℕ → Bool) (cells : ℕ → Cell) (link : Option ℕ) (t : Tree)
       → tree_from depth good cells link ≡ Some t → IsTree cells link t × IsTrue (list_all good (nodes_of t))

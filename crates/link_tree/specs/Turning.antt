@@ -5,7 +5,7 @@ use Rattle.link_tree.specs.Nodes.{is_in}
 use Rattle.link_tree.specs.Sides.{opposite, tree_on, joined_at}
 use Rattle.link_tree.specs.declared.cursor.Side.{Side}
 
--- the cells of no other nodes than these changed, and the link now leads to this tree
+-- the link now leads to this tree, and only cells of these nodes changed
 pub record BecomesTree (cells cells' : ℕ → Cell) (ns : List ℕ) (link : Option ℕ) (t : Tree) : Type 0 where
   pub tree : IsTree cells' link t
   pub frame : (m : ℕ) → is_in m ns ≡ false → cells' m ≡ cells m
@@ -15,7 +15,7 @@ abbrev pub painted : Bool → Tree → Tree
 painted red leaf = leaf
 painted red (fork old left n right) = fork red left n right
 
--- the tree with a black root
+-- the tree with its root made black
 abbrev pub blackened : Tree → Tree
 blackened t = painted false t
 
@@ -28,7 +28,7 @@ lifted_over side red leaf n far = joined_at side red leaf n far
 lifted_over side red (fork red' left m right) n far =
     joined_at side red' (tree_on side left right) m (joined_at side red (tree_on (opposite side) left right) n far)
 
--- the child on this side turned up over its parent
+-- the tree rotated, so that the child on this side is the root
 abbrev pub rotated : Side → Tree → Tree
 rotated side leaf = leaf
 rotated side (fork red left n right) = lifted_over side red (tree_on side left right) n
@@ -47,15 +47,16 @@ balanced_outer side a m b n far =
     if is_red_tree a then joined_at side true (blackened a) m (joined_at side false b n far) else balanced_inner side a
     m b n far
 
--- two trees under a node, repaired
+-- a black node over two trees; if the tree on this side has two red nodes in a row, rotated to a red node over two
+-- black ones
 abbrev pub balanced : Side → Tree → ℕ → Tree → Tree
 balanced side leaf n far = joined_at side false leaf n far
 balanced side (fork false left m right) n far = joined_at side false (fork false left m right) n far
 balanced side (fork true left m right) n far = balanced_outer side (tree_on side left right) m
     (tree_on (opposite side) left right) n far
 
--- a black root over a red child that has a red child on this side: turned to a red root over two black ones, after
--- Okasaki
+-- rotates a black root whose red child on this side has a red child, so that a red root stands over two black nodes,
+-- after Okasaki
 abbrev pub rebalanced : Side → Tree → Tree
 rebalanced side leaf = leaf
 rebalanced side (fork true left n right) = fork true left n right

@@ -3,7 +3,7 @@ use Rattle.std.specs.Prelude.{◌≡◌, ◌≢◌, ℕ, ◌≤◌, Bool, true, 
 use Rattle.link_tree.specs.Tree.{Cell, Tree, nodes_of, IsTree, is_sorted, height}
 use Rattle.link_tree.specs.Nodes.{is_in}
 
--- the link leads to this ordered tree of at most this height, and the walk has visited none of its nodes
+-- the link leads to this ordered tree of at most this height, and the cursor is at none of its nodes
 pub record IsAhead (precedes : ℕ → ℕ → Bool) (cells : ℕ → Cell) (link : Option ℕ) (levels : ℕ) (here : Option ℕ)
     (t : Tree) : Type 0 where
   pub tree : IsTree cells link t

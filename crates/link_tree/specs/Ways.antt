@@ -1,17 +1,16 @@
--- Where the change of a tree begins when a node enters or leaves it: above that node nothing changes.
+-- Where the change of a tree begins when a node is inserted or removed: no node above that one changes.
 use Rattle.std.specs.Prelude.{ℕ, Bool, not, ◌&&◌, ◌==◌, Option, Some, None, if◌then◌else◌}
 use Rattle.std.specs.Option.{option_or}
 use Rattle.link_tree.specs.Tree.{Tree, leaf, fork, has_black_root}
 use Rattle.link_tree.specs.declared.change_points.Passed.{Passed}
 use Rattle.link_tree.specs.declared.change_points.Followed.{Followed}
 
--- the point found below a node; if there is none, the node, provided that it is black and the path goes on to no red
--- node
+-- the point found below a node; if there is none, the node itself if it is black and the path continues to no red node
 abbrev pub entry_over : Bool → ℕ → Tree → Option ℕ → Option ℕ
 entry_over red n next below = option_or below (if not red && has_black_root next then Some n else None)
 
--- The lowest black node on the path of a search that no red node follows there. If a red node is inserted at the end of
--- the path, the subtree of this node is balanced again, and its root stays black: so nothing above it changes.
+-- The lowest black node on the path of a search that has no red node after it there. If a red node is inserted at the
+-- end of the path, the subtree of this node is rebalanced, and its root stays black, so nothing above it changes.
 abbrev pub insert_point_of : (ℕ → Bool) → Tree → Option ℕ
 insert_point_of before leaf = None
 insert_point_of before (fork red left n right) =
@@ -26,13 +25,13 @@ passed notes n red before = record {
   entry = if red then notes.entry else option_or notes.above notes.entry;
 }
 
--- the point found below a node; if there is none, the node, provided that the path goes on to a red node
+-- the point found below a node; if there is none, the node itself if the path continues to a red node
 abbrev pub exit_over : ℕ → Tree → Option ℕ → Option ℕ
 exit_over n next below = option_or below (if has_black_root next then None else Some n)
 
--- The lowest node above another that a red node follows on the path to it. If the other is removed, each path of the
--- subtree under the red node keeps its number of black nodes, whatever its root is then: so nothing above this node
--- changes.
+-- The lowest node above another that has a red node after it on the path to the other. If the other is removed, each
+-- path of the subtree under the red node keeps its number of black nodes, for any colour of its root. So nothing above
+-- this node changes.
 abbrev pub remove_point_of : (ℕ → ℕ → Bool) → ℕ → Tree → Option ℕ
 remove_point_of precedes x leaf = None
 remove_point_of precedes x (fork red left n right) =
@@ -40,7 +39,7 @@ remove_point_of precedes x (fork red left n right) =
     else (if precedes x n then exit_over n left (remove_point_of precedes x left) else exit_over n right
     (remove_point_of precedes x right))
 
--- one node further down, on the way out
+-- the state of a search for a node to remove, after one more node of its path
 abbrev pub followed : Followed → ℕ → Bool → Bool → Followed
 followed notes n red before = record {
   node = if before then notes.node else Some n;

@@ -1,4 +1,4 @@
-//! Searches that also return where a change begins: on the path to a node's insertion point, or to the node to remove.
+//! Searches that also return the node at which a later insertion or removal begins.
 
 ghost use Rattle.std.specs.Prelude.{◌≡◌, ℕ, ◌+◌, ◌*◌, ◌≤◌, Bool, true, false, Option, Some, None, List, length, IfSome};
 ghost use Rattle.std.specs.Prelude.{if◌then◌else◌};
@@ -12,30 +12,30 @@ use crate::cursor::NodeCursor;
 use crate::descending::{PathFold, descend};
 use crate::nodes::Nodes;
 
-/// The node that was looked for, if there is one, and where a node would enter in its place.
+/// The result of `find_insert_point`: the node found, and where an insertion at the probe's place begins.
 #[derive(Clone, Copy, Debug, PartialEq, Eq)]
 pub struct InsertPoint {
-    /// The first node that does not stand before the probe; none if there is no such node in the tree.
+    /// The first node that does not precede the probe; none if every node precedes it.
     pub node: Option<u64>,
-    /// Where an insertion at the end of the way begins, for `insert_at`; none if it begins at the root.
+    /// The node at which `insert_at` begins for a new node at the end of the path; none if it begins at the root.
     pub entry: Option<u64>,
-    /// How often the search went to a node.
+    /// The number of nodes visited.
     pub steps: u64,
 }
 
-/// Where an insertion begins, as far as a search has gone.
+/// Where an insertion begins, as far as the search has come.
 #[derive(Clone, Copy)]
 struct Passed {
-    /// The last node passed that does not stand before the probe.
+    /// The last node on the path that does not precede the probe.
     node: Option<u64>,
-    /// The node that was passed last, if it is black.
+    /// The last node on the path, if it is black.
     above: Option<u64>,
-    /// The lowest black node above it that no red one followed.
+    /// The lowest black node above `above` that has no red node after it on the path.
     entry: Option<u64>,
 }
 
 impl Passed {
-    /// Returns where the insertion begins, if the way ends here.
+    /// Returns where the insertion begins if the path ends here.
     fn end(self) -> Option<u64>
         ensures { result ≡ option_or self.above self.entry }
     {
@@ -65,28 +65,27 @@ impl PathFold for Passed {
     }
 }
 
-/// The node that was looked for, if there is one, and where its removal begins.
+/// The result of `find_remove_point`: the node found, and where its removal begins.
 #[derive(Clone, Copy, Debug, PartialEq, Eq)]
 pub struct RemovePoint {
-    /// The first node that does not stand before the probe; none if there is no such node in the tree.
+    /// The first node that does not precede the probe; none if every node precedes it.
     pub node: Option<u64>,
-    /// Where the removal of that node begins, for `remove_at`; none if it begins at the root, or if there is no
-    /// such node.
+    /// The node at which `remove_at` begins for `node`; none if it begins at the root, or if `node` is none.
     pub exit: Option<u64>,
-    /// How often the search went to a node.
+    /// The number of nodes visited.
     pub steps: u64,
 }
 
-/// Where the removal of the node that was passed last begins, as far as a search has gone.
+/// Where the removal of the last node on the path begins, as far as the search has come.
 #[derive(Clone, Copy)]
 struct Followed {
-    /// The last node passed that does not stand before the probe.
+    /// The last node on the path that does not precede the probe.
     node: Option<u64>,
-    /// The node that was passed last.
+    /// The last node on the path.
     above: Option<u64>,
-    /// The lowest node above it that a red one followed.
+    /// The lowest node on the path that has a red node after it.
     exit: Option<u64>,
-    /// The point for `node`.
+    /// The node at which the removal of `node` begins.
     of_node: Option<u64>,
 }
 
@@ -105,17 +104,16 @@ impl PathFold for Followed {
     }
 }
 
-/// Looks for the first node that does not stand before the probe, and for the place where a node with this probe would
-/// enter.
+/// Finds the first node that does not precede the probe, and where the insertion of a node at the probe's place begins.
 ///
-/// It goes down the same path as `find_first_not_before`, with as many steps, and reads the colours there.
+/// It takes the path and the number of steps of `find_first_not_before`, and also reads the colours on the path.
 pub fn find_insert_point<N: Nodes>(nodes: &N, root: Option<u64>, probe: &N::Probe) -> InsertPoint
     requires root { leads (N.is_node nodes.now) root ≡ true }
     requires tree { (t : Tree) × IsSearchTree (N.order nodes.now) (N.cells nodes.now) root t }
-    // None, where all nodes stand before the probe.
+    // None if every node precedes the probe.
     ensures first { (t : Tree) → IsSearchTree (N.order nodes.now) (N.cells nodes.now) root t
         → result.node ≡ first_not_before (N.before nodes.now probe.now) (nodes_of t) }
-    // The lowest black node on the path that no red one follows there.
+    // The lowest black node on the path that has no red node after it there.
     ensures entry { (t : Tree) → IsSearchTree (N.order nodes.now) (N.cells nodes.now) root t
         → result.entry ≡ insert_point_of (N.before nodes.now probe.now) t }
     ensures steps { (t : Tree) → IsSearchTree (N.order nodes.now) (N.cells nodes.now) root t
@@ -136,16 +134,16 @@ pub fn find_insert_point<N: Nodes>(nodes: &N, root: Option<u64>, probe: &N::Prob
     }
 }
 
-/// Looks for the first node that does not stand before the probe, and for where its removal begins.
+/// Finds the first node that does not precede the probe, and where its removal begins.
 ///
-/// It goes down the same path as `find_first_not_before`, with as many steps, and reads the colours there.
+/// It takes the path and the number of steps of `find_first_not_before`, and also reads the colours on the path.
 pub fn find_remove_point<N: Nodes>(nodes: &N, root: Option<u64>, probe: &N::Probe) -> RemovePoint
     requires root { leads (N.is_node nodes.now) root ≡ true }
     requires tree { (t : Tree) × IsSearchTree (N.order nodes.now) (N.cells nodes.now) root t }
-    // None, where all nodes stand before the probe.
+    // None if every node precedes the probe.
     ensures first { (t : Tree) → IsSearchTree (N.order nodes.now) (N.cells nodes.now) root t
         → result.node ≡ first_not_before (N.before nodes.now probe.now) (nodes_of t) }
-    // The lowest node above it that a red one follows on the way there.
+    // The lowest node above the result that has a red node after it on the path to the result.
     ensures exit { (t : Tree) → IsSearchTree (N.order nodes.now) (N.cells nodes.now) root t
         → IfSome result.node (λ n. result.exit ≡ remove_point_of (N.order nodes.now) n t) }
     ensures absent { result.node ≡ None → result.exit ≡ None }

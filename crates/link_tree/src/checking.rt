@@ -1,4 +1,4 @@
-//! Whether links are an ordered red-black tree.
+//! Checks that links form an ordered red-black tree.
 
 ghost use Rattle.std.specs.Prelude.{◌≡◌, ◌↔◌, ℕ, ◌+◌, ◌*◌, ◌<◌, ◌≤◌, ◌^◌, Bool, true, false, Option, Some, None, List};
 ghost use Rattle.std.specs.Prelude.{length, IfSome, is_some, ◌⊎◌, if◌then◌else◌};
@@ -10,19 +10,19 @@ ghost use Rattle.link_tree.specs.Checking.{IsLinkClosed, IsSound};
 use crate::cursor::NodeCursor;
 use crate::nodes::Nodes;
 
-/// A red-black tree of at most 2 to the 40th nodes is no higher.
+/// An upper bound on the height of a red-black tree with at most 2 to the 40th nodes.
 pub const MAX_HEIGHT: u64 = 82;
 
-/// The result of a check: the number of nodes, or none if the links are no tree; and the steps of the check.
+/// The result of a check.
 #[derive(Clone, Copy, Debug, PartialEq, Eq)]
 pub struct CheckedTree {
-    /// The number of nodes; none if the links are no ordered red-black tree.
+    /// The number of nodes; none if the links form no ordered red-black tree.
     pub nodes: Option<u64>,
-    /// How often the check went to a node.
+    /// The number of visits of nodes.
     pub steps: u64,
 }
 
-/// The nodes of a part of the tree, and the black ones on each path to its end.
+/// The size of a subtree, and the number of black nodes on each path from its root to a leaf.
 #[derive(Clone, Copy)]
 struct Part {
     nodes: u64,
@@ -38,7 +38,7 @@ fn stands_above<N: Nodes>(visits: &mut NodeCursor<N>, low: Option<u64>, node: u6
     ensures position { low ≡ None → visits.new.at ≡ visits.old.at }
     ensures steps_lower { visits.old.steps ≤ visits.new.steps }
     ensures steps_upper { visits.new.steps ≤ visits.old.steps + 2 }
-    // No node precedes itself, so two are gone to.
+    // No node precedes itself, so the comparison visits two different nodes.
     ensures progress_on_step { result ≡ true → is_some low ≡ true → visits.old.steps < visits.new.steps }
 {
     match low {
@@ -64,10 +64,10 @@ fn stands_below<N: Nodes>(visits: &mut NodeCursor<N>, node: u64, high: Option<u6
     }
 }
 
-/// Checks the part that the link leads to, whose nodes must stand between `low` and `high`.
+/// Checks the subtree behind the link; its nodes must lie between `low` and `high`.
 ///
-/// No node is met twice between the same bounds, so this ends on a cycle, and at a shared node. Each call within it has
-/// a level less, so it is at most 82 calls deep, whatever the links are.
+/// It visits no node twice between the same bounds, so it ends on cycles and shared nodes too. Each nested call has one
+/// level less, so the depth is at most 82 calls for any links.
 fn check_below<N: Nodes>(
     visits: &mut NodeCursor<N>,
     link: Option<u64>,
@@ -88,7 +88,7 @@ fn check_below<N: Nodes>(
         × IsSound (N.order visits.old.nodes.now)
         (N.cells visits.old.nodes.now) link low high red_above t part.blacks
         × (length (nodes_of t) ≡ part.nodes)) }
-    // Where such a tree is there and no deeper than the levels, it is found.
+    // It finds each such tree of height at most `levels`.
     ensures complete { (t : Tree) (blacks : ℕ)
         → IsSound (N.order visits.old.nodes.now)
         (N.cells visits.old.nodes.now) link low high red_above t blacks
@@ -98,7 +98,7 @@ fn check_below<N: Nodes>(
         → visits.new.steps ≤ visits.old.steps
         + 5 * count_between (N.order visits.old.nodes.now) low high ns
         + (if is_some result then 0 else 5) }
-    // The check goes to a node again if it has left the node, or if it compares the node with a bound.
+    // The check visits a node again after it has left it, and when it compares the node with a bound.
     ensures steps_lower { visits.old.at ≡ None ⊎ (is_some low ≡ true ⊎ is_some high ≡ true)
         → IfSome result (λ part. visits.old.steps + part.nodes ≤ visits.new.steps) }
     ensures blacks { IfSome result (λ part. part.blacks ≤ levels) }
@@ -147,21 +147,21 @@ fn check_below<N: Nodes>(
     })
 }
 
-/// Returns the number of nodes that the root leads to, or none if they are no ordered red-black tree.
+/// Returns the number of nodes of the tree at the root, or none if the links form no ordered red-black tree.
 ///
 /// The links can be any links between nodes: cycles and shared nodes are allowed. A step is a visit of a node, with all
 /// reads of its fields until the check goes to another node.
 pub fn check<N: Nodes>(nodes: &N, root: Option<u64>) -> CheckedTree
     requires { leads (N.is_node nodes.now) root ≡ true }
-    // It counts n nodes exactly where the links are an ordered red-black tree of n nodes.
+    // The count is n exactly if the links form an ordered red-black tree of n nodes.
     ensures count { (n : ℕ) → (result.nodes ≡ Some n)
         ↔ ((t : Tree) × IsSearchTree (N.order nodes.now) (N.cells nodes.now) root t
         × (length (nodes_of t) ≡ n)) }
-    // `ns` can be any list of nodes that holds the root, and for each of its nodes the nodes that the links lead to.
+    // `ns` can be any list of nodes that holds the root and is closed under links.
     ensures steps { (ns : List ℕ) → IsLinkClosed (N.cells nodes.now) ns
         → leads (λ n. is_in n ns) root ≡ true
         → result.steps ≤ 5 * length ns + 5 }
-    // A check that says yes went to each node at least once.
+    // A check that succeeds visits each node at least once.
     ensures steps_lower { IfSome result.nodes (λ n. n ≤ result.steps) }
 {
     let mut visits = NodeCursor::new(nodes);

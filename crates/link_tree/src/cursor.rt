@@ -1,4 +1,4 @@
-//! The one way to a node: each step from one node to another is counted.
+//! The only access to nodes. It counts each step from one node to another.
 
 ghost use Rattle.std.specs.Prelude.{◌≡◌, ◌≢◌, ℕ, ◌+◌, ◌<◌, ◌≤◌, ◌^◌, Bool, true, false, Option, Some, None};
 ghost use Rattle.link_tree.specs.Tree.{Cell};
@@ -7,19 +7,19 @@ ghost use Rattle.link_tree.specs.Frame.{SameExceptCells};
 
 use crate::nodes::{Nodes, NodesMut};
 
-/// One of the two links of a node.
+/// One of a node's two links.
 #[derive(Clone, Copy)]
 pub enum Side {
-    /// Where the nodes stand that precede it.
+    /// The link to the nodes that precede it.
     Left,
-    /// Where the nodes stand that it precedes.
+    /// The link to the nodes that it precedes.
     Right,
 }
 
 impl Side {
     ghost use Rattle.link_tree.specs.Sides.{opposite, side_of};
 
-    /// Returns the side of a node that precedes another, or follows it.
+    /// Returns `Left`, the side for a node that precedes the other node, if `precedes` is true; otherwise `Right`.
     pub fn of(precedes: bool) -> Side
         ensures { result ≡ side_of precedes }
     {
@@ -37,16 +37,16 @@ impl Side {
     }
 }
 
-/// One side of a node, and its link there.
+/// One step down the tree: a side of a node, and the link on that side.
 #[derive(Clone, Copy)]
 pub struct DescentStep {
-    /// The side on which the search goes on.
+    /// The side on which the search continues.
     pub side: Side,
     /// The link on that side.
     pub link: Option<u64>,
 }
 
-/// Nodes that are read, where one stands, and the steps that led there.
+/// A reader of nodes: its position, and the number of its steps.
 #[derive(Drop)]
 pub struct NodeCursor<'a, N> {
     nodes: &'a N,
@@ -55,7 +55,7 @@ pub struct NodeCursor<'a, N> {
 }
 
 impl<'a, N: Nodes> NodeCursor<'a, N> {
-    /// Makes a cursor that stands nowhere and took no step.
+    /// Makes a cursor without a position, with 0 steps.
     pub fn new(nodes: &'a N) -> NodeCursor<'a, N>
         ensures nodes { result.nodes.now ≡ nodes.now }
         ensures position { result.at ≡ None }
@@ -68,7 +68,7 @@ impl<'a, N: Nodes> NodeCursor<'a, N> {
         }
     }
 
-    /// Returns the steps that the cursor took.
+    /// Returns the number of steps so far.
     pub fn steps(&self) -> u64
         ensures { result ≡ self.now.steps }
     {
@@ -90,7 +90,7 @@ impl<'a, N: Nodes> NodeCursor<'a, N> {
         }
     }
 
-    /// Goes to a node, and returns its left link.
+    /// Goes to a node and returns its left link.
     pub fn left(&mut self, node: u64) -> Option<u64>
         requires node { N.is_node self.old.nodes.now node ≡ true }
         requires no_overflow { self.old.steps + 1 < 2 ^ 64 }
@@ -105,7 +105,7 @@ impl<'a, N: Nodes> NodeCursor<'a, N> {
         self.nodes.left(node)
     }
 
-    /// Goes to a node, and returns its right link.
+    /// Goes to a node and returns its right link.
     pub fn right(&mut self, node: u64) -> Option<u64>
         requires node { N.is_node self.old.nodes.now node ≡ true }
         requires no_overflow { self.old.steps + 1 < 2 ^ 64 }
@@ -120,7 +120,7 @@ impl<'a, N: Nodes> NodeCursor<'a, N> {
         self.nodes.right(node)
     }
 
-    /// Goes to a node, and tells whether it is red.
+    /// Goes to a node and returns true if it is red.
     pub fn red(&mut self, node: u64) -> bool
         requires node { N.is_node self.old.nodes.now node ≡ true }
         requires no_overflow { self.old.steps + 1 < 2 ^ 64 }
@@ -136,7 +136,7 @@ impl<'a, N: Nodes> NodeCursor<'a, N> {
         self.nodes.red(node)
     }
 
-    /// Goes to both nodes, and tells whether the first precedes the second.
+    /// Goes to both nodes and returns true if the first precedes the second.
     pub fn precedes(&mut self, first: u64, second: u64) -> bool
         requires first { N.is_node self.old.nodes.now first ≡ true }
         requires second { N.is_node self.old.nodes.now second ≡ true }
@@ -153,7 +153,7 @@ impl<'a, N: Nodes> NodeCursor<'a, N> {
         self.nodes.precedes(first, second)
     }
 
-    /// Goes to a node, and tells whether it stands before the probe.
+    /// Goes to a node and returns true if it precedes the probe.
     pub fn before_probe(&mut self, node: u64, probe: &N::Probe) -> bool
         requires node { N.is_node self.old.nodes.now node ≡ true }
         requires no_overflow { self.old.steps + 1 < 2 ^ 64 }
@@ -168,7 +168,7 @@ impl<'a, N: Nodes> NodeCursor<'a, N> {
     }
 }
 
-/// Nodes whose links and colours are set, where one stands, and the steps that led there.
+/// A reader and writer of nodes: its position, and the number of its steps.
 #[derive(Drop)]
 pub struct NodeCursorMut<'a, N> {
     nodes: &'a mut N,
@@ -179,7 +179,7 @@ pub struct NodeCursorMut<'a, N> {
 impl<'a, N: NodesMut> NodeCursorMut<'a, N> {
     ghost use Rattle.link_tree.specs.Sides.{child_of, side_of, with_child};
 
-    /// Makes a cursor that stands nowhere and took no step.
+    /// Makes a cursor without a position, with 0 steps.
     pub fn new(nodes: &'a mut N) -> NodeCursorMut<'a, N>
         ensures same_borrow { result.nodes.ghost_name ≡ nodes.entry.ghost_name }
         ensures nodes { result.nodes.now ≡ nodes.old }
@@ -193,7 +193,7 @@ impl<'a, N: NodesMut> NodeCursorMut<'a, N> {
         }
     }
 
-    /// Returns the steps that the cursor took.
+    /// Returns the number of steps so far.
     pub fn steps(&self) -> u64
         ensures { result ≡ self.now.steps }
     {
@@ -216,7 +216,7 @@ impl<'a, N: NodesMut> NodeCursorMut<'a, N> {
         }
     }
 
-    /// Goes to a node, and returns its link on a side.
+    /// Goes to a node and returns its link on a side.
     pub fn child(&mut self, node: u64, side: Side) -> Option<u64>
         requires node { N.is_node self.old.nodes.now node ≡ true }
         requires no_overflow { self.old.steps + 1 < 2 ^ 64 }
@@ -237,7 +237,7 @@ impl<'a, N: NodesMut> NodeCursorMut<'a, N> {
         }
     }
 
-    /// Goes to a node, and tells whether it is red.
+    /// Goes to a node and returns true if it is red.
     pub fn red(&mut self, node: u64) -> bool
         requires node { N.is_node self.old.nodes.now node ≡ true }
         requires no_overflow { self.old.steps + 1 < 2 ^ 64 }
@@ -254,7 +254,7 @@ impl<'a, N: NodesMut> NodeCursorMut<'a, N> {
         self.nodes.red(node)
     }
 
-    /// Goes to both nodes, and tells whether the first precedes the second.
+    /// Goes to both nodes and returns true if the first precedes the second.
     pub fn precedes(&mut self, first: u64, second: u64) -> bool
         requires first { N.is_node self.old.nodes.now first ≡ true }
         requires second { N.is_node self.old.nodes.now second ≡ true }
@@ -273,7 +273,7 @@ impl<'a, N: NodesMut> NodeCursorMut<'a, N> {
         self.nodes.precedes(first, second)
     }
 
-    /// Returns the side of `at` for `node`, and the link on that side.
+    /// Returns the side of `at` on which `node` belongs, and the link on that side.
     pub fn toward(&mut self, node: u64, at: u64) -> DescentStep
         requires node { N.is_node self.old.nodes.now node ≡ true }
         requires position { N.is_node self.old.nodes.now at ≡ true }
@@ -294,7 +294,7 @@ impl<'a, N: NodesMut> NodeCursorMut<'a, N> {
         DescentStep { side, link }
     }
 
-    /// Goes to a node, and writes its link on a side.
+    /// Goes to a node and sets its link on a side.
     pub fn set_child(&mut self, node: u64, side: Side, to: Option<u64>)
         requires node { N.is_node self.old.nodes.now node ≡ true }
         requires target { leads (N.is_node self.old.nodes.now) to ≡ true }
@@ -316,7 +316,7 @@ impl<'a, N: NodesMut> NodeCursorMut<'a, N> {
         }
     }
 
-    /// Goes to a node, and makes it red or black.
+    /// Goes to a node and sets its colour.
     pub fn set_red(&mut self, node: u64, red: bool)
         requires node { N.is_node self.old.nodes.now node ≡ true }
         requires no_overflow { self.old.steps + 1 < 2 ^ 64 }

@@ -1,4 +1,4 @@
-//! The search that all calls use: it goes down a tree, and folds a value over the nodes of its path.
+//! The search that all calls share. It goes down a tree and folds a value over the nodes of its path.
 
 ghost use Rattle.std.specs.Prelude.{◌≡◌, ℕ, ◌+◌, ◌*◌, ◌<◌, ◌≤◌, ◌^◌, Bool, true, false, Option, Some, None, List};
 ghost use Rattle.std.specs.Prelude.{length};
@@ -11,11 +11,11 @@ use crate::nodes::Nodes;
 
 /// A value that a search folds over the nodes of its path.
 pub trait PathFold: Copy {
-    // The value after one more node, from the node's number, its colour (true if red), and whether it precedes the
-    // probe.
+    // The value after one more node. The arguments are the node's number, whether it is red, and whether it precedes
+    // the probe.
     ghost passed: { Self → ℕ → Bool → Bool → Self };
 
-    /// Passes the node that the search stands at.
+    /// Returns the value after the node at which the search stands.
     fn fold_node<N: Nodes>(self, visits: &mut NodeCursor<N>, node: u64, before: bool) -> Self
         requires node { N.is_node visits.old.nodes.now node ≡ true }
         requires position { visits.old.at ≡ Some node }
@@ -29,14 +29,14 @@ pub trait PathFold: Copy {
 /// The result of a search: the folded value, and the steps.
 #[derive(Clone, Copy)]
 pub struct Descent<K> {
-    /// The value that the search folded over its path.
+    /// The folded value.
     pub notes: K,
-    /// The steps that the search took.
+    /// The number of steps.
     pub steps: u64,
 }
 
-/// Goes down the path of a search for the probe, to its end. It goes to the right of a node before the probe, and to
-/// the left of any other.
+/// Follows the search path of the probe to its end. It goes right at a node that precedes the probe, and left at any
+/// other node.
 pub fn descend<N: Nodes, K: PathFold>(
     nodes: &N,
     root: Option<u64>,

@@ -1,4 +1,4 @@
-//! Putting a node into a tree.
+//! Insertion of a node into a tree.
 
 ghost use Rattle.std.specs.Prelude.{◌≡◌, ◌≢◌, ℕ, ◌+◌, ◌*◌, ◌<◌, ◌≤◌, ◌^◌, Bool, true, false, Option, Some, None, List};
 ghost use Rattle.std.specs.Prelude.{[], ◌∷◌, length, IfSome, IsTrue, not};
@@ -15,16 +15,16 @@ use crate::nodes::NodesMut;
 use crate::rotation::{fix_double_red, paint};
 use crate::search_adaptors::SearchForNode;
 
-/// The root of a tree after a change, and the steps that the change took.
+/// The root of a tree after a change, and the number of steps of the change.
 #[derive(Clone, Copy, Debug, PartialEq, Eq)]
 pub struct TreeChange {
-    /// The link to the tree from now on, which the caller keeps; none if no node is left.
+    /// The new root, which the caller must store; none if the tree is empty.
     pub root: Option<u64>,
-    /// How often the call went to a node.
+    /// The number of visits of nodes.
     pub steps: u64,
 }
 
-/// Makes the node a red one with no node below it.
+/// Makes the node red and sets both of its links to none.
 fn make_red_leaf<N: NodesMut>(visits: &mut NodeCursorMut<N>, node: u64)
     requires node { N.is_node visits.old.nodes.now node ≡ true }
     requires no_overflow { visits.old.steps + 3 < 2 ^ 64 }
@@ -41,7 +41,7 @@ fn make_red_leaf<N: NodesMut>(visits: &mut NodeCursorMut<N>, node: u64)
     visits.set_red(node, true);
 }
 
-/// Inserts the node into the tree of the link, and returns the root of the new tree.
+/// Inserts the node into the tree behind the link and returns the root of the new tree.
 fn insert_below<N: NodesMut>(visits: &mut NodeCursorMut<N>, link: Option<u64>, node: u64) -> u64
     requires link { leads (N.is_node visits.old.nodes.now) link ≡ true }
     requires node { N.is_node visits.old.nodes.now node ≡ true }
@@ -71,10 +71,10 @@ fn insert_below<N: NodesMut>(visits: &mut NodeCursorMut<N>, link: Option<u64>, n
     fix_double_red(visits, at, way.side)
 }
 
-/// Puts the node into the tree, from where a search for its place has found that the tree changes.
+/// Inserts the node, beginning at the `entry` that `find_insert_point` returned.
 ///
-/// Only links and colours of the tree's nodes and of the node change.
-/// A step is going to a node, with all that is read and written there before the call goes to another.
+/// It changes only links and colours of the tree's nodes and of the node itself.
+/// A step is a visit of a node, with all reads and writes of its fields until the call goes to another node.
 /// Chris Okasaki, Red-Black Trees in a Functional Setting, 1999.
 pub fn insert_at<N: NodesMut>(
     nodes: &mut N,
@@ -84,8 +84,8 @@ pub fn insert_at<N: NodesMut>(
 ) -> TreeChange
     requires root { leads (N.is_node nodes.old) root ≡ true }
     requires node { N.is_node nodes.old node ≡ true }
-    // The node must precede or follow each node of the tree, and the insertion begin at the root or where
-    // `find_insert_point` says.
+    // The node must precede or follow each node of the tree. `entry` must be none or the entry that `find_insert_point`
+    // returns for the node.
     requires tree { (t : Tree) × IsSearchTree (N.order nodes.old) (N.cells nodes.old) root t
         × IsTrue (is_ordered_with (N.order nodes.old) node (nodes_of t))
         × IfSome entry (λ n. insert_point_of (λ m. not (N.order nodes.old node m)) t ≡ Some n) }
@@ -93,17 +93,17 @@ pub fn insert_at<N: NodesMut>(
     ensures tree { (t : Tree) → IsSearchTree (N.order nodes.old) (N.cells nodes.old) root t
         → (after_insert : Tree) × IsSearchTree (N.order nodes.new) (N.cells nodes.new) result.root after_insert
         × (nodes_of after_insert ≡ insert_in_order (N.order nodes.old) node (nodes_of t)) }
-    // No other node's links or colour changed.
+    // No other node's links or colour change.
     ensures frame { (t : Tree) → IsSearchTree (N.order nodes.old) (N.cells nodes.old) root t
         → (m : ℕ) → m ≢ node → is_in m (nodes_of t) ≡ false
         → N.cells nodes.new m ≡ N.cells nodes.old m }
-    // `bits` counts binary digits, here of the number of nodes before the call and one.
+    // `bits` counts binary digits, here of the number of nodes before the call plus one.
     ensures steps { (t : Tree) → IsSearchTree (N.order nodes.old) (N.cells nodes.old) root t
         → result.steps ≤ 28 * bits (length (nodes_of t) + 1) + 32 }
     ensures steps_lower { 0 < result.steps }
     ensures root { leads (N.is_node nodes.new) result.root ≡ true }
-    // Nothing but links and colours changed: the nodes, their order, the reference they are reached by, and what else
-    // there is stay.
+    // Nothing but links and colours changes: the set of nodes, their order, the reference to the storage and all other
+    // state stay.
     ensures keeper { SameExceptCells N.Nodes nodes.old nodes.new }
 {
     let mut visits = NodeCursorMut::new(nodes);
@@ -122,11 +122,11 @@ pub fn insert_at<N: NodesMut>(
     }
 }
 
-/// Puts the node into the tree: a search for its place, and `insert_at` where that ended. Each node on the way is
-/// compared with it, and a comparison goes to both, so the search takes two steps for each.
+/// Inserts the node. It searches for the node's place and then calls `insert_at`. The search compares the node with
+/// each node of its path and visits both, so it takes two steps for each.
 ///
-/// Only links and colours of the tree's nodes and of the node change.
-/// A step is going to a node, with all that is read and written there before the call goes to another.
+/// It changes only links and colours of the tree's nodes and of the node itself.
+/// A step is a visit of a node, with all reads and writes of its fields until the call goes to another node.
 /// Chris Okasaki, Red-Black Trees in a Functional Setting, 1999.
 pub fn insert<N: NodesMut>(nodes: &mut N, root: Option<u64>, node: u64) -> TreeChange
     requires root { leads (N.is_node nodes.old) root ≡ true }
@@ -138,20 +138,20 @@ pub fn insert<N: NodesMut>(nodes: &mut N, root: Option<u64>, node: u64) -> TreeC
     ensures tree { (t : Tree) → IsSearchTree (N.order nodes.old) (N.cells nodes.old) root t
         → (after_insert : Tree) × IsSearchTree (N.order nodes.new) (N.cells nodes.new) result.root after_insert
         × (nodes_of after_insert ≡ insert_in_order (N.order nodes.old) node (nodes_of t)) }
-    // No other node's links or colour changed.
+    // No other node's links or colour change.
     ensures frame { (t : Tree) → IsSearchTree (N.order nodes.old) (N.cells nodes.old) root t
         → (m : ℕ) → m ≢ node → is_in m (nodes_of t) ≡ false
         → N.cells nodes.new m ≡ N.cells nodes.old m }
-    // `bits` counts binary digits, here of the number of nodes before the call and one.
+    // `bits` counts binary digits, here of the number of nodes before the call plus one.
     ensures steps { (t : Tree) → IsSearchTree (N.order nodes.old) (N.cells nodes.old) root t
         → result.steps ≤ 32 * bits (length (nodes_of t) + 1) + 32 }
     ensures steps_lower { 0 < result.steps }
     ensures root { leads (N.is_node nodes.new) result.root ≡ true }
-    // Nothing but links and colours changed: the nodes, their order, the reference they are reached by, and what else
-    // there is stay.
+    // Nothing but links and colours changes: the set of nodes, their order, the reference to the storage and all other
+    // state stay.
     ensures keeper { SameExceptCells N.Nodes nodes.old nodes.new }
 {
-    // An empty tree needs no search. The tree of the gaps is empty whenever its only gap was just removed.
+    // An empty tree needs no search. The tree of gaps is empty each time its only gap was just removed.
     if root.is_none() {
         return insert_at(nodes, root, None, node);
     }

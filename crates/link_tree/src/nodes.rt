@@ -1,32 +1,32 @@
-//! The traits for storage of nodes.
+//! The traits for the storage of nodes.
 
 ghost use Rattle.std.specs.Prelude.{◌≡◌, ℕ, ◌≤◌, ◌^◌, Bool, true, false, Option, Some, List, length};
 ghost use Rattle.link_tree.specs.Tree.{Cell};
 ghost use Rattle.link_tree.specs.Nodes.{with_left, with_right, with_red, is_in, leads};
 
-/// Nodes that are numbers, each with two links and a colour, in a strict order.
+/// Numbered nodes, each with two links and a colour, in a strict order.
 ///
-/// There are finitely many, at most 2 to the 40th, and links from nodes lead to nodes. The links need not be a tree. A
-/// tree call goes from node to node. A step is going to one node, with all that is read and written there until the
-/// call goes to another. To compare two nodes a call goes to both.
+/// There are at most 2 to the 40th nodes, and each link of a node leads to a node. The links need not form a tree. A
+/// call visits one node at a time. A step is a visit of a node, with all reads and writes of its fields until the call
+/// goes to another node. A comparison of two nodes visits both.
 pub trait Nodes {
     /// The target of a search. It can be compared with each node, and need not be a node.
     type Probe;
 
-    // The fields of each node: two links, and whether it is red. For a number that is no node the cell can be anything.
+    // The fields of each node: two links, and whether it is red. The fields of a number that is no node are arbitrary.
     ghost cells: { Self → ℕ → Cell };
 
-    // Whether a number is a node. No tree call asks for the fields of any other number.
+    // Whether a number is a node. No call reads the fields of any other number.
     ghost is_node: { Self → ℕ → Bool };
 
     // Whether one node precedes another: a strict order, by the laws below. Two nodes can be equal in the order; a tree
     // then holds at most one of them.
     ghost order: { Self → ℕ → ℕ → Bool };
 
-    // Whether a node stands before a probe. The nodes that do are the first ones of a tree, by the law `agrees`.
+    // Whether a node precedes a probe. By the law `agrees` these nodes are the first ones of a tree.
     ghost before: { Self → Self.Probe → ℕ → Bool };
 
-    // The name of the reference that the nodes are reached by, where there is one: no call changes it.
+    // The name of the reference through which the nodes are reached, if there is one. No call changes it.
     ghost lender: { Self → ℕ } = { λ _. 0 };
 
     // The state of the storage apart from links and colours. No setter and no tree call changes it. The implementation
@@ -45,31 +45,31 @@ pub trait Nodes {
         requires { is_node self.now node ≡ true }
         ensures { result ≡ (cells self.now node).right };
 
-    /// Tells whether the node is red, not black.
+    /// Returns true if the node is red.
     fn red(&self, node: u64) -> bool
         requires { is_node self.now node ≡ true }
         ensures { result ≡ (cells self.now node).red };
 
-    /// Tells whether the first node precedes the second.
+    /// Returns true if the first node precedes the second.
     fn precedes(&self, a: u64, b: u64) -> bool
         requires first { is_node self.now a ≡ true }
         requires second { is_node self.now b ≡ true }
         ensures { result ≡ order self.now a b };
 
-    /// Tells whether the node stands before the probe, so that a search for the probe goes on to the right of it.
+    /// Returns true if the node precedes the probe. A search for the probe then continues to the right of the node.
     fn before_probe(&self, node: u64, probe: &Self::Probe) -> bool
         requires { is_node self.now node ≡ true }
         ensures { result ≡ before self.now probe.now node };
 
-    // All nodes are in one list, of at most 2 to the 40th: no tree is higher than 82, and no call's steps overflow.
+    // All nodes are in one list of at most 2 to the 40th, so no tree is higher than 82, and no step count overflows.
     ghost finite: { (s : Self) → (ns : List ℕ) × (length ns ≤ 2 ^ 40)
         × ((n : ℕ) → is_node s n ≡ true → is_in n ns ≡ true) };
 
-    // A node's left link leads to a node, or nowhere.
+    // A node's left link leads to a node or is none.
     ghost left_closed: { (s : Self) (n : ℕ) → is_node s n ≡ true
         → leads (is_node s) (cells s n).left ≡ true };
 
-    // A node's right link leads to a node, or nowhere.
+    // A node's right link leads to a node or is none.
     ghost right_closed: { (s : Self) (n : ℕ) → is_node s n ≡ true
         → leads (is_node s) (cells s n).right ≡ true };
 
@@ -80,33 +80,33 @@ pub trait Nodes {
     ghost transitive: { (s : Self) (a b c : ℕ) → order s a b ≡ true → order s b c ≡ true
         → order s a c ≡ true };
 
-    // What precedes a node that stands before the probe stands before it too.
+    // A node that precedes a node before the probe precedes the probe too.
     ghost agrees: { (s : Self) (probe : Self.Probe) (a b : ℕ) → order s a b ≡ true
         → before s probe b ≡ true → before s probe a ≡ true };
 }
 
-/// Nodes whose links and colours can be set.
+/// Nodes with links and colours that can be set.
 ///
 /// Each call changes one field of one node. It keeps the set of nodes, their order, their comparison with probes, the
 /// reference to the storage, and all other state.
 pub trait NodesMut: Nodes {
     ghost use Rattle.link_tree.specs.Frame.{SameExceptCells};
 
-    /// Sets the link to the left, to a node or to nowhere.
+    /// Sets the node's left link.
     fn set_left(&mut self, node: u64, to: Option<u64>)
         requires node { Self.is_node self.old node ≡ true }
         requires target { leads (Self.is_node self.old) to ≡ true }
         ensures cells { Self.cells self.new ≡ with_left (Self.cells self.old) node to }
         ensures keeper { SameExceptCells Self.Nodes self.old self.new };
 
-    /// Sets the link to the right, to a node or to nowhere.
+    /// Sets the node's right link.
     fn set_right(&mut self, node: u64, to: Option<u64>)
         requires node { Self.is_node self.old node ≡ true }
         requires target { leads (Self.is_node self.old) to ≡ true }
         ensures cells { Self.cells self.new ≡ with_right (Self.cells self.old) node to }
         ensures keeper { SameExceptCells Self.Nodes self.old self.new };
 
-    /// Makes the node red, or black.
+    /// Sets the node's colour.
     fn set_red(&mut self, node: u64, red: bool)
         requires { Self.is_node self.old node ≡ true }
         ensures cells { Self.cells self.new ≡ with_red (Self.cells self.old) node red }

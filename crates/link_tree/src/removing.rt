@@ -1,4 +1,4 @@
-//! Taking a node out of a tree.
+//! Removal of a node from a tree.
 
 ghost use Rattle.std.specs.Prelude.{◌≡◌, ◌≢◌, ℕ, ◌+◌, ◌*◌, ◌<◌, ◌≤◌, ◌^◌, Bool, true, false, Option, Some, None, List};
 ghost use Rattle.std.specs.Prelude.{length, IfSome, IsTrue};
@@ -16,7 +16,7 @@ use crate::insertion::TreeChange;
 use crate::nodes::NodesMut;
 use crate::rotation::{fix_double_red, is_red, paint, rotate};
 
-/// The tree after a removal, and whether each of its paths has one black node fewer than before.
+/// The tree after a removal, and whether the removal lowered the number of black nodes on each of its paths by one.
 #[derive(Clone, Copy)]
 struct Leftover {
     root: Option<u64>,
@@ -30,7 +30,7 @@ struct Least {
     rest: Leftover,
 }
 
-/// Rebalances as `mend` does, under a heavy child that is red: its inner child gives the black node away.
+/// Rebalances as `mend` does, if the heavy child is red: the heavy child's inner child gives up a black node.
 fn mend_red<N: NodesMut>(
     visits: &mut NodeCursorMut<N>,
     top: u64,
@@ -64,7 +64,7 @@ fn mend_red<N: NodesMut>(
     }
 }
 
-/// Takes a black node from this, heavy side, if the tree below `top` on the other side fell.
+/// Moves a black node from this side, the heavy one, to the other side of `top` if that side lost one.
 ///
 /// Jean-Christophe Filliâtre and Pierre Letouzey, Functors for Proofs and Programs, 2004.
 fn mend<N: NodesMut>(visits: &mut NodeCursorMut<N>, top: u64, side: Side) -> Leftover
@@ -100,7 +100,7 @@ fn mend<N: NodesMut>(visits: &mut NodeCursorMut<N>, top: u64, side: Side) -> Lef
     }
 }
 
-/// Links the changed subtree to its parent again, on this side.
+/// Links the changed subtree to its parent on this side, and rebalances the parent.
 fn settle<N: NodesMut>(
     visits: &mut NodeCursorMut<N>,
     parent: u64,
@@ -137,7 +137,7 @@ fn settle<N: NodesMut>(
     }
 }
 
-/// Puts a tree into the place of its parent of that colour, which has no other.
+/// Replaces a node of this colour, which has only one subtree, by that subtree.
 fn sink<N: NodesMut>(visits: &mut NodeCursorMut<N>, red: bool, link: Option<u64>) -> Leftover
     requires link { leads (N.is_node visits.old.nodes.now) link ≡ true }
     requires no_overflow { visits.old.steps + 2 < 2 ^ 64 }
@@ -146,7 +146,7 @@ fn sink<N: NodesMut>(visits: &mut NodeCursorMut<N>, red: bool, link: Option<u64>
         → RemovesTo (N.cells visits.old.nodes.now) (N.cells visits.new.nodes.now)
         (nodes_of t) result.root result.fell (sunk red t) }
     ensures root { leads (N.is_node visits.old.nodes.now) result.root ≡ true }
-    // Where the tree fell, `spare` steps are kept in hand for mending it one level higher.
+    // If the tree lost a black node, `spare` steps remain for the repair one level up.
     ensures steps { visits.new.steps + spare result.fell ≤ visits.old.steps + 9 }
     ensures steps_lower { visits.old.steps ≤ visits.new.steps }
     ensures same_borrow { visits.new.nodes.ghost_name ≡ visits.old.nodes.ghost_name }
@@ -171,10 +171,10 @@ fn sink<N: NodesMut>(visits: &mut NodeCursorMut<N>, red: bool, link: Option<u64>
     }
 }
 
-/// Takes the first node out of the tree below `at`.
+/// Removes the first node from the tree below `at`.
 fn take_least<N: NodesMut>(visits: &mut NodeCursorMut<N>, at: u64) -> Least
     requires node { N.is_node visits.old.nodes.now at ≡ true }
-    // The way down to the node is then a step, which pays for the work there on the way back.
+    // The way down to the node is then one step, which pays for the work at the node on the way back.
     requires exclusive { visits.old.at ≢ Some at }
     requires tree { (t : Tree)
         × IsOrderedTree (N.order visits.old.nodes.now) (N.cells visits.old.nodes.now) (Some at) t
@@ -210,7 +210,7 @@ fn take_least<N: NodesMut>(visits: &mut NodeCursorMut<N>, at: u64) -> Least
     }
 }
 
-/// Removes the root of a tree. The next node takes its place; links change, and no node is copied.
+/// Removes the root of a tree. The next node takes its place by links; no node is copied.
 fn uproot<N: NodesMut>(visits: &mut NodeCursorMut<N>, at: u64) -> Leftover
     requires node { N.is_node visits.old.nodes.now at ≡ true }
     requires tree { (t : Tree)
@@ -240,7 +240,7 @@ fn uproot<N: NodesMut>(visits: &mut NodeCursorMut<N>, at: u64) -> Leftover
     settle(visits, next.node, Side::Right, next.rest)
 }
 
-/// Takes the node out of the tree that the link leads to.
+/// Removes the node from the tree behind the link.
 fn cut<N: NodesMut>(visits: &mut NodeCursorMut<N>, link: Option<u64>, node: u64) -> Leftover
     requires link { leads (N.is_node visits.old.nodes.now) link ≡ true }
     requires node { N.is_node visits.old.nodes.now node ≡ true }
@@ -274,10 +274,10 @@ fn cut<N: NodesMut>(visits: &mut NodeCursorMut<N>, link: Option<u64>, node: u64)
     settle(visits, at, way.side, below)
 }
 
-/// Takes the node out of the tree, from where a search for it has found that the tree changes.
+/// Removes the node, beginning at the `exit` that `find_remove_point` returned.
 ///
-/// Only links and colours of the tree's nodes change: every other node stays where it is, and none is copied.
-/// A step is going to a node, with all that is read and written there before the call goes to another.
+/// It changes only links and colours of the tree's nodes: no node is moved or copied.
+/// A step is a visit of a node, with all reads and writes of its fields until the call goes to another node.
 /// Jean-Christophe Filliâtre and Pierre Letouzey, Functors for Proofs and Programs, 2004.
 pub fn remove_at<N: NodesMut>(
     nodes: &mut N,
@@ -286,24 +286,24 @@ pub fn remove_at<N: NodesMut>(
     node: u64,
 ) -> TreeChange
     requires root { leads (N.is_node nodes.old) root ≡ true }
-    // The node must be in the tree, and the removal begin at the root or where `find_remove_point` says.
+    // The node must be in the tree. `exit` must be none or the exit that `find_remove_point` returns for the node.
     requires tree { (t : Tree) × IsSearchTree (N.order nodes.old) (N.cells nodes.old) root t
         × IsTrue (is_in node (nodes_of t))
         × IfSome exit (λ n. remove_point_of (N.order nodes.old) node t ≡ Some n) }
-    // The other nodes are in it as before, in the same order.
+    // The tree keeps all other nodes, in the same order.
     ensures tree { (t : Tree) → IsSearchTree (N.order nodes.old) (N.cells nodes.old) root t
         → (after_remove : Tree) × IsSearchTree (N.order nodes.new) (N.cells nodes.new) result.root after_remove
         × (nodes_of after_remove ≡ without node (nodes_of t)) }
-    // No links or colour of a node outside the tree changed.
+    // No links or colour of a node outside the tree change.
     ensures frame { (t : Tree) → IsSearchTree (N.order nodes.old) (N.cells nodes.old) root t
         → (m : ℕ) → is_in m (nodes_of t) ≡ false → N.cells nodes.new m ≡ N.cells nodes.old m }
-    // `bits` counts binary digits, here of the number of nodes before the call and one.
+    // `bits` counts binary digits, here of the number of nodes before the call plus one.
     ensures steps { (t : Tree) → IsSearchTree (N.order nodes.old) (N.cells nodes.old) root t
         → result.steps ≤ 30 * bits (length (nodes_of t) + 1) + 32 }
     ensures steps_lower { 0 < result.steps }
     ensures root { leads (N.is_node nodes.new) result.root ≡ true }
-    // Nothing but links and colours changed: the nodes, their order, the reference they are reached by, and what else
-    // there is stay.
+    // Nothing but links and colours changes: the set of nodes, their order, the reference to the storage and all other
+    // state stay.
     ensures keeper { SameExceptCells N.Nodes nodes.old nodes.new }
 {
     let mut visits = NodeCursorMut::new(nodes);
@@ -322,30 +322,30 @@ pub fn remove_at<N: NodesMut>(
     }
 }
 
-/// Takes the node out of the tree: `remove_at` the root.
+/// Removes the node from the tree. It calls `remove_at` at the root.
 ///
-/// Only links and colours of the tree's nodes change: every other node stays where it is, and none is copied.
-/// A step is going to a node, with all that is read and written there before the call goes to another.
+/// It changes only links and colours of the tree's nodes: no node is moved or copied.
+/// A step is a visit of a node, with all reads and writes of its fields until the call goes to another node.
 /// Jean-Christophe Filliâtre and Pierre Letouzey, Functors for Proofs and Programs, 2004.
 pub fn remove<N: NodesMut>(nodes: &mut N, root: Option<u64>, node: u64) -> TreeChange
     requires root { leads (N.is_node nodes.old) root ≡ true }
     // The node must be in the tree.
     requires tree { (t : Tree) × IsSearchTree (N.order nodes.old) (N.cells nodes.old) root t
         × IsTrue (is_in node (nodes_of t)) }
-    // The other nodes are in it as before, in the same order.
+    // The tree keeps all other nodes, in the same order.
     ensures tree { (t : Tree) → IsSearchTree (N.order nodes.old) (N.cells nodes.old) root t
         → (after_remove : Tree) × IsSearchTree (N.order nodes.new) (N.cells nodes.new) result.root after_remove
         × (nodes_of after_remove ≡ without node (nodes_of t)) }
-    // No links or colour of a node outside the tree changed.
+    // No links or colour of a node outside the tree change.
     ensures frame { (t : Tree) → IsSearchTree (N.order nodes.old) (N.cells nodes.old) root t
         → (m : ℕ) → is_in m (nodes_of t) ≡ false → N.cells nodes.new m ≡ N.cells nodes.old m }
-    // `bits` counts binary digits, here of the number of nodes before the call and one.
+    // `bits` counts binary digits, here of the number of nodes before the call plus one.
     ensures steps { (t : Tree) → IsSearchTree (N.order nodes.old) (N.cells nodes.old) root t
         → result.steps ≤ 32 * bits (length (nodes_of t) + 1) + 32 }
     ensures steps_lower { 0 < result.steps }
     ensures root { leads (N.is_node nodes.new) result.root ≡ true }
-    // Nothing but links and colours changed: the nodes, their order, the reference they are reached by, and what else
-    // there is stay.
+    // Nothing but links and colours changes: the set of nodes, their order, the reference to the storage and all other
+    // state stay.
     ensures keeper { SameExceptCells N.Nodes nodes.old nodes.new }
 {
     remove_at(nodes, root, None, node)

@@ -1,4 +1,4 @@
-//! Rotations and recolourings of the nodes on top of a tree.
+//! Rotations and recolourings at the root of a tree.
 
 ghost use Rattle.std.specs.Prelude.{◌≡◌, ℕ, ◌+◌, ◌<◌, ◌≤◌, ◌^◌, Bool, true, false, Option, Some, None};
 ghost use Rattle.link_tree.specs.Tree.{Cell, Tree, IsTree, nodes_of, is_sorted};
@@ -9,7 +9,7 @@ ghost use Rattle.link_tree.specs.Frame.{SameExceptCells};
 use crate::cursor::{NodeCursorMut, Side};
 use crate::nodes::NodesMut;
 
-/// Tells whether the link leads to a red node.
+/// Returns true if the link leads to a red node.
 pub fn is_red<N: NodesMut>(visits: &mut NodeCursorMut<N>, link: Option<u64>) -> bool
     requires link { leads (N.is_node visits.old.nodes.now) link ≡ true }
     requires no_overflow { visits.old.steps + 1 < 2 ^ 64 }
@@ -26,7 +26,7 @@ pub fn is_red<N: NodesMut>(visits: &mut NodeCursorMut<N>, link: Option<u64>) -> 
     }
 }
 
-/// Gives the root this colour.
+/// Sets the root's colour, if there is a root.
 pub fn paint<N: NodesMut>(visits: &mut NodeCursorMut<N>, link: Option<u64>, red: bool)
     requires link { leads (N.is_node visits.old.nodes.now) link ≡ true }
     requires no_overflow { visits.old.steps + 1 < 2 ^ 64 }
@@ -44,7 +44,7 @@ pub fn paint<N: NodesMut>(visits: &mut NodeCursorMut<N>, link: Option<u64>, red:
     }
 }
 
-/// Turns the child on this side up over its parent, and returns the child.
+/// Rotates the tree so that the child on this side becomes the root, and returns the child.
 pub fn rotate<N: NodesMut>(visits: &mut NodeCursorMut<N>, top: u64, side: Side) -> u64
     requires node { N.is_node visits.old.nodes.now top ≡ true }
     requires no_overflow { visits.old.steps + 3 < 2 ^ 64 }
@@ -69,8 +69,8 @@ pub fn rotate<N: NodesMut>(visits: &mut NodeCursorMut<N>, top: u64, side: Side) 
     child
 }
 
-/// Rotates three nodes if a black node has a red child on this side that has a red child itself: a red node then stands
-/// over two black ones. Returns the node that is now on top.
+/// Repairs a black node whose red child on this side has a red child: rotates the three nodes so that a red node stands
+/// over two black ones. Returns the new top node.
 ///
 /// Chris Okasaki, Red-Black Trees in a Functional Setting, 1999.
 pub fn fix_double_red<N: NodesMut>(visits: &mut NodeCursorMut<N>, top: u64, side: Side) -> u64

@@ -1,16 +1,16 @@
-//! The same nodes looked for in another way, so that one search serves all.
+//! Adaptors that let one search serve all calls, over the same nodes.
 ghost use Rattle.std.specs.Prelude.{refl, true, not, ◌&&◌};
 ghost use Rattle.link_tree.specs.Besides.{stays_behind, both_finite, both_lead};
 
 use crate::nodes::Nodes;
 
-/// A search in which every node precedes the probe, so that it goes to the end.
+/// A search in which every node precedes the probe: it ends at the last node.
 #[derive(Drop)]
 pub struct SearchToEnd<'a, N> {
     pub nodes: &'a N,
 }
 
-/// A search for a node's own place: a node precedes the probe if it precedes that node.
+/// A search for the place of `node`: another node precedes the probe if it precedes `node`.
 #[derive(Drop)]
 pub struct SearchForNode<'a, N> {
     pub nodes: &'a N,

@@ -1,4 +1,4 @@
-//! Nodes that are looked for: the neighbours of a probe, and the last node.
+//! Searches for the neighbours of a probe, and for the last node.
 
 ghost use Rattle.std.specs.Prelude.{◌≡◌, ℕ, ◌+◌, ◌*◌, ◌≤◌, Bool, true, false, Option, Some, None, List, length};
 ghost use Rattle.std.specs.Prelude.{if◌then◌else◌};
@@ -12,16 +12,16 @@ use crate::descending::{PathFold, descend};
 use crate::nodes::Nodes;
 use crate::search_adaptors::SearchToEnd;
 
-/// The node that was looked for, if there is one, and the steps that the search took.
+/// The result of a search: the node, if it was found, and the number of steps.
 #[derive(Clone, Copy, Debug, PartialEq, Eq)]
 pub struct SearchResult {
-    /// The node; none if there is no such node in the tree.
+    /// The node; none if the tree has no such node.
     pub node: Option<u64>,
-    /// How often the search went to a node.
+    /// The number of nodes visited.
     pub steps: u64,
 }
 
-/// The last node passed that does not stand before the probe. At the end of the path it is the first one of the tree.
+/// The last node on the path that does not precede the probe. At the end of the path it is the tree's first such node.
 #[derive(Clone, Copy)]
 struct First {
     node: Option<u64>,
@@ -38,7 +38,7 @@ impl PathFold for First {
     }
 }
 
-/// The last node passed that stands before the probe. At the end of the path it is the last one of the tree.
+/// The last node on the path that precedes the probe. At the end of the path it is the tree's last such node.
 #[derive(Clone, Copy)]
 struct Last {
     node: Option<u64>,
@@ -55,10 +55,10 @@ impl PathFold for Last {
     }
 }
 
-/// Returns the first node of the tree that does not stand before the probe.
+/// Returns the first node of the tree that does not precede the probe.
 ///
-/// A step is going to a node, with all that is read there. The search takes one for each node of its path from the
-/// root, so it takes at most as many steps as the tree is high.
+/// A step is a visit of a node, with all reads of its fields. The search takes one step for each node of its path from
+/// the root, so it takes at most as many steps as the tree is high.
 pub fn find_first_not_before<N: Nodes>(
     nodes: &N,
     root: Option<u64>,
@@ -66,7 +66,7 @@ pub fn find_first_not_before<N: Nodes>(
 ) -> SearchResult
     requires root { leads (N.is_node nodes.now) root ≡ true }
     requires tree { (t : Tree) × IsSearchTree (N.order nodes.now) (N.cells nodes.now) root t }
-    // None, where all nodes stand before the probe.
+    // None if every node precedes the probe.
     ensures first { (t : Tree) → IsSearchTree (N.order nodes.now) (N.cells nodes.now) root t
         → result.node ≡ first_not_before (N.before nodes.now probe.now) (nodes_of t) }
     // `bits` counts binary digits: at most 2 log2 (n + 1) + 2 steps in a tree of n nodes.
@@ -82,13 +82,13 @@ pub fn find_first_not_before<N: Nodes>(
     }
 }
 
-/// Returns the last node of the tree that stands before the probe.
+/// Returns the last node of the tree that precedes the probe.
 ///
-/// It goes down the same path as `find_first_not_before`, with as many steps.
+/// It takes the path and the number of steps of `find_first_not_before`.
 pub fn find_last_before<N: Nodes>(nodes: &N, root: Option<u64>, probe: &N::Probe) -> SearchResult
     requires root { leads (N.is_node nodes.now) root ≡ true }
     requires tree { (t : Tree) × IsSearchTree (N.order nodes.now) (N.cells nodes.now) root t }
-    // None, where no node stands before the probe.
+    // None if no node precedes the probe.
     ensures last { (t : Tree) → IsSearchTree (N.order nodes.now) (N.cells nodes.now) root t
         → result.node ≡ last_before (N.before nodes.now probe.now) (nodes_of t) }
     ensures steps { (t : Tree) → IsSearchTree (N.order nodes.now) (N.cells nodes.now) root t
@@ -105,11 +105,11 @@ pub fn find_last_before<N: Nodes>(nodes: &N, root: Option<u64>, probe: &N::Probe
 
 /// Returns the last node of the tree.
 ///
-/// It takes a step for each node of the path that goes down from the root to the right.
+/// It takes one step for each node of the path from the root to the right.
 pub fn find_last<N: Nodes>(nodes: &N, root: Option<u64>) -> SearchResult
     requires root { leads (N.is_node nodes.now) root ≡ true }
     requires tree { (t : Tree) × IsSearchTree (N.order nodes.now) (N.cells nodes.now) root t }
-    // None, where there is no node.
+    // None if the tree is empty.
     ensures last { (t : Tree) → IsSearchTree (N.order nodes.now) (N.cells nodes.now) root t
         → result.node ≡ last_or None (nodes_of t) }
     ensures steps { (t : Tree) → IsSearchTree (N.order nodes.now) (N.cells nodes.now) root t

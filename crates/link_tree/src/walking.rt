@@ -1,4 +1,4 @@
-//! Visiting each node of a tree in order.
+//! Visits each node of a tree in order.
 
 ghost use Rattle.std.specs.Prelude.{◌≡◌, ◌≢◌, ℕ, ◌+◌, ◌<◌, ◌^◌, Bool, true, false, Option, Some, List, length};
 ghost use Rattle.std.specs.List.{FoldsTo};
@@ -10,7 +10,7 @@ use crate::checking::MAX_HEIGHT;
 use crate::cursor::NodeCursor;
 use crate::nodes::Nodes;
 
-/// Visits the nodes below the link in order: at most `levels` levels.
+/// Visits the nodes behind the link in order, down to `levels` levels.
 fn walk_below<N: Nodes, F: FnMut(u64)>(
     visits: &mut NodeCursor<N>,
     link: Option<u64>,
@@ -32,7 +32,7 @@ fn walk_below<N: Nodes, F: FnMut(u64)>(
         → IsAhead (N.order visits.old.nodes.now) (N.cells visits.old.nodes.now)
         link levels visits.old.at t
         → visits.new.steps ≡ visits.old.steps + length (nodes_of t) }
-    // The walk stands where it stood, or at a node of the tree.
+    // The cursor stands where it stood before, or at a node of the tree.
     ensures position { (t : Tree)
         → IsAhead (N.order visits.old.nodes.now) (N.cells visits.old.nodes.now)
         link levels visits.old.at t
@@ -49,19 +49,18 @@ fn walk_below<N: Nodes, F: FnMut(u64)>(
     walk_below(visits, right, visit, levels - 1);
 }
 
-/// Calls `visit` on each node of the tree, in order, and returns the steps that the walk took: as many as there are
-/// nodes.
+/// Calls `visit` on each node of the tree, in order, and returns the number of steps, which is the number of nodes.
 ///
-/// A step is going to a node, with all that is read there before the walk goes to another.
+/// A step is a visit of a node, with all reads of its fields until the walk goes to another node.
 pub fn walk<N: Nodes, F: FnMut(u64)>(nodes: &N, root: Option<u64>, visit: &mut F) -> u64
     requires callable { F.IsAlwaysCallable visit.old }
     requires root { leads (N.is_node nodes.now) root ≡ true }
     requires tree { (t : Tree) × IsSearchTree (N.order nodes.now) (N.cells nodes.now) root t }
-    // The state of `visit` is what one call for each node, in order, makes of it, and no other call.
+    // The walk calls `visit` once for each node, in order, and not otherwise.
     ensures walk { (t : Tree) → IsSearchTree (N.order nodes.now) (N.cells nodes.now) root t
         → FoldsTo (λ p x q. F.step p x tt q) visit.old (nodes_of t) visit.new }
     ensures callable { F.IsAlwaysCallable visit.new }
-    // One step for each node: it is left for good before the walk goes on.
+    // One step for each node: the walk reads all fields of a node before it leaves it.
     ensures steps { (t : Tree) → IsSearchTree (N.order nodes.now) (N.cells nodes.now) root t
         → result ≡ length (nodes_of t) }
 {

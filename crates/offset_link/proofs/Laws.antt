@@ -4,5 +4,5 @@
 pub use Rattle.offset_link.proofs.link.Targets.{SameBytes-link, SameBytesExcept-link}
 -- a link that leads nowhere is the null word
 pub use Rattle.offset_link.proofs.link.Targets.{null_word}
--- links that are shifted are as many as they were
+-- the number of links stays when they move
 pub use Rattle.offset_link.proofs.moves.ShiftedWords.{length-relinked}

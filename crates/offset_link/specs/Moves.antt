@@ -1,9 +1,9 @@
--- How far links move.
+-- The distance and the direction in which links move.
 use Rattle.std.specs.Prelude.{ℕ, ◌+◌, ◌-◌, ◌*◌, ◌≤◌}
 use Rattle.offset_link.specs.declared.moves.Places.{Places}
 use Rattle.offset_link.specs.declared.moves.Places.TheVariants.{Up, Down}
 
--- where links at an offset come to stand
+-- the new offset of links that move from an offset
 abbrev pub moved_to : ℕ → Places → ℕ
 moved_to at (Up places) = at + 8 * places
 moved_to at (Down places) = at - 8 * places

@@ -1,4 +1,4 @@
-//! One link: read, written, copied and checked.
+//! Reads, writes, copies and checks one link.
 ghost use Rattle.std.specs.Prelude.{◌≡◌, ◌+◌, ◌%◌, ◌≤◌, Option, Some, None, IfOk, is_err, length};
 ghost use Rattle.raw_region.specs.Memory.{bytes_of, patched};
 ghost use Rattle.raw_region.specs.Regions.{with_bytes};
@@ -8,10 +8,10 @@ ghost use Rattle.offset_link.specs.Relinked.{IsLink, is_bad};
 use raw_region::Window;
 use thiserror::Error;
 
-/// The word of a link that leads nowhere.
+/// The word of a null link.
 pub const NULL: u64 = 1;
 
-/// The link leads to no place where a block's payload can begin.
+/// The error of `checked`: the link's target is no offset at which a block's payload can begin.
 #[derive(Debug, Drop, Error)]
 #[error("bad link")]
 pub struct BadLink;
@@ -29,7 +29,7 @@ pub fn load(w: &Window, at: u64) -> Option<u64>
     Some(at.wrapping_add(word))
 }
 
-/// Makes the link at `at` lead to `target`, a multiple of 16.
+/// Sets the link at `at` to `target`, a multiple of 16.
 pub fn store(w: &mut Window, at: u64, target: u64)
     requires aligned { at % 8 ≡ 0 }
     requires in_bounds { at + 8 ≤ length w.old.bytes }
@@ -41,7 +41,7 @@ pub fn store(w: &mut Window, at: u64, target: u64)
     w.write_u64(at, target.wrapping_sub(at));
 }
 
-/// Makes the link at `at` null.
+/// Sets the link at `at` to null.
 #[tactic(auto, using(crate::proofs::link::Targets::links))]
 pub fn store_null(w: &mut Window, at: u64)
     requires aligned { at % 8 ≡ 0 }
@@ -53,7 +53,7 @@ pub fn store_null(w: &mut Window, at: u64)
     w.write_u64(at, NULL);
 }
 
-/// Makes the link at `to` lead where the one at `from` leads, to a multiple of 16 or nowhere.
+/// Copies the link at `from` to `to`. The target is a multiple of 16, or the link is null.
 pub fn copy(w: &mut Window, from: u64, to: u64)
     requires from_aligned { from % 8 ≡ 0 }
     requires to_aligned { to % 8 ≡ 0 }
@@ -70,8 +70,11 @@ pub fn copy(w: &mut Window, from: u64, to: u64)
     }
 }
 
-/// Returns the target of the link at `at` in a segment whose bytes may be anything. A target has to be a multiple of 16
-/// from 144 to the window's size less 32.
+/// Returns the target of the link at `at` in a segment with any bytes, or `None` if the link is null.
+///
+/// # Errors
+///
+/// If the target is not a multiple of 16 from 144 to the window's size less 32.
 pub fn checked(w: &Window, at: u64) -> Result<Option<u64>, BadLink>
     requires aligned { at % 8 ≡ 0 }
     requires in_bounds { at + 8 ≤ length w.now.bytes }

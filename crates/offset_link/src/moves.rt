@@ -1,4 +1,4 @@
-//! Many links that move together, each of which keeps its target.
+//! Moves many links at once. Each keeps its target.
 ghost use Rattle.std.specs.Prelude.{◌≡◌, ◌↔◌, IsTrue, ◌+◌, ◌-◌, ◌*◌, ◌%◌, ◌≤◌, ◌==◌, if◌then◌else◌, false, length};
 ghost use Rattle.raw_region.specs.Memory.{bytes_of, patched, word_at};
 ghost use Rattle.raw_region.specs.Regions.{with_bytes};
@@ -11,22 +11,22 @@ ghost use Rattle.offset_link.specs.Moves.{moved_to, StaysInside};
 use crate::link::{NULL, load};
 use raw_region::{Window, bytes_are_octets, set_word_in, word_in};
 
-/// How far links move.
+/// The distance and the direction of a move.
 #[derive(Clone, Copy, Debug)]
 pub enum Places {
-    /// Places of 8 bytes towards the end.
+    /// The number of 8-byte places towards the end.
     Up(u64),
-    /// Places of 8 bytes towards the start.
+    /// The number of 8-byte places towards the start.
     Down(u64),
 }
 
-/// Tells whether each of the `n` links from `at` on leads to a multiple of 16 or nowhere.
+/// Returns true if each of the `n` links from `at` on is null or leads to a multiple of 16.
 pub fn are_links(w: &Window, at: u64, n: u64) -> bool
     requires aligned { at % 8 ≡ 0 }
     requires in_bounds { at + 8 * n ≤ length w.now.bytes }
     ensures { IsTrue result ↔ AreValidLinks (bytes_of w.now.bytes) at n }
 {
-    // No offset passes the size, which is a u64.
+    // No offset exceeds the size, which is a u64.
     let _size = w.size();
     'links: for i in 0..n {
         if let Some(target) = load(w, at + 8 * i) {
@@ -38,13 +38,13 @@ pub fn are_links(w: &Window, at: u64, n: u64) -> bool
     true
 }
 
-/// Tells whether each of the `n` links from `at` on leads to a multiple of 16.
+/// Returns true if each of the `n` links from `at` on leads to a multiple of 16.
 pub fn all_lead(w: &Window, at: u64, n: u64) -> bool
     requires aligned { at % 8 ≡ 0 }
     requires in_bounds { at + 8 * n ≤ length w.now.bytes }
     ensures { IsTrue result ↔ AllLinksLead (bytes_of w.now.bytes) at n }
 {
-    // No offset passes the size, which is a u64.
+    // No offset exceeds the size, which is a u64.
     let _size = w.size();
     'links: for i in 0..n {
         let Some(target) = load(w, at + 8 * i) else {
@@ -57,8 +57,8 @@ pub fn all_lead(w: &Window, at: u64, n: u64) -> bool
     true
 }
 
-/// Moves the `n` links from `at` on, eight at a time. Each keeps its target, a multiple of 16, or stays null. The old
-/// places and the new ones can overlap.
+/// Moves the `n` links from `at` on, eight at a time. A link keeps its target, a multiple of 16, or stays null. The old
+/// and the new places can overlap.
 pub fn shift(w: &mut Window, at: u64, n: u64, by: Places)
     requires aligned { at % 8 ≡ 0 }
     requires source { at + 8 * n ≤ length w.old.bytes }
@@ -83,7 +83,7 @@ pub fn shift(w: &mut Window, at: u64, n: u64, by: Places)
     }
 }
 
-/// Moves links as `shift` does, if none of them is null: every word changes by the distance, so no word is tested.
+/// Moves links as `shift` does, if no link is null. Every word changes by the distance, so it tests no word.
 pub fn shift_non_null(w: &mut Window, at: u64, n: u64, by: Places)
     requires aligned { at % 8 ≡ 0 }
     requires source { at + 8 * n ≤ length w.old.bytes }
@@ -108,17 +108,17 @@ pub fn shift_non_null(w: &mut Window, at: u64, n: u64, by: Places)
     }
 }
 
-/// The links a run of which moves at once.
+/// The number of links in a run, which moves at once.
 const RUN: usize = 8;
 
-/// Of more runs than these the words do not all fit a processor's first cache.
+/// With more runs than this the words exceed a processor's first cache.
 const NEAR: usize = 512;
 
-/// The number of runs by which words are read ahead of their move.
+/// The number of runs between a word's read ahead and its move.
 const AHEAD: usize = 8;
 
-/// The bits of all words, joined by a bitwise or: one word for the first of each pair, one for the second. A compiler
-/// keeps both in one register of two words, as it does the words that move.
+/// The bitwise or of all words: one word for the first of each pair, one for the second. A compiler keeps both in one
+/// register of two words, like the words that move.
 #[derive(Clone, Copy, Default)]
 struct Seen {
     first: u64,
@@ -126,7 +126,7 @@ struct Seen {
 }
 
 impl Seen {
-    /// Returns true if one of the words was odd; the word of a null link is odd.
+    /// Returns true if one of the words was odd, as the word of a null link is.
     #[inline(always)]
     fn has_odd(self) -> bool
         ensures { result ≡ false → BothEven self.first self.second }
@@ -135,8 +135,8 @@ impl Seen {
     }
 }
 
-/// Moves links towards the end: the runs from the last on, then the rest from the last link on, so that none is
-/// overwritten before it has moved. `NON_NULL` says that none is null.
+/// Moves links towards the end. It starts with the last run and ends with the single links, last first, so no link is
+/// overwritten before it has moved. `NON_NULL` means that no link is null.
 #[inline(always)]
 fn move_up<const NON_NULL: bool>(bytes: &mut [u8], at: usize, n: usize, by: usize)
     requires in_bounds { at + by + 8 * n ≤ length bytes.old }
@@ -144,8 +144,8 @@ fn move_up<const NON_NULL: bool>(bytes: &mut [u8], at: usize, n: usize, by: usiz
     requires non_null { IsTrue NON_NULL → HasNoNullLink (bytes_of bytes.old) at n }
     ensures { bytes.new ≡ patched bytes.old (at + by) (relinked (bytes_of bytes.old) at (at + by) n) }
 {
-    // The last one moves alone where the runs before it then end at a multiple of 16: each of their stores of 16 bytes
-    // then lies in one line of the cache.
+    // If the runs before the last link then end at a multiple of 16, the last link moves alone: each store of 16 bytes
+    // then lies in one cache line.
     let last = n.min((at + by + 8 * n) / 8 % 2);
     let others = n - last;
     let rest = others % RUN;
@@ -154,8 +154,7 @@ fn move_up<const NON_NULL: bool>(bytes: &mut [u8], at: usize, n: usize, by: usiz
     links_up(bytes, at, rest, by);
 }
 
-/// Moves the runs towards the end. It changes the words of all links by the distance, and then repairs the null links
-/// if a word was odd.
+/// Moves the runs towards the end. It changes all words by the distance, and repairs the null links if a word was odd.
 #[inline(always)]
 fn runs_up<const NON_NULL: bool>(bytes: &mut [u8], at: usize, n: usize, by: usize)
     requires in_bounds { at + by + 64 * n ≤ length bytes.old }
@@ -170,7 +169,7 @@ fn runs_up<const NON_NULL: bool>(bytes: &mut [u8], at: usize, n: usize, by: usiz
     }
 }
 
-/// Moves all runs towards the end, and returns the joined bits of their words. With many runs it looks ahead.
+/// Moves all runs towards the end, and returns the bitwise or of their words. With many runs it reads ahead.
 #[inline(always)]
 fn all_turns_up<const NON_NULL: bool>(bytes: &mut [u8], at: usize, n: usize, by: usize) -> Seen
     requires in_bounds { at + by + 64 * n ≤ length bytes.old }
@@ -195,8 +194,8 @@ fn all_turns_up<const NON_NULL: bool>(bytes: &mut [u8], at: usize, n: usize, by:
     move_runs_up::<NON_NULL>(bytes, at, AHEAD, by, 0, far)
 }
 
-/// Moves the runs from the last on, two in a turn. If they are far, it reads words `ahead` bytes before their turn, so
-/// that a processor has them in its cache.
+/// Moves the runs, last first, two in a turn. If they are far, it reads words `ahead` bytes before their turn, to bring
+/// them into the processor's cache.
 #[inline(always)]
 fn move_runs_up<const NON_NULL: bool>(
     bytes: &mut [u8],
@@ -245,7 +244,7 @@ fn look_ahead(bytes: &[u8], later: usize, far: bool, seen: Seen) -> Seen
     }
 }
 
-/// Moves a run. If no link is null, the bits from before are the result, and a compiler leaves out the rest.
+/// Moves a run. If no link is null, it returns `seen`, and a compiler omits the other work.
 #[inline(always)]
 fn see_run<const NON_NULL: bool>(bytes: &mut [u8], from: usize, to: usize, seen: Seen) -> Seen
     requires from_in_bounds { from + 64 ≤ length bytes.old }
@@ -259,7 +258,7 @@ fn see_run<const NON_NULL: bool>(bytes: &mut [u8], from: usize, to: usize, seen:
     if NON_NULL { seen } else { now }
 }
 
-/// Moves the links one by one, the last of them first.
+/// Moves the links one by one, last first.
 fn links_up(bytes: &mut [u8], at: usize, n: usize, by: usize)
     requires { at + by + 8 * n ≤ length bytes.old }
     ensures { bytes.new ≡ patched bytes.old (at + by) (relinked (bytes_of bytes.old) at (at + by) n) }
@@ -272,7 +271,7 @@ fn links_up(bytes: &mut [u8], at: usize, n: usize, by: usize)
     }
 }
 
-/// Moves links towards the start: the runs from the first on, then the rest from the first link on.
+/// Moves links towards the start. It starts with the first run and ends with the single links, first first.
 #[inline(always)]
 fn move_down<const NON_NULL: bool>(bytes: &mut [u8], at: usize, n: usize, by: usize)
     requires source { at + 8 * n ≤ length bytes.old }
@@ -281,8 +280,8 @@ fn move_down<const NON_NULL: bool>(bytes: &mut [u8], at: usize, n: usize, by: us
     requires non_null { IsTrue NON_NULL → HasNoNullLink (bytes_of bytes.old) at n }
     ensures { bytes.new ≡ patched bytes.old (at - by) (relinked (bytes_of bytes.old) at (at - by) n) }
 {
-    // The first link moves alone if the runs after it then begin at a multiple of 16, just as the runs of `move_up` end
-    // at one.
+    // If the runs after the first link then begin at a multiple of 16, the first link moves alone, as the last link of
+    // `move_up` does.
     let first = n.min((at - by) / 8 % 2);
     let others = n - first;
     let runs = others / RUN;
@@ -308,7 +307,7 @@ fn runs_down<const NON_NULL: bool>(bytes: &mut [u8], at: usize, n: usize, by: us
     }
 }
 
-/// Moves all runs towards the start, and returns the joined bits of their words. With many runs it looks ahead.
+/// Moves all runs towards the start, and returns the bitwise or of their words. With many runs it reads ahead.
 #[inline(always)]
 fn all_turns_down<const NON_NULL: bool>(bytes: &mut [u8], at: usize, n: usize, by: usize) -> Seen
     requires source { at + 64 * n ≤ length bytes.old }
@@ -328,7 +327,7 @@ fn all_turns_down<const NON_NULL: bool>(bytes: &mut [u8], at: usize, n: usize, b
     move_runs_down::<NON_NULL>(bytes, at + 64 * many, AHEAD, by, 0, far)
 }
 
-/// Moves the runs from the first on, two in a turn. If they are far, it reads words `ahead` bytes before their turn, as
+/// Moves the runs, first first, two in a turn. If they are far, it reads words `ahead` bytes before their turn, as
 /// `move_runs_up` does.
 #[inline(always)]
 fn move_runs_down<const NON_NULL: bool>(
@@ -362,7 +361,7 @@ fn move_runs_down<const NON_NULL: bool>(
     seen
 }
 
-/// Moves the links one by one, the first of them first.
+/// Moves the links one by one, first first.
 fn links_down(bytes: &mut [u8], at: usize, n: usize, by: usize)
     requires source { at + 8 * n ≤ length bytes.old }
     requires in_bounds { by ≤ at }
@@ -374,8 +373,8 @@ fn links_down(bytes: &mut [u8], at: usize, n: usize, by: usize)
     }
 }
 
-/// Moves the eight words at `from` to `to`, and subtracts the distance from each; a link that is not null keeps its
-/// target. It reads all words before it writes one, and joins their bits.
+/// Moves the eight words at `from` to `to`, and subtracts the distance from each, so that a link that is not null keeps
+/// its target. It reads all words before it writes one, and joins their bits.
 #[inline(always)]
 fn move_run(bytes: &mut [u8], from: usize, to: usize, seen: Seen) -> Seen
     requires from_in_bounds { from + 64 ≤ length bytes.old }
@@ -407,8 +406,8 @@ fn move_run(bytes: &mut [u8], from: usize, to: usize, seen: Seen) -> Seen
     }
 }
 
-/// Makes each of the `n` words from `to` on that came from a null link at its place from `from` on, less the distance,
-/// a null link.
+/// Repairs null links: each of the `n` words from `to` on that equals the null word less the distance becomes null
+/// again.
 fn put_right(bytes: &mut [u8], from: usize, to: usize, n: usize)
     requires { to + 8 * n ≤ length bytes.old }
     ensures { bytes.new ≡ patched bytes.old to (reworded (unless_null from to) (bytes_of bytes.old) to to n) }
@@ -421,7 +420,7 @@ fn put_right(bytes: &mut [u8], from: usize, to: usize, n: usize)
     }
 }
 
-/// Returns the null link if a word is what became of one, and otherwise the word.
+/// Returns the null word if `word` equals `null`, a moved null link; otherwise returns `word`.
 fn null_again(word: u64, null: u64) -> u64
     ensures { result ≡ (if word == null then 1 else word) }
 {
@@ -431,7 +430,7 @@ fn null_again(word: u64, null: u64) -> u64
     word
 }
 
-/// Makes the word at `to` a link that leads where the one at `from` leads.
+/// Copies the link at `from` to `to`, with its target.
 fn move_one(bytes: &mut [u8], from: usize, to: usize)
     requires from_in_bounds { from + 8 ≤ length bytes.old }
     requires to_in_bounds { to + 8 ≤ length bytes.old }
@@ -441,7 +440,7 @@ fn move_one(bytes: &mut [u8], from: usize, to: usize)
     set_word_in(bytes, to, word);
 }
 
-/// Returns the word at `to` of a link that leads where the one at `from` leads.
+/// Returns the word of the link at `from` for the place `to`: its target stays.
 fn moved(bytes: &[u8], from: usize, to: usize) -> u64
     requires { from + 8 ≤ length bytes.now }
     ensures { result ≡ link_word to (link_at (bytes_of bytes.now) from) }
@@ -452,7 +451,7 @@ fn moved(bytes: &[u8], from: usize, to: usize) -> u64
     moved_by_distance(bytes, from, to)
 }
 
-/// Returns the word at `from`, less the distance: the word of the same link at `to`, unless the link is null.
+/// Returns the word at `from` less the distance. It is the word of the same link at `to`, unless the link is null.
 #[inline(always)]
 fn moved_by_distance(bytes: &[u8], from: usize, to: usize) -> u64
     requires { from + 8 ≤ length bytes.now }
@@ -461,7 +460,7 @@ fn moved_by_distance(bytes: &[u8], from: usize, to: usize) -> u64
     less_distance(word_in(bytes, from), from, to)
 }
 
-/// Returns a word at `from`, less the distance to `to`.
+/// Returns `word`, read at `from`, less the distance to `to`.
 #[inline(always)]
 fn less_distance(word: u64, from: usize, to: usize) -> u64
     ensures { result ≡ word_by_distance from to word }

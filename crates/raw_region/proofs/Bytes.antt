@@ -7,7 +7,7 @@ use Rattle.std.proofs.lemmas.List.{length-take, length-drop, drop_at}
 use Rattle.raw_region.specs.Memory.{AreBytes, Memory, SameBytesExcept, HasBytesAt, are_bytes, read, patched}
 use Rattle.raw_region.proofs.words.Words.{SameBytes-read as read-same}
 
--- what is a byte at each place is a list of bytes
+-- a list with a byte at each place is a list of bytes
 pub fits-are_bytes : (b : List ℕ) → AreBytes b → IsTrue (are_bytes b)
 fits-are_bytes [] f = refl
 fits-are_bytes (x ∷ b) f = and_from (nat_lt x 256) (are_bytes b) (lt-ltb x 256 (f 0))
@@ -24,7 +24,7 @@ read-append m at (suc a) b =
     let e1 : suc a + b ≡ suc (a + b) = omega arith in let e2 : at + 1 + a ≡ at + suc a = omega arith in
     ap (read m at) e1 ∙ ap (λ ws. m at ∷ ws) (read-append m (at + 1) a b ∙ ap (λ k. read m (at + 1) a ++ read m k b) e2)
 
--- bytes that stand one after another stand there as one list
+-- bytes that follow each other in memory are there as one list
 pub HasBytesAt-append : (m : Memory) (at : ℕ) (xs ys : List ℕ) → HasBytesAt m at xs
     → HasBytesAt m (at + length xs) ys → HasBytesAt m at (xs ++ ys)
 HasBytesAt-append m at xs ys h k = ap (read m at) (length-append xs ys) ∙ read-append m at (length xs) (length ys)
@@ -44,7 +44,7 @@ read-drop : (m : Memory) (at k n : ℕ) → drop k (read m at (k + n)) ≡ read 
 read-drop m at k n = ap (drop k) (read-append m at k n) ∙ drop_at (read m at k) (read m (at + k) n) k
     (length-read m at k)
 
--- the front of bytes that stand somewhere stands there
+-- if memory has a list of bytes at an offset, it has the list's front there
 pub HasBytesAt-take : (m : Memory) (at k : ℕ) (bytes : List ℕ) → k ≤ length bytes → HasBytesAt m at bytes
     → HasBytesAt m at (take k bytes)
 HasBytesAt-take m at k bytes f h =
@@ -59,7 +59,7 @@ HasBytesAt-drop m at k bytes f h =
     let sum : k + (length bytes - k) ≡ length bytes = omega (arith, f) in
     ap (read m (at + k)) e ∙ sym (read-drop m at k (length bytes - k)) ∙ ap (drop k) (ap (read m at) sum ∙ h)
 
--- bytes beside those that are written
+-- bytes outside a range that is written stay
 pub HasBytesAt-beside : {m m' : Memory} {from n : ℕ} (at : ℕ) (bytes : List ℕ) → SameBytesExcept m m' from n
     → (at + length bytes ≤ from) ⊎ (from + n ≤ at) → HasBytesAt m at bytes → HasBytesAt m' at bytes
 HasBytesAt-beside {m} {m'} at bytes s (inl f) h = read-same m m' at (at + length bytes) at (length bytes)

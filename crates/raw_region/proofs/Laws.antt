@@ -6,7 +6,7 @@ pub use Rattle.raw_region.proofs.words.Patches.{length-part, part-at, part-part,
 pub use Rattle.raw_region.proofs.words.Patches.{patched-all, patched-append, patched-inside, patched-outside}
 pub use Rattle.raw_region.proofs.words.Patches.{patched-prepend}
 pub use Rattle.raw_region.proofs.words.Patches.{refill-all, whole-cut_at, length-word}
--- where memory stays
+-- memory that is unchanged
 pub use Rattle.raw_region.proofs.words.Words.{SameBytes-refl, SameBytes-trans, SameBytes-part, SameBytes-read}
 pub use Rattle.raw_region.proofs.words.Words.{SameBytes-word}
 pub use Rattle.raw_region.proofs.words.Words.{SameBytes-half_word, HasBytesAt-same}
@@ -26,7 +26,7 @@ pub use Rattle.raw_region.proofs.words.Writing.{writes-behind, writes-then, writ
 
 -- ---- what a device gave or took
 
--- what is after the bytes before is what was added
+-- the bytes after the old ones are the appended bytes
 pub added : (old new b : List ℕ) → new ≡ old ++ b → drop (length old) new ≡ b
 added old new b e = ap (λ (l : List ℕ). drop (length old) l) e ∙ drop_at old b (length old) refl
 

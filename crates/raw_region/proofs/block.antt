@@ -1,4 +1,4 @@
--- The machine values of memory: a part of the bytes is taken out and put back (`Parts`). These files assume `Logic`.
+-- The machine values of memory: a part of the bytes is borrowed and returned (`Parts`). These files assume `Logic`.
 pub mod Parts
 pub mod Values
 pub mod Lending

@@ -1,7 +1,6 @@
--- The layout of a segment has had three formats. Definitions take the format as a number, and contracts speak of this
--- one.
+-- The three formats of a segment's layout. Definitions take the format as a number, and contracts use the current one.
 use Rattle.std.specs.Prelude.{ℕ}
 
--- The format that is written. Only a proof that says so sees which number it is.
+-- The format that the calls write. Only a proof that unfolds it sees the number.
 unfoldable pub current : ℕ
 current = 2

@@ -1,4 +1,4 @@
--- What a window ends as, once a `&mut` into it has ended.
+-- The state of a window after a `&mut` into it has ended.
 use Rattle.std.specs.Prelude.{ℕ, List}
 use Rattle.std.specs.Borrow.{Fml, MutBor, Array, Lends, u8}
 use Rattle.std.specs.List.{refill}
@@ -6,7 +6,7 @@ use Rattle.raw_region.specs.Memory.{WindowState, part, patched}
 use Rattle.raw_region.specs.Regions.{with_bytes}
 use Rattle.raw_region.specs.contracts.window.Window.{the_row}
 
--- w ends with what was written to the len bytes from an offset on
+-- w ends with the bytes that were written to its len bytes from an offset on
 abbrev pub LendsWindowPart : MutBor WindowState → ℕ → ℕ → MutBor (List ℕ) → Fml
 LendsWindowPart w from len r =
     Lends the_row (Array u8 0) w r (λ ws.

@@ -1,8 +1,8 @@
--- Numbers that are noted about memory, beside it.
+-- Numbers about memory, stored next to it.
 use Rattle.std.specs.Prelude.{ℕ, List, [], Option, Some, None}
 use Rattle.std.specs.declared.vec.Vec.{Vec}
 
--- the numbers of the room that there is; none if there is no room
+-- the numbers in the room; none without room
 abbrev pub numbers_in : {Z : Type 0} → Option (Vec ℕ Z) → List ℕ
 numbers_in None = []
 numbers_in (Some v) = v.items

@@ -1,8 +1,8 @@
--- What the owner of memory may give back.
+-- The memory that an owner can free.
 use Rattle.std.specs.Prelude.{ℕ}
 use denote.RawPtr.{Ptr}
 
--- where the memory begins, and how many bytes it has
+-- the address of the memory, and its number of bytes
 pub record OwnedPlace : Type 0 where
   pub place : Ptr
   pub len : ℕ

@@ -1,4 +1,4 @@
--- What the parts of a block of memory own and lend. p is where it begins.
+-- What the parts of a block of memory own and lend. p is the address of the block.
 use Rattle.std.specs.Prelude.{◌≡◌, ℕ, List}
 use base.Fraction.{full_share}
 use base.Fml.{Lft, Fml}
@@ -8,7 +8,7 @@ use denote.RawPtr.{Ptr, block_ptr, block_of, count_of, room_for}
 use denote.RawPtr.Bytes.{bytes}
 use denote.Slice.{elements_shared}
 
--- the type that a block of n bytes is for
+-- the type of a block of n bytes
 abbrev pub bytes_type : ℕ → Ty
 bytes_type n = ty_array (ty_int w8) n
 
@@ -16,11 +16,11 @@ bytes_type n = ty_array (ty_int w8) n
 abbrev pub IsNonNull : Ptr → Type 0
 IsNonNull p = p ≡ block_ptr (block_of p) (count_of p)
 
--- n bytes, whatever they hold
+-- p owns n bytes with any values
 abbrev pub space_owns : Ptr → ℕ → Fml
 space_owns p n = room_for (bytes_type n) p
 
--- bytes with these values
+-- p owns bytes with these values
 abbrev pub block_owns : Ptr → List ℕ → Fml
 block_owns p xs = bytes full_share xs (block_of p) (count_of p)
 

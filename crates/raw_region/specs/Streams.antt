@@ -1,19 +1,19 @@
--- Readers and writers over others, as contracts see them.
+-- Readers and writers that wrap others, in contracts.
 use Rattle.std.specs.Prelude.{ℕ, Bool, List, refl}
 use Rattle.raw_region.specs.Device.{ReaderHistory, WriterHistory}
 use Rattle.std.specs.Coded.{Coded, code_by, coded×, coded_ℕ, coded_bool, coded_list}
 
--- a reader that stands over another one: that one as it is now, and what it did itself
+-- a reader that wraps another: the inner reader as it is now, and the history of the outer one
 pub record GaveFrom (R : Type 0) : Type 0 where
   pub inner : R
   pub history : ReaderHistory
 
--- a writer that stands over another one
+-- a writer that wraps another: the inner writer as it is now, and the history of the outer one
 pub record TookTo (W : Type 0) : Type 0 where
   pub inner : W
   pub history : WriterHistory
 
--- how they are stored
+-- a code for the state of such a reader
 abbrev pub gave_from_code : {R : Type 0} → Coded R → Coded (GaveFrom R)
 gave_from_code {R} r =
     code_by (R × (List ℕ × (Bool × (ℕ × ℕ))))

@@ -1,5 +1,5 @@
-//! Readers and writers as the crates above are given them: contracts see every byte that they give
-//! or take, and count each failure.
+//! The readers and writers of the crates above. Contracts see every byte that they return or accept, and count each
+//! failure.
 ghost use Rattle.std.specs.Prelude.{◌≡◌, ◌+◌, ◌-◌, ◌^◌, ◌<◌, ◌≤◌, ◌++◌, length, take, IfOk, OnErr};
 ghost use Rattle.raw_region.specs.Answers.{answers_end, falls_short, ends_in, ends_short, AppendsProperPrefix};
 ghost use Rattle.raw_region.specs.Answers.{failures_in, write_failures_in};
@@ -7,19 +7,19 @@ ghost use Rattle.raw_region.specs.Device.{ReaderHistory, WriterHistory, Writes};
 
 use thiserror::Error;
 
-/// A reader or a writer answered an error, or took none of some bytes.
+/// The error of a reader or a writer. A writer also fails if it accepts none of some bytes.
 #[derive(Debug, Drop, Error)]
 #[error("the device failed")]
 pub struct DeviceFault;
 
 /// A reader.
 pub trait Source {
-    // What it did so far: all bytes that it gave, whether its last read of a slice that is not empty answered the end,
-    // how many reads did, and how many failed.
+    // Its past: all bytes that it returned, and the number of reads that failed. It also tells whether the last read
+    // into a non-empty slice met the end, and how many such reads did.
     ghost history: { Self → ReaderHistory };
 
-    /// Reads into the front of the slice, and returns how many bytes. 0 for a slice that is not empty is the end. An
-    /// error gives no byte.
+    /// Reads into the front of the slice and returns the number of bytes. 0 for a non-empty slice is the end. A failed
+    /// read returns no byte.
     fn read(&mut self, into: &mut [u8]) -> Result<usize, DeviceFault>
         requires { (history self.old).failures < 2 ^ 64 - 1 }
         ensures count { IfOk result (λ n. n ≤ length into.new) }
@@ -33,11 +33,11 @@ pub trait Source {
 
 /// A writer.
 pub trait Sink {
-    // What it did so far: all bytes that it took, and how many writes failed.
+    // Its past: all bytes that it accepted, and the number of writes that failed.
     ghost history: { Self → WriterHistory };
 
-    /// Takes the front of the slice, and returns how many bytes. To take none of a slice that is not empty is a
-    /// failure. An error takes no byte.
+    /// Writes a front of the slice and returns the number of bytes. It fails if it accepts no byte of a non-empty
+    /// slice. A failed write accepts no byte.
     fn write(&mut self, bytes: &[u8]) -> Result<usize, DeviceFault>
         requires { (history self.old).failures < 2 ^ 64 - 1 }
         ensures count { IfOk result (λ n. n ≤ length bytes.now) }
@@ -47,7 +47,7 @@ pub trait Sink {
             ≡ (history self.old).failures + write_failures_in result (length bytes.now) };
 }
 
-/// Writes all the bytes, unless the writer fails.
+/// Writes all the bytes. If the writer fails, a front of the bytes is written.
 pub fn write_all<S: Sink>(sink: &mut S, bytes: &[u8]) -> Result<(), DeviceFault>
     requires { (S.history sink.old).failures < 2 ^ 64 - 1 }
     ensures { Writes (S.history sink.old) (S.history sink.new) result bytes.now }
@@ -63,7 +63,8 @@ pub fn write_all<S: Sink>(sink: &mut S, bytes: &[u8]) -> Result<(), DeviceFault>
     Ok(())
 }
 
-/// Reads until the slice is full, the reader ends or fails, and returns how many bytes. It asks no more after the end.
+/// Reads until the slice is full or the reader is at its end, and returns the number of bytes. It makes no read after
+/// the end. If a read fails, it returns the error.
 pub fn read_full<S: Source>(source: &mut S, into: &mut [u8]) -> Result<usize, DeviceFault>
     requires { (S.history source.old).failures < 2 ^ 64 - 1 }
     ensures count { IfOk result (λ n. n ≤ length into.new) }

@@ -1,10 +1,10 @@
-//! What has happened so far, kept for contracts alone. It takes no bytes at run time.
+//! A record of past bytes for contracts alone. It takes no bytes at run time.
 ghost use Rattle.std.specs.Prelude.{◌≡◌, ◌+◌, ℕ, List, [], ◌++◌};
 ghost use base.Fml.{ftrue};
 
 use std::marker::Model;
 
-/// The bytes that went by, and a count: what a `Source` or a `Sink` of one's own keeps to say what it did so far.
+/// The bytes so far, and a count. A `Source` or a `Sink` of your own keeps its past in it.
 #[derive(Drop)]
 pub struct History {
     ghost bytes: { List ℕ },
@@ -16,14 +16,14 @@ impl Model for History {
 }
 
 impl History {
-    /// Makes a history of no bytes, whose count is 0.
+    /// Makes an empty history with the count 0.
     pub fn new() -> History
         ensures { (result.bytes ≡ []) × (result.count ≡ 0) }
     {
         History {}
     }
 
-    /// Appends bytes to the history, and raises its count.
+    /// Appends bytes to the history and adds to its count.
     pub fn record(&mut self, bytes: &[u8], count: u64)
         ensures { (self.new.bytes ≡ self.old.bytes ++ bytes.now) × (self.new.count ≡ self.old.count + count) }
     {}

@@ -1,21 +1,21 @@
-//! Numbers that are noted about memory, in room of their own beside it.
+//! Numbers about memory, stored next to the memory and not in its bytes.
 ghost use Rattle.std.specs.Prelude.{◌≡◌, ◌≤◌, ℕ, IfSome, [], length, slice_index, slice_set, vec_capacity};
 ghost use Rattle.raw_region.specs.Notes.{numbers_in};
 
 use std::alloc::Global;
 use std::marker::Model;
 
-/// The most numbers that are noted about one memory.
+/// The greatest number of notes about one memory.
 const MAX_NOTES: u64 = 4352;
 
-/// So many numbers are for all of the memory.
+/// The number of notes about all of the memory.
 const COMMON_NOTES: u64 = 256;
 
-/// The bytes that each other number is for.
+/// The number of bytes for each other note.
 const NOTED_LEN: u64 = 2048;
 
-/// Numbers that whoever has memory keeps beside it: 256 for all of it, and one for 2048 bytes, at most 4096 of these.
-/// Their room comes with the memory, and no call here asks for more. Without room there are none.
+/// Notes about memory: 256 numbers about all of it, and one number for each 2048 bytes, at most 4096. Their room is
+/// allocated with the memory; no call here allocates. Without room there are no notes.
 #[derive(Drop)]
 pub struct Notes {
     numbers: Option<Vec<u32>>,
@@ -40,15 +40,15 @@ impl Notes {
         Notes { numbers: None }
     }
 
-    /// Makes notes with room for those of `capacity` bytes, or without room if the allocator has it not, or if the
-    /// memory has less than the bytes for one.
+    /// Makes notes with room for a memory of `capacity` bytes. They have no room if the allocator refuses it, or if
+    /// `capacity` is below 2048.
     pub(crate) fn about(alloc: Global, capacity: u64) -> Notes {
         Notes {
             numbers: room_for(alloc, capacity),
         }
     }
 
-    /// Returns notes in the same room, each 0.
+    /// Sets each note to 0 and keeps the room.
     pub(crate) fn into_zeros(self) -> Notes
         ensures { (i : ℕ) → slice_index result i ≡ 0 }
     {
@@ -61,7 +61,7 @@ impl Notes {
         }
     }
 
-    /// Returns all numbers.
+    /// Returns all notes.
     pub fn as_slice(&self) -> &[u32]
         ensures { result.now ≡ self.now }
     {
@@ -71,7 +71,7 @@ impl Notes {
         }
     }
 
-    /// Returns how many there are: at most 4352.
+    /// Returns the number of notes, at most 4352.
     pub fn len(&self) -> usize
         ensures len { result ≡ length self.now }
         ensures most { result ≤ 4352 }
@@ -81,14 +81,14 @@ impl Notes {
         self.as_slice().len()
     }
 
-    /// Returns the number at `at`, or 0 if there are too few.
+    /// Returns the note at `at`, or 0 if `at` is past the last note.
     pub fn get(&self, at: usize) -> u32
         ensures { result ≡ slice_index self.now at }
     {
         number_at(self.as_slice(), at)
     }
 
-    /// Notes a number at `at`, if there is room for it.
+    /// Sets the note at `at`; does nothing if `at` has no room.
     pub fn set(&mut self, at: usize, number: u32)
         ensures { self.new ≡ slice_set self.old at number }
     {
@@ -100,8 +100,8 @@ impl Notes {
     }
 }
 
-/// Returns room for the numbers of `capacity` bytes, or none if the allocator refuses it, or if the memory has less
-/// than the bytes for one.
+/// Allocates room for the notes about `capacity` bytes; `None` if the allocator refuses, or if `capacity` is below
+/// 2048.
 fn room_for(alloc: Global, capacity: u64) -> Option<Vec<u32>>
     ensures empty { numbers_in result ≡ [] }
     ensures capacity { IfSome result (λ room. vec_capacity room ≤ 4352) }
@@ -113,7 +113,7 @@ fn room_for(alloc: Global, capacity: u64) -> Option<Vec<u32>>
     Vec::with_capacity(alloc, (COMMON_NOTES + others) as usize + 1).ok()
 }
 
-/// Returns as many zeros as there is room for, and at most 4352, so that no memory is asked for.
+/// Returns as many zeros as the room holds, at most 4352. It allocates nothing.
 fn filled(room: Vec<u32>) -> Vec<u32>
     ensures zeros { (i : ℕ) → slice_index result.items i ≡ 0 }
     ensures most { length result.items ≤ 4352 }
@@ -125,7 +125,7 @@ fn filled(room: Vec<u32>) -> Vec<u32>
     zeros
 }
 
-/// Returns the number at `at`, or 0 if there are too few.
+/// Returns the number at `at`, or 0 if `at` is past the end.
 fn number_at(numbers: &[u32], at: usize) -> u32
     ensures { result ≡ slice_index numbers.now at }
 {

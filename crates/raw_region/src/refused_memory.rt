@@ -1,4 +1,4 @@
-//! The requests for memory of which a refusal is told, each in a function that alone makes the token of it.
+//! The allocations whose refusal is reported. Each is a function of its own, the only maker of its error.
 ghost use Rattle.std.specs.Prelude.{◌≡◌, ◌+◌, ◌≤◌, ◌++◌, IfErr, IfOk, IsOk, if◌then◌else◌, is_ok, length};
 ghost use Rattle.std.specs.Prelude.{string_bytes, vec_capacity};
 ghost use Rattle.raw_region.specs.Memory.{zeros};
@@ -9,16 +9,17 @@ use crate::allocation::Allocation;
 use std::alloc::Global;
 use thiserror::Error;
 
-/// The allocator refused memory for a region or a text. A field is private: this module alone makes it, where it asked.
+/// The error of an allocation for a region or a text. Its private field means that only this module makes it, after a
+/// refusal.
 #[derive(Clone, Copy, Debug, PartialEq, Eq, Error)]
 #[error("out of memory")]
 pub struct OutOfMemory {
-    /// How many bytes were asked for.
+    /// The number of bytes requested.
     pub bytes: u64,
     _made: (),
 }
 
-/// Returns `capacity` bytes, each 0.
+/// Allocates `capacity` bytes, each 0.
 ///
 /// # Errors
 ///
@@ -42,11 +43,11 @@ pub(crate) fn allocated(alloc: Global, capacity: u64) -> Result<Allocation, OutO
 ///
 /// # Errors
 ///
-/// If the allocator refuses as many bytes as it has.
+/// If the allocator refuses memory for the text's bytes.
 pub fn copy_text(alloc: Global, text: &str) -> Result<String, OutOfMemory>
     ensures copy { IfOk result (λ s. string_bytes s ≡ text.now) }
     ensures refused { IfErr result (λ refusal. refusal ≡ out_of_memory_of (length text.now)) }
-    // An empty text is copied without memory.
+    // The copy of an empty text needs no memory.
     ensures empty { length text.now ≡ 0 → IsOk result }
 {
     let Ok(mut copy) = String::with_capacity(alloc, text.len()) else {
@@ -55,17 +56,16 @@ pub fn copy_text(alloc: Global, text: &str) -> Result<String, OutOfMemory>
             _made: (),
         });
     };
-    // There is room for it.
+    // The copy has room for the text.
     let _ = copy.push_str(text);
     Ok(copy)
 }
 
-/// Puts bytes after a text.
+/// Appends bytes to a text.
 ///
 /// # Errors
 ///
-/// If the text has no room for them, and the allocator refuses as many bytes as the text has then. The text is as it
-/// was.
+/// If the text has no room for them and the allocator refuses the longer text. The text is then unchanged.
 pub fn append(text: &mut Vec<u8>, more: &[u8]) -> Result<(), OutOfMemory>
     ensures text { text.new.items ≡ (if is_ok result then text.old.items ++ more.now else text.old.items) }
     ensures refused { IfErr result (λ refusal. refusal ≡ out_of_memory_of (length text.old.items + length more.now)) }

@@ -1,4 +1,4 @@
-//! Words in a slice of bytes, the lowest byte first, and what the type of a slice says of its bytes.
+//! Words in a slice of bytes, lowest byte first, and the bound on the bytes of a slice.
 ghost use Rattle.std.specs.Prelude.{◌≡◌, ◌+◌, ◌≤◌, IsTrue, length};
 ghost use Rattle.raw_region.specs.Memory.{AreBytes, are_bytes, bytes_of, word_at, word_bytes, patched};
 
@@ -22,8 +22,8 @@ pub fn set_word_in(bytes: &mut [u8], at: usize, value: u64)
     LittleEndian::write_u64(&mut bytes[at..at + 8], value);
 }
 
-/// States that the elements of a slice of type `u8` are below 256. It does nothing: a contract knows this of a
-/// parameter's type alone.
+/// States that the elements of a slice of type `u8` are below 256. It does nothing: a contract knows the bound only for
+/// a parameter, from its type.
 #[inline(always)]
 pub fn bytes_are_octets(bytes: &[u8])
     ensures each_element { AreBytes bytes.now }

@@ -10,12 +10,12 @@ use crate::history::History;
 use std::io::{Read, Write};
 use std::marker::Model;
 
-/// A reader that is asked once a call. Each reader of std is one.
+/// A reader that makes one read a call. Each reader of std is one.
 pub trait ReadOnce {
-    // What one read may answer, what stands in the slice then, and what the reader is then.
+    // The possible results of one read, the contents of the slice after it, and the reader after it.
     ghost read_gives: { Self → Result ℕ Fault → List ℕ → Self → Type 0 };
 
-    /// Reads once into the front of the slice, and records what the reader answered.
+    /// Makes one read into the front of the slice, and records the result.
     fn read_once(&mut self, into: &mut [u8]) -> Result<usize, DeviceFault>
         ensures count { IfOk result (λ n. n ≤ length into.new) }
         ensures uniqueness { read_gives self.old result into.new self.new };
@@ -32,12 +32,12 @@ impl<R: Read> ReadOnce for R {
     }
 }
 
-/// A writer that is given bytes once a call. Each writer of std is one.
+/// A writer that makes one write a call. Each writer of std is one.
 pub trait WriteOnce {
-    // What one write of these bytes may answer, and what the writer is then.
+    // The possible results of one write of these bytes, and the writer after it.
     ghost write_gives: { Self → Result ℕ Fault → List ℕ → Self → Type 0 };
 
-    /// Writes the bytes once, and records what the writer answered.
+    /// Makes one write of the bytes, and records the result.
     fn write_once(&mut self, bytes: &[u8]) -> Result<usize, DeviceFault>
         ensures count { IfOk result (λ n. n ≤ length bytes.now) }
         ensures uniqueness { write_gives self.old result bytes.now self.new };
@@ -54,8 +54,8 @@ impl<W: Write> WriteOnce for W {
     }
 }
 
-/// A reader of std. Each of its errors is a failure, also if the reader may be asked again. Its history counts the ends
-/// that it answered.
+/// A reader of std. Each error of it is a failure, even one after which std reads again. Its history counts the reads
+/// that met the end.
 #[derive(Drop)]
 pub struct StdSource<R> {
     inner: R,
@@ -78,7 +78,7 @@ impl<R> Model for StdSource<R> {
 }
 
 impl<R: ReadOnce> StdSource<R> {
-    /// Makes a source of a reader of std, from which nothing was read.
+    /// Makes a source over a reader of std, from which nothing was read yet.
     pub fn new(inner: R) -> StdSource<R>
         ensures { result ≡ record {
           inner = inner;
@@ -97,7 +97,7 @@ impl<R: ReadOnce> StdSource<R> {
 impl<R: ReadOnce> Source for StdSource<R> {
     ghost history = { λ r. r.history };
 
-    /// Asks the inner reader once, and returns what it answers.
+    /// Makes one read of the inner reader and returns its result.
     fn read(&mut self, into: &mut [u8]) -> Result<usize, DeviceFault>
         requires { self.old.history.failures < 2 ^ 64 - 1 }
         ensures inner { R.read_gives self.old.inner result into.new self.new.inner }
@@ -152,7 +152,7 @@ impl<W> Model for StdSink<W> {
 }
 
 impl<W: WriteOnce> StdSink<W> {
-    /// Makes a sink of a writer of std, which took nothing.
+    /// Makes a sink over a writer of std, to which nothing was written yet.
     pub fn new(inner: W) -> StdSink<W>
         ensures { result ≡ record { inner = inner; history = record { bytes = []; failures = 0 } } }
     {
@@ -167,7 +167,7 @@ impl<W: WriteOnce> StdSink<W> {
 impl<W: WriteOnce> Sink for StdSink<W> {
     ghost history = { λ w. w.history };
 
-    /// Gives the bytes to the inner writer once, and returns what it answers.
+    /// Makes one write to the inner writer and returns its result.
     fn write(&mut self, bytes: &[u8]) -> Result<usize, DeviceFault>
         requires { self.old.history.failures < 2 ^ 64 - 1 }
         ensures inner { W.write_gives self.old.inner result bytes.now self.new.inner }

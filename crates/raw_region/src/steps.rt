@@ -5,8 +5,7 @@ use crate::history::History;
 use std::marker::Model;
 use std::mem::size_of;
 
-/// How many steps were taken. Contracts read it as a number; at run time it takes no bytes, and to
-/// add to it does nothing.
+/// The number of steps so far. Contracts read it as a number. At run time it takes no space and no time.
 #[derive(Drop)]
 pub struct Steps {
     history: History,
@@ -23,7 +22,7 @@ impl Model for Steps {
 const _: () = prove!(size_of::<Steps>() == 0);
 
 impl Steps {
-    /// Makes a counter that stands at 0.
+    /// Makes a counter with the value 0.
     pub fn new() -> Steps
         ensures { result ≡ 0 }
     {
@@ -32,7 +31,7 @@ impl Steps {
         }
     }
 
-    /// Raises the counter by `n` steps.
+    /// Adds `n` to the counter.
     pub fn add(&mut self, n: u64)
         ensures { self.new ≡ self.old + n }
     {

@@ -1,4 +1,4 @@
--- The entries of an index: they stay sorted (`Sorted`) if one comes or goes, or if a block moves.
+-- The entries of an index: they stay sorted (`Sorted`) if one is added or removed, or if a block moves.
 pub mod Entries
 pub mod Sorted
 pub mod Changes

@@ -1,3 +1,3 @@
--- The order of keys, and how many of them a search compares.
+-- The order of keys, and the number of comparisons of a search.
 pub mod Order
 pub mod NameFronts

@@ -1,14 +1,14 @@
--- How names begin, which tells most of them apart. It is no part of the format.
+-- The fronts of names, which distinguish most names. They are not part of the format.
 use Rattle.std.specs.Prelude.{ℕ, List}
 use Rattle.byteorder.specs.Endian.{big_number}
 use Rattle.seg_index.specs.declared.keys.Entry.{Entry}
 use Rattle.seg_index.specs.declared.keys.Entry.TheVariants.{Name, Code}
 
--- the first eight bytes of a name as one number, the first of them the highest, and zeros after a shorter name
+-- the first eight bytes of a name as one number, highest first, with zeros after a shorter name
 abbrev pub front : List ℕ → ℕ
 front name = big_number 8 name
 
--- how the key begins that is looked up, if it is a name
+-- the front of the wanted key, if it is a name
 abbrev pub key_front : Entry → ℕ
 key_front (Name s) = front s.now
 key_front (Code n) = 0

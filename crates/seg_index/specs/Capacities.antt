@@ -10,7 +10,7 @@ use Rattle.best_fit.specs.Heap.{AllocatesNoSpace, KeepsGaps, EncodesLiveSet, hea
 use Rattle.seg_index.specs.Growth.{KeepsOutsideIndex, beside_table, without_index_block, without_link}
 use Rattle.seg_index.specs.{Held.IsIndexOf, Held.capacity_at, Sorted.KeepsSorted}
 
--- the index has this many places in a new block, and its old one is no longer in use
+-- the index has this capacity in a new block, and its old block is freed
 pub record ReservesIndexOk (old new : WindowState) (at n : ℕ) : Type 0 where
   pub extent : Extent
   pub placed : place (live_of old.bytes) (8 * n) IndexRole ≡ Some extent
@@ -21,31 +21,31 @@ pub record ReservesIndexOk (old new : WindowState) (at n : ℕ) : Type 0 where
   pub keeps : KeepsOutsideIndex old new at (without_index_block old at).extents
   pub order : KeepsSorted old new
 
--- nothing changes if there are this many places
+-- nothing changes if the capacity suffices
 pub record KeepsRoomyIndex (old new : WindowState) (at n : ℕ) : Type 0 where
   pub same : n ≤ capacity_at old at → new ≡ old
   pub reserved : capacity_at old at < n → ReservesIndexOk old new at n
 
--- an index has n places or more, or there is no space and nothing changes
+-- an index has capacity n or more, or there is no space and nothing changes
 abbrev pub ReservesIndex : {T E : Type 0} → WindowState → WindowState → ℕ → ℕ → Result T E → Type 0
 ReservesIndex old new at n result =
     MatchResult result (λ v. KeepsRoomyIndex old new at n) (λ e. (capacity_at old at < n)
     × AllocatesNoSpace old new (8 * n) IndexRole)
 
--- one for the request, and one for the release of the old block
+-- the touches of one allocation, and of freeing the old block
 abbrev pub reserve_steps : LiveSet → ℕ → ℕ
 reserve_steps live n =
     heap_touches live + elim (place live (8 * n) IndexRole) [ None ↦ 0 | Some x ↦ heap_touches (added live x) ]
 
--- the live set if the block of a table is cut to n places
+-- the live set after the block of a table is cut to n places
 abbrev pub with_cut : LiveSet → ℕ → BackingArray → LiveSet
 with_cut live n t = elim t.extent [
   | None ↦ live
   | Some x ↦ if n == 0 then released live (handle x) else resized live (shorter live x (8 * n))
 ]
 
--- the index has as many places as entries; without a block nothing changes, and if the block is not cut no byte of
--- a gap does
+-- the capacity of the index becomes its length; without a block nothing changes, and if the block is not cut, no byte
+-- of a gap changes
 pub record ShrinksIndex (old new : WindowState) (at : ℕ) (t : BackingArray) (handles : List ℕ) : Type 0 where
   pub same : t.extent ≡ None → new ≡ old
   pub index : IsIndexOf new at (shrunk_backing (live_of old.bytes) 8 (length handles) t) handles

@@ -7,13 +7,13 @@ use Rattle.offset_link.specs.Link.{link_at}
 use Rattle.best_fit.specs.Heap.{has_room, live_of}
 use Rattle.seg_index.specs.{declared.keys.Entry.Entry, Lookups.IsKeyReadable, Lookups.IsEntryLinkTo, Lookups.order}
 
--- the key that is compared if those from `low` on and below `high` are left
+-- the place of the key that is compared if the places from `low` on and below `high` remain
 abbrev pub middle : ℕ → ℕ → ℕ
 middle low high = low + (high - low) / 2
 
--- The number of comparisons between `low` and `high`, where `stands` is the order of each key to the wanted one. The
--- middle key is compared; the search goes on after it if it precedes the wanted key, and before it if it follows. The
--- first number is at least the number of keys that are left.
+-- The number of comparisons between `low` and `high`, where `stands` is the order of each key to the wanted key. The
+-- search compares the middle key; it continues after this key if the key precedes the wanted one, and before it if the
+-- key follows. The first number is at least the number of keys that remain.
 unfoldable pub comparisons_among : ℕ → (ℕ → Ordering) → ℕ → ℕ → ℕ
 comparisons_among zero stands low high = 0
 comparisons_among (suc most) stands low high =
@@ -26,14 +26,14 @@ comparisons_among (suc most) stands low high =
       ])
     ]
 
--- the comparisons of a binary search for a key among the keys of the objects that these handles lead to
+-- the comparisons of a binary search for a key among the keys of the objects with these handles
 abbrev pub comparisons : Memory → Entry → List ℕ → ℕ
 comparisons m key handles =
     comparisons_among (length handles) (λ i. order m key (unwrap_or (slice_get handles i) 0)) 0 (length handles)
 
--- ---- the same over the links of a block
+-- ---- the same definitions over the links of a block
 
--- how the key of an entry stands to a key
+-- the order of an entry's key to a key
 abbrev pub order_at : Memory → Entry → ℕ → ℕ → Ordering
 order_at m key block i = order m key (unwrap_or (link_at m (block + 8 * i)) 0)
 
@@ -41,7 +41,7 @@ order_at m key block i = order m key (unwrap_or (link_at m (block + 8 * i)) 0)
 abbrev pub comparisons_in : Memory → Entry → ℕ → ℕ → ℕ
 comparisons_in m key block count = comparisons_among count (order_at m key block) 0 count
 
--- an entry that leads to a key
+-- the entry at i leads to an object with a key
 pub record IsKeyedEntry (c : WindowState) (key : Entry) (block i : ℕ) : Type 0 where
   pub room : IsTrue (has_room (live_of c.bytes) block (8 * i + 8))
   pub handle : ℕ

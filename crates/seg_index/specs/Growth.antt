@@ -11,17 +11,17 @@ use Rattle.offset_link.specs.Link.{link_at}
 use Rattle.seg_index.specs.Held.{InstallsBlock, IsIndexOf, capacity_at, entry_count}
 use Rattle.seg_index.specs.{Index.grown_capacity, declared.index_capacity.Growth.Growth}
 
--- the bytes that a full index asks for
+-- the number of bytes that a full index allocates
 abbrev pub grown_bytes : WindowState → ℕ → ℕ
 grown_bytes c at = 8 * grown_capacity (capacity_at c at)
 
--- a new block exactly if the index is full
+-- a new block is allocated exactly if the index is full
 abbrev pub PreparesOk : WindowState → WindowState → ℕ → Option ℕ → Type 0
 PreparesOk old new at None = (entry_count old at < capacity_at old at) × (new ≡ old)
 PreparesOk old new at (Some h) =
     (capacity_at old at ≤ entry_count old at) × AllocatesOk current old new (grown_bytes old at) IndexRole h
 
--- a full index gets a larger block beside its own, or there is no space
+-- a larger block is allocated for a full index while its own stays, or there is no space and nothing changes
 abbrev pub Prepares : {E : Type 0} → WindowState → WindowState → ℕ → Result Growth E → Type 0
 Prepares old new at result =
     MatchResult result (λ g. PreparesOk old new at g.block)
@@ -36,12 +36,12 @@ FreesGrowth old new (Some h) = Deallocates current old new h
 abbrev pub IsLiveGrowth : WindowState → Growth → Type 0
 IsLiveGrowth c g = IfSome g.block (λ h. IsTrue (is_live_in (live_of c.bytes) h))
 
--- the live set and its blocks are those from before the block of the growth was allocated
+-- the live set and its blocks are the ones before the block of the growth was allocated
 abbrev pub Restores : WindowState → WindowState → Growth → Type 0
 Restores old new g = IfSome g.block (λ h. (before : WindowState) (n : ℕ) → AllocatesOk current before old n IndexRole h
     → EncodesLiveSet current new.bytes (live_of before.bytes) × KeepsBlocks before new (live_of before.bytes).extents)
 
--- the place, the header but word 24 and the three words of an index, and these blocks stay
+-- the window's place and these blocks stay, and so does the header except word 24 and the three words of an index
 pub record KeepsOutsideIndex (old new : WindowState) (at : ℕ) (xs : List Extent) : Type 0 where
   pub place : SameSurroundings old new
   pub front : SameBytes (bytes_of old.bytes) (bytes_of new.bytes) 0 24
@@ -49,17 +49,17 @@ pub record KeepsOutsideIndex (old new : WindowState) (at : ℕ) (xs : List Exten
   pub behind : SameBytes (bytes_of old.bytes) (bytes_of new.bytes) (at + 24) 128
   pub blocks : AllByRecursion (SameBlock (bytes_of old.bytes) (bytes_of new.bytes)) xs
 
--- the extents but for the block of an index
+-- the extents except the block of an index
 abbrev pub beside_table : BackingArray → List Extent → List Extent
 beside_table t xs = elim t.extent [ None ↦ xs | Some x ↦ others (handle x) xs ]
 
--- a block in use that has this many places for an index
+-- a block in use with room for this capacity of an index
 pub record IsBlockFor (c : WindowState) (h places : ℕ) : Type 0 where
   pub extent : Extent
   pub found : extent_at (live_of c.bytes) h ≡ Some extent
   pub fits : IsTrue (serves extent IndexRole (8 * places))
 
--- the live set without the block that a link leads to
+-- the live set without the block behind a link
 abbrev pub without_link : LiveSet → Option ℕ → LiveSet
 without_link live link = elim link [ None ↦ live | Some h ↦ released live h ]
 
@@ -67,7 +67,8 @@ without_link live link = elim link [ None ↦ live | Some h ↦ released live h 
 abbrev pub without_index_block : WindowState → ℕ → LiveSet
 without_index_block c at = without_link (live_of c.bytes) (link_at (bytes_of c.bytes) at)
 
--- a growth for an index as it is: none if there are places left, or a block of enough places that is not its own
+-- a growth that suits an index: none if the capacity allows one more entry, or a block with enough capacity that is not
+-- its own
 abbrev pub CanGrow : WindowState → ℕ → Option ℕ → Type 0
 CanGrow c at None = entry_count c at < capacity_at c at
 CanGrow c at (Some h) =

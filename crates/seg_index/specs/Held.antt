@@ -8,7 +8,7 @@ use Rattle.best_fit.specs.{Table.has_backing}
 use Rattle.seg_index.specs.{declared.index.Index.Index, Index.IsIndexAt}
 use Rattle.seg_index.specs.declared.index.Index.TheVariants.{Named, Unique}
 
--- where the three words of an index stand in the header
+-- the offset of the three words of an index in the header
 abbrev pub place_of : Index → ℕ
 place_of Named = 32
 place_of Unique = 56
@@ -21,7 +21,8 @@ entry_count c at = word_at (bytes_of c.bytes) (at + 8)
 abbrev pub capacity_at : WindowState → ℕ → ℕ
 capacity_at c at = word_at (bytes_of c.bytes) (at + 16)
 
--- An index in the header of a heap: its block is in use, has all its places, and no more of them are used.
+-- An index in the header of a heap: its block is in use and has room for its capacity, and its length is at most its
+-- capacity.
 pub record IsIndexOf (c : WindowState) (at : ℕ) (t : BackingArray) (handles : List ℕ) : Type 0 where
   pub heap : IsHeap current c.bytes
   pub stands : IsIndexAt (bytes_of c.bytes) at t handles
@@ -30,13 +31,13 @@ pub record IsIndexOf (c : WindowState) (at : ℕ) (t : BackingArray) (handles : 
   pub held : IfSome t.extent (λ x. extent_at (live_of c.bytes) (handle x) ≡ Some x)
   pub whole : AllByRecursion (λ h. h % 16 ≡ 0) handles
 
--- some index stands at an offset of the header
+-- an index is at an offset of the header
 pub record HasIndex (c : WindowState) (at : ℕ) : Type 0 where
   pub table : BackingArray
   pub handles : List ℕ
   pub index : IsIndexOf c at table handles
 
--- the index has this many places in a block that was in use before
+-- the index has this capacity, in a block that was in use before
 abbrev pub InstallsBlock : WindowState → WindowState → ℕ → ℕ → ℕ → List ℕ → Type 0
 InstallsBlock old new at block places handles =
     IsIndexOf new at (record { capacity = places; extent = extent_at (live_of old.bytes) block }) handles

@@ -19,14 +19,14 @@ name_len_at m h = word_at m (h + 8) % 4294967296
 abbrev pub class_at : Memory → ℕ → ℕ
 class_at m h = word_at m (h + 8) / 4294967296
 
--- the name behind the head of an object
+-- the name after the head of an object
 abbrev pub name_at : Memory → ℕ → List ℕ
 name_at m h = read m (h + 16) (name_len_at m h)
 
--- names in the order of their bytes
+-- whether the name of the first object precedes that of the second, by bytes
 abbrev pub name_before : Memory → ℕ → ℕ → Bool
 name_before m g h = is_lt (slice_cmp nat_cmp (name_at m g) (name_at m h))
 
--- kinds in the order of their codes
+-- whether the kind of the first object precedes that of the second, by code
 abbrev pub code_before : Memory → ℕ → ℕ → Bool
 code_before m g h = nat_lt (code_at m g) (code_at m h)

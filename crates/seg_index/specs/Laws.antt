@@ -1,4 +1,4 @@
--- What holds of indexes beside other calls of their heap.
+-- Laws of indexes when other calls change their heap.
 use Rattle.std.specs.Prelude.{◌≡◌, ℕ, ◌+◌, ◌%◌, ◌<◌, ◌≤◌, ◌==◌, if◌then◌else◌, Option, Some, List, [], ◌∷◌, IsTrue}
 use Rattle.std.specs.{declared.cmp.Ordering.Ordering, List.AllByRecursion}
 use Rattle.raw_region.specs.{Format.current, Memory.WindowState, Memory.Memory, Memory.bytes_of}
@@ -14,11 +14,11 @@ use Rattle.seg_index.specs.{declared.keys.Lookup.Lookup, Lookups.FindsPosition, 
 use Rattle.seg_index.specs.Comparing.{comparisons, comparisons_among}
 use Rattle.seg_index.specs.Sorted.{AreSortedHandles, BelongsAt, HasSortKey, IsKeyOf, KeepsSorted, index_of}
 
--- the link of an index leads to this block
+-- the index has this block
 abbrev pub IsItsBlock : WindowState → Index → ℕ → Type 0
 IsItsBlock c i h = link_at (bytes_of c.bytes) (place_of i) ≡ Some h
 
--- the law: an index stays if a block is taken, and if a block that is not its own is released or written
+-- the law: an index stays if a block is allocated, and if a block other than its own is freed or written
 pub record IndexesStay : Type 0 where
   pub taken : (i : Index) (a b : WindowState) (n : ℕ) (role : Role) (h : ℕ) (t : BackingArray) (handles : List ℕ)
       → IsIndexOf a (place_of i) t handles → AllocatesOk current a b n role h → IsIndexOf b (place_of i) t handles
@@ -41,21 +41,21 @@ pub record EntriesStaySorted : Type 0 where
   pub restored : (a b : WindowState)
       → EncodesLiveSet current b.bytes (live_of a.bytes) → KeepsBlocks a b (live_of a.bytes).extents → KeepsSorted a b
 
--- the law: an object whose key a look-up did not find belongs at the place that it answered
+-- the law: an object whose key a look-up did not find belongs at the place that the look-up returned
 abbrev pub AbsentKeysBelong : Type 0
 AbsentKeysBelong =
     (c : WindowState) (key : Entry) (handles : List ℕ) (place h : ℕ) → AreSortedHandles c (index_of key) handles
     → FindsPosition (bytes_of c.bytes) key handles (Absent place) → HasSortKey c (index_of key) h
     → IsKeyOf key (bytes_of c.bytes) h → BelongsAt c (index_of key) handles place h
 
--- the law: in a sorted list a key has one place
+-- the law: in a sorted list a key has one position
 abbrev pub KeysHaveOnePlace : Type 0
 KeysHaveOnePlace =
     (c : WindowState) (key : Entry) (handles : List ℕ) (r s : Lookup) → AreSortedHandles c (index_of key) handles
     → FindsPosition (bytes_of c.bytes) key handles r → FindsPosition (bytes_of c.bytes) key handles s → r ≡ s
 
--- the law: what `prepare` answers is what `add` wants, and stays so if a block is taken, and if another is
--- released or one is written
+-- the law: the result of `prepare` meets the condition of `add`, and still does so after a block is allocated, another
+-- block is freed, or a block is written
 pub record GrowthsStay : Type 0 where
   pub prepared : (i : Index) (a b : WindowState) (g : Option ℕ) (t : BackingArray) (handles : List ℕ)
       → IsIndexOf a (place_of i) t handles → PreparesOk a b (place_of i) g → CanGrow b (place_of i) g
@@ -66,17 +66,17 @@ pub record GrowthsStay : Type 0 where
   pub written : (i : Index) (a b : WindowState) (g : Option ℕ) (h at n : ℕ) → CanGrow a (place_of i) g
       → ChangesBytes current a b (h + at) n → IsTrue (has_room (live_of a.bytes) h (at + n)) → CanGrow b (place_of i) g
 
--- objects whose kinds have the places of the objects as their codes, and an index of seven
+-- objects at the multiples of 16, each with its offset as the code of its kind
 abbrev pub own_codes : Memory
 own_codes at = if at % 16 == 0 then at else 0
 
 abbrev pub seven : List ℕ
 seven = 16 ∷ 32 ∷ 48 ∷ 64 ∷ 80 ∷ 96 ∷ 112 ∷ []
 
--- The law: the order of each key to the wanted key alone decides the number of comparisons, which is at most the number
--- of binary digits of their count. Counted by hand: of seven keys the fourth is compared first, then the second or the
--- sixth, then any other; a search that ends between two keys has compared three. Of eight keys the fifth, the third,
--- the second and the first are compared.
+-- The law: the order of each key to the wanted key alone determines the number of comparisons, which is at most the
+-- number of binary digits of the count. Counted by hand: of seven keys the search compares the fourth first, then the
+-- second or the sixth, then another; a search that ends between two keys has compared three. Of eight keys it compares
+-- the fifth, the third, the second and the first.
 pub record SearchesHalve : Type 0 where
   pub decided : (count : ℕ) (p q : ℕ → Ordering) → ((i : ℕ) → i < count → p i ≡ q i)
       → comparisons_among count p 0 count ≡ comparisons_among count q 0 count

@@ -1,4 +1,4 @@
-//! An entry more, or less.
+//! Adds and removes entries of an index.
 ghost use Rattle.std.specs.Prelude.{◌≡◌, ℕ, ◌+◌, ◌-◌, ◌*◌, ◌%◌, ◌<◌, ◌≤◌, ◌⊎◌, IfSome, IsTrue, List, None, Some};
 ghost use Rattle.std.specs.Prelude.{insert, remove};
 ghost use Rattle.raw_region.specs.{Format.current, Memory.bytes_of};
@@ -15,8 +15,8 @@ use best_fit::Heap;
 use raw_region::Steps;
 
 impl Index {
-    /// Puts an entry at a place, in the block of a growth if there is one. The old block is then released. The entries
-    /// from that place on stand one place further.
+    /// Inserts an entry at a place, in the new block of a growth if there is one; it then frees the old block. The
+    /// entries from that place on move up by one.
     pub fn add(self, heap: &mut Heap, place: u64, handle: u64, growth: Growth, steps: &mut Steps)
         requires entry { CanAdd heap.old self place handle }
         requires growth { CanGrow heap.old (place_of self) growth.block }
@@ -45,7 +45,7 @@ impl Index {
             }
             Some(block) => {
                 let capacity = grown_capacity(self.capacity(heap));
-                // without a block there are no links to be moved
+                // without a block there are no links to move
                 let from = heap.header_link(self.header_offset()).unwrap_or(block);
                 heap.shift_non_null_links(from, 0, block, 0, place);
                 spread(heap, from, block, place, count, handle);
@@ -54,7 +54,7 @@ impl Index {
         }
     }
 
-    /// Takes the entry at a place out. Those after it stand one place before; the block stays.
+    /// Removes the entry at a place. The entries after it move down by one; the block stays.
     pub fn remove(self, heap: &mut Heap, place: u64)
         requires index { HasIndex heap.old (place_of self) }
         requires in_range { place < entry_count heap.old (place_of self) }
@@ -76,8 +76,8 @@ impl Index {
     }
 }
 
-/// Puts a link at a place of a block, after which come the links of a block from that place on: the same block, or
-/// another.
+/// Writes a link at a place of the block `to`, followed by the links of the block `from` from that place on. Both can
+/// be the same block.
 fn spread(heap: &mut Heap, from: u64, to: u64, place: u64, count: u64, handle: u64)
     requires heap { IsHeap current heap.old.bytes }
     requires in_bounds { place ≤ count }

@@ -1,5 +1,5 @@
-//! The one way from an entry to the key that it leads to: each comparison is counted. The first eight bytes of a name,
-//! as one number, tell most names apart in one step.
+//! The only access from an entry to its key. It counts each comparison. The first eight bytes of a name, as one number,
+//! distinguish most names in one step.
 ghost use Rattle.std.specs.Prelude.{◌≡◌, ◌+◌, ◌*◌, ◌%◌, ◌^◌, ◌<◌, IsTrue};
 ghost use Rattle.std.specs.{Cmp.Lexicographic.slice_cmp, Ordering.nat_cmp};
 ghost use Rattle.raw_region.specs.{Memory.bytes_of, Format.current};
@@ -21,14 +21,14 @@ const HALF: u64 = 4294967296;
 pub struct ComparisonCounter<'a> {
     heap: &'a Heap,
     key: Entry<'a>,
-    /// How the key begins, if it is a name.
+    /// The first bytes of the key as a number, if the key is a name.
     front: u64,
     block: u64,
     count: u64,
 }
 
 impl<'a> ComparisonCounter<'a> {
-    /// Makes a counter that stands at 0.
+    /// Makes a counter with the value 0.
     pub fn new(heap: &'a Heap, key: Entry<'a>, block: u64) -> ComparisonCounter<'a>
         ensures heap { result.heap.now ≡ heap.now }
         ensures key { result.key ≡ key.entry }
@@ -52,7 +52,7 @@ impl<'a> ComparisonCounter<'a> {
         self.count
     }
 
-    /// Compares the key that the entry with `i` others before it leads to with the key that is looked up.
+    /// Compares the key of the entry at `i` with the wanted key.
     pub fn compare(&mut self, i: u64) -> Ordering
         requires entry { IsKeyedEntry self.old.heap.now self.old.key self.old.block i }
         requires front { self.old.front ≡ key_front self.old.key }
@@ -69,8 +69,8 @@ impl<'a> ComparisonCounter<'a> {
     }
 }
 
-/// Compares the name of an object with a name, of which it is known how it begins. Names of one length, of at most
-/// eight bytes, that begin alike are equal; of others that begin alike all bytes are compared.
+/// Compares the name of an object with a name whose front is known. Names of equal length up to eight bytes with equal
+/// fronts are equal; of other names with equal fronts it compares all bytes.
 fn order_of_name(heap: &Heap, name: &[u8], front: u64, handle: u64) -> Ordering
     requires heap { IsHeap current heap.now.bytes }
     requires room { IsTrue (has_room (live_of heap.now.bytes) handle
@@ -92,10 +92,10 @@ fn order_of_name(heap: &Heap, name: &[u8], front: u64, handle: u64) -> Ordering
     found.cmp(name)
 }
 
-/// The number of leading bytes of names that are compared as one number.
+/// The number of leading bytes of a name that are compared as one number.
 const NAME_PREFIX: usize = 8;
 
-/// Returns the front of a wanted name: its first bytes as a number. A code has no front.
+/// Returns the front of the wanted name: its first bytes as a number; 0 for a code.
 fn front_of(key: Entry<'_>) -> u64
     ensures { result ≡ key_front key.entry }
 {
@@ -108,8 +108,8 @@ fn front_of(key: Entry<'_>) -> u64
     BigEndian::read_u64(&bytes)
 }
 
-/// Returns the first eight bytes of an object's name, which has `len` bytes. Of a shorter name eight bytes are read,
-/// too, since at least 16 bytes follow each block; the bytes after the name count as zeros.
+/// Returns the front of an object's name of `len` bytes: its first eight bytes as a number. For a shorter name it also
+/// reads eight bytes, since at least 16 bytes follow each block; the bytes after the name count as zeros.
 fn front_at(heap: &Heap, handle: u64, len: u64) -> u64
     requires heap { IsHeap current heap.now.bytes }
     requires room { IsTrue (has_room (live_of heap.now.bytes) handle (16 + len)) }

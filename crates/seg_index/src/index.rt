@@ -17,14 +17,15 @@ use raw_region::Steps;
 /// that no borrow lasts between two calls.
 #[derive(Clone, Copy, Debug, PartialEq, Eq)]
 pub enum Index {
-    /// Objects with names, by the bytes of their names.
+    /// The named objects, by the bytes of their names.
     Named,
-    /// The unique objects of kinds, by the codes of the kinds.
+    /// The unique objects, by the codes of their kinds.
     Unique,
 }
 
 impl Index {
-    /// Returns where its three words begin: the link to its block, the number of its entries, and its capacity.
+    /// Returns the offset of the index's three words: the link to its block, the number of its entries, and its
+    /// capacity.
     pub(crate) fn header_offset(self) -> u64
         ensures { result ≡ place_of self }
     {
@@ -34,7 +35,8 @@ impl Index {
         }
     }
 
-    /// Sets the header to an index without places, whatever its words were. A block that it had is not freed.
+    /// Initialises the header's words as an empty index with capacity 0. Their old value can be anything; it frees no
+    /// block.
     pub fn init(self, heap: &mut Heap)
         ensures index { IsSortedIndex heap.new self no_backing [] }
         ensures changes { ChangesBytes current heap.old heap.new (place_of self) 24 }
@@ -54,7 +56,7 @@ impl Index {
         heap.header_word(self.header_offset() + 8)
     }
 
-    /// Returns the number of its places. Without a block there are none.
+    /// Returns the capacity, in entries. It is 0 without a block.
     pub fn capacity(self, heap: &Heap) -> u64
         ensures word { result ≡ capacity_at heap.now (place_of self) }
         ensures capacity { (t : ATable) (handles : List ℕ) → IsIndexOf heap.now (place_of self) t handles
@@ -63,7 +65,7 @@ impl Index {
         heap.header_word(self.header_offset() + 16)
     }
 
-    /// Returns the handle that the entry with `i` others before it leads to.
+    /// Returns the handle of the entry at `i`.
     pub fn at(self, heap: &Heap, i: u64) -> u64
         requires index { HasIndex heap.now (place_of self) }
         requires in_range { i < entry_count heap.now (place_of self) }
@@ -74,8 +76,8 @@ impl Index {
         heap.link(block, 8 * i).unwrap_or(0)
     }
 
-    /// Returns where a key stands among the keys of the objects that the entries lead to, by binary search: each step
-    /// is a comparison of two keys.
+    /// Returns the position of a key among the keys of the entries, by binary search. Each step is a comparison of two
+    /// keys.
     pub fn lookup(self, heap: &Heap, key: Entry<'_>, steps: &mut Steps) -> Lookup
         requires index { HasSortedIndex heap.now self }
         requires key { index_of key ≡ self }

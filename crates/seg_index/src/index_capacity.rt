@@ -1,4 +1,4 @@
-//! An index with more places, or with no more than it has entries.
+//! Grows and shrinks the capacity of an index.
 ghost use Rattle.std.specs.Prelude.{◌≡◌, ◌≢◌, ℕ, ◌+◌, ◌*◌, ◌%◌, ◌^◌, ◌<◌, ◌≤◌, IfSome, IsTrue, List, None, length};
 ghost use Rattle.std.specs.List.{AllByRecursion};
 ghost use Rattle.raw_region.specs.{Format.current, Memory.bytes_of};
@@ -17,15 +17,15 @@ use block_tags::Role;
 use raw_region::Steps;
 use std::cmp::max;
 
-/// A new block for the links of an index, or none if it has places left. It is taken in use before the command that
-/// needs it changes anything, and goes back to the heap or becomes the block of the index.
+/// A new block for the links of an index, or none if the index has capacity left. A command allocates it before it
+/// changes anything. It then becomes the block of the index, or is freed.
 #[derive(Drop)]
 pub struct Growth {
     pub(crate) block: Option<u64>,
 }
 
 impl Index {
-    /// Takes a new block into use if the index is full: for twice its places, and at least 4. The old one stays.
+    /// Allocates a new block if the index is full, with twice its capacity, and at least 4. The old block stays.
     ///
     /// # Errors
     ///
@@ -48,7 +48,7 @@ impl Index {
         Ok(Growth { block: Some(block) })
     }
 
-    /// Gives the block of a growth back, and with it the live set from which it was taken.
+    /// Frees the block of a growth, which restores the live set from before its allocation.
     pub fn give_back(growth: Growth, heap: &mut Heap, steps: &mut Steps)
         requires growth { IsLiveGrowth heap.old growth }
         ensures changes { FreesGrowth heap.old heap.new growth.block }
@@ -63,8 +63,8 @@ impl Index {
         }
     }
 
-    /// Moves the index into a new block for `n` places, if it has less, and releases the old one. The new block is
-    /// taken while the old one is in use. If there are `n` places, nothing changes.
+    /// Grows the capacity to `n`, in a new block for exactly `n` entries, and frees the old block afterwards. If the
+    /// capacity is `n` or more, nothing changes.
     ///
     /// # Errors
     ///
@@ -82,15 +82,15 @@ impl Index {
         }
         let block = heap.allocate(n.saturating_mul(LINK_LEN), Role::Index, steps)?;
         let count = self.len(heap);
-        // without a block there are no links to be moved
+        // without a block there are no links to move
         let from = heap.header_link(self.header_offset()).unwrap_or(block);
         heap.shift_non_null_links(from, 0, block, 0, count);
         self.install_block(heap, block, n, count, steps);
         Ok(())
     }
 
-    /// Shrinks the capacity to the number of entries, as far as a block can be shortened, even if the capacity stays.
-    /// Without entries the block is freed.
+    /// Shrinks the capacity to the number of entries, as far as the block can be shortened, even if the capacity stays.
+    /// The block of an empty index is freed.
     pub fn shrink(self, heap: &mut Heap, steps: &mut Steps)
         requires index { HasIndex heap.old (place_of self) }
         ensures shrinking { (t : ATable) (handles : List ℕ) → IsIndexOf heap.old (place_of self) t handles
@@ -114,8 +114,8 @@ impl Index {
         }
     }
 
-    /// Installs a block of `n` places, whose first `count` links are set, as the block of the index, and frees the old
-    /// block.
+    /// Installs a block with capacity `n`, whose first `count` links are set, as the block of the index, and frees the
+    /// old block.
     pub(crate) fn install_block(
         self,
         heap: &mut Heap,
@@ -152,10 +152,10 @@ impl Index {
     }
 }
 
-/// The bytes of a link.
+/// The length of a link in bytes.
 pub const LINK_LEN: u64 = 8;
 
-/// Returns the capacity that a full index grows to.
+/// Returns the capacity of a full index after it grows.
 pub fn grown_capacity(capacity: u64) -> u64
     requires { capacity < 2 ^ 40 }
     ensures { result ≡ grown_capacity capacity }

@@ -10,7 +10,7 @@ use crate::comparing::ComparisonCounter;
 use crate::keys::Lookup;
 use std::cmp::Ordering;
 
-/// Returns the place of the key among the first `count` entries.
+/// Returns the position of the key among the first `count` entries.
 pub fn search(comparisons: &mut ComparisonCounter<'_>, count: u64) -> Lookup
     requires keys { AreKeys comparisons.old.heap.now comparisons.old.block count comparisons.old.key }
     requires max_count { count < 2 ^ 40 }

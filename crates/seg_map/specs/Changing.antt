@@ -1,4 +1,4 @@
--- What changes when pairs are put and erased.
+-- The effects of calls that put and erase pairs.
 use Rattle.std.specs.Prelude.{◌≡◌, ℕ, ◌+◌, ◌*◌, ◌≤◌, Bool, true, false, Option, Some, None, Result, Ok, List, [], ◌∷◌}
 use Rattle.std.specs.Prelude.{MatchOption, MatchResult, length, map}
 use Rattle.raw_region.specs.Format.{current}
@@ -14,15 +14,15 @@ use Rattle.seg_map.specs.Map.{Pair, IsPairAt, node_len, pair_at, put_pair, remov
 use Rattle.seg_map.specs.Places.{HoldsMap, IsPairIn, nodes_of_pairs, pair_node}
 use Rattle.seg_map.specs.Searches.{entry_in, exit_in}
 
--- the three words of a map are these now, and nothing else changes
+-- the three words of a map have these values, and nothing else changes
 pub record WritesMapHeader (old new : WindowState) (at : ℕ) (root : Option ℕ) (count : ℕ) : Type 0 where
   pub change : ChangesBytes current old new at 24
   pub link : link_at (bytes_of new.bytes) at ≡ root
   pub counted : word_at (bytes_of new.bytes) (at + 8) ≡ count
   pub third : word_at (bytes_of new.bytes) (at + 16) ≡ 0
 
--- of all blocks but these nodes no byte changes but the 24 of the map, nor does the header but for word 24, or what
--- lies round the window
+-- of all blocks except these nodes only the 24 bytes of the map change; the header stays except its word 24, and so do
+-- the bytes around the window
 pub record KeepsOutsideMap (old new : WindowState) (at : ℕ) (ns : List ℕ) : Type 0 where
   pub place : SameSurroundings old new
   pub front : SameBytes (bytes_of old.bytes) (bytes_of new.bytes) 0 24
@@ -34,12 +34,13 @@ pub record KeepsOutsideMap (old new : WindowState) (at : ℕ) (ns : List ℕ) : 
 abbrev pub CountsPairs : {K V : Type 0} → Plain K → Plain V → List ℕ → ℕ → ℕ → ℕ → Type 0
 CountsPairs {K} {V} k v b h at n = (ps : List (Pair K V)) → HoldsMap k v b h at ps → n ≡ length ps
 
--- a map without pairs
+-- makes a map without pairs
 pub record InitsMap {K V : Type 0} (k : Plain K) (v : Plain V) (old new : WindowState) (h at : ℕ) : Type 0 where
   pub change : ChangesBytes current old new (h + at) 24
   pub map : let none : List (Pair K V) = [] in HoldsMap k v new.bytes h at none
 
--- the root of the map's tree, the node of a pair of it, and where its removal begins: none if that is at the root
+-- the root of the map's tree, the node of one of its pairs, and where the removal of this node begins: none means at
+-- the root
 pub record CanUnlinkPair {K V : Type 0} (k : Plain K) (v : Plain V) (c : WindowState) (h at : ℕ) (root start : Option ℕ)
     (node : ℕ) : Type 0 where
   pub pairs : List (Pair K V)
@@ -51,7 +52,8 @@ pub record CanUnlinkPair {K V : Type 0} (k : Plain K) (v : Plain V) (c : WindowS
   pub leads : root ≡ link_at (bytes_of c.bytes) (h + at)
   pub begins : start ≡ exit_in k c node map.map.tree.tree
 
--- the map has these pairs now: no block comes or goes, and of all but these nodes no byte changes but the 24 of the map
+-- the map now has these pairs: no block is allocated or freed, and of all blocks except these nodes only the 24 bytes
+-- of the map change
 pub record RewritesNodes {K V : Type 0} (k : Plain K) (v : Plain V) (old new : WindowState) (h at : ℕ) (ns : List ℕ)
     (ps : List (Pair K V)) : Type 0 where
   pub live : EncodesLiveSet current new.bytes (live_of old.bytes)
@@ -68,40 +70,40 @@ abbrev pub TreeSteps : {K V : Type 0} → Plain K → Plain V → WindowState �
 TreeSteps {K} {V} k v old h at more before after = (ps : List (Pair K V)) → HoldsMap k v old.bytes h at ps
     → after ≤ before + 30 * bits (length ps + 1) + 32 + more
 
--- the pair of a key is gone, and its block
+-- the pair of a key is removed, and its block is freed
 pub record ErasesPair {K V : Type 0} (k : Plain K) (v : Plain V) (old new : WindowState) (h at : ℕ)
     (ps : List (Pair K V)) (p : Pair K V) (key : K) : Type 0 where
   pub live : EncodesLiveSet current new.bytes (released (live_of old.bytes) (handle p.node))
   pub beside : KeepsOutsideMap old new (h + at) (nodes_of_pairs ps)
   pub map : HoldsMap k v new.bytes h at (remove_pair k.order ps key)
 
--- a key that is there is erased, and otherwise nothing changes
+-- a key of the map is erased; nothing changes if the map lacks the key
 abbrev pub ErasesKey : {K V : Type 0} → Plain K → Plain V → WindowState → WindowState → ℕ → ℕ → K → Bool → Type 0
 ErasesKey {K} {V} k v old new h at key result =
     (ps : List (Pair K V)) → HoldsMap k v old.bytes h at ps
     → MatchOption (pair_at k.order ps key) ((result ≡ false) × (new ≡ old))
     (λ p. (result ≡ true) × ErasesPair k v old new h at ps p key)
 
--- the pair of a node is gone, and its block
+-- the pair of a node is removed, and its block is freed
 abbrev pub Drops : {K V : Type 0} → Plain K → Plain V → WindowState → WindowState → ℕ → ℕ → ℕ → Type 0
 Drops {K} {V} k v old new h at node =
     (ps : List (Pair K V)) (key : K) (p : Pair K V) → HoldsMap k v old.bytes h at ps → pair_at k.order ps key ≡ Some p
     → pair_node p ≡ node → ErasesPair k v old new h at ps p key
 
--- all pairs are gone, and their blocks; of all other blocks no byte changes but the 24 of the map, and if there was
--- no pair, nothing
+-- all pairs are removed, and their blocks are freed; of all other blocks only the 24 bytes of the map change, and
+-- nothing changes if the map was empty
 pub record FreesAllPairs {K V : Type 0} (k : Plain K) (v : Plain V) (old new : WindowState) (h at : ℕ)
     (ps : List (Pair K V)) : Type 0 where
   pub change : ExchangesBlocks current old new (h + at) 24 (map (λ (p : Pair K V). p.node) ps) []
   pub empty : let none : List (Pair K V) = [] in HoldsMap k v new.bytes h at none
   pub same : ps ≡ [] → new ≡ old
 
--- all pairs of a map are gone with their blocks; an empty map changes no byte
+-- all pairs of a map are removed with their blocks; an empty map changes no byte
 abbrev pub ReleasesMap : {K V : Type 0} → Plain K → Plain V → WindowState → WindowState → ℕ → ℕ → Type 0
 ReleasesMap {K} {V} k v old new h at = (ps : List (Pair K V)) → HoldsMap k v old.bytes h at ps
     → FreesAllPairs k v old new h at ps
 
--- a node that is made: a new block with null links, a key and a value
+-- a new block holds a node with null links, a key and a value
 pub record AllocatesNodeOk {K V : Type 0} (k : Plain K) (v : Plain V) (old new : WindowState) (key : K) (value : V)
     (node : ℕ) : Type 0 where
   pub block : AllocatesOk current old new (node_len k.SIZE v.SIZE) Node node
@@ -112,13 +114,13 @@ pub record AllocatesNodeOk {K V : Type 0} (k : Plain K) (v : Plain V) (old new :
   pub key_there : HasBytesAt (bytes_of new.bytes) (node + 16) (k.spelling key)
   pub value_there : HasBytesAt (bytes_of new.bytes) (node + 16 + k.SIZE) (v.spelling value)
 
--- a node, or no space for its block, and then nothing changes
+-- a node is allocated, or there is no space and nothing changes
 abbrev pub AllocatesNode : {K V E : Type 0} → Plain K → Plain V → WindowState → WindowState → K → V → Result ℕ E
     → Type 0
 AllocatesNode {K} {V} k v old new key value result = MatchResult result (AllocatesNodeOk k v old new key value)
     (λ e. AllocatesNoSpace old new (node_len k.SIZE v.SIZE) Node)
 
--- a pair whose node has no links, and whose key is not in the map
+-- a pair whose node has null links, and whose key is not in the map
 pub record IsUnlinkedPair {K V : Type 0} (k : Plain K) (v : Plain V) (b : List ℕ) (h : ℕ) (ps : List (Pair K V))
     (p : Pair K V) : Type 0 where
   pub absent : pair_at k.order ps p.key ≡ None
@@ -128,7 +130,7 @@ pub record IsUnlinkedPair {K V : Type 0} (k : Plain K) (v : Plain V) (b : List �
   pub right : link_at (bytes_of b) (pair_node p + 8) ≡ None
   pub bytes : IsPairAt k.SIZE k.spelling v.spelling (bytes_of b) p
 
--- a map, and the node of such a pair
+-- a map, and the node of a pair that is not yet in it
 pub record HasUnlinkedNode {K V : Type 0} (k : Plain K) (v : Plain V) (b : List ℕ) (h at node : ℕ) : Type 0 where
   pub pairs : List (Pair K V)
   pub pair : Pair K V
@@ -136,7 +138,7 @@ pub record HasUnlinkedNode {K V : Type 0} (k : Plain K) (v : Plain V) (b : List 
   pub loose : IsUnlinkedPair k v b h pairs pair
   pub is : pair_node pair ≡ node
 
--- a pair can enter the tree with this root, from where the insertion of its node begins: none means at the root
+-- a pair can be linked into the tree with this root, and where the insertion of its node begins: none means at the root
 pub record CanLinkPair {K V : Type 0} (k : Plain K) (v : Plain V) (c : WindowState) (h at : ℕ) (root start : Option ℕ)
     (node : ℕ) : Type 0 where
   pub there : HasUnlinkedNode k v c.bytes h at node
@@ -149,13 +151,13 @@ abbrev pub LinksPairOk : {K V : Type 0} → Plain K → Plain V → WindowState 
 LinksPairOk k v old new h at ps p =
     RewritesNodes k v old new h at (pair_node p ∷ nodes_of_pairs ps) (put_pair k.order p ps)
 
--- the node of a pair enters the tree of its map
+-- the node of a pair is linked into the tree of its map
 abbrev pub LinksPair : {K V : Type 0} → Plain K → Plain V → WindowState → WindowState → ℕ → ℕ → ℕ → Type 0
 LinksPair {K} {V} k v old new h at node =
     (ps : List (Pair K V)) (p : Pair K V) → HoldsMap k v old.bytes h at ps → IsUnlinkedPair k v old.bytes h ps p
     → pair_node p ≡ node → LinksPairOk k v old new h at ps p
 
--- a pair more, in a new block
+-- the map has one more pair, in a new block
 pub record PutsNewPair {K V : Type 0} (k : Plain K) (v : Plain V) (old new : WindowState) (h at : ℕ)
     (ps : List (Pair K V)) (key : K) (value : V) : Type 0 where
   pub extent : Extent
@@ -176,7 +178,7 @@ pub record PutsNoSpace {K V : Type 0} (k : Plain K) (v : Plain V) (old new : Win
   pub none : place (live_of old.bytes) (node_len k.SIZE v.SIZE) Node ≡ None
   pub same : new ≡ old
 
--- a new key has a new pair, if there is space for it, and another key its new value
+-- a new key gets a new pair, or there is no space and nothing changes; a key of the map gets the new value
 abbrev pub PutsPair : {K V E : Type 0} → Plain K → Plain V → WindowState → WindowState → ℕ → ℕ → K → V
     → Result Bool E → Type 0
 PutsPair {K} {V} k v old new h at key value result =

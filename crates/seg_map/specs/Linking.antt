@@ -1,4 +1,4 @@
--- Nodes that enter and leave the tree of a map.
+-- Nodes that are linked into the tree of a map, or unlinked from it.
 use Rattle.std.specs.Prelude.{◌≡◌, ℕ, ◌+◌, ◌*◌, ◌≤◌, true, Option, List, length}
 use Rattle.raw_region.specs.Memory.{WindowState}
 use Rattle.link_tree.specs.{Nodes.leads, Tree.Tree, Tree.IsSearchTree, Tree.bits, Tree.nodes_of}
@@ -15,12 +15,12 @@ pub record IsKeyTree {K : Type 0} (k : Plain K) (ns : List ℕ) (c : WindowState
   pub tree : IsSearchTree (comes_before k.order (keys_in k ns c)) (pair_cells (16 + k.SIZE) ns c) root t
   pub leads : leads (is_pair_node (16 + k.SIZE) ns c) root ≡ true
 
--- some tree of keys is there, as a search asks for it
+-- there is a tree of keys, as a search requires it
 abbrev pub HasKeyTree : {K : Type 0} → Plain K → List ℕ → WindowState → Option ℕ → Type 0
 HasKeyTree k ns c root =
     (t : Tree) × IsSearchTree (comes_before k.order (keys_in k ns c)) (pair_cells (16 + k.SIZE) ns c) root t
 
--- a link leads to a tree whose nodes became these; nothing changes but links and colours of the nodes
+-- a link leads to a tree that now has these nodes; only links and colours of the nodes change
 pub record Relinked {K : Type 0} (k : Plain K) (ns : List ℕ) (old new : WindowState) (root top : Option ℕ)
     (becomes : List ℕ → List ℕ) (steps : ℕ) : Type 0 where
   pub kept : kept_of ns new ≡ kept_of ns old

@@ -25,12 +25,12 @@ Chains {K} less = (x y z : K) → less x y ≡ true → less y z ≡ true → le
 
 -- ---- blocks of a proper live set
 
--- the list has the extent
+-- the list contains the extent
 abbrev pub In : Extent → List Extent → Type 0
 In x [] = ⊥
 In x (y ∷ ys) = (y ≡ x) ⊎ In x ys
 
--- an extent lies between two places
+-- an extent lies between two offsets
 pub record Lies (from : ℕ) (x : Extent) (to : ℕ) : Type 0 where
   pub low : from ≤ x.offset
   pub high : x.offset + x.len ≤ to
@@ -50,7 +50,7 @@ lies from (y ∷ ys) to x h (inr i) =
     let r = lies (y.offset + y.len) ys to x f.rest i in let low = r.low in
     record { low = omega arith; high = r.high; long = r.long; whole = r.whole }
 
--- two extents are one or share no byte
+-- two extents are equal or share no byte
 abbrev pub Disjoint : Extent → Extent → Type 0
 Disjoint x y = (x ≡ y) ⊎ ((x.offset + x.len ≤ y.offset) ⊎ (y.offset + y.len ≤ x.offset))
 
@@ -98,7 +98,7 @@ is_node Index e = absurd (false≢true e)
 is_node Storage e = absurd (false≢true e)
 is_node Node e = refl
 
--- an extent of the list that passes a test that some of them passes
+-- an extent of the list that passes the test, if `list_any` says that there is one
 pub record PassingExtent (test : Extent → Bool) (xs : List Extent) : Type 0 where
   pub extent : Extent
   pub listed : In extent xs
@@ -149,7 +149,7 @@ IsGoodNodeSet-is_good len ns c g =
     (list_all (links_among (bytes_of c.bytes) ns) ns)
     (and_from (is_proper (live_of c.bytes)) (list_all (is_block_in len (live_of c.bytes)) ns) g.proper g.blocks) g.links
 
--- the number is a node of the map that was lent
+-- the number is one of the map's lent nodes
 pub record PairNode (len : ℕ) (ns : List ℕ) (c : WindowState) (n : ℕ) : Type 0 where
   pub good : IsGoodNodeSet len ns c
   pub listed : is_in n ns ≡ true
@@ -172,7 +172,7 @@ pub node_block : (len : ℕ) (ns : List ℕ) (c : WindowState) (n : ℕ) → Pai
 node_block len ns c n g = block_at len (live_of c.bytes).extents n
     (all_at (is_block_in len (live_of c.bytes)) ns n g.good.blocks g.listed)
 
--- a node is at a multiple of 16 from 144 on, below 2^30
+-- a node's handle is a multiple of 16 from 144 on, below 2^30
 pub record NodeBounds (len : ℕ) (c : WindowState) (n : ℕ) : Type 0 where
   pub block : NodeBlock len (live_of c.bytes).extents n
   pub low : 144 ≤ n
@@ -200,7 +200,7 @@ pub handles_length : (xs : List Extent) → length (map handle xs) ≡ length xs
 handles_length [] = refl
 handles_length (x ∷ xs) = ap suc (handles_length xs)
 
--- a list of at most 2^40 numbers has all nodes of a map
+-- a list of at most 2^40 numbers contains all nodes of a map
 abbrev pub Finite : ℕ → List ℕ → WindowState → Type 0
 Finite len ns c = (ms : List ℕ) × (length ms ≤ 2 ^ 40) × ((n : ℕ) → is_pair_node len ns c n ≡ true → is_in n ms ≡ true)
 

@@ -1,4 +1,4 @@
--- The steps of a search in a map: the nodes of its path from the root.
+-- The steps of a search in a map: the number of nodes on its path from the root.
 use Rattle.std.specs.Prelude.{◌≡◌, ℕ, ◌+◌, ◌≤◌, Bool, true, false, Option, Some, None, List, IfSome, IsTrue}
 use Rattle.std.specs.{Prelude.if◌then◌else◌, Prelude.option_and_then, Prelude.option_map, List.AllByRecursion}
 use Rattle.raw_region.specs.Memory.{WindowState, Memory, bytes_of, read}
@@ -9,34 +9,34 @@ use Rattle.seg_map.specs.{Linking.IsKeyTree, Linking.keys_in, Map.Pair}
 use Rattle.seg_map.specs.PairNodes.{both, comes_before, stands_before}
 use Rattle.seg_map.specs.Places.{FindsKey, HoldsMap, SearchSteps, final_pair, first_pair, item_of, last_pair, pair_node}
 
--- the nodes that a search goes to, for the first pair that is not below a key, or that is above it
+-- the number of nodes that a search visits for the first pair whose key is not below a key, or is above it
 abbrev pub path_in : {K : Type 0} → Plain K → WindowState → Bool → K → Tree → ℕ
 path_in k c past key t = path_length (stands_before k.order (keys_in k (nodes_of t) c) past key) t
 
--- one step to read the pair that was found
+-- one step if a pair was found, for reading it
 abbrev pub reading_steps : {A : Type 0} → Option A → ℕ
 reading_steps None = 0
 reading_steps (Some x) = 1
 
--- a look-up takes the steps of a search, and one more if there is such a pair
+-- a look-up takes the steps of a search, and one more if it finds a pair
 abbrev pub LookupSteps : {K V : Type 0} → Plain K → Plain V → WindowState → Place → Bool → K → ℕ → ℕ → Type 0
 LookupSteps {K} {V} k v c at past key before after =
     (ps : List (Pair K V)) (s : HoldsMap k v c.bytes at.handle at.at ps)
     → after ≡ before + path_in k c past key s.map.tree.tree + reading_steps (first_pair k.order past key ps)
 
--- a call that looks a key up first takes these steps, and this many more at least
+-- a call that first looks a key up takes the steps of the look-up, and at least this many more
 abbrev pub LooksUpFirst : {K V : Type 0} → Plain K → Plain V → WindowState → Place → K → ℕ → ℕ → ℕ → Type 0
 LooksUpFirst {K} {V} k v c at key more before after =
     (ps : List (Pair K V)) (s : HoldsMap k v c.bytes at.handle at.at ps)
     → before + path_in k c false key s.map.tree.tree + reading_steps (first_pair k.order false key ps) + more ≤ after
 
--- the law: a search that looks back goes down the path of the look-up of that key
+-- the law: a search backwards takes the path of the look-up of its key
 abbrev pub LookBackTakes : {K V : Type 0} → Plain K → Plain V → WindowState → Place → Bool → K → ℕ → ℕ → Type 0
 LookBackTakes {K} {V} k v c at past key before after =
     (ps : List (Pair K V)) (s : HoldsMap k v c.bytes at.handle at.at ps)
     → after ≡ before + path_in k c past key s.map.tree.tree + reading_steps (last_pair k.order past key ps)
 
--- the path to the last pair goes to the right from each node
+-- the number of nodes on the path to the last pair, which goes right at each node
 abbrev pub last_path : Tree → ℕ
 last_path t = path_length (λ n. true) t
 
@@ -48,13 +48,13 @@ LastTakes {K} {V} k v c at before after =
 
 -- ---- the pair at the end of a search
 
--- the key and the value that the bytes of a node spell, or none
+-- the key and the value that the bytes of a node encode, or none
 abbrev pub item_at : {K V : Type 0} → Plain K → Plain V → Memory → ℕ → Option (K × V)
 item_at k v m n =
     both (value_in k.reading k.is_value k.spelling (read m (n + 16) k.SIZE))
     (value_in v.reading v.is_value v.spelling (read m (n + (16 + k.SIZE)) v.SIZE))
 
--- the node, if its key is at most the given one
+-- the node, if its key is at most the given key
 abbrev pub node_with : {K : Type 0} → Plain K → Memory → K → ℕ → Option ℕ
 node_with k m key n =
     option_and_then (λ x. if k.order key x then None else Some n)
@@ -78,7 +78,7 @@ pub record OpensPairTree {K V : Type 0} (k : Plain K) (v : Plain V) (now c : Win
   pub pairs : (ps : List (Pair K V)) → HoldsMap k v c.bytes at.handle at.at ps
       → AllByRecursion (IsRead k v c (keys_in k own now)) ps
 
--- the key and the value of the pair that is looked for, and the steps of the path to it
+-- the key and the value of the result, and the steps of the path to it
 pub record LooksUp {K V : Type 0} (k : Plain K) (v : Plain V) (c : WindowState) (at : Place)
     (pair : List (Pair K V) → Option (Pair K V)) (path : Tree → ℕ) (result : Option (K × V)) (before after : ℕ) : Type 0
   where
@@ -88,7 +88,7 @@ pub record LooksUp {K V : Type 0} (k : Plain K) (v : Plain V) (c : WindowState) 
     pub exact : (ps : List (Pair K V)) (s : HoldsMap k v c.bytes at.handle at.at ps)
         → after ≡ before + path s.map.tree.tree + reading_steps (pair ps)
 
--- the node of a key, with the steps of a look-up
+-- the node of a key, and the steps of a look-up
 pub record LooksFor {K V : Type 0} (k : Plain K) (v : Plain V) (c : WindowState) (at : Place) (key : K)
     (found : Option ℕ) (before after : ℕ) : Type 0 where
   pub node : FindsKey k v c.bytes at.handle at.at key found

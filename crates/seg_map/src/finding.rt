@@ -1,4 +1,4 @@
-//! Pairs that are looked for.
+//! Searches for pairs.
 ghost use Rattle.std.specs.Prelude.{◌≡◌, ◌+◌, ◌≤◌, true, false, Option, Some, IfSome, IsTrue, option_and_then};
 ghost use Rattle.raw_region.specs.Memory.{bytes_of};
 ghost use Rattle.offset_link.specs.Link.{link_at};
@@ -21,19 +21,20 @@ use raw_region::Steps;
 use seg_types::Plain;
 use std::marker::PhantomData;
 
-/// The root of a map's tree, the node of a key, and where a change of the tree begins, which a search has found.
+/// The result of a search for a key: the root of the map's tree, the key's node, and the node at which a change of the
+/// tree begins.
 #[derive(Clone, Copy)]
 pub struct KeyCursor {
-    /// The root; none if there is no pair.
+    /// The root; none if the map is empty.
     pub root: Option<u64>,
-    /// The node; none if the key is not there.
+    /// The node; none if the map lacks the key.
     pub node: Option<u64>,
-    /// Where the change begins; none if it begins at the root.
+    /// The node at which the change begins; none if it begins at the root.
     pub start: Option<u64>,
 }
 
 impl<K: Plain, V: Plain> SegMap<K, V> {
-    /// Returns the value of a key.
+    /// Returns the value of a key, or `None` if the map lacks the key.
     pub fn get(self, heap: &Heap, key: K, steps: &mut Steps) -> Option<V>
         requires { IsSomeMap K.Plain V.Plain heap.now.bytes self.place.handle self.place.at }
         ensures value { FindsValue K.Plain V.Plain heap.now.bytes self.place.handle self.place.at key result }
@@ -45,7 +46,7 @@ impl<K: Plain, V: Plain> SegMap<K, V> {
         (!key.precedes(found)).then_some(value)
     }
 
-    /// Returns the key and the value of the pair with the least key that is not below `key`.
+    /// Returns the pair with the least key that is not below `key`, or `None` if there is none.
     pub fn first_from(self, heap: &Heap, key: K, steps: &mut Steps) -> Option<(K, V)>
         requires { IsSomeMap K.Plain V.Plain heap.now.bytes self.place.handle self.place.at }
         ensures item { FindsItem K.Plain V.Plain heap.now.bytes self.place.handle self.place.at false key result }
@@ -56,7 +57,7 @@ impl<K: Plain, V: Plain> SegMap<K, V> {
         self.find_from(heap, &KeyProbe { key, past: false }, steps)
     }
 
-    /// Returns the key and the value of the pair with the least key above `key`.
+    /// Returns the pair with the least key above `key`, or `None` if there is none.
     pub fn next_after(self, heap: &Heap, key: K, steps: &mut Steps) -> Option<(K, V)>
         requires { IsSomeMap K.Plain V.Plain heap.now.bytes self.place.handle self.place.at }
         ensures item { FindsItem K.Plain V.Plain heap.now.bytes self.place.handle self.place.at true key result }
@@ -67,7 +68,7 @@ impl<K: Plain, V: Plain> SegMap<K, V> {
         self.find_from(heap, &KeyProbe { key, past: true }, steps)
     }
 
-    /// Returns the key and the value of the pair with the greatest key.
+    /// Returns the pair with the greatest key, or `None` if the map is empty.
     pub fn last(self, heap: &Heap, steps: &mut Steps) -> Option<(K, V)>
         requires { IsSomeMap K.Plain V.Plain heap.now.bytes self.place.handle self.place.at }
         ensures item { FindsLastItem K.Plain V.Plain heap.now.bytes self.place.handle self.place.at result }
@@ -80,7 +81,7 @@ impl<K: Plain, V: Plain> SegMap<K, V> {
         read_found(heap, found, steps)
     }
 
-    /// Returns the key and the value of the pair with the greatest key that is not above `key`.
+    /// Returns the pair with the greatest key that is not above `key`, or `None` if there is none.
     pub fn last_up_to(self, heap: &Heap, key: K, steps: &mut Steps) -> Option<(K, V)>
         requires { IsSomeMap K.Plain V.Plain heap.now.bytes self.place.handle self.place.at }
         ensures item { FindsItemBefore K.Plain V.Plain heap.now.bytes self.place.handle self.place.at true key result }
@@ -91,7 +92,7 @@ impl<K: Plain, V: Plain> SegMap<K, V> {
         self.find_before(heap, &KeyProbe { key, past: true }, steps)
     }
 
-    /// Returns the key and the value of the pair with the greatest key below `key`.
+    /// Returns the pair with the greatest key below `key`, or `None` if there is none.
     pub fn previous_before(self, heap: &Heap, key: K, steps: &mut Steps) -> Option<(K, V)>
         requires { IsSomeMap K.Plain V.Plain heap.now.bytes self.place.handle self.place.at }
         ensures item { FindsItemBefore K.Plain V.Plain heap.now.bytes self.place.handle self.place.at false key result }
@@ -102,7 +103,7 @@ impl<K: Plain, V: Plain> SegMap<K, V> {
         self.find_before(heap, &KeyProbe { key, past: false }, steps)
     }
 
-    /// Returns the pairs of the map, for a search.
+    /// Returns the map's pairs as a tree, for a search.
     fn open(self, heap: &Heap) -> PairTree<&Heap, K>
         requires { IsSomeMap K.Plain V.Plain heap.now.bytes self.place.handle self.place.at }
         ensures root { result.root ≡ link_at (bytes_of heap.now.bytes) (self.place.handle + self.place.at) }
@@ -141,7 +142,7 @@ impl<K: Plain, V: Plain> SegMap<K, V> {
         read_found(heap, found, steps)
     }
 
-    /// Returns the node of a key, and where a node with that key would enter.
+    /// Returns the node of a key, and where the insertion of a node with this key begins.
     pub(crate) fn find_for_put(self, heap: &Heap, key: K, steps: &mut Steps) -> KeyCursor
         requires map { IsSomeMap K.Plain V.Plain heap.now.bytes self.place.handle self.place.at }
         ensures search { LooksFor K.Plain V.Plain heap.now self.place key result.node steps.old steps.new }
@@ -196,7 +197,7 @@ fn read_found<K: Plain, V: Plain>(
     Some((key, value))
 }
 
-/// Returns the node that a search for a key has found, if it has that key.
+/// Returns the node that a search for a key found, if the node has this key.
 fn with_key<K: Plain>(heap: &Heap, node: Option<u64>, key: K, steps: &mut Steps) -> Option<u64>
     requires { IfSome node (λ n. IsTrue (has_room (live_of heap.now.bytes) n (16 + K.SIZE))) }
     ensures node { result ≡ option_and_then (node_with K.Plain (bytes_of heap.now.bytes) key) node }

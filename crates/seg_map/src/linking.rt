@@ -1,4 +1,4 @@
-//! Nodes that enter and leave the tree of a map, and the three words that say so.
+//! Links nodes into the tree of a map and unlinks them, and writes the map's three words.
 ghost use Rattle.std.specs.Prelude.{◌≡◌, ◌+◌, ◌%◌, ◌<◌, IfSome, IsTrue};
 ghost use Rattle.best_fit.specs.{Extents.is_proper, Heap.has_room, Heap.heap_touches, Heap.live_of};
 ghost use Rattle.seg_map.specs.PairNodes.{own_nodes};
@@ -13,7 +13,7 @@ use raw_region::Steps;
 use seg_types::Plain;
 use std::marker::PhantomData;
 
-/// Where the number of pairs stands after the link, and the word that is 0.
+/// The distance in bytes from a map's link to its number of pairs. The third word is 0.
 pub const COUNT: u64 = 8;
 
 const THIRD: u64 = 16;
@@ -32,8 +32,8 @@ pub fn write_map_header(heap: &mut Heap, place: Place, root: Option<u64>, count:
 }
 
 impl<K: Plain, V: Plain> SegMap<K, V> {
-    /// Takes a pair out of the map, from the root of the tree on or from where a search has found that it changes, and
-    /// gives its block back.
+    /// Removes a pair from the map and frees its block. The removal begins at the root or at the start that a search
+    /// found.
     #[tactic(auto, using(crate::proofs::pairs::NodeBlocks::rooms, crate::proofs::pairs::Frame::trees))]
     pub(crate) fn unlink_pair(
         self,
@@ -57,7 +57,7 @@ impl<K: Plain, V: Plain> SegMap<K, V> {
         heap.deallocate(node, steps);
     }
 
-    /// Puts a pair into the map, whose node is made, from where the search for its key has found that the tree changes.
+    /// Links a pair whose node is allocated into the map. The insertion begins where the search for its key found.
     #[tactic(auto, using(crate::proofs::pairs::NodeBlocks::rooms, crate::proofs::pairs::Frame::trees))]
     pub(crate) fn link_pair(self, heap: &mut Heap, trace: &KeyCursor, node: u64, steps: &mut Steps)
         requires { CanLinkPair K.Plain V.Plain heap.old self.place.handle self.place.at trace.now.root
@@ -74,7 +74,7 @@ impl<K: Plain, V: Plain> SegMap<K, V> {
     }
 }
 
-/// Returns the pairs that a link leads to, and one node more, lent to a call of the tree.
+/// Returns the pairs that a link leads to, and one spare node, as a tree for one call.
 fn lend<'a, K: Plain>(
     heap: &'a mut Heap,
     root: Option<u64>,

@@ -1,4 +1,4 @@
-//! Maps from values of a fixed number of bytes to such values.
+//! Maps whose keys and values have a fixed number of bytes.
 ghost use Rattle.std.specs.Prelude.{◌≡◌, ◌+◌, ◌%◌, ◌<◌, ◌≤◌, IfOk, IsTrue, false, true};
 ghost use Rattle.best_fit.specs.{Extents.is_proper, Heap.has_room, Heap.live_of};
 ghost use Rattle.seg_map.specs.Changing.{ChangeSteps, CountsPairs, ErasesKey, InitsMap, PutsPair, ReleasesMap};
@@ -16,16 +16,16 @@ use std::marker::PhantomData;
 /// A map at a place in a heap: three words, which are the link to the root of a red-black tree, the number of pairs,
 /// and 0. Each pair has a block, and keeps it until its key is erased.
 ///
-/// The type holds the place alone. Each call takes the heap as an argument, so that no borrow lasts between two calls.
+/// The type stores only the place. Each call takes the heap as an argument, so that no borrow lasts between two calls.
 #[derive(Clone, Copy)]
 pub struct SegMap<K: Plain, V: Plain> {
-    /// Where the three words stand.
+    /// The place of the three words.
     pub place: Place,
     of: PhantomData<(K, V)>,
 }
 
 impl<K: Plain, V: Plain> SegMap<K, V> {
-    /// Returns the map that stands at a place.
+    /// Returns the map at a place.
     pub fn at(place: Place) -> SegMap<K, V>
         ensures { result.place ≡ place }
     {
@@ -35,7 +35,7 @@ impl<K: Plain, V: Plain> SegMap<K, V> {
         }
     }
 
-    /// Makes a map without pairs of the 24 bytes at a place: a multiple of 8 in a block in use.
+    /// Makes an empty map in the 24 bytes at a place, a multiple of 8 in a block in use.
     pub fn new(heap: &mut Heap, place: Place) -> SegMap<K, V>
         requires aligned { place.at % 8 ≡ 0 }
         requires proper { IsTrue (is_proper (live_of heap.old.bytes)) }
@@ -55,8 +55,8 @@ impl<K: Plain, V: Plain> SegMap<K, V> {
         heap.word(self.place.handle, self.place.at + COUNT)
     }
 
-    /// Puts the value of a key, and returns whether the key is new. All other pairs keep their blocks, and so does this
-    /// one if the key is not new.
+    /// Sets the value of a key, and returns true if the key is new. All other pairs keep their blocks, and so does a
+    /// pair whose key is not new.
     ///
     /// # Errors
     ///
@@ -82,8 +82,8 @@ impl<K: Plain, V: Plain> SegMap<K, V> {
         Ok(true)
     }
 
-    /// Erases a key and frees its block; all other pairs keep theirs. Returns false, and changes nothing, if the key is
-    /// missing.
+    /// Erases a key, frees its block and returns true. All other pairs keep their blocks. If the map lacks the key,
+    /// nothing changes and it returns false.
     pub fn erase(self, heap: &mut Heap, key: K, steps: &mut Steps) -> bool
         requires { IsSomeMap K.Plain V.Plain heap.old.bytes self.place.handle self.place.at }
         ensures changes { ErasesKey K.Plain V.Plain heap.old heap.new self.place.handle self.place.at key result }
@@ -101,12 +101,12 @@ impl<K: Plain, V: Plain> SegMap<K, V> {
         true
     }
 
-    /// Gives the blocks of all pairs back. There is no pair then.
+    /// Frees the blocks of all pairs. The map is then empty.
     pub fn release(self, heap: &mut Heap)
         requires { IsSomeMap K.Plain V.Plain heap.old.bytes self.place.handle self.place.at }
         ensures { ReleasesMap K.Plain V.Plain heap.old heap.new self.place.handle self.place.at }
     {
-        // the pair at the root goes each time: the tree needs no walk then, and the map is one at each moment
+        // it removes the pair at the root each time: this needs no walk, and the map is valid at each moment
         'pairs: while let Some(node) = heap.link(self.place.handle, self.place.at) {
             let trace = KeyCursor {
                 root: Some(node),

@@ -14,15 +14,15 @@ use raw_region::Snapshot;
 use seg_types::Plain;
 use std::marker::{Model, PhantomData};
 
-/// A heap that is lent to a call of the tree, to be read or to be changed.
+/// A heap that is lent to a call of the tree, for reading or for writing.
 pub trait HeapRef {
     // The state of the heap.
     ghost cut: { Self → WindowState };
 
-    // The name of the reference, where the heap is lent to be changed.
+    // The name of the reference, if the heap is lent for writing.
     ghost lender: { Self → ℕ } = { λ _. 0 };
 
-    /// Returns the heap, to be read.
+    /// Returns the heap for reading.
     fn heap(&self) -> &Heap
         ensures { result.now ≡ cut self.now };
 }
@@ -47,7 +47,8 @@ impl HeapRef for &mut Heap {
     }
 }
 
-/// The nodes of one map: those of its tree when this was made, and one spare node. Later writes do not change the set.
+/// The nodes of one map: the nodes of its tree at the time when the set was made, and one spare node. Later writes do
+/// not change the set.
 #[derive(Drop)]
 pub struct NodeSet {
     then: Snapshot,
@@ -68,7 +69,7 @@ impl NodeSet {
     ghost use Rattle.std.specs.Prelude.{◌≡◌};
     ghost use Rattle.seg_map.specs.PairNodes.{own_nodes};
 
-    /// Makes the set of the nodes that `root` leads to, and the spare node, which the caller inserts.
+    /// Makes the set of the nodes behind `root`, and of the spare node, which the caller will insert.
     pub fn new(heap: &Heap, root: Option<u64>, spare: Option<u64>) -> NodeSet
         ensures { result ≡ own_nodes heap.now.bytes root spare }
     {
@@ -80,12 +81,12 @@ impl NodeSet {
     }
 }
 
-/// A heap with the pairs of one map in it, and the link to the root of their tree.
+/// A heap with the pairs of one map, and the link to the root of their tree.
 #[derive(Drop)]
 pub struct PairTree<H, K> {
     /// The heap with the nodes.
     pub heap: H,
-    /// Which blocks are nodes.
+    /// The blocks that are nodes.
     pub own: NodeSet,
     /// The root of the tree.
     pub root: Option<u64>,

@@ -1,4 +1,4 @@
-//! Pairs that are put.
+//! Writes pairs.
 ghost use Rattle.std.specs.Prelude.{◌≡◌, ◌+◌, ◌<◌, ◌≤◌, IsTrue, is_ok, true};
 ghost use Rattle.raw_region.specs.{Format.current, Memory.HasBytesAt, Memory.bytes_of};
 ghost use Rattle.best_fit.specs.Heap.{ChangesBytes, has_room, heap_touches, live_of};
@@ -10,7 +10,7 @@ use block_tags::Role;
 use raw_region::Steps;
 use seg_types::{MAX_SPELLING_LEN, Plain, SHORT_SPELLING_LEN};
 
-/// Writes a value at `at` in the block of a handle.
+/// Writes a value at `at` in a block.
 pub fn write_value<T: Plain>(heap: &mut Heap, handle: u64, at: u64, value: T)
     requires { IsTrue (has_room (live_of heap.old.bytes) handle (at + T.SIZE)) }
     ensures value { T.is_value value ≡ true }
@@ -24,7 +24,7 @@ pub fn write_value<T: Plain>(heap: &mut Heap, handle: u64, at: u64, value: T)
     }
 }
 
-/// Writes the value by way of a buffer of `N` bytes.
+/// Writes the value through a buffer of `N` bytes.
 fn write_by<T: Plain, const N: usize>(heap: &mut Heap, handle: u64, at: u64, value: T)
     requires buffer { T.SIZE ≤ N }
     requires max_len { N ≤ 4096 }
@@ -39,7 +39,7 @@ fn write_by<T: Plain, const N: usize>(heap: &mut Heap, handle: u64, at: u64, val
     heap.write(handle, at, bytes);
 }
 
-/// Takes a block for a pair, with null links, the key and the value.
+/// Allocates a block for a pair, with null links, the key and the value, and returns its handle.
 ///
 /// # Errors
 ///

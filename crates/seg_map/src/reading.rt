@@ -1,4 +1,4 @@
-//! Keys and values that are read, and the key that is looked for.
+//! Reads keys and values, and defines the target of a search.
 ghost use Rattle.std.specs.Prelude.{◌≡◌, ◌+◌, IsTrue};
 ghost use Rattle.raw_region.specs.Memory.{bytes_of, read};
 ghost use Rattle.best_fit.specs.Heap.{has_room, live_of};
@@ -7,19 +7,20 @@ ghost use Rattle.seg_types.specs.Plain.{value_in};
 use best_fit::Heap;
 use seg_types::Plain;
 
-/// Where the key of a node stands.
+/// The offset of the key in a node's block, in bytes.
 pub const KEY_OFFSET: u64 = 16;
 
-/// A key as the target of a search. Pairs with lesser keys precede it; if `past` is set, so does a pair with this key.
+/// A key as the target of a search. Pairs with lesser keys precede it; if `past` is set, so does the pair with this
+/// key.
 #[derive(Drop)]
 pub struct KeyProbe<K> {
     /// The key.
     pub key: K,
-    /// Whether pairs with the key stand before the probe.
+    /// Whether the pair with this key precedes the probe.
     pub past: bool,
 }
 
-/// Returns the value that the bytes at `at` in the block of a handle spell.
+/// Returns the value that the bytes at `at` in a block encode, or `None` if they encode no value.
 pub fn value_at<T: Plain>(heap: &Heap, handle: u64, at: u64) -> Option<T>
     requires { IsTrue (has_room (live_of heap.now.bytes) handle (at + T.SIZE)) }
     ensures { result ≡ value_in T.reading T.is_value T.spelling (read (bytes_of heap.now.bytes) (handle + at) T.SIZE) }

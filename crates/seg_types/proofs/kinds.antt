@@ -1,2 +1,2 @@
--- Kinds by their codes (`Codes`): each code names one kind, and its parts say which.
+-- Kinds by their codes (`Codes`): each code belongs to one kind, and its parts determine the kind.
 pub mod Codes

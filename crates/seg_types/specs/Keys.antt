@@ -1,4 +1,4 @@
--- The meanings of the keys of the code.
+-- The keys of the code as keys of the definitions.
 use Rattle.std.specs.Prelude.{ℕ, List}
 use Rattle.seg_types.specs.Names as name
 use Rattle.seg_types.specs.declared.names.Name.{Name}

@@ -1,4 +1,4 @@
--- The errors that a line is answered by, each by its number and its words.
+-- The errors of a line, each with its number and its text.
 use Rattle.std.specs.Prelude.{ℕ, List, codes}
 use Rattle.seg_types.specs.declared.refusals.LineError.{LineError}
 use Rattle.seg_types.specs.declared.refusals.LineError.TheVariants.{UnknownCommand, LineTooLong, BadSyntax}
@@ -14,7 +14,7 @@ line_error_number UnknownCommand = 1
 line_error_number LineTooLong = 2
 line_error_number BadSyntax = 3
 
--- the words of a line's error
+-- the text of a line's error
 abbrev pub line_error_words : LineError → List ℕ
 line_error_words UnknownCommand = codes "unknown command"
 line_error_words LineTooLong = codes "line too long"
@@ -31,7 +31,7 @@ refusal_number WrongKind = 7
 refusal_number OutOfRange = 8
 refusal_number NoSpace = 9
 
--- the words of a refusal
+-- the text of a refusal
 abbrev pub refusal_words : Refusal → List ℕ
 refusal_words ReadOnly = codes "read only"
 refusal_words Exists = codes "already exists"

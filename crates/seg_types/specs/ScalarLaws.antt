@@ -1,5 +1,5 @@
--- Each value of a kind is spelled by the bytes of one number, which is read as the value, and by no other bytes. Below
--- stand the laws of the scalar types, which follow.
+-- Each value of a kind is encoded in the bytes of one number, and in no other bytes; the bytes are read back as the
+-- value. The laws of the scalar types follow from this.
 use Rattle.std.proofs.Common.{◌≡◌, sym, ap, subst, ◌∙◌, ℕ, zero, suc, ◌+◌, ◌-◌, ◌*◌, ◌/◌, ◌%◌, ◌^◌, ◌<◌, ◌≤◌, ◌⊎◌, inl}
 use Rattle.std.proofs.Common.{inr, refl, List, [], ◌∷◌, length, arith, append-nil, lit≤, Bool, true, false}
 use Rattle.std.proofs.Math.Nat.{div-div-eq-div-mul, div-one, pow-succ'}
@@ -36,7 +36,7 @@ i64-fits_below x h = grind arith
 u64-fits : (x : ℕ) → IsTrue (is_value U64 (pos x)) → x < 2 ^ 64
 u64-fits x h = grind arith
 
--- ---- the number that spells a value
+-- ---- the number that encodes a value
 
 -- the value's number fits in the bytes of its kind, and is read as the value
 record IsReadBack (k : ScalarKind) (z : ℤ) : Type 0 where
@@ -79,18 +79,18 @@ pub bytes_low_first-length : (i k n : ℕ) → length (bytes_low_first i k n) �
 bytes_low_first-length i zero n = refl
 bytes_low_first-length i (suc k) n = ap suc (bytes_low_first-length (suc i) k n)
 
--- the bytes of a number that fits in them say it
+-- the bytes of a number that fits in them encode it
 reads-bytes : (n x : ℕ) → x < 256 ^ n → little_number n (bytes_low_first 0 n x) ≡ x
 reads-bytes n x l = ap (little_number n) (sym (append-nil (bytes_low_first 0 n x))) ∙ little_number-reads_back n x [] l
 
--- ---- the bytes of a number are the only ones that say it
+-- ---- the bytes of a number are the only bytes that encode it
 
 -- a byte of a number, by division
 pub byte_at-is : (k x : ℕ) → byte_at k x ≡ x / 256 ^ k % 256
 byte_at-is zero x = ap (λ (y : ℕ). y % 256) (sym (div-one x))
 byte_at-is (suc k) x = refl
 
--- a byte of a number is the next one of the number with a byte put in front
+-- the next byte of a number is a byte of the number with a byte put before it
 pub byte_at-next : (k a x : ℕ) → a < 256 → byte_at (suc k) (a + 256 * x) ≡ byte_at k x
 byte_at-next k a x small =
     let up : (a + 256 * x) / 256 ≡ x = omega arith in
@@ -98,7 +98,7 @@ byte_at-next k a x small =
     ap (λ (p : ℕ). (a + 256 * x) / p) (pow-succ' 256 k) ∙ sym (div-div-eq-div-mul (a + 256 * x) 256 (256 ^ k)) in
     ap (λ (y : ℕ). y % 256) (split ∙ ap (λ (y : ℕ). y / 256 ^ k) up) ∙ sym (byte_at-is k x)
 
--- and so are all of them
+-- all bytes of a number with a byte put before it
 pub bytes_low_first-next : (i n a x : ℕ) → a < 256 → bytes_low_first (suc i) n (a + 256 * x) ≡ bytes_low_first i n x
 bytes_low_first-next i zero a x small = refl
 bytes_low_first-next i (suc n) a x small =
@@ -106,7 +106,7 @@ bytes_low_first-next i (suc n) a x small =
     let ih = bytes_low_first-next (suc i) n a x small in
     λ j. e j ∷ ih j
 
--- the bytes of the number that bytes say are these bytes
+-- bytes are the encoding of the number that they encode
 pub bytes-back : (bs : List ℕ) → AllByRecursion (λ b. b < 256) bs
     → bytes_low_first 0 (length bs) (little_number (length bs) bs) ≡ bs
 bytes-back [] small = refl
@@ -117,7 +117,7 @@ bytes-back (b ∷ bs) small =
     let up = bytes_low_first-next 0 n b (little_number n bs) here ∙ bytes-back bs small.1 in
     ap (λ (x : ℕ). bytes_low_first 0 (suc n) (b + 256 * x)) (little_from-cons 0 n b bs) ∙ (λ j. low j ∷ up j)
 
--- and that number has no more bytes
+-- the number that bytes encode fits in these bytes
 pub number-small : (bs : List ℕ) → AllByRecursion (λ b. b < 256) bs → little_number (length bs) bs < 256 ^ length bs
 number-small [] small = omega arith
 number-small (b ∷ bs) small =
@@ -126,7 +126,7 @@ number-small (b ∷ bs) small =
     let e = little_from-cons 0 (length bs) b bs in
     rw (pow-succ' 256 (length bs)) (omega arith)
 
--- the spelling of a value that was read is the number that was read
+-- the encoding of a value that was read from a number is this number
 pub i32-back : (x : ℕ) → x < 256 ^ 4 → (x < 2 ^ 31) ⊎ (2 ^ 31 ≤ x) → complement 4 (value_of I32 x) ≡ x
 i32-back x s (inl l) = ap (complement 4) (i32-low x l)
 i32-back x s (inr l) = let e : 256 ^ 4 - (2 ^ 32 - 1 - x + 1) ≡ x = omega arith in ap (complement 4) (i32-high x l) ∙ e
@@ -142,7 +142,7 @@ number-back I32 x s = i32-back x s (cases_lt x (2 ^ 31))
 number-back I64 x s = i64-back x s (cases_lt x (2 ^ 63))
 number-back U64 x s = refl
 
--- bytes whose value is read are its spelling
+-- bytes that are read as a value are its encoding
 only-spelling : (k : ScalarKind) (z : ℤ) (bs : List ℕ) → AllByRecursion (λ b. b < 256) bs → length bs ≡ size_of k
     → value_of k (little_number (size_of k) bs) ≡ z → bs ≡ spelling k z
 only-spelling k z bs small len is =
@@ -155,7 +155,7 @@ only-spelling k z bs small len is =
 
 -- ---- the law
 
--- a value is spelled in one way, by as many bytes as its kind has, and no other bytes spell it
+-- a value has one encoding, with the number of bytes of its kind, and no other bytes encode it
 pub all_spell_one : AllSpellOne
 all_spell_one k z h =
     let r : IsReadBack k z = read_back k z h in
@@ -184,7 +184,7 @@ pub differs : (k : ScalarKind) (y z : ℤ) → is_value k y ≡ true → is_valu
 differs k y z h i e = sym (all_spell_one k y h).reads ∙ ap (λ bs. value_of k (little_number (size_of k) bs)) e
     ∙ (all_spell_one k z i).reads
 
--- the value that bytes spell
+-- the value that bytes encode
 abbrev pub whole-reading : ScalarKind → List ℕ → Option ℤ
 whole-reading k b = Some (value_of k (little_number (size_of k) b))
 

@@ -4,7 +4,7 @@ use Rattle.seg_types.specs.declared.values.ScalarValue.{ScalarValue}
 use Rattle.seg_types.specs.Commands.{Literal, Quoted, literal_of}
 use Rattle.seg_types.specs.Values.{kind_of_scalar, value_of_scalar}
 
--- the literal that a script writes for the value: its kind is forgotten but for whether it is a truth
+-- the literal that a script writes for the value: it keeps only whether the value is a truth value
 abbrev pub literal_seen : ScalarValue → Literal
 literal_seen v = literal_of (kind_of_scalar v) (value_of_scalar v)
 

@@ -1,7 +1,7 @@
-//! Where a kind or a value that is known only at run time leads to the same code for its type.
+//! Macros that lead from a kind or a value, known only at run time, to the same code for its type.
 
-/// Makes one piece of code for the type of each kind: `work!(bool, Bool)`, with the type and with the name that it has
-/// in [`ScalarKind`](crate::ScalarKind) and [`ScalarValue`](crate::ScalarValue), and so on for each of the five.
+/// Repeats a piece of code for the type of each kind. `work!(bool, Bool)` gets the type and its name in
+/// [`ScalarKind`](crate::ScalarKind) and [`ScalarValue`](crate::ScalarValue), and so on for each of the five.
 ///
 /// Example: `by_kind!(kind, size_of)`, where `size_of!` takes a type and a name.
 #[macro_export]

@@ -1,4 +1,4 @@
-//! Names, keys and values made of others.
+//! Conversions between names, keys and values.
 ghost use Rattle.std.specs.Prelude.{◌≡◌, MatchResult, pos, true, false};
 ghost use Rattle.seg_types.specs.declared.kinds.ScalarKind.TheVariants as kind;
 ghost use Rattle.seg_types.specs.declared.values.ScalarValue.TheVariants as value;
@@ -13,7 +13,7 @@ use crate::refusals::Refusal;
 use crate::values::ScalarValue;
 use thiserror::Error;
 
-/// Bytes that are no name: none or more than 255, no UTF-8, or with a control character.
+/// The error of a conversion to a name: the bytes are empty, more than 255, not UTF-8, or contain a control character.
 #[derive(Clone, Copy, Debug, PartialEq, Eq, Hash, Error)]
 #[error("a name has 1 to 255 bytes of UTF-8 without control characters")]
 pub struct BadName;

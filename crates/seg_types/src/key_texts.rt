@@ -1,4 +1,4 @@
-//! How names and keys are printed: as the command language prints them.
+//! Prints names and keys, in the form of the command language.
 ghost use Rattle.std.specs.Prelude.{◌≡◌, Some, None, flat_map, if◌then◌else◌};
 ghost use Rattle.std.specs.Fmt.{DisplaysOnOk};
 ghost use Rattle.std.specs.List.{list_all};
@@ -13,7 +13,7 @@ use crate::names::Name;
 use std::fmt;
 use std::fmt::Display;
 
-/// Tells whether a name may stand bare: a letter or `_`, then letters, digits, `_` and `.`.
+/// Returns true if a name needs no quotes: a letter or `_`, then letters, digits, `_` and `.`.
 pub fn is_bare_name(name: &[u8]) -> bool
     ensures { result ≡ is_bare_name name.now }
 {
@@ -23,25 +23,25 @@ pub fn is_bare_name(name: &[u8]) -> bool
     (first.is_ascii_alphabetic() || *first == b'_') && are_name_bytes(rest)
 }
 
-/// Tells whether each byte may stand in a bare name after its first.
+/// Returns true if each byte can occur in a bare name after its first byte.
 fn are_name_bytes(bytes: &[u8]) -> bool
     ensures { result ≡ list_all is_name_byte bytes.now }
 {
     bytes.iter().all(|byte| is_name_byte(*byte))
 }
 
-/// Tells whether a byte may stand in a bare name after its first: a letter, a digit, `_` or `.`.
+/// Returns true if a byte can occur in a bare name after its first byte: a letter, a digit, `_` or `.`.
 fn is_name_byte(byte: u8) -> bool
     ensures { result ≡ is_name_byte byte }
 {
     byte.is_ascii_alphanumeric() || byte == b'_' || byte == b'.'
 }
 
-/// Bare if it can be spelled bare, otherwise as a text in quotes.
+/// Prints the name bare if possible, otherwise in quotes.
 impl fmt::Display for Name<'_> {
     ghost output = { λ n. Some (name_text (name_seen n)) };
 
-    // A bare name is not padded, whatever the options of a hole say.
+    // A bare name is not padded, whatever the format options are.
     ghost styled_output = { λ n spec. if is_bare_name (name_seen n) then Some (name_seen n) else None };
 
     fn fmt<W: fmt::Write>(&self, f: &mut fmt::Formatter<W>) -> fmt::Result {
@@ -98,7 +98,7 @@ fn write_unique<W: fmt::Write>(kind: Kind, f: &mut fmt::Formatter<W>) -> fmt::Re
     write!(f, "@{kind}")
 }
 
-/// A name as names are, a kind after `@`, a handle after `#`, and `-` for no key.
+/// Prints a name as `Name` does, a kind after `@`, a handle after `#`, and `-` for no key.
 impl fmt::Display for Key<'_> {
     ghost output = { λ key. Some (key_text (key_seen key)) };
 
@@ -112,7 +112,7 @@ impl fmt::Display for Key<'_> {
     }
 }
 
-/// Writes the key of the object that is found again.
+/// Prints the key that finds the new object.
 impl fmt::Display for NewKey<'_> {
     ghost output = { λ key. Some (key_text (new_key_seen key)) };
 
@@ -125,7 +125,7 @@ impl fmt::Display for NewKey<'_> {
     }
 }
 
-/// Writes the key of the object that the entry leads to.
+/// Prints the key of the entry's object.
 impl fmt::Display for IndexKey<'_> {
     ghost output = { λ key. Some (key_text (index_key_seen key)) };
 

@@ -1,4 +1,4 @@
-//! How a command says which object it means.
+//! The keys by which a command names an object.
 
 ghost use Rattle.std.specs.Prelude.{◌≡◌};
 ghost use Rattle.seg_types.specs.Keys.{index_key_seen, key_seen, new_key_seen};
@@ -6,45 +6,45 @@ ghost use Rattle.seg_types.specs.Keys.{index_key_seen, key_seen, new_key_seen};
 use crate::kinds::Kind;
 use crate::names::Name;
 
-/// An object's handle: the offset in bytes of its payload from the front of the segment. A handle that
-/// comes from outside need not be a live object's.
+/// An object's handle: the offset in bytes of its payload from the start of the segment. A handle from outside need not
+/// belong to a live object.
 pub type Handle = u64;
 
-/// Which object a command means.
+/// The key of an object.
 #[derive(Clone, Copy, Debug, PartialEq, Eq, Hash)]
 pub enum Key<'a> {
-    /// The one of this name.
+    /// The object with this name.
     Name(Name<'a>),
-    /// The only one of its kind in the unique index.
+    /// The object of this kind in the unique index.
     Unique(Kind),
-    /// The one of this handle, whatever its class.
+    /// The object with this handle, of any class.
     Handle(Handle),
-    /// One without a name: no object is found by this.
+    /// A new object without a name. It finds no object.
     Anonymous,
 }
 
-/// Under which key an object is made.
+/// The key of a new object.
 #[derive(Clone, Copy, Debug, PartialEq, Eq, Hash)]
 pub enum NewKey<'a> {
-    /// Under a name.
+    /// A name.
     Name(Name<'a>),
-    /// The only one of its kind in the unique index.
+    /// The kind, for the unique index.
     Unique(Kind),
-    /// Under none: it is found again by its handle alone.
+    /// No key: only the handle finds the object.
     Anonymous,
 }
 
-/// Under which entry of an index an object is looked up.
+/// The key of an index entry.
 #[derive(Clone, Copy, Debug, PartialEq, Eq, Hash)]
 pub enum IndexKey<'a> {
-    /// Its name.
+    /// The object's name.
     Name(Name<'a>),
-    /// Its kind.
+    /// The object's kind.
     Unique(Kind),
 }
 
 impl<'a> IndexKey<'a> {
-    /// Returns the key of the object that the entry leads to.
+    /// Returns the key of the entry's object.
     pub fn into_key(self) -> Key<'a>
         ensures { key_seen result ≡ index_key_seen self.entry }
     {
@@ -54,7 +54,7 @@ impl<'a> IndexKey<'a> {
         }
     }
 
-    /// Returns the key for a new object under this entry.
+    /// Returns the key for a new object with this entry.
     pub fn into_new_key(self) -> NewKey<'a>
         ensures { new_key_seen result ≡ index_key_seen self.entry }
     {

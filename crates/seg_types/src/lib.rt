@@ -1,4 +1,4 @@
-//! The words that the layers above the heap share: kinds of values, values, keys of objects, refusals and commands.
+//! The types that the layers above the heap share: kinds of values, values, keys of objects, errors and commands.
 #![tactic(auto)]
 
 mod by_kind;

@@ -4,13 +4,13 @@ ghost use Rattle.std.specs.List.{list_all};
 ghost use Rattle.std.specs.Str.{chars};
 ghost use Rattle.seg_types.specs.Names.{is_control, is_name, is_printable_name, is_text_name};
 
-/// The most bytes that a name has.
+/// The greatest length of a name in bytes.
 pub const MAX_NAME_LEN: usize = 255;
 
-/// The most bytes that a name has in formats 0 and 1.
+/// The greatest length of a name in bytes in formats 0 and 1.
 const LONGEST_PRINTABLE_NAME: usize = 63;
 
-/// A name: 1 to 255 bytes of UTF-8 without control characters. It borrows them, and may be copied.
+/// A name: 1 to 255 bytes of UTF-8 without control characters. It borrows the bytes and can be copied.
 #[derive(Clone, Copy, Debug, PartialEq, Eq, Hash)]
 pub struct Name<'a> {
     bytes: &'a [u8],
@@ -20,7 +20,7 @@ pub struct Name<'a> {
 impl<'a> Name<'a> {
     ghost use Rattle.seg_types.specs.Keys.{name_seen};
 
-    /// Makes the name of these bytes, or `None` if they are none.
+    /// Makes a name of these bytes, or returns `None` if they are no name.
     pub fn new(bytes: &'a [u8]) -> Option<Name<'a>>
         ensures { option_map name_seen result ≡ (if is_text_name bytes.now then Some bytes.now else None) }
     {
@@ -46,8 +46,8 @@ impl<'a> Name<'a> {
     }
 }
 
-/// Tells whether these bytes are a name of the format. In formats 0 and 1 a name has 1 to 63 bytes from 0x20 to 0x7E,
-/// and from 2 on 1 to 255 bytes of UTF-8 without control characters.
+/// Returns true if the bytes are a name of the format. In formats 0 and 1 a name has 1 to 63 bytes from 0x20 to 0x7E;
+/// from format 2 on it has 1 to 255 bytes of UTF-8 without control characters.
 pub fn is_name(format: u64, bytes: &[u8]) -> bool
     ensures { result ≡ is_name format bytes.now }
 {
@@ -57,21 +57,21 @@ pub fn is_name(format: u64, bytes: &[u8]) -> bool
     }
 }
 
-/// Tells whether these bytes are a name of the formats 0 and 1.
+/// Returns true if the bytes are a name of formats 0 and 1.
 fn is_printable_name(bytes: &[u8]) -> bool
     ensures { result ≡ is_printable_name bytes.now }
 {
     !bytes.is_empty() && bytes.len() <= LONGEST_PRINTABLE_NAME && are_printable(bytes)
 }
 
-/// Tells whether each byte is from 0x20 to 0x7E.
+/// Returns true if each byte is from 0x20 to 0x7E.
 fn are_printable(bytes: &[u8]) -> bool
     ensures { result ≡ list_all (λ c. nat_le 0x20 c && nat_le c 0x7E) bytes.now }
 {
     bytes.iter().all(|byte| (0x20..=0x7E).contains(byte))
 }
 
-/// Tells whether these bytes are a name from format 2 on.
+/// Returns true if the bytes are a name from format 2 on.
 fn is_text_name(bytes: &[u8]) -> bool
     ensures { result ≡ is_text_name bytes.now }
 {
@@ -87,7 +87,7 @@ fn is_text_name(bytes: &[u8]) -> bool
     }
 }
 
-/// Tells whether no character of the text is a control character.
+/// Returns true if the text contains no control character.
 fn is_without_control(text: &str) -> bool
     ensures { result ≡ list_all (λ c. not (is_control c)) (chars text.now) }
 {

@@ -14,13 +14,13 @@ use crate::plain::Plain;
 
 /// A type of a scalar kind: `bool`, `u8`, `i32`, `i64` or `u64`.
 ///
-/// Its values are the whole numbers of the kind, with the kind's code, size, spelling and order. The laws of a kind's
-/// numbers hold for the type, and the implementation proves them: a caller can implement the trait only for one of the
-/// five types under another name.
+/// Its values are the whole numbers of the kind, with the kind's code, size, encoding and order. The implementation
+/// proves that the laws of the kind's numbers hold for the type. So a caller can implement the trait only for one of
+/// the five types under another name.
 pub trait Scalar: Plain {
     ghost kind: { ScalarKind };
 
-    // The whole number that a value is. Of the two truths, `false` is 0 and `true` is 1.
+    // The value as a whole number: 0 for `false` and 1 for `true`.
     ghost whole: { Self → ℤ };
 
     /// Returns the kind.

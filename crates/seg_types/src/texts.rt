@@ -1,4 +1,4 @@
-//! How kinds and values are printed: as the command language prints them.
+//! Prints kinds and values, in the form of the command language.
 ghost use Rattle.std.specs.Prelude.{◌≡◌, Some, decimal};
 ghost use Rattle.std.specs.Fmt.{DisplaysOnOk, signed_decimal};
 ghost use Rattle.seg_types.specs.Texts.{class_text, kind_text, scalar_text, value_text};
@@ -9,7 +9,7 @@ use crate::values::ScalarValue;
 use std::fmt;
 
 impl ScalarKind {
-    /// Returns how the kind is printed.
+    /// Returns the kind's text.
     pub fn as_str(self) -> &'static str
         ensures { result.now ≡ scalar_text self }
     {
@@ -26,7 +26,7 @@ impl ScalarKind {
 impl fmt::Display for ScalarKind {
     ghost output = { λ k. Some (scalar_text k) };
 
-    // As it is, whatever the options of a hole say.
+    // Printed unpadded, whatever the format options are.
     ghost styled_output = { λ k spec. Some (scalar_text k) };
 
     fn fmt<W: fmt::Write>(&self, f: &mut fmt::Formatter<W>) -> fmt::Result {
@@ -49,7 +49,7 @@ impl fmt::Display for Kind {
 }
 
 impl Class {
-    /// Returns how the class is printed.
+    /// Returns the class's text.
     pub fn as_str(self) -> &'static str
         ensures { result.now ≡ class_text self }
     {
@@ -85,14 +85,14 @@ impl fmt::Display for ScalarValue {
     }
 }
 
-/// Writes a number in plain decimal.
+/// Writes a number in decimal.
 fn write_number<W: fmt::Write>(number: u64, f: &mut fmt::Formatter<W>) -> fmt::Result
     ensures { DisplaysOnOk W.write_str_gives f.old result (Some (decimal number)) f.new }
 {
     write!(f, "{number}")
 }
 
-/// Writes a whole number that may be negative.
+/// Writes a signed number in decimal.
 fn write_signed<W: fmt::Write>(number: i64, f: &mut fmt::Formatter<W>) -> fmt::Result
     ensures { DisplaysOnOk W.write_str_gives f.old result (Some (signed_decimal number)) f.new }
 {

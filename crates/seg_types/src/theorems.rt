@@ -1,4 +1,4 @@
-//! What holds of every value. The contract of each function is a law, and its body does no more than the law speaks of.
+//! Laws of all values. The contract of each function is a law, and its body does only what the law is about.
 ghost use Rattle.std.specs.Prelude.{◌≡◌, ◌↔◌, false, true, length, IsTrue, MatchOption};
 ghost use Rattle.byteorder.specs.Endian.{little_number};
 ghost use Rattle.seg_types.specs.Kinds.{AllSpellOne, is_spelling, size_of, value_of};
@@ -6,7 +6,7 @@ ghost use Rattle.seg_types.specs.Kinds.{AllSpellOne, is_spelling, size_of, value
 use crate::plain::Plain;
 use crate::scalars::Scalar;
 
-/// States that a value is spelled in one way, by as many bytes as its kind has, and no other bytes spell it.
+/// States that each value has one encoding, with the number of bytes of its kind, and that no other bytes encode it.
 pub fn values_spell_one()
     ensures { AllSpellOne }
 {}
@@ -21,8 +21,8 @@ pub fn written_is_read<T: Plain>(value: T, bytes: &mut [u8]) -> Option<T>
     T::read(bytes)
 }
 
-/// Reads a `T` from `SIZE` bytes. Returns the number that they spell, or `None` if they spell no number of its kind: a
-/// law of `T::read`.
+/// Reads a `T` from `SIZE` bytes. The result is the whole number of its kind that they encode, or `None` if they encode
+/// none: a law of `T::read`.
 pub fn scalar_is_number<T: Scalar>(from: &[u8]) -> Option<T>
     requires { length from.now ≡ T.SIZE }
     ensures { MatchOption result (is_spelling T.kind from.now ≡ false) (λ x. (is_spelling T.kind from.now ≡ true)
@@ -31,7 +31,7 @@ pub fn scalar_is_number<T: Scalar>(from: &[u8]) -> Option<T>
     T::read(from)
 }
 
-/// States that a value is one of its kind, which no call says if it is refused.
+/// States that the value satisfies `is_value`. A call that fails does not state this.
 pub fn holds_value<T: Plain>(value: T)
     ensures { T.is_value value ≡ true }
 {

@@ -36,7 +36,7 @@ impl ScalarValue {
         }
     }
 
-    /// Returns the whole number that the value is: of the two truths, `false` is 0 and `true` is 1.
+    /// Returns the value as a whole number: 0 for `false` and 1 for `true`.
     pub fn number(self) -> i128
         ensures number { result ≡ value_of_scalar self }
         ensures in_range { is_value (kind_of_scalar self) result ≡ true }
@@ -50,7 +50,7 @@ impl ScalarValue {
         }
     }
 
-    /// Returns the value of the kind that this number is, or `None` if it is outside the range of the kind.
+    /// Returns the number as a value of the kind, or `None` if it is outside the range of the kind.
     pub fn of_number(kind: ScalarKind, number: i128) -> Option<ScalarValue>
         ensures { result ≡ (if is_value kind number then Some (scalar_of kind number) else None) }
     {
@@ -67,7 +67,7 @@ impl ScalarValue {
         }
     }
 
-    /// Returns the value of the kind that these bytes spell, as many as a value has, or `None` if they spell none.
+    /// Returns the value of the kind that `bytes`, as long as a value, encode, or `None` if they encode none.
     pub fn read(kind: ScalarKind, bytes: &[u8]) -> Option<ScalarValue>
         requires { length bytes.now ≡ size_of kind }
         ensures { SpelledBy kind bytes.now result }
@@ -81,7 +81,7 @@ impl ScalarValue {
         }
     }
 
-    /// Spells the value into `to`, which has as many bytes as a value of the kind: all of them are written.
+    /// Encodes the value into `to`, which has as many bytes as a value of the kind. It writes all of them.
     pub fn write(self, to: &mut [u8])
         requires { length to.old ≡ size_of (kind_of_scalar self) }
         ensures { to.new ≡ spelling (kind_of_scalar self) (value_of_scalar self) }

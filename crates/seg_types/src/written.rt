@@ -1,4 +1,4 @@
-//! Values as callers write them: what one is as a value of a kind is learnt when the program runs.
+//! Values as callers write them. They are converted to a kind that is known only at run time.
 ghost use Rattle.std.specs.Prelude.{◌≡◌, MatchOption, ⊤};
 ghost use Rattle.seg_types.specs.Commands.{Literal, Quoted, Truth, Whole, value_of_literal};
 ghost use Rattle.seg_types.specs.Literals.{ConvertsPair, IsValueOf, pair_values};
@@ -9,18 +9,18 @@ use crate::kinds::ScalarKind;
 use crate::refusals::Refusal;
 use crate::values::ScalarValue;
 
-/// A value as a caller writes it, before its kind is known: a truth, a whole number or a text.
+/// A value as a caller writes it, before its kind is known: a truth value, a whole number or a text.
 pub trait WrittenValue {
-    /// Room that its text may be read into.
+    /// A buffer for the text.
     type Room;
 
-    // The literal that it is.
+    // The literal of the value.
     ghost literal: { Self → Literal };
 
-    // Whether the room is long enough for its text.
+    // Whether the buffer is long enough for the text.
     ghost fits: { Self → Type 0 };
 
-    /// Returns the value of a kind that it is.
+    /// Converts the value to a kind.
     ///
     /// # Errors
     ///
@@ -28,13 +28,13 @@ pub trait WrittenValue {
     fn value_of(&self, kind: ScalarKind) -> Result<ScalarValue, Refusal>
         ensures { IsValueOf kind (value_of_literal kind (literal self.now)) result };
 
-    /// Returns the text that it is, or `None` if it is none.
+    /// Returns the text, or `None` if the value is no text. It can use `room` as a buffer.
     fn text<'r>(&'r self, room: &'r mut Self::Room) -> Option<&'r [u8]>
         requires { fits self.now }
         ensures { MatchOption result (NoText (literal self.now)) (λ text. literal self.now ≡ Quoted text.now) };
 }
 
-/// A value of one kind that is written as one of another.
+/// A value of one kind, written for another kind.
 impl WrittenValue for ScalarValue {
     type Room = ();
 
@@ -60,7 +60,7 @@ impl WrittenValue for ScalarValue {
     }
 }
 
-/// Returns the value of its own kind that a value is: itself.
+/// Returns the value unchanged.
 fn own_value(value: ScalarValue) -> Result<ScalarValue, Refusal>
     ensures { IsValueOf (kind_of_scalar value) (value_of_literal (kind_of_scalar value) (literal_seen value)) result }
 {
@@ -73,11 +73,11 @@ fn own_value(value: ScalarValue) -> Result<ScalarValue, Refusal>
     }
 }
 
-/// Returns the value of a kind that a truth is: truths alone have one.
+/// Converts a truth value to a kind.
 ///
 /// # Errors
 ///
-/// `WrongKind` if the kind is another.
+/// `WrongKind` unless the kind is `Bool`.
 pub fn truth_as(kind: ScalarKind, truth: bool) -> Result<ScalarValue, Refusal>
     ensures { IsValueOf kind (value_of_literal kind (Truth truth)) result }
 {
@@ -87,7 +87,7 @@ pub fn truth_as(kind: ScalarKind, truth: bool) -> Result<ScalarValue, Refusal>
     }
 }
 
-/// Returns a whole number as a value of a kind.
+/// Converts a whole number to a kind.
 ///
 /// # Errors
 ///
@@ -101,7 +101,7 @@ pub fn whole_as(kind: ScalarKind, number: i128) -> Result<ScalarValue, Refusal>
     }
 }
 
-/// Returns the pair of two kinds that two written values are.
+/// Converts a key and a value to a pair of two kinds.
 ///
 /// # Errors
 ///

@@ -1,4 +1,4 @@
--- The words that the proofs are written in: those of the standard library, of the crates below and of the contracts.
+-- The names that the proofs use, of the standard library, of the crates below and of the contracts.
 pub use Rattle.best_fit.proofs.Laws.{Differs, exchange-order, last-first, others-past, rising-insert, rising-others}
 pub use Rattle.best_fit.proofs.Laws.{all_keep_proper, legal_size, not-wide, wide-longer, wide-same, changed-room}
 pub use Rattle.best_fit.proofs.Laws.{changed-live, written-but, IsFound, IsNone, SameSpread, all-found-in, all-in-use}

@@ -9,7 +9,7 @@ use Rattle.best_fit.specs.Heap.{IsHeap, KeepsGaps, extent_at, has_room, live_of}
 use Rattle.seg_types.specs.{declared.refusals.Refusal.Refusal, declared.refusals.Refusal.TheVariants.NoSpace}
 use Rattle.seg_vector.specs.Vector.{IsContainerAt, capacity_for_one, grown_backing}
 
--- where the three words stand
+-- the offset of the three words
 abbrev pub place_at : Place → ℕ
 place_at p = p.handle + p.at
 
@@ -21,7 +21,7 @@ len_at b p = word_at (bytes_of b) (place_at p + 8)
 abbrev pub capacity_at : List ℕ → Place → ℕ
 capacity_at b p = word_at (bytes_of b) (place_at p + 16)
 
--- a block in use, and not the one of the handle
+-- the storage is a block in use other than the block of the handle; or there is no storage
 abbrev pub IsStorageBlock : LiveSet → ℕ → Option Extent → Type 0
 IsStorageBlock live h None = ⊤
 IsStorageBlock live h (Some x) = (extent_at live (handle x) ≡ Some x) × (handle x ≢ h)
@@ -37,12 +37,12 @@ pub record IsContainer (b : List ℕ) (p : Place) (each len : ℕ) (t : BackingA
   pub long : length bytes ≡ each * len
   pub own : IsStorageBlock (live_of b) p.handle t.extent
 
--- some container with elements of this length stands at a place
+-- a container with elements of this length is at a place
 abbrev pub IsStanding : List ℕ → Place → ℕ → Type 0
 IsStanding b p each = (len : ℕ) × ((t : BackingArray) × ((bytes : List ℕ) × IsContainer b p each len t bytes))
 
--- the container has n places or more; of all blocks that stay no byte changes but its own 24; no gap changes if its
--- storage is the block that it was, and nothing changes if it had the places
+-- the container has capacity n or more; of all blocks that stay, only its own 24 bytes change; no gap changes if its
+-- storage stays in its block, and nothing changes if the capacity sufficed
 pub record ReservesStorageOk (old new : WindowState) (p : Place) (each n len : ℕ) (t : BackingArray)
     (bytes : List ℕ) : Type 0 where
   pub table : BackingArray
@@ -52,19 +52,19 @@ pub record ReservesStorageOk (old new : WindowState) (p : Place) (each n len : �
   pub stands : IsContainer new.bytes p each len table bytes
   pub enough : n ≤ t.capacity → new ≡ old
 
--- there is no space for this many places, and nothing changes
+-- there is no space for this capacity, and nothing changes
 pub record LacksSpace (old new : WindowState) (each n : ℕ) (t : BackingArray) (e : Refusal) : Type 0 where
   pub refusal : e ≡ NoSpace
   pub none : grown_backing (live_of old.bytes) each n t ≡ None
   pub same : new ≡ old
 
--- a container has n places or more, or there is no space and nothing changes
+-- a container has capacity n or more, or there is no space and nothing changes
 abbrev pub ReservesStorage : WindowState → WindowState → Place → ℕ → ℕ → Result (Unit {0}) Refusal → Type 0
 ReservesStorage old new p each n result =
     (len : ℕ) (t : BackingArray) (bytes : List ℕ) → IsContainer old.bytes p each len t bytes
     → MatchResult result (λ u. ReservesStorageOk old new p each n len t bytes) (LacksSpace old new each n t)
 
--- one place more than there are elements, at least
+-- the capacity suffices for one more element, or there is no space and nothing changes
 abbrev pub GrowsForOne : WindowState → WindowState → Place → ℕ → Result (Unit {0}) Refusal → Type 0
 GrowsForOne old new p each result =
     (len : ℕ) (t : BackingArray) (bytes : List ℕ) → IsContainer old.bytes p each len t bytes

@@ -1,5 +1,5 @@
--- The elements of a container that stands at a place: read, written over, and fewer or more of them in the places that
--- there are.
+-- The elements of a container at a place: calls that read and replace them, and change their number within the
+-- capacity.
 use Rattle.std.specs.Prelude.{◌≡◌, ℕ, ◌+◌, ◌-◌, ◌*◌, ◌<◌, ◌≤◌, None, List, [], ◌++◌, take, drop, option_to_list}
 use Rattle.raw_region.specs.{Memory.WindowState, Memory.part, Memory.patched, Format.current}
 use Rattle.best_fit.specs.{Exchange.ExchangesBlocks, Heap.KeepsGaps, Heap.live_of, declared.places.Place.Place}
@@ -8,8 +8,8 @@ use Rattle.seg_vector.specs.declared.elements.WritePos.{WritePos}
 use Rattle.seg_vector.specs.Containers.{IsContainer, capacity_at, len_at, place_at}
 use Rattle.seg_vector.specs.declared.elements.WritePos.TheVariants.{End, Over, Before}
 
--- the container has other elements in the places that there were; of all other blocks no byte changes but its own 24,
--- and of gaps none
+-- the container has other elements, and the capacity stays; of all other blocks only its own 24 bytes change, and no
+-- byte of a gap changes
 pub record RewritesElements (old new : WindowState) (p : Place) (each len : ℕ) (t : BackingArray) (bytes : List ℕ) :
     Type 0 where
   pub change : ExchangesBlocks current old new (place_at p) 24 (option_to_list t.extent) (option_to_list t.extent)
@@ -20,36 +20,36 @@ pub record RewritesElements (old new : WindowState) (p : Place) (each len : ℕ)
 abbrev pub ReadsAll : List ℕ → Place → ℕ → List ℕ → Type 0
 ReadsAll b p each out = (len : ℕ) (t : BackingArray) (bytes : List ℕ) → IsContainer b p each len t bytes → out ≡ bytes
 
--- the bytes of the element with i others before it
+-- the bytes of the element at i
 abbrev pub ReadsOne : List ℕ → Place → ℕ → ℕ → List ℕ → Type 0
 ReadsOne b p each i out = (len : ℕ) (t : BackingArray) (bytes : List ℕ) → IsContainer b p each len t bytes
     → out ≡ part bytes (each * i) each
 
--- the element with i others before it has these bytes now
+-- the element at i now has these bytes
 abbrev pub Overwrites : WindowState → WindowState → Place → ℕ → ℕ → List ℕ → Type 0
 Overwrites old new p each i more =
     (len : ℕ) (t : BackingArray) (bytes : List ℕ) → IsContainer old.bytes p each len t bytes
     → RewritesElements old new p each len t (patched bytes (each * i) more)
 
--- the first n elements are left
+-- the first n elements remain
 abbrev pub Truncates : WindowState → WindowState → Place → ℕ → ℕ → Type 0
 Truncates old new p each n =
     (len : ℕ) (t : BackingArray) (bytes : List ℕ) → IsContainer old.bytes p each len t bytes
     → RewritesElements old new p each n t (take (each * n) bytes)
 
--- an element more, with i others before it
+-- one more element, at i
 abbrev pub Inserts : WindowState → WindowState → Place → ℕ → ℕ → List ℕ → Type 0
 Inserts old new p each i more =
     (len : ℕ) (t : BackingArray) (bytes : List ℕ) → IsContainer old.bytes p each len t bytes
     → RewritesElements old new p each (len + 1) t (take (each * i) bytes ++ (more ++ drop (each * i) bytes))
 
--- the element with i others before it is left out
+-- the element at i is removed
 abbrev pub ErasesElement : WindowState → WindowState → Place → ℕ → ℕ → Type 0
 ErasesElement old new p each i =
     (len : ℕ) (t : BackingArray) (bytes : List ℕ) → IsContainer old.bytes p each len t bytes
     → RewritesElements old new p each (len - 1) t (take (each * i) bytes ++ drop (each * i + each) bytes)
 
--- n elements more, after the last one
+-- n more elements, after the last one
 abbrev pub Extends : WindowState → WindowState → Place → ℕ → ℕ → List ℕ → Type 0
 Extends old new p each n more =
     (len : ℕ) (t : BackingArray) (bytes : List ℕ) → IsContainer old.bytes p each len t bytes
@@ -76,13 +76,13 @@ pub record FreesStorageOk (old new : WindowState) (p : Place) (each : ℕ) (t : 
   pub gaps : t.extent ≡ None → KeepsGaps old new
   pub stands : IsContainer new.bytes p each 0 no_backing []
 
--- a container has no place any more, and its storage is released
+-- a container has capacity 0, and its storage is freed
 abbrev pub FreesStorage : WindowState → WindowState → Place → ℕ → Type 0
 FreesStorage old new p each = (len : ℕ) (t : BackingArray) (bytes : List ℕ) → IsContainer old.bytes p each len t bytes
     → FreesStorageOk old new p each t
 
--- the capacity is the length: the storage is shortened, or freed if there is no element; if the block stays as it is,
--- no byte of a gap changes
+-- the capacity becomes the length: the storage is shortened, or freed if there is no element; if the block stays as it
+-- is, no byte of a gap changes
 pub record ShrinksStorageOk (old new : WindowState) (p : Place) (each len : ℕ) (t : BackingArray) (bytes : List ℕ) :
     Type 0 where
   pub change : ExchangesBlocks current old new (place_at p) 24 (option_to_list t.extent)
@@ -90,7 +90,7 @@ pub record ShrinksStorageOk (old new : WindowState) (p : Place) (each len : ℕ)
   pub gaps : t.extent ≡ (shrunk_backing (live_of old.bytes) each len t).extent → KeepsGaps old new
   pub stands : IsContainer new.bytes p each len (shrunk_backing (live_of old.bytes) each len t) bytes
 
--- a container has as many places as elements
+-- the capacity of a container becomes its length
 abbrev pub ShrinksStorage : WindowState → WindowState → Place → ℕ → Type 0
 ShrinksStorage old new p each = (len : ℕ) (t : BackingArray) (bytes : List ℕ) → IsContainer old.bytes p each len t bytes
     → ShrinksStorageOk old new p each len t bytes

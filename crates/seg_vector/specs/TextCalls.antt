@@ -1,4 +1,4 @@
--- A text at a place, and what its calls answer and do: elements of a byte each, under their own bytes.
+-- A string at a place, and the results and effects of its calls. Its elements are bytes.
 use Rattle.std.specs.Prelude.{◌≡◌, ℕ, ◌<◌, ◌≤◌, Some, Result, Ok, MatchResult, List, [], ◌++◌, length, slice_get}
 use Rattle.std.specs.Prelude.{slice_set, option_to_list}
 use Rattle.raw_region.specs.{Memory.WindowState, Format.current}
@@ -8,23 +8,23 @@ use Rattle.seg_types.specs.declared.refusals.Refusal.{Refusal}
 use Rattle.seg_vector.specs.{Vector.capacity_for_text, Vector.grown_backing, Containers.IsContainer}
 use Rattle.seg_vector.specs.{Containers.place_at, VectorCalls.RefusesIndex, VectorCalls.LacksSpace}
 
--- the text at a place has these bytes
+-- the string at a place has these bytes
 abbrev pub IsText : List ℕ → Place → List ℕ → BackingArray → Type 0
 IsText b p bytes t = IsContainer b p 1 (length bytes) t bytes
 
--- some string stands at a place
+-- a string is at a place
 abbrev pub IsSomeText : List ℕ → Place → Type 0
 IsSomeText b p = (bytes : List ℕ) × ((t : BackingArray) × IsText b p bytes t)
 
--- The text with these bytes and this storage is in the place of the one with that storage. Of all blocks that stay no
--- byte changes but its own 24, and of gaps none if the storage is the block that it was.
+-- The string at a place now has these bytes and this storage. Of all blocks that stay, only its own 24 bytes change,
+-- and no byte of a gap changes if its storage stays in its block.
 pub record ReplacesText (old new : WindowState) (p : Place) (t : BackingArray) (bytes : List ℕ) (u : BackingArray) :
     Type 0 where
   pub change : ExchangesBlocks current old new (place_at p) 24 (option_to_list t.extent) (option_to_list u.extent)
   pub gaps : t.extent ≡ u.extent → KeepsGaps old new
   pub text : IsText new.bytes p bytes u
 
--- the text has n places or more after the call
+-- the string has capacity n or more after the call
 pub record GrowsTextOk (old new : WindowState) (p : Place) (t : BackingArray) (n : ℕ) (bytes : List ℕ) : Type 0 where
   pub table : BackingArray
   pub grown : grown_backing (live_of old.bytes) 1 n t ≡ Some table
@@ -44,23 +44,23 @@ CountsBytePlaces b p n = (bytes : List ℕ) (t : BackingArray) → IsText b p by
 abbrev pub ReadsText : List ℕ → Place → List ℕ → Type 0
 ReadsText b p out = (bytes : List ℕ) (t : BackingArray) → IsText b p bytes t → out ≡ bytes
 
--- the byte at an index of a string, or the index is refused
+-- the byte at an index of a string, or an error if the index is out of range
 abbrev pub GetsByte : WindowState → Place → ℕ → Result ℕ Refusal → Type 0
 GetsByte c p i result = (bytes : List ℕ) (t : BackingArray) → IsText c.bytes p bytes t
     → MatchResult result (λ x. slice_get bytes i ≡ Some x) (RefusesIndex c c (length bytes) i)
 
 -- ---- what changes
 
--- a text without a place, whatever stood there
+-- an empty string with capacity 0, for any old bytes
 abbrev pub StartsText : WindowState → WindowState → Place → Type 0
 StartsText old new p = ReplacesText old new p no_backing [] no_backing
 
--- makes a text with exactly as many places as it has bytes, or there is no space
+-- makes a string whose capacity is its length, or there is no space
 abbrev pub MakesText : WindowState → WindowState → Place → List ℕ → Result (Unit {0}) Refusal → Type 0
 MakesText old new p bytes result = MatchResult result (λ u. GrowsTextOk old new p no_backing (length bytes) bytes)
     (LacksSpace old new 1 (length bytes) no_backing)
 
--- the byte at an index is replaced, or the index is refused
+-- the byte at an index is replaced, or the index is out of range
 abbrev pub SetsByte : WindowState → WindowState → Place → ℕ → ℕ → Result (Unit {0}) Refusal → Type 0
 SetsByte old new p i x result =
     (bytes : List ℕ) (t : BackingArray) → IsText old.bytes p bytes t
@@ -71,13 +71,13 @@ SetsByte old new p i x result =
 abbrev pub ClearsText : WindowState → WindowState → Place → Type 0
 ClearsText old new p = (bytes : List ℕ) (t : BackingArray) → IsText old.bytes p bytes t → ReplacesText old new p t [] t
 
--- a string has n places or more, or there is no space and nothing changes
+-- a string has capacity n or more, or there is no space and nothing changes
 abbrev pub ReservesBytes : WindowState → WindowState → Place → ℕ → Result (Unit {0}) Refusal → Type 0
 ReservesBytes old new p n result =
     (bytes : List ℕ) (t : BackingArray) → IsText old.bytes p bytes t
     → MatchResult result (λ u. GrowsTextOk old new p t n bytes) (LacksSpace old new 1 n t)
 
--- if there are n places already, nothing changes
+-- if the capacity is n or more already, nothing changes
 abbrev pub ReservesNoBytes : WindowState → WindowState → Place → ℕ → Result (Unit {0}) Refusal → Type 0
 ReservesNoBytes old new p n result = (bytes : List ℕ) (t : BackingArray) → IsText old.bytes p bytes t → n ≤ t.capacity
     → (result ≡ Ok tt) × (new ≡ old)
@@ -95,12 +95,12 @@ AppendsText old new p more result =
     → let n = capacity_for_text (length (bytes ++ more)) t.capacity in
     MatchResult result (λ u. GrowsTextOk old new p t n (bytes ++ more)) (LacksSpace old new 1 n t)
 
--- a string has as many places as bytes
+-- the capacity of a string becomes its length
 abbrev pub ShrinksText : WindowState → WindowState → Place → Type 0
 ShrinksText old new p = (bytes : List ℕ) (t : BackingArray) → IsText old.bytes p bytes t
     → ReplacesText old new p t bytes (shrunk_backing (live_of old.bytes) 1 (length bytes) t)
 
--- a string gives its storage back
+-- the storage of a string is freed
 abbrev pub ReleasesText : WindowState → WindowState → Place → Type 0
 ReleasesText old new p = (bytes : List ℕ) (t : BackingArray) → IsText old.bytes p bytes t
     → ReplacesText old new p t [] no_backing

@@ -1,4 +1,4 @@
--- The parts of calls of a vector of texts: elements of an array, and the blocks of texts.
+-- The parts of calls on a vector of texts: elements of an array, and the blocks of texts.
 use Rattle.std.specs.Prelude.{◌≡◌, ◌≢◌, ℕ, ◌+◌, ◌-◌, ◌*◌, ◌%◌, ◌<◌, ◌≤◌, ◌⊎◌, IsTrue, IfSome, Option, Some, None, List}
 use Rattle.std.specs.Prelude.{[], ◌∷◌, insert, length, option_map, option_to_list, Result, MatchResult}
 use Rattle.std.specs.List.{AllByRecursion}
@@ -28,7 +28,7 @@ pub record FreesBlocks (old new : WindowState) (xs : List Extent) : Type 0 where
 abbrev pub AreLive : List ℕ → List Extent → Type 0
 AreLive b xs = AllByRecursion (λ (x : Extent). extent_at (live_of b) (handle x) ≡ Some x) xs
 
--- 16 bytes at an offset in a block begin with a link to the block of a text, which is in use
+-- the 16 bytes at an offset in a block begin with a link to the block of a text, which is in use
 pub record IsHeldElement (b : List ℕ) (array at : ℕ) (q : OwnedText) : Type 0 where
   pub heap : IsHeap current b
   pub aligned : at % 8 ≡ 0
@@ -36,7 +36,7 @@ pub record IsHeldElement (b : List ℕ) (array at : ℕ) (q : OwnedText) : Type 
   pub link : link_at (bytes_of b) (array + at) ≡ option_map handle q.extent
   pub live : AreLive b (option_to_list q.extent)
 
--- the elements of n texts in a block, and each text in another one
+-- the elements of n texts in one block, and each text in a block of its own
 pub record AreHeldElements (b : List ℕ) (array n : ℕ) (ps : List OwnedText) : Type 0 where
   pub heap : IsHeap current b
   pub room : IsTrue (has_room (live_of b) array (16 * n))
@@ -46,11 +46,11 @@ pub record AreHeldElements (b : List ℕ) (array n : ℕ) (ps : List OwnedText) 
   pub apart : AllByRecursion (λ (x : Extent). handle x ≢ array) (text_blocks ps)
   pub others : AreDistinct (text_blocks ps)
 
--- each of n links, 16 bytes from one to the next, leads to a multiple of 16, or nowhere
+-- each of n links, at a distance of 16 bytes, is null or leads to a multiple of 16
 abbrev pub AreEvenLinks : Memory → ℕ → ℕ → Type 0
 AreEvenLinks m at n = (j : ℕ) → j < n → IfSome (link_at m (at + 16 * j)) (λ target. target % 16 ≡ 0)
 
--- 16 bytes at an offset in a block that are an element of an array: a link and a length
+-- the 16 bytes at an offset in a block are an element of an array: a link and a length
 pub record HasElement (b : List ℕ) (array at : ℕ) : Type 0 where
   pub whole : at % 8 ≡ 0
   pub room : IsTrue (has_room (live_of b) array (at + 16))
@@ -62,7 +62,7 @@ pub record HasElementRoom (b : List ℕ) (array at : ℕ) (text : Option ℕ) : 
   pub room : IsTrue (has_room (live_of b) array (at + 16))
   pub target : IfSome text (λ target. target % 16 ≡ 0)
 
--- the element at an offset is this now
+-- the element at an offset now has this link and this length
 pub record PutsElement (old new : WindowState) (at : ℕ) (text : Option ℕ) (len : ℕ) : Type 0 where
   pub change : ChangesBytes current old new at 16
   pub link : link_at (bytes_of new.bytes) at ≡ text
@@ -73,16 +73,16 @@ pub record SameElement (m m' : Memory) (a b : ℕ) : Type 0 where
   pub link : link_at m' b ≡ link_at m a
   pub len_word : word_at m' (b + 8) ≡ word_at m (a + 8)
 
--- n elements of an array are the same in another
+-- n elements of an array are equal to n elements of another
 abbrev pub SameElements : Memory → Memory → ℕ → ℕ → ℕ → Type 0
 SameElements m m' a b n = (j : ℕ) → j < n → SameElement m m' (a + 16 * j) (b + 16 * j)
 
--- n elements at b say what those at a said, and nothing else changes
+-- the n elements at b become equal to the old elements at a, and nothing else changes
 pub record CarriesElements (old new : WindowState) (a b n : ℕ) : Type 0 where
   pub change : ChangesBytes current old new b (16 * n)
   pub carried : SameElements (bytes_of old.bytes) (bytes_of new.bytes) a b n
 
--- n elements of one block, and as many places for them in another, or in the same one, but not after them in it
+-- one block has n elements, and another has room for them; or it is the same block, and they move down
 pub record CanCarryDown (b : List ℕ) (from from_at to to_at n : ℕ) : Type 0 where
   pub heap : IsHeap current b
   pub from_whole : from_at % 8 ≡ 0
@@ -92,7 +92,7 @@ pub record CanCarryDown (b : List ℕ) (from from_at to to_at n : ℕ) : Type 0 
   pub even : AreEvenLinks (bytes_of b) (from + from_at) n
   pub apart : (to + to_at ≤ from + from_at) ⊎ (from + from_at + 16 * n ≤ to + to_at)
 
--- n elements in a block, and a place more after them
+-- a block has n elements, and room for one more after them
 pub record CanCarryUp (b : List ℕ) (array at n : ℕ) : Type 0 where
   pub heap : IsHeap current b
   pub whole : at % 8 ≡ 0
@@ -113,7 +113,7 @@ IsServed q = elim q.extent [
   | Some x ↦ (0 < length q.bytes) × IsTrue (serves x Storage (length q.bytes))
 ]
 
--- a block was allocated, and holds the text; an empty text needs none, and nothing changes
+-- a block is allocated and holds the text; an empty text needs no block, and nothing changes
 pub record PlacesTextOk (old new : WindowState) (bytes : List ℕ) (block : Option ℕ) : Type 0 where
   pub text : OwnedText
   pub placed : placed_text (live_of old.bytes) bytes ≡ Some text
@@ -124,41 +124,41 @@ pub record PlacesTextOk (old new : WindowState) (bytes : List ℕ) (block : Opti
   pub owned : IsOwnedText (bytes_of new.bytes) text
   pub served : IsServed text
 
--- a text comes into a new block, or there is no space; an empty one needs none
+-- a text is stored in a new block, or there is no space; an empty text needs no block
 abbrev pub PlacesText : WindowState → WindowState → List ℕ → Result (Option ℕ) Refusal → Type 0
 PlacesText old new bytes result = MatchResult result (PlacesTextOk old new bytes)
     (LacksFit old new (placed_text (live_of old.bytes) bytes))
 
 -- ---- an array with more places
 
--- The old array is long enough where it is; or a new block was allocated beside it.
+-- The old array is long enough, or is lengthened in place; or a new block is allocated while the old array is in use.
 pub data ReservesArray (old new : WindowState) (o : Option Extent) (n g : ℕ) : Type 0 where
   widened : (w : WidensBlock current old new g n) → o ≡ Some w.before → ReservesArray old new o n g
   taken : (a : AllocatesOk current old new n Storage g) → regrow (live_of old.bytes) o n ≡ Some a.extent
       → ReservesArray old new o n g
 
--- an array for as many texts is reserved beside the old one, or there is no space
+-- an array for this many texts is reserved, or there is no space and nothing changes
 abbrev pub AsksArray : WindowState → WindowState → Place → ℕ → Result ℕ Refusal → Type 0
 AsksArray old new p n result =
     (ps : List OwnedText) (t : BackingArray) → IsTexts old.bytes p ps t
     → MatchResult result (ReservesArray old new t.extent (16 * n))
     (LacksFit old new (regrow (live_of old.bytes) t.extent (16 * n)))
 
--- the link and the capacity at a place are these
+-- the link and the capacity at a place are set
 pub record SetsStorage (old new : WindowState) (p : Place) (g n : ℕ) : Type 0 where
   pub change : ChangesBytes current old new (place_at p) 24
   pub link : link_at (bytes_of new.bytes) (place_at p) ≡ Some g
   pub len_word : word_at (bytes_of new.bytes) (place_at p + 8) ≡ word_at (bytes_of old.bytes) (place_at p + 8)
   pub capacity : word_at (bytes_of new.bytes) (place_at p + 16) ≡ n
 
--- all three words at a place: the link, and the length and the capacity, which are equal
+-- all three words at a place are set: the link, and the length and the capacity, which are equal
 pub record SetsWords (old new : WindowState) (p : Place) (storage : Option ℕ) (n : ℕ) : Type 0 where
   pub change : ChangesBytes current old new (place_at p) 24
   pub link : link_at (bytes_of new.bytes) (place_at p) ≡ storage
   pub len_word : word_at (bytes_of new.bytes) (place_at p + 8) ≡ n
   pub capacity : word_at (bytes_of new.bytes) (place_at p + 16) ≡ n
 
--- An array was reserved, and other blocks were allocated since; the vector is as it was.
+-- An array was reserved, and other blocks were allocated since; the vector is still unchanged.
 pub record IsArrayReserved (now : WindowState) (p : Place) (g n : ℕ) : Type 0 where
   pub first : WindowState
   pub mid : WindowState
@@ -171,7 +171,7 @@ pub record IsArrayReserved (now : WindowState) (p : Place) (g n : ℕ) : Type 0 
   pub since : SwapsBlocks mid now [] loose
   pub still : loose ≡ [] → now ≡ mid
 
--- The vector has the reserved array, with n places. Its elements are the same, and the blocks allocated since stay. No
+-- The vector has the reserved array and capacity n. Its elements are the same, and the blocks allocated since stay. No
 -- byte of a gap changed if the array is the old block, and no other block was allocated.
 pub record AdoptsOk (first old new : WindowState) (p : Place) (ps : List OwnedText) (t : BackingArray) (g n : ℕ)
     (loose : List Extent) : Type 0 where
@@ -193,8 +193,8 @@ Adopts old new p g n = (r : IsArrayReserved old p g n) → AdoptsOk r.first old 
 
 -- ---- one text more
 
--- Since the first call blocks were exchanged: the array y, with m places, came, and the block of a text that is not in
--- the vector yet.
+-- Since the first call blocks were exchanged: the array y, with capacity m, and the block of a text that is not in the
+-- vector yet were allocated.
 pub record PreparesPut (first now : WindowState) (p : Place) (ps : List OwnedText) (t : BackingArray) (y : Extent)
     (m : ℕ) (z : OwnedText) : Type 0 where
   pub texts : IsTexts first.bytes p ps t
@@ -221,7 +221,7 @@ pub record IsPutAsked (now : WindowState) (p : Place) (i : ℕ) (block : Option 
   pub inside : i ≤ length ps
   pub at : block ≡ option_map handle z.extent
 
--- a link and a length enter the array, and the vector has one text more
+-- a link and a length are inserted into the array, and the vector has one more text
 abbrev pub InsertsElement : WindowState → WindowState → Place → ℕ → Option ℕ → ℕ → Type 0
 InsertsElement old new p i block len =
     (first : WindowState) (ps : List OwnedText) (t : BackingArray) (y : Extent) (m : ℕ) (z : OwnedText)
@@ -231,11 +231,11 @@ InsertsElement old new p i block len =
 
 -- ---- a reservation that is undone
 
--- the room that the array has, as the vector's block says it
+-- the length of the array's payload, by its block
 abbrev pub room_of : Option Extent → ℕ
 room_of o = elim o [ None ↦ 0 | Some x ↦ x.len - 16 ]
 
--- the number is the length of the array's block, of a vector of strings
+-- the number is the length of the payload of the array of a vector of strings
 abbrev pub HasArrayRoom : List ℕ → Place → ℕ → Type 0
 HasArrayRoom b p room = (ps : List OwnedText) (t : BackingArray) → IsTexts b p ps t → room ≡ room_of t.extent
 
@@ -249,15 +249,15 @@ pub record IsToBeGivenUp (now : WindowState) (p : Place) (g room : ℕ) : Type 0
   pub asked : ReservesArray first now t.extent (16 * n) g
   pub was : room ≡ room_of t.extent
 
--- a reserved array is released, and the vector is as before
+-- a reserved array is freed, and the vector is unchanged
 abbrev pub GivesUp : WindowState → WindowState → Place → ℕ → ℕ → Type 0
 GivesUp old new p g room =
     (first : WindowState) (ps : List OwnedText) (t : BackingArray) (n : ℕ) → IsTexts first.bytes p ps t
     → ReservesArray first old t.extent (16 * n) g → room ≡ room_of t.extent → KeepsLiveSet current first new
 
--- ---- a text put in, once the index is known to be inside
+-- ---- a text inserted at an index within the length
 
--- a text has no space: the reservation is undone
+-- there is no space for the text, and the reservation is undone
 pub record RefusesPut (old new : WindowState) (ps : List OwnedText) (t : BackingArray) (bytes : List ℕ)
     (e : Refusal) : Type 0 where
   pub refusal : e ≡ NoSpace
@@ -265,13 +265,13 @@ pub record RefusesPut (old new : WindowState) (ps : List OwnedText) (t : Backing
   pub restored : KeepsLiveSet current old new
   pub first : RefusesFirstBlock old new ps t bytes
 
--- a text is put into a vector of strings, or there is no space
+-- a text is inserted into a vector of strings, or there is no space
 abbrev pub PutsInto : WindowState → WindowState → Place → List OwnedText → BackingArray → ℕ → List ℕ
     → Result (Unit {0}) Refusal → Type 0
 PutsInto old new p ps t i bytes result = MatchResult result (λ u. InsertsTextOk old new p ps t i bytes)
     (RefusesPut old new ps t bytes)
 
--- there is a place for it
+-- the capacity allows one more text
 pub record HasSpareCapacity (b : List ℕ) (p : Place) (i : ℕ) : Type 0 where
   pub ps : List OwnedText
   pub t : BackingArray
@@ -279,12 +279,12 @@ pub record HasSpareCapacity (b : List ℕ) (p : Place) (i : ℕ) : Type 0 where
   pub inside : i ≤ length ps
   pub space : length ps < t.capacity
 
--- a text enters a vector of strings that has a place, or there is no space
+-- a text is inserted into a vector of strings whose capacity allows it, or there is no space
 abbrev pub InsertsWithin : WindowState → WindowState → Place → ℕ → List ℕ → Result (Unit {0}) Refusal → Type 0
 InsertsWithin old new p i bytes result = (ps : List OwnedText) (t : BackingArray)
     → IsTexts old.bytes p ps t → i ≤ length ps → length ps < t.capacity → PutsInto old new p ps t i bytes result
 
--- a vector of texts is full, and an array of n places is needed
+-- the length of a vector of texts is its capacity, and an array of n places is needed
 pub record IsFullVector (b : List ℕ) (p : Place) (i n : ℕ) : Type 0 where
   pub ps : List OwnedText
   pub t : BackingArray
@@ -293,7 +293,7 @@ pub record IsFullVector (b : List ℕ) (p : Place) (i n : ℕ) : Type 0 where
   pub full : t.capacity ≤ length ps
   pub wanted : n ≡ capacity_for_one (length ps) t.capacity
 
--- a text enters a full vector of strings, in a larger array, or there is no space
+-- a text is inserted into a full vector of strings, with a larger array, or there is no space
 abbrev pub InsertsGrowing : WindowState → WindowState → Place → ℕ → List ℕ → ℕ → Result (Unit {0}) Refusal → Type 0
 InsertsGrowing old new p i bytes n result =
     (ps : List OwnedText) (t : BackingArray) → IsTexts old.bytes p ps t → i ≤ length ps → t.capacity ≤ length ps

@@ -1,5 +1,5 @@
 -- A vector of texts at a place: an array of links and lengths, and a block for each text that is not empty. New blocks
--- are allocated while the blocks that they replace are in use.
+-- are allocated before the blocks that they replace are freed.
 use Rattle.std.specs.Prelude.{◌≡◌, ◌≢◌, ℕ, ◌+◌, ◌-◌, ◌*◌, ◌%◌, ◌<◌, ◌≤◌, ◌⊎◌, ⊤, ◌==◌, nat_lt, if◌then◌else◌, IsTrue}
 use Rattle.std.specs.Prelude.{Option, Some, None, Result, Ok, MatchResult, List, [], ◌∷◌, ◌++◌, length, insert, remove}
 use Rattle.std.specs.Prelude.{flat_map, slice_get, slice_set, option_map, option_to_list}
@@ -20,7 +20,7 @@ use Rattle.seg_vector.specs.Vector.{IsOwnedText, IsTextsAt, OwnedText, capacity_
 abbrev pub text_blocks : List OwnedText → List Extent
 text_blocks ps = flat_map (λ (q : OwnedText). option_to_list q.extent) ps
 
--- the block of a text is in use and holds it, and an empty one has none
+-- the block of a text is in use and holds it; an empty text has no block
 abbrev pub IsHeldText : LiveSet → OwnedText → Type 0
 IsHeldText live q = elim q.extent [
   | None ↦ q.bytes ≡ []
@@ -28,7 +28,7 @@ IsHeldText live q = elim q.extent [
       × (0 < length q.bytes) × IsTrue (serves x Storage (length q.bytes))
 ]
 
--- no two of these are one block
+-- all extents of the list are different blocks
 abbrev pub AreDistinct : List Extent → Type 0
 AreDistinct [] = ⊤
 AreDistinct (x ∷ xs) = AllByRecursion (λ (y : Extent). handle x ≢ handle y) xs × AreDistinct xs
@@ -46,13 +46,13 @@ pub record IsTexts (b : List ℕ) (p : Place) (ps : List OwnedText) (t : Backing
   pub apart : AllByRecursion (λ (x : Extent). handle x ≢ p.handle) (text_blocks ps)
   pub others : AreDistinct (option_to_list t.extent ++ text_blocks ps)
 
--- some vector of strings stands at a place
+-- a vector of strings is at a place
 abbrev pub IsTextsContainer : List ℕ → Place → Type 0
 IsTextsContainer b p = (ps : List OwnedText) × ((t : BackingArray) × IsTexts b p ps t)
 
--- The vector has these texts and this array. Some blocks were freed and others allocated. In the blocks that stay, also
--- those of other texts, only the 24 bytes of the vector change; no byte of a gap changes if the blocks are the old
--- ones.
+-- The vector has these texts and this array. Some blocks are freed and others allocated. Of the blocks that stay, the
+-- blocks of other texts among them, only the 24 bytes of the vector change. No byte of a gap changes if all blocks
+-- stay.
 pub record ReplacesTexts (old new : WindowState) (p : Place) (gone come : List Extent) (ps : List OwnedText)
     (t : BackingArray) : Type 0 where
   pub change : ExchangesBlocks current old new (place_at p) 24 gone come
@@ -61,23 +61,23 @@ pub record ReplacesTexts (old new : WindowState) (p : Place) (gone come : List E
 
 -- ---- requests
 
--- the live set in which the array is grown: the old array is in use still, if it is not the new one
+-- the live set in which the texts are placed: the old array is in use, and the new one too if it is another block
 abbrev pub with_array : LiveSet → BackingArray → BackingArray → LiveSet
 with_array live t u =
     if nat_lt t.capacity u.capacity then elim u.extent [ None ↦ live | Some x ↦ resized live x ] else live
 
--- a text and the block that it takes, which an empty one does not
+-- a text and its new block; an empty text has no block
 abbrev pub placed_text : LiveSet → List ℕ → Option OwnedText
 placed_text live bytes =
     if length bytes == 0 then Some (record { bytes = bytes; extent = None })
     else option_map (λ (x : Extent). let q : OwnedText = record { bytes = bytes; extent = Some x } in q)
     (place live (length bytes) Storage)
 
--- texts, one after another, each beside those before it
+-- the live set with the block of a text, if it has one
 abbrev pub with_text : LiveSet → OwnedText → LiveSet
 with_text live q = elim q.extent [ None ↦ live | Some x ↦ resized live x ]
 
--- the blocks that several texts take, one after another
+-- the new blocks of several texts, one after another
 abbrev pub placed_texts : LiveSet → List (List ℕ) → Option (List OwnedText)
 placed_texts live [] = Some []
 placed_texts live (bytes ∷ more) = elim (placed_text live bytes) [
@@ -100,18 +100,18 @@ ReadsTextsLen b p n = (ps : List OwnedText) (t : BackingArray) → IsTexts b p p
 abbrev pub ReadsTextsCapacity : List ℕ → Place → ℕ → Type 0
 ReadsTextsCapacity b p n = (ps : List OwnedText) (t : BackingArray) → IsTexts b p ps t → n ≡ t.capacity
 
--- a vector without a place, whatever stood there
+-- an empty vector with capacity 0, for any old bytes
 abbrev pub InitsTexts : WindowState → WindowState → Place → Type 0
 InitsTexts old new p = ReplacesTexts old new p [] [] [] no_backing
 
--- the text with i others before it, or a refusal if there are no more
+-- the text at an index, or an error if the index is out of range
 abbrev pub GetsText : WindowState → Place → ℕ → Result (Bor (List ℕ)) Refusal → Type 0
 GetsText c p i result =
     (ps : List OwnedText) (t : BackingArray) → IsTexts c.bytes p ps t
     → MatchResult result (λ (r : Bor (List ℕ)). option_map (λ (q : OwnedText). q.bytes) (slice_get ps i) ≡ Some r.now)
     (RefusesIndex c c (length ps) i)
 
--- 16 bytes at an offset in a block are the element of a text
+-- the 16 bytes at an offset in a block are the element of a text
 pub record IsTextElement (b : List ℕ) (array at : ℕ) (q : OwnedText) : Type 0 where
   pub heap : IsHeap current b
   pub aligned : at % 8 ≡ 0
@@ -127,8 +127,8 @@ pub record LacksFit {A : Type 0} (old new : WindowState) (met : Option A) (e : R
   pub none : met ≡ None
   pub same : new ≡ old
 
--- One of several blocks has no space. The blocks before it are freed, and an array that was lengthened is shortened:
--- the same blocks are in use as before, with the same bytes.
+-- One of several blocks has no space. The blocks allocated before it are freed, and an array that was lengthened is
+-- shortened: the same blocks are in use, with the same bytes.
 pub record UndoesRequests {A : Type 0} (old new : WindowState) (met : Option A) (e : Refusal) : Type 0 where
   pub refusal : e ≡ NoSpace
   pub none : met ≡ None
@@ -150,26 +150,26 @@ requested_text live ps t bytes = elim (grown_backing live 16 (capacity_for_one (
   | Some u ↦ placed_text (with_array live t u) bytes
 ]
 
--- If the first request has no space, nothing changes: the request for the text if the capacity allows one more, and
--- otherwise for the array.
+-- If the first allocation fails, nothing changes. The first allocation is that of the text if the capacity allows one
+-- more, and otherwise that of the array.
 pub record RefusesFirstBlock (old new : WindowState) (ps : List OwnedText) (t : BackingArray) (bytes : List ℕ) :
     Type 0 where
   pub text : length ps < t.capacity → placed_text (live_of old.bytes) bytes ≡ None → new ≡ old
   pub array : grown_backing (live_of old.bytes) 16 (capacity_for_one (length ps) t.capacity) t ≡ None → new ≡ old
 
--- if the first request has no space, nothing changes
+-- if the first allocation fails, nothing changes
 abbrev pub UnchangedIfFirstRefused : WindowState → WindowState → Place → List ℕ → Type 0
 UnchangedIfFirstRefused old new p bytes = (ps : List OwnedText) (t : BackingArray) → IsTexts old.bytes p ps t
     → RefusesFirstBlock old new ps t bytes
 
--- a text is put at the end, or there is no space
+-- a text is appended, or there is no space
 abbrev pub PushesText : WindowState → WindowState → Place → List ℕ → Result (Unit {0}) Refusal → Type 0
 PushesText old new p bytes result =
     (ps : List OwnedText) (t : BackingArray) → IsTexts old.bytes p ps t
     → MatchResult result (λ u. InsertsTextOk old new p ps t (length ps) bytes)
     (UndoesRequests old new (requested_text (live_of old.bytes) ps t bytes))
 
--- a text enters before an index, or the index or the space is refused
+-- a text is inserted before an index, or the index is out of range, or there is no space
 abbrev pub InsertsText : WindowState → WindowState → Place → ℕ → List ℕ → Result (Unit {0}) Refusal → Type 0
 InsertsText old new p i bytes result =
     (ps : List OwnedText) (t : BackingArray) → IsTexts old.bytes p ps t
@@ -177,7 +177,7 @@ InsertsText old new p i bytes result =
     (λ e. RefusesIndex old new (length ps + 1) i e ⊎
     ((i ≤ length ps) × UndoesRequests old new (requested_text (live_of old.bytes) ps t bytes) e))
 
--- a text takes the place of another, whose block is freed once there is the new one
+-- a text replaces another, whose block is freed after the new one is allocated
 pub record SetsTextOk (old new : WindowState) (p : Place) (ps : List OwnedText) (t : BackingArray) (i : ℕ)
     (bytes : List ℕ) : Type 0 where
   pub before : OwnedText
@@ -187,14 +187,14 @@ pub record SetsTextOk (old new : WindowState) (p : Place) (ps : List OwnedText) 
   pub now : ReplacesTexts old new p (option_to_list t.extent ++ option_to_list before.extent)
       (option_to_list t.extent ++ option_to_list text.extent) (slice_set ps i text) t
 
--- the text at an index is replaced, or the index or the space is refused
+-- the text at an index is replaced, or the index is out of range, or there is no space
 abbrev pub SetsText : WindowState → WindowState → Place → ℕ → List ℕ → Result (Unit {0}) Refusal → Type 0
 SetsText old new p i bytes result =
     (ps : List OwnedText) (t : BackingArray) → IsTexts old.bytes p ps t
     → MatchResult result (λ u. SetsTextOk old new p ps t i bytes) (λ e. RefusesIndex old new (length ps) i e ⊎
     ((i < length ps) × LacksFit old new (placed_text (live_of old.bytes) bytes) e))
 
--- a text goes, and its block is freed; the array stays
+-- a text is removed, and its block is freed; the capacity stays
 pub record ErasesTextOk (old new : WindowState) (p : Place) (ps : List OwnedText) (t : BackingArray) (i : ℕ) : Type
     0 where
   pub before : OwnedText
@@ -202,19 +202,19 @@ pub record ErasesTextOk (old new : WindowState) (p : Place) (ps : List OwnedText
   pub now : ReplacesTexts old new p (option_to_list t.extent ++ option_to_list before.extent) (option_to_list t.extent)
       (remove ps i) t
 
--- the text of an index is gone with its block, or the index is refused
+-- the text at an index is removed and its block freed, or the index is out of range
 abbrev pub ErasesText : WindowState → WindowState → Place → ℕ → Result (Unit {0}) Refusal → Type 0
 ErasesText old new p i result =
     (ps : List OwnedText) (t : BackingArray) → IsTexts old.bytes p ps t
     → MatchResult result (λ u. ErasesTextOk old new p ps t i) (RefusesIndex old new (length ps) i)
 
--- the last text is removed with its block, or there is none
+-- the last text is removed and its block freed, or there is none
 abbrev pub PopsText : WindowState → WindowState → Place → Result (Unit {0}) Refusal → Type 0
 PopsText old new p result =
     (ps : List OwnedText) (t : BackingArray) → IsTexts old.bytes p ps t
     → MatchResult result (λ u. ErasesTextOk old new p ps t (length ps - 1)) (RefusesIndex old new (length ps) 0)
 
--- a vector of strings has n places or more, or there is no space and nothing changes
+-- a vector of strings has capacity n or more, or there is no space and nothing changes
 abbrev pub ReservesTexts : WindowState → WindowState → Place → ℕ → Result (Unit {0}) Refusal → Type 0
 ReservesTexts old new p n result =
     (ps : List OwnedText) (t : BackingArray) → IsTexts old.bytes p ps t
@@ -222,31 +222,32 @@ ReservesTexts old new p n result =
     × ReplacesTexts old new p (option_to_list t.extent) (option_to_list w.extent) ps w)
     (LacksFit old new (grown_backing (live_of old.bytes) 16 n t))
 
--- if there are n places already, nothing changes
+-- if the capacity is n or more already, nothing changes
 abbrev pub ReservesNoTexts : WindowState → WindowState → Place → ℕ → Result (Unit {0}) Refusal → Type 0
 ReservesNoTexts old new p n result = (ps : List OwnedText) (t : BackingArray)
     → IsTexts old.bytes p ps t → n ≤ t.capacity → (result ≡ Ok tt) × (new ≡ old)
 
--- a vector of strings has as many places as texts
+-- the capacity of a vector of strings becomes its length
 abbrev pub ShrinksTexts : WindowState → WindowState → Place → Type 0
 ShrinksTexts old new p =
     (ps : List OwnedText) (t : BackingArray) → IsTexts old.bytes p ps t
     → let u = shrunk_backing (live_of old.bytes) 16 (length ps) t in
     ReplacesTexts old new p (option_to_list t.extent) (option_to_list u.extent) ps u
 
--- no text: their blocks are released, and the array stays
+-- all texts are removed and their blocks freed; the capacity stays
 abbrev pub ClearsTexts : WindowState → WindowState → Place → Type 0
 ClearsTexts old new p =
     (ps : List OwnedText) (t : BackingArray) → IsTexts old.bytes p ps t
     → ReplacesTexts old new p (option_to_list t.extent ++ text_blocks ps) (option_to_list t.extent) [] t
 
--- a vector of strings gives all its blocks back
+-- all blocks of a vector of strings are freed
 abbrev pub ReleasesTexts : WindowState → WindowState → Place → Type 0
 ReleasesTexts old new p =
     (ps : List OwnedText) (t : BackingArray) → IsTexts old.bytes p ps t
     → ReplacesTexts old new p (option_to_list t.extent ++ text_blocks ps) [] [] no_backing
 
--- one or more texts: a new array for just this many and then the texts, and then the old ones are released
+-- one or more texts replace the old ones: an array for exactly these and then their blocks are allocated, and then the
+-- old blocks are freed
 pub record AssignsTextsOk (old new : WindowState) (p : Place) (ps : List OwnedText) (t : BackingArray)
     (more : List (List ℕ)) : Type 0 where
   pub table : BackingArray

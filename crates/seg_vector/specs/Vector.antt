@@ -1,4 +1,4 @@
--- Vectors, texts and vectors of texts: how they grow, and the bytes that spell them.
+-- Vectors, texts and vectors of texts: their growth, and their bytes.
 use Rattle.std.specs.Prelude.{◌≡◌, ℕ, ◌+◌, ◌*◌, max, ℤ, Bool, ◌&&◌, Option, Some, None, List, [], ◌∷◌, length, flat_map}
 use Rattle.std.specs.Prelude.{if◌then◌else◌, nat_lt, nat_le, ⊤, option_map}
 use Rattle.std.specs.List.{AllByRecursion, list_all}
@@ -9,20 +9,20 @@ use Rattle.best_fit.specs.{Extents.Extent, Extents.LiveSet, Extents.handle, Fit.
 use Rattle.best_fit.specs.Table.{BackingArray, has_backing, table_link}
 use Rattle.seg_types.specs.{declared.kinds.ScalarKind.ScalarKind, Kinds.spelling}
 
--- the capacity that a vector has for one element more
+-- the capacity of a vector after one element is appended
 abbrev pub capacity_for_one : ℕ → ℕ → ℕ
 capacity_for_one len capacity = if nat_lt len capacity then capacity else max 4 (2 * capacity)
 
--- the capacity that a vector of this many elements has for others after them
+-- the capacity of a vector of this many elements after others are appended
 abbrev pub capacity_for_more : ℕ → ℕ → ℕ → ℕ
 capacity_for_more len more capacity =
     if nat_le (len + more) capacity then capacity else max (max 4 (2 * capacity)) (len + more)
 
--- the capacity that a text has for len bytes
+-- the capacity of a text that must hold len bytes
 abbrev pub capacity_for_text : ℕ → ℕ → ℕ
 capacity_for_text len capacity = if nat_le len capacity then capacity else max (max 16 (2 * capacity)) len
 
--- the table with this many places: as it is if it has them, otherwise its block regrown
+-- the storage with this capacity: unchanged if it suffices, otherwise its block regrown
 unfoldable pub grown_backing : LiveSet → ℕ → ℕ → BackingArray → Option BackingArray
 unfolding regrow
 grown_backing live each n t =
@@ -30,16 +30,16 @@ grown_backing live each n t =
     else option_map (λ x. let u : BackingArray = record { capacity = n; extent = Some x } in u)
     (regrow live t.extent (each * n))
 
--- the spellings of the numbers, one after another
+-- the encodings of the numbers, one after another
 abbrev pub spelled : ScalarKind → List ℤ → List ℕ
 spelled k = flat_map (spelling k)
 
--- The block begins with these bytes; without a block there are none. So a null link, the length 1 and the capacity 0
--- are no vector of one number.
+-- The block begins with these bytes; without a block there are no bytes. So a null link with length 1 and capacity 0 is
+-- no vector of one number.
 abbrev pub IsStorage : Memory → BackingArray → List ℕ → Type 0
 IsStorage m t bytes = elim t.extent [ None ↦ bytes ≡ [] | Some x ↦ HasBytesAt m (handle x) bytes ]
 
--- the container at an offset has these bytes, which spell len elements
+-- the container at an offset has these bytes, which encode len elements
 pub record IsContainerAt (m : Memory) (at len : ℕ) (t : BackingArray) (bytes : List ℕ) : Type 0 where
   pub link : link_at m at ≡ table_link t
   pub len_word : word_at m (at + 8) ≡ len
@@ -50,20 +50,20 @@ pub record IsContainerAt (m : Memory) (at len : ℕ) (t : BackingArray) (bytes :
 abbrev pub IsVectorOf : {T : Type 0} → (T → List ℕ) → Memory → ℕ → List T → BackingArray → Type 0
 IsVectorOf spelling_of m at items t = IsContainerAt m at (length items) t (flat_map spelling_of items)
 
--- there are no more elements than places of this many bytes, and each is a value of its type
+-- whether there are at most as many elements as the capacity of this many bytes each, and each is a value of its type
 abbrev pub is_vector : {T : Type 0} → ℕ → (T → Bool) → List T → BackingArray → Bool
 is_vector size is_value items t =
     nat_le (length items) t.capacity && has_backing Storage size t && list_all is_value items
 
--- numbers of a scalar kind
+-- the vector at an offset, of numbers of a scalar kind
 abbrev pub IsVectorAt : Memory → ℕ → ScalarKind → List ℤ → BackingArray → Type 0
 IsVectorAt m at k items t = IsVectorOf (spelling k) m at items t
 
--- the bytes of a string
+-- the string at an offset
 abbrev pub IsTextAt : Memory → ℕ → List ℕ → BackingArray → Type 0
 IsTextAt m at bytes t = IsContainerAt m at (length bytes) t bytes
 
--- a text in a vector: its bytes, and their block, which an empty one has not
+-- a text in a vector: its bytes, and their block; an empty text has no block
 pub record OwnedText : Type 0 where
   pub bytes : List ℕ
   pub extent : Option Extent
@@ -74,7 +74,7 @@ AreTextLinks m at [] = ⊤
 AreTextLinks m at (p ∷ ps) =
     (link_at m at ≡ option_map handle p.extent) × (word_at m (at + 8) ≡ length p.bytes) × AreTextLinks m (at + 16) ps
 
--- the block of a text begins with its bytes; an empty text has none
+-- the block of a text begins with its bytes; an empty text has no block
 abbrev pub IsOwnedText : Memory → OwnedText → Type 0
 IsOwnedText m p = elim p.extent [ None ↦ p.bytes ≡ [] | Some x ↦ HasBytesAt m (handle x) p.bytes ]
 
@@ -82,7 +82,7 @@ IsOwnedText m p = elim p.extent [ None ↦ p.bytes ≡ [] | Some x ↦ HasBytesA
 abbrev pub AreInArray : Memory → BackingArray → List OwnedText → Type 0
 AreInArray m t ps = elim t.extent [ None ↦ ps ≡ [] | Some x ↦ AreTextLinks m (handle x) ps ]
 
--- the vector of texts at an offset: its array has the elements, and each text stands in a block of its own
+-- the vector of texts at an offset: its array has the elements, and each text that is not empty has a block of its own
 pub record IsTextsAt (m : Memory) (at : ℕ) (ps : List OwnedText) (t : BackingArray) : Type 0 where
   pub link : link_at m at ≡ table_link t
   pub len_word : word_at m (at + 8) ≡ length ps

@@ -1,4 +1,4 @@
-//! The storage of a container at a place: it has none at the beginning, gets more of it, has it cut, and gives it back.
+//! The storage of a container at a place: calls that initialise, grow, shrink and free it.
 ghost use Rattle.std.specs.Prelude.{◌≡◌, ℕ, ◌+◌, ◌*◌, ◌%◌, ◌<◌, ◌≤◌, IfSome, IsTrue, []};
 ghost use Rattle.raw_region.specs.Format.{current};
 ghost use Rattle.best_fit.specs.{Heap.ChangesBytes, Heap.IsHeap, Heap.has_room, Heap.live_of, Table.no_backing};
@@ -14,7 +14,7 @@ use block_tags::MAX_SEGMENT_LEN;
 use raw_region::Steps;
 use seg_types::Refusal;
 
-/// Writes the three words of a container: the link to its storage, and as many elements and as many places.
+/// Writes the three words of a container: the link to its storage, and `count` as both its length and its capacity.
 pub fn set_words(heap: &mut Heap, place: Place, storage: Option<u64>, count: u64)
     requires heap { IsHeap current heap.old.bytes }
     requires aligned { place.at % 8 ≡ 0 }
@@ -27,8 +27,8 @@ pub fn set_words(heap: &mut Heap, place: Place, storage: Option<u64>, count: u64
     heap.set_word(place.handle, place.at + CAPACITY, count);
 }
 
-/// Sets the three words at a place to those of an empty container without storage, whatever they were. Storage that
-/// they led to is not freed.
+/// Initialises the three words at a place as an empty container without storage. Their old value can be anything; it
+/// frees no storage.
 pub fn init_container(heap: &mut Heap, place: Place)
     requires heap { IsHeap current heap.old.bytes }
     requires aligned { place.at % 8 ≡ 0 }
@@ -39,7 +39,7 @@ pub fn init_container(heap: &mut Heap, place: Place)
     set_words(heap, place, None, 0);
 }
 
-/// Gives the storage of the container at a place back. It has no element and no place then.
+/// Frees the storage of the container at a place. The container is then empty, with capacity 0.
 pub fn free_storage(heap: &mut Heap, place: Place, each: u64)
     requires { IsStanding heap.old.bytes place each }
     ensures { FreesStorage heap.old heap.new place each }
@@ -51,7 +51,7 @@ pub fn free_storage(heap: &mut Heap, place: Place, each: u64)
     }
 }
 
-/// Shrinks the capacity of the container to its length, as far as a block can be shortened. Without elements the
+/// Shrinks the capacity of the container to its length, as far as its block can be shortened. An empty container's
 /// storage is freed.
 pub fn shrink_storage(heap: &mut Heap, place: Place, each: u64)
     requires container { IsStanding heap.old.bytes place each }
@@ -69,7 +69,7 @@ pub fn shrink_storage(heap: &mut Heap, place: Place, each: u64)
     }
 }
 
-/// Writes the link and the capacity of the container at a place. Its length stays.
+/// Sets the link and the capacity of the container at a place. Its length stays.
 pub fn set_storage(heap: &mut Heap, place: Place, array: u64, n: u64)
     requires heap { IsHeap current heap.old.bytes }
     requires aligned { place.at % 8 ≡ 0 }
@@ -82,11 +82,11 @@ pub fn set_storage(heap: &mut Heap, place: Place, array: u64, n: u64)
 }
 
 /// Makes room for `n` elements of `each` bytes, 1 to 4096, in the container at a place. It does nothing if the capacity
-/// is `n` or more; otherwise it regrows the storage to hold just `n`.
+/// is `n` or more; otherwise it regrows the storage to hold exactly `n`.
 ///
 /// # Errors
 ///
-/// `NoSpace` if a new block is needed and has no gap that is long enough. Nothing changes.
+/// `NoSpace` if a new block is needed and no gap is long enough. Nothing changes.
 #[inline(always)]
 pub fn reserve(heap: &mut Heap, place: Place, each: u64, n: u64) -> Result<(), Refusal>
     requires container { IsStanding heap.old.bytes place each }
@@ -111,7 +111,7 @@ pub fn reserve(heap: &mut Heap, place: Place, each: u64, n: u64) -> Result<(), R
     }
 }
 
-/// Returns the capacity that a container has for one element more.
+/// Returns the capacity of a container after one element is appended.
 pub fn capacity_for_one(len: u64, capacity: u64) -> u64
     requires { 2 * capacity < 18446744073709551616 }
     ensures { result ≡ places_for_one len capacity }
@@ -123,7 +123,7 @@ pub fn capacity_for_one(len: u64, capacity: u64) -> u64
     }
 }
 
-/// Returns the capacity that a container has for `more` elements more.
+/// Returns the capacity of a container after `more` elements are appended.
 pub fn capacity_for_more(len: u64, more: u64, capacity: u64) -> u64
     requires no_overflow { len + more < 18446744073709551616 }
     requires max_value { 2 * capacity < 18446744073709551616 }
@@ -136,8 +136,12 @@ pub fn capacity_for_more(len: u64, more: u64, capacity: u64) -> u64
     }
 }
 
-/// Makes room for one element more, of 1 to 4096 bytes, after the `len` that there are. A full container gets twice its
-/// places, and at least 4; or it answers `NoSpace` if its storage cannot be regrown, and nothing changes.
+/// Makes room for one element of 1 to 4096 bytes after the `len` elements. If the container is full, it doubles the
+/// capacity, to at least 4.
+///
+/// # Errors
+///
+/// `NoSpace` if the storage cannot be regrown. Nothing changes.
 pub fn grow_for_one(heap: &mut Heap, place: Place, each: u64, len: u64) -> Result<(), Refusal>
     requires container { IsStanding heap.old.bytes place each }
     requires non_empty { 1 ≤ each }

@@ -1,4 +1,5 @@
-//! The elements of a container at a place: read, written over, left out, and put in if there is a place.
+//! The elements of a container at a place: calls that read, replace and erase them, and insert them within the
+//! capacity.
 ghost use Rattle.std.specs.{Prelude.◌≡◌, Prelude.◌+◌, Prelude.◌*◌, Prelude.◌<◌, Prelude.◌≤◌, Prelude.IsTrue};
 ghost use Rattle.std.specs.{Prelude.flat_map, Prelude.length, Prelude.true, List.list_all};
 ghost use Rattle.raw_region.specs.{Format.current, Memory.HasBytesAt, Memory.bytes_of, Memory.patched};
@@ -24,7 +25,7 @@ pub fn elements(heap: &Heap, place: Place, each: u64) -> &[u8]
     }
 }
 
-/// Returns the bytes of the element with `index` others before it.
+/// Returns the bytes of the element at `index`.
 pub fn element(heap: &Heap, place: Place, each: u64, index: u64) -> &[u8]
     requires container { IsStanding heap.now.bytes place each }
     requires in_bounds { index < len_at heap.now.bytes place }
@@ -35,7 +36,7 @@ pub fn element(heap: &Heap, place: Place, each: u64, index: u64) -> &[u8]
     &all[from..from + each as usize]
 }
 
-/// Leaves the first `n` elements.
+/// Truncates the container to its first `n` elements.
 pub fn truncate(heap: &mut Heap, place: Place, each: u64, n: u64)
     requires container { IsStanding heap.old.bytes place each }
     requires max_count { n ≤ len_at heap.old.bytes place }
@@ -44,8 +45,8 @@ pub fn truncate(heap: &mut Heap, place: Place, each: u64, n: u64)
     heap.set_word(place.handle, place.at + LEN_OFFSET, n);
 }
 
-/// Writes `n` elements of `each` bytes after the last one, if the capacity allows. It is inlined, as is `put_at`, so
-/// that elements of a known length cost no copy of bytes.
+/// Appends `n` elements of `each` bytes within the capacity. It is inlined, as is `put_at`, so that elements of a known
+/// length need no copy loop.
 #[inline(always)]
 pub fn extend(heap: &mut Heap, place: Place, each: u64, n: u64, bytes: &[u8])
     requires container { IsStanding heap.old.bytes place each }
@@ -61,7 +62,7 @@ pub fn extend(heap: &mut Heap, place: Place, each: u64, n: u64, bytes: &[u8])
     }
 }
 
-/// Leaves out the element with `index` others before it. Those after it move down.
+/// Removes the element at `index`. The elements after it move down.
 pub fn erase_element(heap: &mut Heap, place: Place, each: u64, index: u64)
     requires container { IsStanding heap.old.bytes place each }
     requires in_bounds { index < len_at heap.old.bytes place }
@@ -76,18 +77,18 @@ pub fn erase_element(heap: &mut Heap, place: Place, each: u64, index: u64)
     }
 }
 
-/// Where an element is put.
+/// The position of an element to write.
 #[derive(Clone, Copy)]
 pub enum WritePos {
-    /// After the last one.
+    /// After the last element.
     End,
-    /// Over the one at this index.
+    /// Over the element at this index.
     Over(u64),
-    /// Before the one at this index. Those from there on move up.
+    /// Before the element at this index. The elements from this index on move up.
     Before(u64),
 }
 
-/// Puts an element of `each` bytes at a spot.
+/// Writes an element of `each` bytes at a position.
 #[inline(always)]
 pub fn put_at(heap: &mut Heap, place: Place, each: u64, spot: WritePos, bytes: &[u8])
     requires container { IsStanding heap.old.bytes place each }
@@ -116,7 +117,7 @@ pub fn put_at(heap: &mut Heap, place: Place, each: u64, spot: WritePos, bytes: &
     }
 }
 
-/// Puts a value at a spot.
+/// Writes a value at a position.
 pub fn put_value<T: Plain>(heap: &mut Heap, place: Place, spot: WritePos, value: T)
     requires container { IsStanding heap.old.bytes place T.SIZE }
     requires spot { HasSpot heap.old.bytes place spot }
@@ -130,7 +131,7 @@ pub fn put_value<T: Plain>(heap: &mut Heap, place: Place, spot: WritePos, value:
     }
 }
 
-/// Writes the value by way of a buffer of `N` bytes.
+/// Writes the value through a buffer of `N` bytes.
 fn put_by<T: Plain, const N: usize>(heap: &mut Heap, place: Place, spot: WritePos, value: T)
     requires buffer { T.SIZE ≤ N }
     requires max_len { N ≤ 4096 }
@@ -145,7 +146,7 @@ fn put_by<T: Plain, const N: usize>(heap: &mut Heap, place: Place, spot: WritePo
     put_at(heap, place, T::SIZE, spot, bytes);
 }
 
-/// Spells a value into a row, from a place on.
+/// Encodes a value into `row`, at the byte `from`.
 fn put_spelling<T: Plain>(row: &mut [u8], from: usize, value: T)
     requires { from + T.SIZE ≤ length row.old }
     ensures value { T.is_value value ≡ true }
@@ -154,7 +155,7 @@ fn put_spelling<T: Plain>(row: &mut [u8], from: usize, value: T)
     value.write(&mut row[from..from + T::SIZE as usize]);
 }
 
-/// Spells values into a row, one after another, from a place on.
+/// Encodes values into `row` one after another, from the byte `from` on.
 fn put_spellings<T: Plain>(row: &mut [u8], from: usize, values: &[T])
     requires { from + T.SIZE * length values.now ≤ length row.old }
     ensures values { IsTrue (list_all T.is_value values.now) }
@@ -166,7 +167,7 @@ fn put_spellings<T: Plain>(row: &mut [u8], from: usize, values: &[T])
     }
 }
 
-/// Spells values into the block of a handle, one after another, from `at` on.
+/// Encodes values into a block one after another, from `at` on.
 pub fn spell<T: Plain>(heap: &mut Heap, handle: u64, at: u64, values: &[T])
     requires heap { IsHeap current heap.old.bytes }
     requires room { IsTrue (has_room (live_of heap.old.bytes) handle (at + T.SIZE * length values.now)) }
@@ -178,7 +179,7 @@ pub fn spell<T: Plain>(heap: &mut Heap, handle: u64, at: u64, values: &[T])
     put_spellings(heap.block_mut(handle), at as usize, values);
 }
 
-/// Writes over the elements from `first` on with the spellings of values.
+/// Replaces the elements from `first` on by these values.
 pub fn put_over<T: Plain>(heap: &mut Heap, place: Place, first: u64, values: &[T])
     requires container { IsStanding heap.old.bytes place T.SIZE }
     requires in_bounds { first + length values.now ≤ len_at heap.old.bytes place }
@@ -191,7 +192,7 @@ pub fn put_over<T: Plain>(heap: &mut Heap, place: Place, first: u64, values: &[T
     }
 }
 
-/// Spells values after the last element, one after another, if the capacity allows.
+/// Appends values, one after another, within the capacity.
 pub fn put_behind<T: Plain>(heap: &mut Heap, place: Place, values: &[T])
     requires container { IsStanding heap.old.bytes place T.SIZE }
     requires space { len_at heap.old.bytes place + length values.now ≤ capacity_at heap.old.bytes place }

@@ -1,5 +1,5 @@
-//! Vectors and strings at a place in a heap: their contents, their growth, and their bytes. Each type holds the place
-//! alone; a call takes the heap as an argument, so that no borrow lasts between two calls.
+//! Vectors and strings at a place in a heap: their contents, their growth, and their bytes. Each type stores only the
+//! place; each call takes the heap as an argument, so that no borrow lasts between two calls.
 #![tactic(auto, using(crate::proofs::storage::Storage::sizes))]
 
 mod container_capacity;

@@ -1,4 +1,4 @@
-//! The blocks of the texts of a vector. New blocks are allocated while the blocks that they replace are in use.
+//! The blocks of the texts of a vector. New blocks are allocated before the blocks that they replace are freed.
 ghost use Rattle.std.specs.Prelude.{◌*◌, ◌<◌, IsTrue, List, length, map, option_to_list};
 ghost use Rattle.raw_region.specs.Format.{current};
 ghost use Rattle.best_fit.specs.Heap.{IsHeap, has_room, live_of};
@@ -13,8 +13,11 @@ use block_tags::{MAX_SEGMENT_LEN, Role};
 use raw_region::Steps;
 use seg_types::Refusal;
 
-/// Takes a block of storage for `n` bytes into use, and returns its handle, or `NoSpace` if no gap is long enough: then
-/// nothing changes.
+/// Allocates a block of storage for `n` bytes and returns its handle.
+///
+/// # Errors
+///
+/// `NoSpace` if no gap is long enough. Nothing changes.
 pub fn take(heap: &mut Heap, n: u64) -> Result<u64, Refusal>
     requires { IsHeap current heap.old.bytes }
     ensures { TakesStorage heap.old heap.new n result }
@@ -23,8 +26,11 @@ pub fn take(heap: &mut Heap, n: u64) -> Result<u64, Refusal>
     block.ok().ok_or(Refusal::NoSpace)
 }
 
-/// Takes a block for the bytes of a text into use, and writes them in it. It returns the block's handle, or `NoSpace`
-/// if no gap is long enough: then nothing changes. An empty text needs no block.
+/// Allocates a block for the bytes of a text, copies them to it, and returns its handle. An empty text needs no block.
+///
+/// # Errors
+///
+/// `NoSpace` if no gap is long enough. Nothing changes.
 pub fn place_text(heap: &mut Heap, text: &[u8]) -> Result<Option<u64>, Refusal>
     requires { IsHeap current heap.old.bytes }
     ensures { PlacesText heap.old heap.new text.now result }
@@ -38,7 +44,7 @@ pub fn place_text(heap: &mut Heap, text: &[u8]) -> Result<Option<u64>, Refusal>
     Ok(Some(block))
 }
 
-/// Frees the block of the text whose element is at an offset in the block of an array. An empty text has no block.
+/// Frees the block of the text whose element is at the offset `at` of an array. An empty text has no block.
 pub fn release_text(heap: &mut Heap, array: u64, at: u64)
     requires { (q : OwnedText) × IsHeldElement heap.old.bytes array at q }
     ensures { (q : OwnedText) → IsHeldElement heap.old.bytes array at q
@@ -49,7 +55,7 @@ pub fn release_text(heap: &mut Heap, array: u64, at: u64)
     }
 }
 
-/// Frees the blocks of the first `n` texts of the array in a block.
+/// Frees the blocks of the first `n` texts of an array.
 pub fn release_texts(heap: &mut Heap, array: u64, n: u64)
     requires { (ps : List OwnedText) × AreHeldElements heap.old.bytes array n ps }
     ensures { (ps : List OwnedText) → AreHeldElements heap.old.bytes array n ps
@@ -78,9 +84,13 @@ pub fn place_texts(heap: &mut Heap, array: u64, texts: &[&[u8]]) -> u64
     n
 }
 
-/// Allocates an array with a place for each text, and then a block for each text that is not empty, and writes the
-/// elements and the texts. Returns the array's handle, or `NoSpace` if one of them has no gap that is long enough. Then
-/// the same blocks are in use as before, with the same bytes.
+/// Allocates an array with one element for each text, and a block for each text that is not empty, and writes the
+/// elements and the texts. Returns the array's handle.
+///
+/// # Errors
+///
+/// `NoSpace` if no gap is long enough for the array or a text. It frees what it allocated: the same blocks are in use,
+/// with the same bytes.
 pub fn store_array(heap: &mut Heap, texts: &[&[u8]]) -> Result<u64, Refusal>
     requires heap { IsHeap current heap.old.bytes }
     requires non_empty { 0 < length texts.now }

@@ -1,4 +1,4 @@
-//! Where a container stands, and what its three words say.
+//! The place of a container, and its three words.
 ghost use Rattle.std.specs.Prelude.{◌≡◌, ◌+◌, ◌%◌, IsTrue};
 ghost use Rattle.raw_region.specs.{Format.current, Memory.bytes_of};
 ghost use Rattle.offset_link.specs.Link.{link_at};
@@ -7,16 +7,16 @@ ghost use Rattle.seg_vector.specs.Containers.{capacity_at, len_at, place_at};
 
 use best_fit::{Heap, Place};
 
-/// Where the length and the capacity of a container stand after its link.
+/// The distance in bytes from a container's link to its length.
 pub const LEN_OFFSET: u64 = 8;
 
-/// Where the capacity of a container stands after its link.
+/// The distance in bytes from a container's link to its capacity.
 pub const CAPACITY: u64 = 16;
 
-/// The length of an element of a vector of texts: the link to the block of its text, and the text's length.
+/// The length in bytes of an element of a vector of texts: the link to the text's block, and the text's length.
 pub const ELEMENT_LEN: u64 = 16;
 
-/// Returns where the link of the container at a place leads.
+/// Returns the target of the link of the container at a place.
 pub fn link_of(heap: &Heap, place: Place) -> Option<u64>
     requires aligned { place.at % 8 ≡ 0 }
     requires room { IsTrue (has_room (live_of heap.now.bytes) place.handle (place.at + 24)) }

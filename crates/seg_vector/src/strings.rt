@@ -1,4 +1,4 @@
-//! Texts: any bytes, one after another.
+//! Texts: strings of any bytes.
 ghost use Rattle.std.specs.Prelude.{◌≡◌, ◌+◌, ◌*◌, ◌%◌, ◌<◌, ◌≤◌, IsTrue};
 ghost use Rattle.raw_region.specs.Format.{current};
 ghost use Rattle.best_fit.specs.Heap.{ChangesBytes, IsHeap, has_room, live_of};
@@ -16,14 +16,14 @@ use block_tags::MAX_SEGMENT_LEN;
 use seg_types::Refusal;
 
 /// A text at a place in a heap. Three words stand there: the link to its storage, its length and its capacity. The
-/// storage is a block for as many bytes as the capacity. Without a place for a byte it has no block.
+/// storage is a block for as many bytes as the capacity. A text with capacity 0 has no block.
 #[derive(Clone, Copy, Debug)]
 pub struct SegString {
-    /// Where the three words stand.
+    /// The place of the three words.
     pub place: Place,
 }
 
-/// Returns the capacity that a text has for `len` bytes.
+/// Returns the capacity of a text that must hold `len` bytes.
 fn capacity_for_text(len: u64, capacity: u64) -> u64
     requires { 2 * capacity < 18446744073709551616 }
     ensures { result ≡ places_for_text len capacity }
@@ -36,7 +36,7 @@ fn capacity_for_text(len: u64, capacity: u64) -> u64
 }
 
 impl SegString {
-    /// Makes a text without a byte and without a place of the 24 bytes at a place: a multiple of 8 in a block in use.
+    /// Makes an empty text with capacity 0 in the 24 bytes at a place, a multiple of 8 in a block in use.
     pub fn new(heap: &mut Heap, place: Place) -> SegString
         requires heap { IsHeap current heap.old.bytes }
         requires aligned { place.at % 8 ≡ 0 }
@@ -49,12 +49,12 @@ impl SegString {
         SegString { place }
     }
 
-    /// Makes a text of bytes of the 24 bytes at a place, a multiple of 8 in a block in use, with just a place for each
-    /// byte.
+    /// Makes a text of these bytes in the 24 bytes at a place, a multiple of 8 in a block in use. Its capacity is its
+    /// length.
     ///
     /// # Errors
     ///
-    /// `NoSpace` if no gap is long enough for them. Nothing changes.
+    /// `NoSpace` if no gap is long enough for the bytes. Nothing changes.
     pub fn with_bytes(heap: &mut Heap, place: Place, bytes: &[u8]) -> Result<(), Refusal>
         requires heap { IsHeap current heap.old.bytes }
         requires aligned { place.at % 8 ≡ 0 }
@@ -74,7 +74,7 @@ impl SegString {
         len_of(heap, self.place)
     }
 
-    /// Returns the number of bytes that the storage has places for.
+    /// Returns the capacity in bytes.
     pub fn capacity(self, heap: &Heap) -> u64
         requires { IsSomeText heap.now.bytes self.place }
         ensures { CountsBytePlaces heap.now.bytes self.place result }
@@ -90,7 +90,7 @@ impl SegString {
         elements(heap, self.place, 1)
     }
 
-    /// Returns the byte with `index` others before it.
+    /// Returns the byte at `index`.
     ///
     /// # Errors
     ///
@@ -103,7 +103,7 @@ impl SegString {
         byte.copied().ok_or(Refusal::OutOfRange)
     }
 
-    /// Writes over the byte with `index` others before it.
+    /// Sets the byte at `index`.
     ///
     /// # Errors
     ///
@@ -119,11 +119,11 @@ impl SegString {
         Ok(())
     }
 
-    /// Makes places for `n` bytes, if there are fewer, and otherwise changes nothing. The bytes stay.
+    /// Grows the capacity to at least `n` bytes. The bytes stay. If the capacity suffices, nothing changes.
     ///
     /// # Errors
     ///
-    /// `NoSpace` if there are fewer and the storage cannot be regrown. Nothing changes.
+    /// `NoSpace` if the storage cannot be regrown. Nothing changes.
     pub fn reserve(self, heap: &mut Heap, n: u64) -> Result<(), Refusal>
         requires { IsSomeText heap.old.bytes self.place }
         ensures capacity { ReservesBytes heap.old heap.new self.place n result }
@@ -148,12 +148,11 @@ impl SegString {
         Ok(())
     }
 
-    /// Puts bytes after the last one. If there are not places for all of them, there are twice as many as before, and
-    /// at least 16, and as many as are needed.
+    /// Appends bytes. If the capacity is too small, it doubles, to at least 16 and at least the new length.
     ///
     /// # Errors
     ///
-    /// `NoSpace` if there are fewer places and the storage cannot be regrown. Nothing changes.
+    /// `NoSpace` if the capacity is too small and the storage cannot be regrown. Nothing changes.
     pub fn append(self, heap: &mut Heap, bytes: &[u8]) -> Result<(), Refusal>
         requires { IsSomeText heap.old.bytes self.place }
         ensures { AppendsText heap.old heap.new self.place bytes.now result }
@@ -169,8 +168,7 @@ impl SegString {
         Ok(())
     }
 
-    /// Shrinks the capacity to the number of bytes, as far as a block can be shortened. Without bytes the storage is
-    /// freed.
+    /// Shrinks the capacity to the length, as far as the block can be shortened. An empty text's storage is freed.
     pub fn shrink(self, heap: &mut Heap)
         requires { IsSomeText heap.old.bytes self.place }
         ensures { ShrinksText heap.old heap.new self.place }
@@ -178,7 +176,7 @@ impl SegString {
         shrink_storage(heap, self.place, 1);
     }
 
-    /// Leaves no byte. The places stay.
+    /// Removes all bytes. The capacity stays.
     pub fn clear(self, heap: &mut Heap)
         requires { IsSomeText heap.old.bytes self.place }
         ensures { ClearsText heap.old heap.new self.place }
@@ -186,7 +184,7 @@ impl SegString {
         truncate(heap, self.place, 1, 0);
     }
 
-    /// Gives the storage back. There is no byte and no place then.
+    /// Frees the storage. The text is then empty, with capacity 0.
     pub fn release(self, heap: &mut Heap)
         requires { IsSomeText heap.old.bytes self.place }
         ensures { ReleasesText heap.old heap.new self.place }

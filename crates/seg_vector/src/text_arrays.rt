@@ -1,5 +1,5 @@
-//! The array of a vector of texts: elements of a link, which is a distance, and a length. They are moved as a link and
-//! a word, within it and to one with more places.
+//! The array of a vector of texts. Each element is a link, which stores a distance, and a length, so elements are moved
+//! link by link, within the array and to a longer one.
 ghost use Rattle.std.specs.Prelude.{◌+◌, ◌*◌, ◌^◌, ◌<◌};
 ghost use Rattle.raw_region.specs.{Format.current, Memory.bytes_of};
 ghost use Rattle.offset_link.specs.Link.{link_at};
@@ -19,7 +19,7 @@ use best_fit::{Heap, Place};
 use raw_region::Steps;
 use seg_types::Refusal;
 
-/// Writes the element at an offset in a block: a link to the block of a text, or nowhere, and its length.
+/// Writes the element at an offset of an array: a link to the block of a text, or null, and the text's length.
 pub fn put_element(heap: &mut Heap, array: u64, at: u64, text: Option<u64>, len: u64)
     requires { HasElementRoom heap.old.bytes array at text }
     ensures { PutsElement heap.old heap.new (array + at) text len }
@@ -28,8 +28,8 @@ pub fn put_element(heap: &mut Heap, array: u64, at: u64, text: Option<u64>, len:
     heap.set_word(array, at + LEN_OFFSET, len);
 }
 
-/// Copies an element, a link and a length, from an offset in one block to an offset in another or the same. The new
-/// link leads where the old one does.
+/// Copies an element from an offset of one array to an offset of another or the same array. The new link has the same
+/// target.
 pub fn carry_element(heap: &mut Heap, from: u64, from_at: u64, to: u64, to_at: u64)
     requires element { HasElement heap.old.bytes from from_at }
     requires room { HasElementRoom heap.old.bytes to to_at (link_at (bytes_of heap.old.bytes) (from + from_at)) }
@@ -41,8 +41,8 @@ pub fn carry_element(heap: &mut Heap, from: u64, from_at: u64, to: u64, to_at: u
     put_element(heap, to, to_at, text, len);
 }
 
-/// Makes the `n` elements from `to_at` on in the block `to` those from `from_at` on in the block `from`, the first one
-/// first. It may be one block, if they move down.
+/// Copies the `n` elements from `from_at` on in the block `from` to `to_at` in the block `to`, first element first.
+/// Both can be the same block if the elements move down.
 pub fn move_elements_down(heap: &mut Heap, from: u64, from_at: u64, to: u64, to_at: u64, n: u64)
     requires { CanCarryDown heap.old.bytes from from_at to to_at n }
     ensures { CarriesElements heap.old heap.new (from + from_at) (to + to_at) n }
@@ -58,7 +58,7 @@ pub fn move_elements_down(heap: &mut Heap, from: u64, from_at: u64, to: u64, to_
     }
 }
 
-/// Moves the `n` elements from `at` on in a block up by one place, the last one first.
+/// Moves the `n` elements from `at` on up by one place, last element first.
 pub fn move_elements_up(heap: &mut Heap, array: u64, at: u64, n: u64)
     requires { CanCarryUp heap.old.bytes array at n }
     ensures { CarriesElements heap.old heap.new (array + at) (array + at + 16) n }
@@ -69,10 +69,13 @@ pub fn move_elements_up(heap: &mut Heap, array: u64, at: u64, n: u64)
     }
 }
 
-/// Asks for an array of `n` places for the vector of texts at a place, which has fewer, and returns the array's handle.
-/// It is the old one if that is long enough or can be lengthened in place, and otherwise a new block beside the old
-/// one. The vector's words stay. If a new block is needed and no gap is long enough, it answers `NoSpace`, and
-/// nothing changes.
+/// Reserves an array of `n` places for the vector of texts at a place, whose capacity is less, and returns the array's
+/// handle. It is the old array if that is long enough or can be lengthened in place, and otherwise a new block next to
+/// the old one. The vector's words stay.
+///
+/// # Errors
+///
+/// `NoSpace` if a new block is needed and no gap is long enough. Nothing changes.
 pub fn reserve_array(heap: &mut Heap, place: Place, n: u64) -> Result<u64, Refusal>
     requires texts { IsTextsContainer heap.old.bytes place }
     requires max_size { 16 * n < 2 ^ 64 }
@@ -89,7 +92,7 @@ pub fn reserve_array(heap: &mut Heap, place: Place, n: u64) -> Result<u64, Refus
     take(heap, ELEMENT_LEN * n)
 }
 
-/// Installs the allocated block as the array of the vector of texts at `place`, with `n` places. If the block is new,
+/// Installs the reserved array in the vector of texts at `place`, with capacity `n`. If the array is a new block, it
 /// moves the elements into it and frees the old block.
 pub fn install_array(heap: &mut Heap, place: Place, array: u64, n: u64)
     requires { IsArrayReserved heap.old place array n }
@@ -107,8 +110,8 @@ pub fn install_array(heap: &mut Heap, place: Place, array: u64, n: u64)
     set_storage(heap, place, array, n);
 }
 
-/// Writes the element of a text, whose block is in use already, where `index` others stand before it: those from there
-/// on move up. The array has a place for it.
+/// Inserts the element of a text, whose block is already allocated, at `index`. The elements from there on move up. The
+/// capacity must suffice.
 pub fn insert_element(heap: &mut Heap, place: Place, index: u64, text: Option<u64>, text_len: u64)
     requires { IsPutAsked heap.old place index text text_len }
     ensures { InsertsElement heap.old heap.new place index text text_len }
@@ -146,8 +149,11 @@ pub fn undo_reserve(heap: &mut Heap, place: Place, array: u64, room: u64)
     heap.deallocate(array, &mut Steps::new());
 }
 
-/// Puts a text where `index` others stand before it. There is a place for it. If no gap is long enough for the text, it
-/// answers `NoSpace`, and nothing changes.
+/// Inserts a text at `index`, within the capacity.
+///
+/// # Errors
+///
+/// `NoSpace` if no gap is long enough for the text. Nothing changes.
 pub fn insert_within(heap: &mut Heap, place: Place, index: u64, text: &[u8]) -> Result<(), Refusal>
     requires { HasSpareCapacity heap.old.bytes place index }
     ensures { InsertsWithin heap.old heap.new place index text.now result }
@@ -157,9 +163,12 @@ pub fn insert_within(heap: &mut Heap, place: Place, index: u64, text: &[u8]) -> 
     Ok(())
 }
 
-/// Inserts a text before the one at `index`, in a new array of `n` places, since the vector is full. It allocates the
-/// array first, and then the text's block, while the old array is in use. If a gap is missing for one of the two, it
-/// returns `NoSpace`, and the live set and all blocks are as before.
+/// Inserts a text before the one at `index` in a full vector, which gets a new array of `n` places. It allocates the
+/// array first, and then the text's block, while the old array is in use.
+///
+/// # Errors
+///
+/// `NoSpace` if no gap is long enough for the array or the text. The same blocks are in use, with the same bytes.
 pub fn insert_growing(
     heap: &mut Heap,
     place: Place,

@@ -24,12 +24,12 @@ use seg_types::Refusal;
 /// Each text that is not empty has a block of its own.
 #[derive(Clone, Copy, Debug)]
 pub struct SegTexts {
-    /// Where the three words stand.
+    /// The place of the three words.
     pub place: Place,
 }
 
 impl SegTexts {
-    /// Makes a vector without a text and without a place of the 24 bytes at a place: a multiple of 8 in a block in use.
+    /// Makes an empty vector with capacity 0 in the 24 bytes at a place, a multiple of 8 in a block in use.
     pub fn new(heap: &mut Heap, place: Place) -> SegTexts
         requires heap { IsHeap current heap.old.bytes }
         requires aligned { place.at % 8 ≡ 0 }
@@ -42,13 +42,12 @@ impl SegTexts {
         SegTexts { place }
     }
 
-    /// Makes a vector of texts of the 24 bytes at a place, a multiple of 8 in a block in use, with just a place for
-    /// each text.
+    /// Makes a vector of these texts in the 24 bytes at a place, a multiple of 8 in a block in use. Its capacity is its
+    /// length.
     ///
     /// # Errors
     ///
-    /// `NoSpace` if the array or a text has no gap that is long enough: the same blocks are in use as before, with the
-    /// same bytes.
+    /// `NoSpace` if no gap is long enough for the array or a text. The same blocks are in use, with the same bytes.
     pub fn with_texts(heap: &mut Heap, place: Place, texts: &[&[u8]]) -> Result<(), Refusal>
         requires heap { IsHeap current heap.old.bytes }
         requires aligned { place.at % 8 ≡ 0 }
@@ -73,7 +72,7 @@ impl SegTexts {
         len_of(heap, self.place)
     }
 
-    /// Returns the number of texts that the array has places for.
+    /// Returns the capacity: the number of texts that the array can hold.
     pub fn capacity(self, heap: &Heap) -> u64
         requires { IsTextsContainer heap.now.bytes self.place }
         ensures { ReadsTextsCapacity heap.now.bytes self.place result }
@@ -81,7 +80,7 @@ impl SegTexts {
         capacity_of(heap, self.place)
     }
 
-    /// Returns the text with `index` others before it.
+    /// Returns the text at `index`.
     ///
     /// # Errors
     ///
@@ -107,7 +106,7 @@ impl SegTexts {
         }
     }
 
-    /// Replaces the text at `index`. Frees its block once the new block is allocated.
+    /// Replaces the text at `index`. It frees the old block after it has allocated the new one.
     ///
     /// # Errors
     ///
@@ -129,13 +128,13 @@ impl SegTexts {
         Ok(())
     }
 
-    /// Inserts a text before the one at `index`. A full vector first gets twice its places, and at least 4.
+    /// Inserts a text before the one at `index`. A full vector first doubles its capacity, to at least 4.
     ///
     /// # Errors
     ///
     /// `OutOfRange` if `index` is above the length: nothing changes. Otherwise `NoSpace` if no gap is long enough for
-    /// the array or the text: the same blocks are in use as before, with the same bytes. Nothing changes at all if the
-    /// first request fails: the request for the text, or for the array if the vector is full.
+    /// the array or the text: the same blocks are in use, with the same bytes. Nothing changes at all if the first
+    /// allocation fails: that of the text, or of the array if the vector is full.
     pub fn insert(self, heap: &mut Heap, index: u64, text: &[u8]) -> Result<(), Refusal>
         requires { IsTextsContainer heap.old.bytes self.place }
         ensures changes { InsertsText heap.old heap.new self.place index text.now result }
@@ -154,13 +153,12 @@ impl SegTexts {
         }
     }
 
-    /// Appends a text. A full vector first gets twice its places, and at least 4.
+    /// Appends a text. A full vector first doubles its capacity, to at least 4.
     ///
     /// # Errors
     ///
-    /// `NoSpace` if no gap is long enough for the array or the text: the same blocks are in use as before, with the
-    /// same bytes. Nothing changes at all if the first request fails: the request for the text, or for the array if the
-    /// vector is full.
+    /// `NoSpace` if no gap is long enough for the array or the text: the same blocks are in use, with the same bytes.
+    /// Nothing changes at all if the first allocation fails: that of the text, or of the array if the vector is full.
     pub fn push(self, heap: &mut Heap, text: &[u8]) -> Result<(), Refusal>
         requires { IsTextsContainer heap.old.bytes self.place }
         ensures changes { PushesText heap.old heap.new self.place text.now result }
@@ -170,7 +168,7 @@ impl SegTexts {
         self.insert(heap, len, text)
     }
 
-    /// Removes the text at `index`, and frees its block. The texts after it move down; the array stays.
+    /// Removes the text at `index`, and frees its block. The texts after it move down; the capacity stays.
     ///
     /// # Errors
     ///
@@ -193,7 +191,7 @@ impl SegTexts {
         Ok(())
     }
 
-    /// Removes the last text, and frees its block. The array stays.
+    /// Removes the last text, and frees its block. The capacity stays.
     ///
     /// # Errors
     ///
@@ -206,12 +204,11 @@ impl SegTexts {
         self.erase(heap, last)
     }
 
-    /// Makes places for `n` texts, if there are fewer, and otherwise changes nothing. The texts stay.
+    /// Grows the capacity to at least `n` texts. The texts stay. If the capacity suffices, nothing changes.
     ///
     /// # Errors
     ///
-    /// `NoSpace` if there are fewer and the array cannot be lengthened and has no gap that is long enough. Nothing
-    /// changes.
+    /// `NoSpace` if the array cannot be lengthened in place and no gap is long enough for a new one. Nothing changes.
     pub fn reserve(self, heap: &mut Heap, n: u64) -> Result<(), Refusal>
         requires { IsTextsContainer heap.old.bytes self.place }
         ensures capacity { ReservesTexts heap.old heap.new self.place n result }
@@ -228,13 +225,13 @@ impl SegTexts {
         Ok(())
     }
 
-    /// Replaces all texts. One or more texts get a new array with exactly one place for each, and then their blocks;
-    /// the old blocks are freed after that. If there are no texts, the array stays.
+    /// Replaces all texts. For one or more texts it allocates a new array with capacity for exactly these, and then
+    /// their blocks; after that it frees the old blocks. If there are no new texts, the array stays.
     ///
     /// # Errors
     ///
-    /// `NoSpace` if no gap is long enough for the array or a text: the same blocks are in use as before, with the same
-    /// bytes. Nothing changes at all if the array has no gap.
+    /// `NoSpace` if no gap is long enough for the array or a text: the same blocks are in use, with the same bytes.
+    /// Nothing changes at all if the array has no gap.
     pub fn assign(self, heap: &mut Heap, texts: &[&[u8]]) -> Result<(), Refusal>
         requires { IsTextsContainer heap.old.bytes self.place }
         ensures changes { AssignsTexts heap.old heap.new self.place (map (λ text. text.now) texts.now) result }
@@ -250,8 +247,7 @@ impl SegTexts {
         Ok(())
     }
 
-    /// Shrinks the capacity to the number of texts, as far as a block can be shortened. Without texts the array is
-    /// freed.
+    /// Shrinks the capacity to the length, as far as the block can be shortened. An empty vector's array is freed.
     pub fn shrink(self, heap: &mut Heap)
         requires { IsTextsContainer heap.old.bytes self.place }
         ensures { ShrinksTexts heap.old heap.new self.place }
@@ -259,7 +255,7 @@ impl SegTexts {
         shrink_storage(heap, self.place, ELEMENT_LEN);
     }
 
-    /// Removes all texts, and frees their blocks. The array stays.
+    /// Removes all texts, and frees their blocks. The capacity stays.
     pub fn clear(self, heap: &mut Heap)
         requires { IsTextsContainer heap.old.bytes self.place }
         ensures { ClearsTexts heap.old heap.new self.place }
@@ -271,7 +267,7 @@ impl SegTexts {
         heap.set_word(self.place.handle, self.place.at + LEN_OFFSET, 0);
     }
 
-    /// Frees the array and the blocks of all texts. The vector is empty then, with capacity 0.
+    /// Frees the array and the blocks of all texts. The vector is then empty, with capacity 0.
     pub fn release(self, heap: &mut Heap)
         requires { IsTextsContainer heap.old.bytes self.place }
         ensures { ReleasesTexts heap.old heap.new self.place }

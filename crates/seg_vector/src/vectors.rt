@@ -23,16 +23,16 @@ use seg_types::{Plain, Refusal};
 use std::marker::PhantomData;
 
 /// A vector at a place in a heap. Three words stand there: the link to its storage, its length and its capacity. The
-/// storage is a block with as many places as the capacity. Without a place it has no block.
+/// storage is a block for as many values as the capacity. A vector with capacity 0 has no block.
 #[derive(Clone, Copy)]
 pub struct SegVec<T: Plain> {
-    /// Where the three words stand.
+    /// The place of the three words.
     pub place: Place,
     of: PhantomData<T>,
 }
 
 impl<T: Plain> SegVec<T> {
-    /// Returns the vector that stands at a place.
+    /// Returns the vector at a place.
     pub fn at(place: Place) -> SegVec<T>
         ensures { result.place ≡ place }
     {
@@ -42,8 +42,7 @@ impl<T: Plain> SegVec<T> {
         }
     }
 
-    /// Makes a vector without a value and without a place of the 24 bytes at a place: a multiple of 8 in a block in
-    /// use.
+    /// Makes an empty vector with capacity 0 in the 24 bytes at a place, a multiple of 8 in a block in use.
     pub fn new(heap: &mut Heap, place: Place) -> SegVec<T>
         requires heap { IsHeap current heap.old.bytes }
         requires aligned { place.at % 8 ≡ 0 }
@@ -64,7 +63,7 @@ impl<T: Plain> SegVec<T> {
         len_of(heap, self.place)
     }
 
-    /// Returns the number of values that the storage has places for.
+    /// Returns the capacity: the number of values that the storage can hold.
     pub fn capacity(self, heap: &Heap) -> u64
         requires { IsSomeVector T.SIZE T.is_value T.spelling heap.now.bytes self.place }
         ensures { CountsPlaces T.SIZE T.is_value T.spelling heap.now.bytes self.place result }
@@ -72,7 +71,7 @@ impl<T: Plain> SegVec<T> {
         capacity_of(heap, self.place)
     }
 
-    /// Returns the value with `index` others before it.
+    /// Returns the value at `index`.
     ///
     /// # Errors
     ///
@@ -90,7 +89,7 @@ impl<T: Plain> SegVec<T> {
         }
     }
 
-    /// Writes over the value with `index` others before it.
+    /// Sets the value at `index`.
     ///
     /// # Errors
     ///
@@ -106,11 +105,11 @@ impl<T: Plain> SegVec<T> {
         Ok(())
     }
 
-    /// Writes over the values with `first` others before them and from there on, as many as there are of the new ones.
+    /// Replaces the values from the index `first` on by `values`.
     ///
     /// # Errors
     ///
-    /// `OutOfRange` if the last of them is not below the length. Nothing changes.
+    /// `OutOfRange` if the last of them would be past the end. Nothing changes.
     pub fn overwrite(self, heap: &mut Heap, first: u64, values: &[T]) -> Result<(), Refusal>
         requires { IsSomeVector T.SIZE T.is_value T.spelling heap.old.bytes self.place }
         ensures sets { SetsAll T.SIZE T.is_value T.spelling heap.old heap.new self.place first values.now result }
@@ -127,11 +126,11 @@ impl<T: Plain> SegVec<T> {
         Ok(())
     }
 
-    /// Takes the last value out. The places stay.
+    /// Removes the last value and returns it. The capacity stays.
     ///
     /// # Errors
     ///
-    /// `OutOfRange` if there is none. Nothing changes.
+    /// `OutOfRange` if the vector is empty. Nothing changes.
     pub fn pop(self, heap: &mut Heap) -> Result<T, Refusal>
         requires { IsSomeVector T.SIZE T.is_value T.spelling heap.old.bytes self.place }
         ensures { Pops T.SIZE T.is_value T.spelling heap.old heap.new self.place result }
@@ -142,7 +141,7 @@ impl<T: Plain> SegVec<T> {
         Ok(value)
     }
 
-    /// Leaves out the value with `index` others before it. Those after it move down, and the places stay.
+    /// Removes the value at `index`. The values after it move down; the capacity stays.
     ///
     /// # Errors
     ///
@@ -158,11 +157,11 @@ impl<T: Plain> SegVec<T> {
         Ok(())
     }
 
-    /// Puts a value after the last one. A full vector gets twice its places first, and at least 4.
+    /// Appends a value. A full vector first doubles its capacity, to at least 4.
     ///
     /// # Errors
     ///
-    /// `NoSpace` if it is full and its storage cannot be regrown. Nothing changes.
+    /// `NoSpace` if the vector is full and its storage cannot be regrown. Nothing changes.
     pub fn push(self, heap: &mut Heap, value: T) -> Result<(), Refusal>
         requires { IsSomeVector T.SIZE T.is_value T.spelling heap.old.bytes self.place }
         ensures { Pushes T.SIZE T.is_value T.spelling heap.old heap.new self.place value result }
@@ -173,13 +172,13 @@ impl<T: Plain> SegVec<T> {
         Ok(())
     }
 
-    /// Puts a value where `index` others stand before it. Those from there on move up. A full vector gets twice its
-    /// places first, and at least 4.
+    /// Inserts a value before the one at `index`. The values from there on move up. A full vector first doubles its
+    /// capacity, to at least 4.
     ///
     /// # Errors
     ///
-    /// `OutOfRange` if `index` is above the length; otherwise `NoSpace` if the vector is full and its storage cannot
-    /// be regrown. Nothing changes.
+    /// `OutOfRange` if `index` is above the length; otherwise `NoSpace` if the vector is full and its storage cannot be
+    /// regrown. Nothing changes.
     pub fn insert(self, heap: &mut Heap, index: u64, value: T) -> Result<(), Refusal>
         requires { IsSomeVector T.SIZE T.is_value T.spelling heap.old.bytes self.place }
         ensures { InsertsInto T.SIZE T.is_value T.spelling heap.old heap.new self.place index value result }
@@ -193,12 +192,11 @@ impl<T: Plain> SegVec<T> {
         Ok(())
     }
 
-    /// Puts values after the last one, one after another. If there are not places for all of them, there are twice as
-    /// many as before, and at least 4, and as many as are needed.
+    /// Appends values. If the capacity is too small, it doubles, to at least 4 and at least the new length.
     ///
     /// # Errors
     ///
-    /// `NoSpace` if there are fewer places and the storage cannot be regrown. Nothing changes.
+    /// `NoSpace` if the capacity is too small and the storage cannot be regrown. Nothing changes.
     pub fn extend(self, heap: &mut Heap, values: &[T]) -> Result<(), Refusal>
         requires { IsSomeVector T.SIZE T.is_value T.spelling heap.old.bytes self.place }
         ensures { ExtendsBy T.SIZE T.is_value T.spelling heap.old heap.new self.place values.now result }
@@ -213,11 +211,11 @@ impl<T: Plain> SegVec<T> {
         Ok(())
     }
 
-    /// Makes places for `n` values, if there are fewer, and otherwise changes nothing. The values stay.
+    /// Grows the capacity to at least `n` values. The values stay. If the capacity suffices, nothing changes.
     ///
     /// # Errors
     ///
-    /// `NoSpace` if there are fewer and the storage cannot be regrown. Nothing changes.
+    /// `NoSpace` if the storage cannot be regrown. Nothing changes.
     pub fn reserve(self, heap: &mut Heap, n: u64) -> Result<(), Refusal>
         requires { IsSomeVector T.SIZE T.is_value T.spelling heap.old.bytes self.place }
         ensures capacity { ReservesVector T.SIZE T.is_value T.spelling heap.old heap.new self.place n result }
@@ -241,8 +239,7 @@ impl<T: Plain> SegVec<T> {
         Ok(())
     }
 
-    /// Shrinks the capacity to the number of values, as far as a block can be shortened. Without values the storage is
-    /// freed.
+    /// Shrinks the capacity to the length, as far as the block can be shortened. An empty vector's storage is freed.
     pub fn shrink(self, heap: &mut Heap)
         requires { IsSomeVector T.SIZE T.is_value T.spelling heap.old.bytes self.place }
         ensures { ShrinksVector T.SIZE T.is_value T.spelling heap.old heap.new self.place }
@@ -250,7 +247,7 @@ impl<T: Plain> SegVec<T> {
         shrink_storage(heap, self.place, T::SIZE);
     }
 
-    /// Leaves no value. The places stay.
+    /// Removes all values. The capacity stays.
     pub fn clear(self, heap: &mut Heap)
         requires { IsSomeVector T.SIZE T.is_value T.spelling heap.old.bytes self.place }
         ensures { Clears T.SIZE T.is_value T.spelling heap.old heap.new self.place }
@@ -258,7 +255,7 @@ impl<T: Plain> SegVec<T> {
         truncate(heap, self.place, T::SIZE, 0);
     }
 
-    /// Gives the storage back. There is no value and no place then.
+    /// Frees the storage. The vector is then empty, with capacity 0.
     pub fn release(self, heap: &mut Heap)
         requires { IsSomeVector T.SIZE T.is_value T.spelling heap.old.bytes self.place }
         ensures { ReleasesVector T.SIZE T.is_value T.spelling heap.old heap.new self.place }

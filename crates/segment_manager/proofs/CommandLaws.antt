@@ -1,24 +1,24 @@
--- The laws of commands by literals, for the crates that learn the kind of an object when they run: which call is the
--- step of a command, by the kind of the object and by what the literals are for it.
+-- The laws of commands by literals, for the crates that learn the kind of an object at run time: which call is the step
+-- of a command, by the kind of the object and by its literals.
 
--- what is known of the object that is to be changed, and of the literals
+-- the facts about the object to change, and about the literals
 pub use Rattle.segment_manager.specs.containers.Changeable.{IsChangeable, IsElement, IsNoElement, IsChangeableObject}
 pub use Rattle.segment_manager.specs.containers.Changeable.{IsUnchangeable}
 pub use Rattle.segment_manager.proofs.containers.Changeable.{changeable, handle-to-change, reading-unchangeable}
 pub use Rattle.segment_manager.proofs.containers.Changeable.{says-kind, to-change}
--- a command by its plan: one that is refused, and one that changes nothing
+-- a command by its plan: one that fails, and one that changes nothing
 pub use Rattle.segment_manager.proofs.containers.Changeable.{answered-reads, refuses}
 pub use Rattle.segment_manager.proofs.directory.CommandSteps.{open-writing, step-effect}
 -- a value by the kind of its object
 pub use Rattle.segment_manager.proofs.objects.ElementCommands.{IsElements, IsTexts, texts-if, told, vector-if}
--- elements put in, taken out and set
+-- elements inserted, removed and set
 pub use Rattle.segment_manager.proofs.objects.ElementCommands.{element-read, insert-element, no_value-element}
 pub use Rattle.segment_manager.proofs.objects.ElementCommands.{no_vector-element, push-element, unchangeable-element}
 pub use Rattle.segment_manager.proofs.objects.ElementCommands.{assign-unchangeable, erase-no_vector, erase-unchangeable}
 pub use Rattle.segment_manager.proofs.objects.ElementCommands.{pop-no_vector, pop-unchangeable, NoText, elements-either}
 pub use Rattle.segment_manager.proofs.objects.ElementCommands.{elements-told, no_text-element, set-map, set-no_text}
 pub use Rattle.segment_manager.proofs.objects.ElementCommands.{set-step, set-unchangeable}
--- pairs put in, looked up and taken out
+-- pairs put, looked up and erased
 pub use Rattle.segment_manager.proofs.containers.PairCommands.{put-no_map, put-no_pair, put-unchangeable, puts-pair}
 pub use Rattle.segment_manager.proofs.containers.PairCommands.{lookup-no_map, lookup-no_value, lookup-nowhere}
 pub use Rattle.segment_manager.proofs.containers.PairCommands.{looks-up-key, remove-no_map, remove-no_value}

@@ -147,7 +147,7 @@ unfoldable pub use Rattle.seg_types.specs.Names.{is_text_name}
 unfoldable pub use Rattle.seg_vector.specs.Vector.{grown_backing}
 unfoldable pub use Rattle.segment_manager.specs.{Directory.live, Step.step, Step.step_of_kind}
 
--- what the exit of a `?` returns is the error that it met
+-- the exit of a `?` returns the error that it met
 pub exit-is : {T E : Type 0} (r : Result T E) (why : E) → IsErrAnd r (λ e. e ≡ why) → r ≡ Err why
 exit-is (Ok x) why h = absurd h
 exit-is (Err e) why h = ap Err h

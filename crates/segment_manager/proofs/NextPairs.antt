@@ -1,4 +1,4 @@
--- The pairs of a map one after another, for the crates that write them: the walk has come to the pair at a place.
+-- The pairs of a map one after another, for the crates that write them: the walk is at the pair with an index.
 use Rattle.segment_manager.proofs.Common.{◌≡◌, ℕ, zero, suc, ◌+◌, List, [], ◌∷◌, Option, Some, None, Ok, slice_get}
 use Rattle.segment_manager.proofs.Common.{refl, sym, ap, ◌∙◌, arith, option_map, Map, ScalarKind, ScalarValue, ByHandle}
 use Rattle.segment_manager.proofs.Common.{kind_of_scalar, value_of_scalar, NumberPair, item_of, Directory, pair_above}
@@ -12,7 +12,7 @@ abbrev pub IsNext : SegmentState → ℕ → ScalarKind → ScalarKind → Optio
 IsNext s h k v o i = (d : Directory) → DenotesCurrent s.cut.bytes d → option_map item_seen o
     ≡ option_map (item_of_kinds k v) (option_map item_of (slice_get (pairs_at d (ByHandle h)) i))
 
--- there is one
+-- there is a pair
 record IsPair (k v : ScalarKind) (x y : ScalarValue) (r : Option NumberPair) : Type 0 where
   pair : NumberPair
   is : r ≡ Some pair
@@ -24,13 +24,13 @@ pair-if None e = absurd (cc)
 pair-if {k} {v} {x} {y} (Some p) e =
     let same : item_seen (x, y) ≡ item_of_kinds k v (item_of p) = cc in record { pair = p; is = refl; same = same }
 
--- there is none
+-- there is no pair
 none-if : (k v : ScalarKind) (r : Option NumberPair) → None ≡ option_map (item_of_kinds k v) (option_map item_of r)
     → r ≡ None
 none-if k v None e = refl
 none-if k v (Some p) e = absurd (cc)
 
--- what is no pair is absent
+-- an option that is never some is none
 pub no-pair : {X : Type 0} (o : Option X) → ((x : X) → o ≡ Some x → ⊥) → o ≡ None
 no-pair None n = refl
 no-pair (Some x) n = absurd (n x refl)
@@ -41,7 +41,7 @@ none-behind [] i e = refl
 none-behind (p ∷ ps) zero e = absurd (cc)
 none-behind (p ∷ ps) (suc i) e = none-behind ps i e
 
--- the first stands at the first place
+-- the first pair has the first index
 pub next-first : (s : SegmentState) (h : ℕ) (k v : ScalarKind) (o : Option (ScalarValue × ScalarValue))
     → AnswersWith s (λ d. option_map (item_of_kinds k v) (option_map item_of (first_of (pairs_at d (ByHandle h)))))
     (option_map item_seen o) → IsNext s h k v o 0
@@ -52,7 +52,7 @@ module _ (s : SegmentState) (h : ℕ) (k v : ScalarKind) (i : ℕ) where
   abbrev part : (KindedPair → List ℕ) → Directory → List ℕ
   part text d = part_of (λ p. text (item_of_kinds k v (item_of p))) (slice_get (pairs_at d (ByHandle h)) i)
 
-  -- nothing is written where there is none, and then there is none after
+  -- nothing is written without a pair, and no pair follows
   pub none-text : IsNext s h k v None i → (text : KindedPair → List ℕ) (d : Directory) → DenotesCurrent s.cut.bytes d
       → [] ≡ part text d
   none-text n text d l = ap (part_of (λ p. text (item_of_kinds k v (item_of p))))
@@ -70,7 +70,7 @@ module _ (s : SegmentState) (h : ℕ) (k v : ScalarKind) (i : ℕ) where
     pair-there : {d : Directory} → DenotesCurrent s.cut.bytes d → IsPair k v x y (slice_get (pairs_at d (ByHandle h)) i)
     pair-there {d} l = pair-if (slice_get (pairs_at d (ByHandle h)) i) (n d l)
 
-    -- what is written of it
+    -- the text of the pair
     pub pair-said : (text : KindedPair → List ℕ) (d : Directory) → DenotesCurrent s.cut.bytes d
         → text (item_seen (x, y)) ≡ part text d
     pair-said text d l =
@@ -82,7 +82,7 @@ module _ (s : SegmentState) (h : ℕ) (k v : ScalarKind) (i : ℕ) where
       answers = λ d l. (λ j. Ok (Map ((ap (λ t. t.0.0) (pair-there l).same) j) v)) ∙ m.answers d l;
     }
 
-    -- above it comes the one at the next place
+    -- the pair after a map key has the next index
     pub next-behind : (o : Option (ScalarValue × ScalarValue))
         → AnswersWith s (λ d. option_map (item_of_kinds (kind_of_scalar x) v)
         (pair_above (value_of_scalar x) (pairs_at d (ByHandle h)))) (option_map item_seen o) → IsNext s h k v o (i + 1)

@@ -1,5 +1,5 @@
--- Texts of numbered parts, for the crates that write what a segment holds: the text of this many parts, and what has
--- gone out of it.
+-- Texts of numbered parts, for the crates that write a segment's contents: the text of this many parts, and the text
+-- written so far.
 use Rattle.segment_manager.proofs.Common.{◌≡◌, ℕ, zero, suc, ◌+◌, ◌<◌, Bool, true, false, List, [], ◌∷◌, ◌++◌, length}
 use Rattle.segment_manager.proofs.Common.{take, nat_lt, Option, Some, None, Result, Ok, Err, slice_get, refl, sym, ap}
 use Rattle.segment_manager.proofs.Common.{subst, ◌∙◌, append_assoc, arith, flat_map, ltb-true, ltb-false, take_all}
@@ -13,7 +13,7 @@ pub use Rattle.segment_manager.specs.Parts.{part_of, parts_until}
 
 -- ---- the text
 
--- one part among more
+-- one part among the others
 pub record IsSplit (part : ℕ → List ℕ) (i n : ℕ) : Type 0 where
   pub more : List ℕ
   pub parts : parts_until part n ≡ parts_until part i ++ (part i ++ more)
@@ -40,12 +40,12 @@ pub split : (part : ℕ → List ℕ) (i n : ℕ) → i < n → IsSplit part i n
 split part i zero h = absurd (omega arith)
 split part i (suc n) h = split-if (nat_lt i n) refl h (split part i n)
 
--- the same parts make the same text
+-- equal parts make equal texts
 pub parts-same : (f g : ℕ → List ℕ) (n : ℕ) → ((i : ℕ) → f i ≡ g i) → parts_until f n ≡ parts_until g n
 parts-same f g zero h = refl
 parts-same f g (suc n) h = ap (λ l. l ++ f n) (parts-same f g n h) ∙ ap (λ l. parts_until g n ++ l) (h n)
 
--- one element more, if there is one
+-- one more element, if there is one
 taken : {X : Type 0} (f : X → List ℕ) (xs : List X) (i : ℕ) (r : Option X) → slice_get xs i ≡ r
     → flat_map f (take (i + 1) xs) ≡ flat_map f (take i xs) ++ part_of f r
 taken f xs i None e =
@@ -71,7 +71,7 @@ pub parts-all : {X : Type 0} (f : X → List ℕ) (xs : List X)
     → parts_until (λ i. part_of f (slice_get xs i)) (length xs) ≡ flat_map f xs
 parts-all f xs = parts-taken f xs (length xs) ∙ ap (flat_map f) (take_all (length xs) xs (omega arith))
 
--- ---- what went out
+-- ---- the text written so far
 
 -- all has gone out so far
 abbrev pub well : Result ℕ ℕ
@@ -79,7 +79,7 @@ well = Ok 0
 
 module _ (part : ℕ → List ℕ) (old mid new : WriterHistory) (i : ℕ)
     (before : Writes old mid well (parts_until part i)) where
-  -- one part more
+  -- one more part is written
   pub part-told : {B F : Type 0} (y : B) → Writes {E = F} mid new (Ok y) (part i)
       → Writes old new well (parts_until part (i + 1))
   part-told {B} {F} y w =

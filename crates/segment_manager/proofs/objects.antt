@@ -1,4 +1,4 @@
--- Objects, whatever they hold.
+-- Objects of all kinds.
 pub mod Destroys
 pub mod OwnEntries
 pub mod FilledCalls

@@ -1,36 +1,35 @@
--- What a command answers.
+-- The answers of commands.
 use Rattle.std.specs.Prelude.{ℕ, ℤ, Bool, true, false, Option, Some, None, List}
 use Rattle.best_fit.specs.Extents.{Span}
 use Rattle.seg_types.specs.{declared.kinds.ScalarKind.ScalarKind, declared.refusals.Refusal.Refusal}
 use Rattle.seg_types.specs.declared.refusals.Refusal.TheVariants.{NoSpace}
 use Rattle.segment_manager.specs.Directory.{Value, Object}
 
--- what the directory machine answers to a command, before it is printed
+-- the answer of the directory machine to a command, before it is printed
 pub data Answer : Type 0 where
   Done Absent : Answer
   Truth : Bool → Answer
   Number : ℕ → Answer
-  -- a handle; and a handle with a count
+  -- a handle, and a handle with a count
   Made : ℕ → Answer
   Found : ℕ → ℕ → Answer
   TextElement : List ℕ → Answer
   Element : ScalarKind → ℤ → Answer
   Shown : Value → Answer
   Told : Object → Answer
-  -- named objects by name; unique ones by kind; extents and gaps by offset
+  -- named objects by name; unique objects by kind; extents and gaps by offset
   Names : List Object → Answer
   Kinds : List Object → Answer
   Blocks : List Span → Answer
   Refused : Refusal → Answer
 
--- why a command is refused, if it is
+-- the error in an answer, if it is one
 abbrev pub refusal_of : Answer → Option Refusal
 refusal_of (Refused r) = Some r
 refusal_of answer = None
 
--- A command was refused before it asked for a block, and changed no byte. After `NoSpace` a block that was taken first
--- is given back, and its tag may be left in the gap. (`ConstructIt` with too few items also asks first; no script
--- reaches that.)
+-- A command failed before it allocated a block, and changed no byte. After `NoSpace` an earlier block was freed again,
+-- whose tag can remain in the gap. (`ConstructIt` with too few items also allocates first; no script has this case.)
 abbrev pub is_untouched : Answer → Bool
 is_untouched (Refused NoSpace) = false
 is_untouched (Refused r) = true

@@ -1,4 +1,4 @@
--- What the calls of a segment owe that are no steps of the directory machine.
+-- What the calls of a segment ensure beyond steps of the directory machine.
 use Rattle.std.specs.Prelude.{◌≡◌, ◌<◌, ◌≤◌, ℕ, ◌+◌, ◌-◌, ◌%◌, false, Some, None, Result, Ok, Err, MatchResult, Option}
 use Rattle.std.specs.Prelude.{option_map, slice_get, List, length, IsTrue}
 use Rattle.std.specs.List.{AllByRecursion}
@@ -18,35 +18,35 @@ use Rattle.segment_manager.specs.declared.errors.CreateError.TheVariants.{BadSiz
 use Rattle.segment_manager.specs.Directory.{Object, Directory, empty, kind_of, live, object_at}
 use Rattle.segment_manager.specs.State.{AnswersWith, SegmentState, DenotesCurrent}
 
--- a segment with nothing in it, in the window of the size at the base; its bytes are 0 but for the header's front,
--- which says the size, the free tree and two indexes without a place, the tags, and the links of the one gap
+-- An empty segment in the window of the size at the base. Its bytes are 0, except the front of the header, the tags,
+-- and the links of the one gap. The header has the size, the free tree, and two indexes with capacity 0.
 pub record CreatesOk (region : List ℕ) (base size : ℕ) (how : Mode) (s : SegmentState) : Type 0 where
   pub legal : IsTrue (is_legal_size size)
   pub fits : base + size ≤ length region
   pub mode : s.mode ≡ how
   pub place : SameSurroundings (cut_at region base size) s.cut
   pub stands : DenotesCurrent s.cut.bytes (empty size)
-  -- the words in front of its gap's free bytes are null links
+  -- the words before the gap's free bytes are null links
   pub links : (at : ℕ) → at % 8 ≡ 0 → 144 ≤ at → at < header_len + gap_front current → at < size - 16
       → word_at (bytes_of s.cut.bytes) at ≡ 1
   pub zeros : AreZero (bytes_of s.cut.bytes) (header_len + gap_front current) (size - 16)
 
--- why no segment of the size is created
+-- the reason why no segment of the size can be created
 abbrev pub IsWhy : List ℕ → ℕ → ℕ → CreateError → Type 0
 IsWhy region base size BadSize = is_legal_size size ≡ false
 IsWhy region base size RegionTooSmall = IsTrue (is_legal_size size) × (length region < base + size)
 
--- no segment is created, and the region comes back as it was
+-- no segment is created, and the region is returned unchanged
 pub record CreatesErr (region : List ℕ) (base size : ℕ) (refused : CreateRefused) : Type 0 where
   pub why : IsWhy region base size refused.cause
   pub region_same : refused.region ≡ region
 
--- an empty segment is made in a region, or the region comes back as it was
+-- an empty segment is created in a region, or the region is returned unchanged
 abbrev pub Creates : List ℕ → ℕ → ℕ → Mode → Result SegmentState CreateRefused → Type 0
 Creates region base size mode result =
     MatchResult result (CreatesOk region base size mode) (CreatesErr region base size)
 
--- what is said of the object of a key
+-- a property of the object of a key, or `NotFound`
 abbrev pub told_at : {A : Type 0} → Directory → Key → (Object → A) → Result A Refusal
 told_at d key say = elim (object_at d key) [ None ↦ Err NotFound | Some o ↦ Ok (say o) ]
 
@@ -54,7 +54,7 @@ told_at d key say = elim (object_at d key) [ None ↦ Err NotFound | Some o ↦ 
 abbrev pub kind_at : Directory → Key → Result Kind Refusal
 kind_at d key = told_at d key (λ (o : Object). kind_of o.value)
 
--- the kind of the elements of objects of a kind, and of the object of a key
+-- the kind of the elements of objects of a kind
 abbrev pub elements_of : Kind → Result ScalarKind Refusal
 elements_of (Scalar k) = Ok k
 elements_of String = Ok U8
@@ -66,15 +66,15 @@ elements_of Strings = Err WrongKind
 abbrev pub elements_at : Directory → Key → Result ScalarKind Refusal
 elements_at d key = elim (object_at d key) [ None ↦ Err NotFound | Some o ↦ elements_of (kind_of o.value) ]
 
--- what a command answers for objects whose elements are scalars, and for others why there are none
+-- the answer of a command for an object whose elements are scalars, or its error for another object
 abbrev pub scalar_reply : Mode → Directory → Key → Command → Answer
 scalar_reply mode d key c = elim (elements_at d key) [ Err r ↦ Refused r | Ok k ↦ (step mode d c).0 ]
 
--- an extent or a gap, as a call answers it
+-- an extent or a gap, as a call returns it
 abbrev pub as_span : TileInfo → LiveSpan
 as_span s = record { offset = s.offset; len = s.len; use_of = s.use_of }
 
--- what stands at an index among the tiles of a segment, if as many stand: a block or gap of the directory
+-- the result is the block or gap at an index of the directory, or none if there are fewer
 pub record IsTileOfIndex (s : SegmentState) (index : ℕ) (result : Option Tile) : Type 0 where
   pub tile : result ≡ slice_get (tiles_of (bytes_of s.cut.bytes) (length s.cut.bytes)) index
   pub span : AnswersWith s (λ d. slice_get (spans (live d)) index) (option_map span_of result)

@@ -1,4 +1,4 @@
--- Which bytes stand for which directory.
+-- The directory that bytes denote.
 use Rattle.std.specs.Prelude.{◌≡◌, ℕ, ◌+◌, ◌-◌, ◌*◌, List, ◌++◌, length, map, replicate}
 use Rattle.std.specs.List.{AllByRecursion}
 use Rattle.raw_region.specs.Memory.{Memory, bytes_of, HasBytesAt, word_at, AreZero}
@@ -28,11 +28,11 @@ IsValueAt m at (Texts ps t) = IsTextsAt m at ps t
 abbrev pub padded_name : List ℕ → List ℕ
 padded_name name = name ++ replicate (padded (length name) - length name) 0
 
--- two numbers below 2 ^ 32 in a word
+-- the word with two numbers below 2 ^ 32 as its halves
 abbrev pub two_halves : ℕ → ℕ → ℕ
 two_halves low high = low + 4294967296 * high
 
--- head, name and value of an object stand in its block
+-- the head, the name and the value of an object are in its block
 pub record IsObjectAt (m : Memory) (o : Object) : Type 0 where
   pub kind_count : word_at m (handle o.extent) ≡ two_halves (code_of (kind_of o.value)) (count_of o.value)
   pub name_class : word_at m (handle o.extent + name_class_at) ≡ two_halves (length o.name) (class_code o.class)
@@ -43,15 +43,15 @@ pub record IsObjectAt (m : Memory) (o : Object) : Type 0 where
 abbrev pub handles : List Object → List ℕ
 handles = map (λ (o : Object). handle o.extent)
 
--- the fields in front of the blocks
+-- the fields of the header before the indexes
 pub record IsHeader (format : ℕ) (m : Memory) (size : ℕ) : Type 0 where
   pub magic : word_at m magic_at ≡ magic_number
   pub version : word_at m format_at ≡ format
   pub size_word : word_at m size_at ≡ size
   pub zeros : AreZero m reserved_at header_len
 
--- The bytes denote the directory, by a format: header, live set, both indexes, each object in its block. All other
--- bytes may be anything.
+-- The bytes denote the directory, in a format: header, live set, both indexes, each object in its block. All other
+-- bytes are arbitrary.
 pub record Denotes (format : ℕ) (b : List ℕ) (d : Directory) : Type 0 where
   pub directory : IsDirectory format d
   pub header : IsHeader format (bytes_of b) d.size

@@ -1,4 +1,4 @@
--- The directory: which objects a segment has, by handle, with their values and the extents that they use.
+-- The directory: the objects of a segment, by handle, with their values and their extents.
 use Rattle.std.specs.Prelude.{ℕ, ◌+◌, ◌*◌, ◌/◌, ℤ, Bool, true, false, ◌&&◌, Option, Some, None, List, [], ◌∷◌, ◌++◌}
 use Rattle.std.specs.Prelude.{length, map, filter, find, flat_map, fold, option_to_list, IsTrue, ◌==◌, nat_lt, nat_le}
 use Rattle.std.specs.{Prelude.nat_eq, Prelude.int_lt, Prelude.if◌then◌else◌, List.list_all, Cmp.Lexicographic.pointwise}
@@ -37,7 +37,7 @@ pub record Directory : Type 0 where
   pub named : BackingArray
   pub unique : BackingArray
 
--- a segment of a size with nothing in it
+-- the directory of an empty segment of a size
 abbrev pub empty : ℕ → Directory
 empty size = record { size = size; objects = []; named = no_backing; unique = no_backing }
 
@@ -49,7 +49,7 @@ kind_of (Bytes bs t) = String
 kind_of (Pairs k v ps) = Map k v
 kind_of (Texts ps t) = StringsKind
 
--- the count in an object's head: how many numbers an array has, and 1 for any other value
+-- the count in an object's head: the number of elements of an array, and 1 for any other value
 abbrev pub count_of : Value → ℕ
 count_of (Numbers k zs) = length zs
 count_of (Elements k zs t) = 1
@@ -57,7 +57,7 @@ count_of (Bytes bs t) = 1
 count_of (Pairs k v ps) = 1
 count_of (Texts ps t) = 1
 
--- the bytes of the value itself: the spellings, or the three words of a container
+-- the length of the value itself: the encoded numbers, or the three words of a container
 abbrev pub value_len : Value → ℕ
 value_len (Numbers k zs) = size_of k * length zs
 value_len (Elements k zs t) = 24
@@ -69,11 +69,11 @@ value_len (Texts ps t) = 24
 abbrev pub padded : ℕ → ℕ
 padded n = (n + 7) / 8 * 8
 
--- the payload of an object, up to the end of its value
+-- the length of an object's payload, up to the end of its value
 abbrev pub object_len : List ℕ → Value → ℕ
 object_len name value = head_len + padded (length name) + value_len value
 
--- ---- the extents that a directory uses
+-- ---- the extents of a directory
 
 abbrev pub table_extents : BackingArray → List Extent
 table_extents t = option_to_list t.extent
@@ -109,7 +109,7 @@ same_bytes = pointwise nat_eq
 abbrev pub is_class : Class → Object → Bool
 is_class c o = class_code c == class_code o.class
 
--- the object is the one that the key means
+-- whether the object has the key
 abbrev pub has_key : Key → Object → Bool
 has_key (ByName name) o = is_class Named o && same_bytes name o.name
 has_key (ByKind k) o = is_class Unique o && same_kind k (kind_of o.value)
@@ -120,26 +120,26 @@ has_key NoKey o = false
 abbrev pub object_at : Directory → Key → Option Object
 object_at d key = find (has_key key) d.objects
 
--- the objects with a new one among them, by offset
+-- the objects with one more, by offset
 abbrev pub put_object : Object → List Object → List Object
 put_object o [] = o ∷ []
 put_object o (p ∷ ps) = if nat_lt o.extent.offset p.extent.offset then o ∷ p ∷ ps else p ∷ put_object o ps
 
--- without the object of a handle
+-- the objects without the object of a handle
 abbrev pub remove_object : ℕ → List Object → List Object
 remove_object h [] = []
 remove_object h (p ∷ ps) = if h == handle p.extent then ps else p ∷ remove_object h ps
 
--- with o in the place of the object of its handle
+-- the objects with the object of o's handle replaced by o
 abbrev pub replace_object : Object → List Object → List Object
 replace_object o [] = []
 replace_object o (p ∷ ps) = if handle o.extent == handle p.extent then o ∷ ps else p ∷ replace_object o ps
 
--- the directory with one object more
+-- the directory with one more object
 abbrev pub with_object : Directory → Object → Directory
 with_object d o = record d { objects = put_object o d.objects }
 
--- the directory with an object in the place of the one with its handle
+-- the directory with the object of the same handle replaced
 abbrev pub with_changed : Directory → Object → Directory
 with_changed d o = record d { objects = replace_object o d.objects }
 
@@ -147,11 +147,11 @@ with_changed d o = record d { objects = replace_object o d.objects }
 abbrev pub without_object : Directory → Object → Directory
 without_object d o = record d { objects = remove_object (handle o.extent) d.objects }
 
--- objects in the order of the bytes of their names
+-- one object precedes another by the bytes of their names
 abbrev pub by_name : Object → Object → Bool
 by_name o p = is_lt (slice_cmp nat_cmp o.name p.name)
 
--- objects in the order of the codes of their kinds
+-- one object precedes another by the codes of their kinds
 abbrev pub by_kind : Object → Object → Bool
 by_kind o p = nat_lt (code_of (kind_of o.value)) (code_of (kind_of p.value))
 
@@ -167,14 +167,14 @@ named_objects d = fold (λ os o. insert_by by_name o os) [] (filter (is_class Na
 abbrev pub unique_objects : Directory → List Object
 unique_objects d = fold (λ os o. insert_by by_kind o os) [] (filter (is_class Unique) d.objects)
 
--- ---- what makes these parts a directory
+-- ---- the conditions of a directory
 
 abbrev pub rises : (Object → Object → Bool) → List Object → Bool
 rises lt [] = true
 rises lt (o ∷ []) = true
 rises lt (o ∷ p ∷ ps) = lt o p && rises lt (p ∷ ps)
 
--- a block exactly if there are bytes
+-- whether the text has a block exactly if it has bytes
 abbrev pub has_own_block : OwnedText → Bool
 has_own_block p =
     elim p.extent
@@ -183,7 +183,8 @@ has_own_block p =
 abbrev pub is_owned_text : OwnedText → Bool
 is_owned_text p = has_own_block p && list_all (λ b. nat_lt b 256) p.bytes
 
--- the numbers are of their kind, no vector or text is longer than its capacity, and each block holds what it is for
+-- whether the numbers have their kind, the length of a vector or text is at most its capacity, and each block has room
+-- for its contents
 abbrev pub is_good_value : Value → Bool
 is_good_value (Numbers k zs) = nat_le 1 (length zs) && nat_le (length zs) 1048576 && list_all (is_value k) zs
 is_good_value (Elements k zs t) = is_vector (size_of k) (is_value k) zs t
@@ -194,22 +195,22 @@ is_good_value (Texts ps t) = is_vector 16 is_owned_text ps t
 abbrev pub has_good_name : ℕ → Object → Bool
 has_good_name format o = if is_class Named o then is_name format o.name else length o.name == 0
 
--- an object has a name and a kind of the format, a value in its range, and a block of its own
+-- whether an object has a name and a kind of the format, a value in its range, and a block of its own
 abbrev pub is_object : ℕ → Object → Bool
 is_object format o =
     has_good_name format o && is_kind_of format (kind_of o.value) && is_good_value o.value
     && serves o.extent ObjectRole (object_len o.name o.value)
 
--- an index has the block that its places need, no more objects than places, and rising keys
+-- whether an index has the block that its capacity needs, at most as many objects as its capacity, and rising keys
 abbrev pub is_index : BackingArray → List Object → (Object → Object → Bool) → Bool
 is_index t os lt = has_backing Index 8 t && nat_le (length os) t.capacity && rises lt os
 
--- the objects stand by offset, from an offset on
+-- whether the objects are in order of offset, from an offset on
 abbrev pub rises_from : ℕ → List Object → Bool
 rises_from n [] = true
 rises_from n (o ∷ os) = nat_le n o.extent.offset && rises_from (o.extent.offset + 1) os
 
--- all objects are, none overlap, names and unique kinds differ, no index is over its capacity
+-- all objects are legal, no two overlap, names and unique kinds differ, and no index exceeds its capacity
 pub record IsDirectory (format : ℕ) (d : Directory) : Type 0 where
   -- no two extents meet, and all gaps can be free blocks
   pub proper : IsTrue (is_proper (live d))

@@ -1,4 +1,4 @@
--- What calls leave to the last byte, that of gaps too: all, since they find that there is nothing to do, or all but an
+-- Calls that change no byte, not even in gaps, because there is nothing to do, or that change only the bytes of an
 -- element.
 use Rattle.std.specs.Prelude.{◌≡◌, ◌<◌, ◌≤◌, ◌+◌, ◌⊎◌, ℕ, ℤ, int_lt, List, length, Some, None, Ok, IfOk}
 use Rattle.raw_region.specs.Memory.{SameBytesExcept, bytes_of}
@@ -12,7 +12,7 @@ use Rattle.seg_vector.specs.Vector.{OwnedText, capacity_for_one, grown_backing}
 use Rattle.segment_manager.specs.Directory.{Object, Directory, Texts, live, object_at}
 use Rattle.segment_manager.specs.State.{SegmentState, DenotesCurrent}
 
--- if this holds of the directory, the call changed no byte, of gaps neither
+-- if this holds of the directory, the call changed no byte, not even in gaps
 abbrev pub UnchangedWhere : SegmentState → SegmentState → (Directory → Type 0) → Type 0
 UnchangedWhere old new holds = (d : Directory) → DenotesCurrent old.cut.bytes d → holds d → new ≡ old
 
@@ -20,23 +20,23 @@ UnchangedWhere old new holds = (d : Directory) → DenotesCurrent old.cut.bytes 
 abbrev pub IsBoundKey : Key → Directory → Type 0
 IsBoundKey key d = (o : Object) × (object_at d key ≡ Some o)
 
--- no object has it
+-- no object has the key
 abbrev pub LacksKey : Key → Directory → Type 0
 LacksKey key d = object_at d key ≡ None
 
--- the vector or string of the key has this many places
+-- the vector or string of the key has at least this capacity
 pub record HasPlaces (key : Key) (n : ℕ) (d : Directory) : Type 0 where
   pub len : ℕ
   pub capacity : ℕ
   pub says : sizes_at d key ≡ Ok (len, capacity)
   pub enough : n ≤ capacity
 
--- the map of the key has no such key
+-- the map of the key lacks this map key
 abbrev pub LacksPair : Key → ℤ → Directory → Type 0
 LacksPair key x d = pair_at int_lt (pairs_at d key) x ≡ None
 
--- The vector of strings of the key has no space for what is asked for first if a text joins it: for the text's block
--- if it has a place more, and otherwise for its array.
+-- The first allocation for inserting a text into the vector of strings of the key has no fit. It is for the text's
+-- block if the capacity allows one more, and otherwise for the array.
 pub record LacksFirst (key : Key) (bytes : List ℕ) (d : Directory) : Type 0 where
   pub object : Object
   pub is : object_at d key ≡ Some object
@@ -50,7 +50,7 @@ pub record LacksFirst (key : Key) (bytes : List ℕ) (d : Directory) : Type 0 wh
 abbrev pub LacksArray : ℕ → Directory → Type 0
 LacksArray n d = new_array (live d) n ≡ None
 
--- no byte changes but those of the element at an index in the object of the key, an object of scalars of the kind
+-- only the bytes of one element of the key's object, an array of scalars of the kind, change
 abbrev pub ChangesElement : SegmentState → SegmentState → Key → ScalarKind → ℕ → Type 0
 ChangesElement old new key k i = (d : Directory) → DenotesCurrent old.cut.bytes d
     → IfOk (place_at d key k i) (λ (p : Place).
@@ -60,7 +60,7 @@ ChangesElement old new key k i = (d : Directory) → DenotesCurrent old.cut.byte
 abbrev pub KeepsUnused : SegmentState → SegmentState → Type 0
 KeepsUnused old new = live_of new.cut.bytes ≡ live_of old.cut.bytes → KeepsGaps old.cut new.cut
 
--- if the map of the key has such a key, no byte changes but those of its value
+-- if the map of the key has this map key, only the bytes of its value change
 abbrev pub ChangesValue : SegmentState → SegmentState → Key → ScalarKind → ℤ → ScalarKind → Type 0
 ChangesValue old new key k x v = (d : Directory) → DenotesCurrent old.cut.bytes d → (p : NumberPair)
     → pair_at int_lt (pairs_at d key) x ≡ Some p

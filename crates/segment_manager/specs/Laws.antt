@@ -1,4 +1,4 @@
--- What holds of every step of the directory machine.
+-- Laws of all steps of the directory machine.
 use Rattle.seg_types.specs.Commands as asked
 use Rattle.std.specs.Prelude.{◌≡◌, ◌<◌, ℕ, true, false, Some, List, Result, length}
 use Rattle.seg_types.specs.{declared.refusals.Refusal.Refusal, declared.kinds.Kind.Kind, Names.Key, Names.ByHandle}
@@ -11,7 +11,7 @@ use Rattle.segment_manager.specs.Directory.{Directory, named_objects, object_at,
 use Rattle.segment_manager.specs.Answers.{Answer, Number, Refused, TextElement, refusal_of}
 use Rattle.segment_manager.specs.State.{SegmentState, DenotesCurrent, AnswersQuery, TakesStep, StepsWithoutAnswer}
 
--- what is refused leaves the directory as it was; a segment that is open for reading refuses what may change it
+-- a step with an error keeps the directory; a segment that is open for reading refuses a command that can change it
 pub record IsSafe (mode : Mode) (d : Directory) (c : Command) : Type 0 where
   pub refused : (r : Refusal) → (step mode d c).0 ≡ Refused r → (step mode d c).1 ≡ d
   pub read_only : is_read_only mode ≡ true → is_changing c ≡ true → step mode d c ≡ (Refused ReadOnly, d)
@@ -22,48 +22,48 @@ pub record IsSafeOfKind (mode : Mode) (d : Directory) (key : Key) (kind : Kind) 
   pub read_only : is_read_only mode ≡ true → is_changing c ≡ true
       → step_of_kind mode d key kind c ≡ (Refused ReadOnly, d)
 
--- the law: a command that is refused changes nothing
+-- the law: a command that fails changes nothing
 abbrev pub RefusalsChangeNothing : Type 0
 RefusalsChangeNothing = (mode : Mode) (d : Directory) (c : Command) → IsSafe mode d c
 
--- the law: a refused command for one kind leaves the directory
+-- the law: a command for one kind that fails keeps the directory
 abbrev pub RefusalsOfKindChangeNothing : Type 0
 RefusalsOfKindChangeNothing = (mode : Mode) (d : Directory) (key : Key) (kind : Kind) (c : Command)
     → IsSafeOfKind mode d key kind c
 
--- the law: a command that may change nothing leaves the directory
+-- the law: a command that only reads keeps the directory
 abbrev pub ReadsChangeNothing : Type 0
 ReadsChangeNothing = (mode : Mode) (d : Directory) (c : Command) → is_changing c ≡ false → (step mode d c).1 ≡ d
 
--- the law: a command for one kind that only reads leaves the directory
+-- the law: a command for one kind that only reads keeps the directory
 abbrev pub ReadsOfKindChangeNothing : Type 0
 ReadsOfKindChangeNothing = (mode : Mode) (d : Directory) (key : Key) (kind : Kind) (c : Command) → is_changing c ≡ false
     → (step_of_kind mode d key kind c).1 ≡ d
 
--- the law: a step leads on, refused for the reason that it answers
+-- the law: a call that takes a step with an answer also takes it without one, with the error of the answer
 abbrev pub StepsLeadOn : Type 0
 StepsLeadOn = (old new : SegmentState) (c : Command) (answer : Answer) → TakesStep old new c answer
     → StepsWithoutAnswer old new c (refusal_of answer)
 
--- for one: a call that takes the last text away and does not answer it, if the text would be a step's answer
+-- the law for a call that removes the last text: without the text it is the same step, with the same error
 abbrev pub PoppedTextsLeadOn : Type 0
 PoppedTextsLeadOn = (old new : SegmentState) (key : Key) (result : Result (List ℕ) Refusal)
     → TakesStep old new (Pop key) (answer_of TextElement result)
     → StepsWithoutAnswer old new (Pop key) (refusal_in result)
 
--- the law: a call that answers less than its command prints, and is refused, leaves the directory
+-- the law: a call that returns less than its command prints, and fails, keeps the directory
 abbrev pub RefusedCallsStay : Type 0
 RefusedCallsStay = (old new : SegmentState) (c : Command) (r : Refusal) → StepsWithoutAnswer old new c (Some r)
     → (d : Directory) → DenotesCurrent old.cut.bytes d → DenotesCurrent new.cut.bytes d
 
--- the law: an index that is less than the number that was answered has an object
+-- the law: an index below the returned number of objects is the place of an object
 pub record CountedAreBelow : Type 0 where
   pub named : (s : SegmentState) (n i : ℕ) → AnswersQuery s NumNamed (Number n) → i < n
       → IsBelow s (λ d. length (named_objects d)) i
   pub unique : (s : SegmentState) (n i : ℕ) → AnswersQuery s NumUnique (Number n) → i < n
       → IsBelow s (λ d. length (unique_objects d)) i
 
--- a command on the object of a key, as one on that of another key
+-- a command on the object of one key, with another key instead
 abbrev pub at_key : Key → Command → Command
 at_key key (asked.Show old) = asked.Show key
 at_key key (asked.Info old) = asked.Info key
@@ -83,17 +83,17 @@ at_key key (asked.Lookup old l) = asked.Lookup key l
 at_key key (asked.Remove old l) = asked.Remove key l
 at_key key c = c
 
--- the law: of two keys of one object one is as good as the other
+-- the law: a command means the same with each of two keys of one object
 abbrev pub KeysMeanObjects : Type 0
 KeysMeanObjects = (mode : Mode) (d : Directory) (key other : Key) (c : Command) → object_at d key ≡ object_at d other
     → step mode d (at_key key c) ≡ step mode d (at_key other c)
 
--- the law: a command for one kind is one step under each key of an object
+-- the law: a command for one kind means the same with each key of an object
 abbrev pub KeysOfKindMeanObjects : Type 0
 KeysOfKindMeanObjects = (mode : Mode) (d : Directory) (key other : Key) (kind : Kind) (c : Command) → object_at d key
     ≡ object_at d other → step_of_kind mode d key kind (at_key key c) ≡ step_of_kind mode d other kind (at_key other c)
 
--- the law: an object that was located is the one of its handle
+-- the law: a located object is the object of its handle
 abbrev pub HandlesMeanObjects : Type 0
 HandlesMeanObjects = (s : SegmentState) (key : Key) (o : Located) → IsLocated s key o → (d : Directory)
     → DenotesCurrent s.cut.bytes d → object_at d key ≡ object_at d (ByHandle o.handle)

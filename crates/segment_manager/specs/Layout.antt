@@ -1,5 +1,5 @@
--- Where the words of a header and of an object's head stand, in bytes: of the header from the front of the segment, of
--- an object from its handle.
+-- The offsets of the words of a header and of an object's head, in bytes: in the header from the start of the segment,
+-- in an object from its handle.
 use Rattle.std.specs.Prelude.{ℕ}
 
 -- ---- the header
@@ -24,7 +24,7 @@ named_at = 32
 abbrev pub unique_at : ℕ
 unique_at = 56
 
--- zeros, up to the first block or gap
+-- the offset of the reserved bytes, which are zeros up to the first block or gap
 abbrev pub reserved_at : ℕ
 reserved_at = 80
 
@@ -34,10 +34,10 @@ header_len = 128
 
 -- ---- an object's head
 
--- the length of the name and the class, after the kind and the count
+-- the offset of the length of the name and the class, after the kind and the count
 abbrev pub name_class_at : ℕ
 name_class_at = 8
 
--- the bytes of an object's head, after which its name, zeros and its value follow
+-- the length of an object's head, followed by its name, zeros and its value
 abbrev pub head_len : ℕ
 head_len = 16

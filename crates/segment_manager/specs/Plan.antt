@@ -1,4 +1,4 @@
--- What a command does if it is not refused: which blocks it asks for, in which order, and what it does then.
+-- The plan of a command that is not refused: the blocks that it allocates, in order, and its effect after that.
 use Rattle.seg_types.specs.Commands as asked
 use Rattle.std.specs.Prelude.{ℕ, ◌*◌, Option, Some, None, Result, Ok, Err, List, [], ◌∷◌, length, ◌==◌, nat_lt, nat_le}
 use Rattle.std.specs.Prelude.{if◌then◌else◌}
@@ -16,58 +16,57 @@ use Rattle.segment_manager.specs.Directory.{Value, Numbers, Elements, Bytes, Pai
 use Rattle.segment_manager.specs.Directory.{object_len, with_object, named_objects, unique_objects}
 use Rattle.segment_manager.specs.Answers.{Answer, Refused}
 
--- a block to ask for: a new one, or one in the place of an old one
+-- an allocation: of a new block, or of one that replaces an old one
 pub data Need : Type 0 where
   New : Role → ℕ → Need
   Regrown : Option Extent → ℕ → Need
 
--- What a command does if it is not refused: it asks for its blocks in order, and then it answers and leaves a
--- directory.
+-- The plan of a command: it allocates its blocks in order, and then has an answer and a directory.
 pub data Plan : Type 0 where
   Refuse : Refusal → Plan
   Request : Need → (Extent → Plan) → Plan
   Reply : Answer → Directory → Plan
 
--- the extent that a request gets
+-- the extent that an allocation gets
 abbrev pub met : LiveSet → Need → Option Extent
 met l (New role n) = place l n role
 met l (Regrown old n) = regrow l old n
 
--- Blocks are taken in order. If one has no fit nothing changes.
+-- Blocks are allocated in order. If one has no fit, nothing changes.
 abbrev pub perform : Directory → LiveSet → Plan → Answer × Directory
 perform d l (Refuse r) = (Refused r, d)
 perform d l (Reply answer after) = (answer, after)
 perform d l (Request need next) = elim
     (met l need) [ None ↦ (Refused NoSpace, d) | Some x ↦ perform d (resized l x) (next x) ]
 
--- go on with what there is, or refuse
+-- continue with the result, or fail
 abbrev pub with : {A : Type 0} → Result A Refusal → (A → Plan) → Plan
 with (Ok a) next = next a
 with (Err r) next = Refuse r
 
--- ---- the blocks that commands ask for
+-- ---- the blocks that commands allocate
 
--- an index of this many places in a new block
+-- an index with this capacity in a new block
 abbrev pub with_new_index : ℕ → (BackingArray → Plan) → Plan
 with_new_index capacity next = Request (New Index (8 * capacity))
     (λ x. next (record { capacity = capacity; extent = Some x }))
 
--- an index that has this many entries, with a place for one more
+-- an index with this many entries whose capacity allows one more
 abbrev pub with_place : BackingArray → ℕ → (BackingArray → Plan) → Plan
 with_place t count next = if nat_lt count t.capacity then next t else with_new_index (grown_capacity t.capacity) next
 
--- the directory with a place in the index of the class
+-- the directory whose index of the class has capacity for one more entry
 abbrev pub with_entry : Directory → Class → (Directory → Plan) → Plan
 with_entry d Anonymous next = next d
 with_entry d Named next = with_place d.named (length (named_objects d)) (λ t. next (record d { named = t }))
 with_entry d Unique next = with_place d.unique (length (unique_objects d)) (λ t. next (record d { unique = t }))
 
--- storage for n elements, if there are any
+-- storage for n elements, if n is not 0
 abbrev pub with_storage : ℕ → ℕ → (BackingArray → Plan) → Plan
 with_storage each n next = if n == 0 then next no_backing else Request (New Storage (each * n))
     (λ x. next (record { capacity = n; extent = Some x }))
 
--- storage for as many as the capacity says: as it is if there are this many places, otherwise regrown
+-- storage with at least this capacity: unchanged if the capacity suffices, otherwise regrown
 abbrev pub with_capacity : ℕ → ℕ → BackingArray → (BackingArray → Plan) → Plan
 with_capacity each capacity t next =
     if nat_le capacity t.capacity then next t
@@ -87,7 +86,7 @@ name_of (ByKind kind) = []
 name_of (ByHandle h) = []
 name_of NoKey = []
 
--- the value, but for its storage
+-- the value, without its storage
 abbrev pub bare : Content → Value
 bare (asked.Numbers k zs) = Numbers k zs
 bare (asked.Elements k zs) = Elements k zs no_backing
@@ -95,7 +94,7 @@ bare (asked.Bytes bs) = Bytes bs no_backing
 bare (asked.NoPairs k v) = Pairs k v []
 bare (asked.Strings bss) = Texts [] no_backing
 
--- texts in blocks of their own, if they are not empty
+-- a text in a block of its own, if it is not empty
 abbrev pub with_owned_text : List ℕ → (OwnedText → Plan) → Plan
 with_owned_text bs next =
     if length bs == 0 then next (record { bytes = bs; extent = None })
@@ -112,7 +111,7 @@ with_value (asked.Bytes bs) next = with_storage 1 (length bs) (λ t. next (Bytes
 with_value (asked.NoPairs k v) next = next (Pairs k v [])
 with_value (asked.Strings bss) next = with_storage 16 (length bss) (λ t. with_owned_texts bss (λ ps. next (Texts ps t)))
 
--- index, object, storage
+-- the blocks for the index, the object and its storage
 abbrev pub with_new_object : Directory → Key → Content → (Object → Directory → Plan) → Plan
 with_new_object d key content next =
     with_entry d (class_of key) (λ e.

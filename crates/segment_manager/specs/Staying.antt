@@ -6,7 +6,7 @@ use Rattle.segment_manager.specs.declared.objects.object_ref.Object.{Object as L
 use Rattle.segment_manager.specs.{objects.Located.IsObject, Answers.Answer}
 use Rattle.segment_manager.specs.State.{IsSegment, TakesStep, TakesStepOfKind, SegmentState}
 
--- The commands on the elements of an object, and those that only read.
+-- whether the command is on the elements of an object, or only reads
 abbrev pub is_elementwise : Command → Bool
 is_elementwise (asked.Construct key content) = false
 is_elementwise (asked.ConstructIt key k count zs) = false
@@ -18,11 +18,11 @@ is_elementwise (asked.ReserveUnique n) = false
 is_elementwise asked.ShrinkIndexes = false
 is_elementwise c = true
 
--- each object that there was is there
+-- each object is still there
 abbrev pub KeepsObjects : SegmentState → SegmentState → Type 0
 KeepsObjects old new = (o : Located) → IsObject o old → IsObject o new
 
--- the law: a command on the elements of an object, and one that only reads, keeps each object
+-- the law: commands on elements of an object, and commands that only read, keep each object
 pub record ObjectsStay : Type 0 where
   pub any : (old new : SegmentState) (c : Command) (answer : Answer) → IsSegment old.cut.bytes → is_elementwise c ≡ true
       → TakesStep old new c answer → KeepsObjects old new

@@ -1,4 +1,4 @@
--- What each command does: an answer, and the directory after it.
+-- The step of each command: an answer, and the directory after it.
 use Rattle.seg_types.specs.Commands as asked
 use Rattle.std.specs.Prelude.{ℕ, ◌-◌, ℤ, pos, nat_abs, Bool, true, false, ◌&&◌, Some, None, Result, Ok, Err, List, []}
 use Rattle.std.specs.Prelude.{◌∷◌, ◌++◌, length, map, insert, remove, slice_get, slice_set, take, replicate, ◌==◌}
@@ -38,7 +38,7 @@ with_items (Bytes old t) zs = Bytes (map nat_abs zs) t
 with_items (Pairs k v ps) zs = Pairs k v ps
 with_items (Texts ps t) zs = Texts [] t
 
--- the bytes of an element, the length and the storage of a vector or text
+-- the length of an element, the number of elements, and the storage of a vector or text
 abbrev pub storage_of : Value → Result (ℕ × ℕ × BackingArray) Refusal
 storage_of (Numbers k zs) = Err WrongKind
 storage_of (Elements k zs t) = Ok (size_of k, length zs, t)
@@ -78,7 +78,7 @@ map_of (Texts ps t) = Err WrongKind
 abbrev pub element_at : List ℤ → ℕ → Result ℤ Refusal
 element_at zs i = elim (slice_get zs i) [ None ↦ Err OutOfRange | Some z ↦ Ok z ]
 
--- the one text that a text is assigned
+-- the one text among literals that can be assigned to a text
 abbrev pub text_among : List Literal → Result (List ℕ) Refusal
 text_among (asked.Quoted bs ∷ []) = Ok bs
 text_among ls = Err WrongKind
@@ -88,7 +88,7 @@ text_among ls = Err WrongKind
 abbrev pub found_at : Directory → Key → Result Object Refusal
 found_at d key = elim (object_at d key) [ None ↦ Err NotFound | Some o ↦ Ok o ]
 
--- the directory with another value of an object
+-- the directory with the value of an object replaced
 abbrev pub changed : Directory → Object → Value → Directory
 changed d o v = with_changed d (record o { value = v })
 
@@ -101,7 +101,7 @@ abbrev pub text_of_literal : Literal → Result (List ℕ) Refusal
 text_of_literal (asked.Quoted bs) = Ok bs
 text_of_literal l = Err WrongKind
 
--- the texts that literals are
+-- the texts of literals
 abbrev pub texts_of : List Literal → Result (List (List ℕ)) Refusal
 texts_of [] = Ok []
 texts_of (asked.Quoted bs ∷ ls) = elim (texts_of ls) [ Ok bss ↦ Ok (bs ∷ bss) | Err r ↦ Err r ]
@@ -110,8 +110,8 @@ texts_of (l ∷ ls) = Err WrongKind
 abbrev pub owned_text_at : List OwnedText → ℕ → Result OwnedText Refusal
 owned_text_at ps i = elim (slice_get ps i) [ None ↦ Err OutOfRange | Some p ↦ Ok p ]
 
--- what is assigned to a vector or string: the capacity grows to the length if it is less; a vector of texts always gets
--- a new array, of exactly the length, unless nothing is assigned
+-- the plan of assigning to a vector or string: the capacity grows to the length if it is less; a vector of texts always
+-- gets a new array of exactly the length, unless the length is 0
 abbrev pub assign : Directory → Object → Value → List Literal → Plan
 assign d o (Elements k zs t) ls =
     with (values_of k ls) (λ new. with_capacity (size_of k) (length new) t
@@ -124,7 +124,7 @@ assign d o (Texts ps t) (l ∷ ls) =
     (λ u. with_owned_texts bss (λ qs. Reply Done (changed d o (Texts qs u)))))
 assign d o v ls = Refuse WrongKind
 
--- the element or text at an index
+-- the plan of reading the element or text at an index
 abbrev pub get : Directory → Value → ℕ → Plan
 get d (Texts ps t) i = with (owned_text_at ps i) (λ p. Reply (TextElement p.bytes) d)
 get d v i = with (items_of v) (λ (k, zs). with (element_at zs i) (λ z. Reply (Element k z) d))
@@ -172,7 +172,7 @@ erase d o v i =
     with (vector_of v) (λ (k, zs, t). with (element_at zs i)
     (λ z. Reply Done (changed d o (Elements k (remove zs i) t))))
 
--- the plan of a map's put, with the numbers of key and value
+-- the plan of putting a pair into a map, from the numbers of key and value
 abbrev pub put : Directory → Object → ScalarKind → ScalarKind → List NumberPair → List ℤ → Plan
 put d o k v ps (x ∷ y ∷ []) = elim (pair_at int_lt ps x) [
   | Some p ↦ Reply (Truth false) (changed d o (Pairs k v (put_pair int_lt (record p { value = y }) ps)))
@@ -192,7 +192,7 @@ effect d (asked.Construct key content) = elim (object_at d key) [
   | Some o ↦ Refuse Exists
   | None ↦ with_new_object d key content (λ o e. Reply (Made (handle o.extent)) e)
 ]
--- items are taken only after every request was met
+-- it takes items only after every allocation
 effect d (asked.ConstructIt key k count zs) = elim (object_at d key) [
   | Some o ↦ Refuse Exists
   | None ↦ if nat_lt (length zs) count
@@ -258,18 +258,18 @@ effect d (asked.ReserveNamed n) =
 effect d (asked.ReserveUnique n) =
     if nat_le n d.unique.capacity then Reply Done d else with_new_index n (λ t. Reply Done (record d { unique = t }))
 effect d asked.ShrinkIndexes = Reply Done (shrunk_indexes d)
--- the bytes that it sets belong to no object
+-- the bytes that it changes belong to no object
 effect d asked.ZeroFree = Reply Done d
 effect d asked.Sanity = Reply (Truth true) d
 effect d asked.AllDeallocated = Reply (Truth (length (live d).extents == 0)) d
 
--- the mode refuses changes
+-- whether the mode refuses changes
 abbrev pub is_read_only : Mode → Bool
 is_read_only Write = false
 is_read_only ReadOnlyMode = true
 is_read_only CopyOnWrite = false
 
--- the effect of a command, with ReadOnly first
+-- the plan of a command, after the test for ReadOnly
 abbrev pub plan : Mode → Directory → Command → Plan
 plan mode d c = if is_read_only mode && is_changing c then Refuse ReadOnly else effect d c
 
@@ -278,7 +278,7 @@ unfoldable pub step : Mode → Directory → Command → Answer × Directory
 unfolding live place regrow shrunk_backing free_bytes
 step mode d c = perform d (live d) (plan mode d c)
 
--- The step of a call that is for objects of one kind: it refuses those of another.
+-- The step of a call for objects of one kind. It fails for objects of other kinds.
 unfoldable pub step_of_kind : Mode → Directory → Key → Kind → Command → Answer × Directory
 unfolding live place regrow shrunk_backing free_bytes
 step_of_kind mode d key kind c =

@@ -1,4 +1,4 @@
--- Objects, whatever they hold.
+-- Objects of all kinds.
 pub mod Found
 pub mod Located
 pub mod Heads

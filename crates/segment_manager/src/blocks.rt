@@ -1,4 +1,4 @@
-//! The blocks and gaps of the heap below: told, walked over, asked for, and moved when a segment's end moves.
+//! Blocks and gaps: their report, walks over them, the blocks of a new object, and the end of a segment.
 pub(crate) mod requesting;
 pub(crate) mod sizing;
 pub(crate) mod tiles;

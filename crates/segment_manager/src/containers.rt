@@ -1,4 +1,5 @@
-//! Objects that are vectors, strings and maps: made, read and changed, with what they have blocks for.
+//! Objects that are vectors, strings and maps: calls that construct, read and change them, with the blocks of their
+//! contents.
 pub(crate) mod any_elements;
 pub(crate) mod any_pairs;
 pub(crate) mod constructing_containers;

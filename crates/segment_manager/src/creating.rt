@@ -1,4 +1,4 @@
-//! The making of an empty segment, and the moving of one into another region.
+//! Creates an empty segment, and moves a segment to another region.
 ghost use Rattle.std.specs.Prelude.{◌≡◌, ◌%◌, []};
 ghost use Rattle.raw_region.specs.{Memory.AreZero, Memory.SameBytesExcept, Memory.SameSurroundings, Memory.bytes_of};
 ghost use Rattle.raw_region.specs.{Format.current};
@@ -17,9 +17,8 @@ use offset_link::NULL;
 use raw_region::{RawRegion, Window};
 
 impl Segment {
-    /// Returns a segment with nothing in it: the `size` bytes of the region from `base` on, which is a multiple of 16.
-    /// All of these bytes become 0 but for the header, the tags and the two null links of its gap; no other byte of the
-    /// region changes.
+    /// Makes an empty segment of the `size` bytes of the region from `base` on. It sets these bytes to 0, except the
+    /// header, the tags and the two null links of its gap; no other byte of the region changes.
     ///
     /// Example: `let segment = Segment::create(RawRegion::new(alloc, 1024)?, 0, 1024, Mode::Write)?`.
     ///
@@ -30,7 +29,7 @@ impl Segment {
     /// # Errors
     ///
     /// `BadSize` if the size is neither 144 nor a multiple of 16 from 176 to 1073741824. Otherwise `RegionTooSmall` if
-    /// the region ends before base plus size. The region comes back as it was.
+    /// the region ends before base plus size. The error returns the region unchanged.
     pub fn create(
         region: RawRegion,
         base: u64,
@@ -53,9 +52,8 @@ impl Segment {
         Ok(Segment { heap, mode })
     }
 
-    /// Moves the segment to another region, from `base` on, which is a multiple of 16. Its bytes, its directory, its
-    /// mode and all handles stay. The region that it leaves comes with it, as it was. No byte of the new region outside
-    /// the segment changes.
+    /// Moves the segment to another region, from `base` on, and returns the moved segment and its old region,
+    /// unchanged. Bytes, directory, mode and all handles stay. No byte of the new region outside the segment changes.
     ///
     /// Example: `let (moved, left) = segment.relocate(RawRegion::new(alloc, 4096)?, 512)?`.
     ///
@@ -65,8 +63,8 @@ impl Segment {
     ///
     /// # Errors
     ///
-    /// `RelocateRefused` if the region ends before base plus the segment's size. The segment and the region come back
-    /// as they were.
+    /// `RelocateRefused` if the region ends before base plus the segment's size. The error returns the segment and the
+    /// region unchanged.
     pub fn relocate(
         self,
         region: RawRegion,
@@ -88,8 +86,8 @@ impl Segment {
     }
 }
 
-/// Writes the header of a segment with nothing in it, whose bytes from the index of names on are 0. The word in front
-/// of it is the heap's.
+/// Writes the header of an empty segment, except the heap's word before the index of names. The bytes from that index
+/// on are already 0.
 fn write_header(heap: &mut Heap, size: u64)
     requires { AreZero (bytes_of heap.old.bytes) named_at header_len }
     ensures live { EncodesLiveSet current heap.new.bytes (live_of heap.old.bytes) }

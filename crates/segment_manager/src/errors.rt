@@ -1,5 +1,5 @@
-//! Why no segment is made or moved. What was handed in comes back with a refusal, and is let go if a refusal is passed
-//! on by `?` as an error of another type.
+//! The errors of `create` and `relocate`. Each returns the arguments. They are dropped if `?` converts the error to
+//! another type.
 ghost use Rattle.std.specs.Prelude.{◌≡◌};
 
 use crate::segment::Segment;
@@ -7,7 +7,7 @@ use raw_region::RawRegion;
 use std::fmt;
 use thiserror::Error;
 
-/// Why no segment of a size is created.
+/// The reason why no segment of this size can be created.
 #[derive(Clone, Copy, Debug, PartialEq, Eq, Error)]
 pub enum CreateError {
     /// The size is neither 144 nor a multiple of 16 from 176 to 1073741824.
@@ -18,18 +18,18 @@ pub enum CreateError {
     RegionTooSmall,
 }
 
-/// No segment is created. The region comes back with its bytes as they were. As text it is its cause.
+/// The error of `create`. It returns the region unchanged. It is printed as its cause.
 #[derive(Drop, Error)]
 #[error("{cause}")]
 pub struct CreateRefused {
-    /// The region that was handed in.
+    /// The region from the call.
     pub region: RawRegion,
-    /// Why.
+    /// The reason.
     pub cause: CreateError,
 }
 
 impl CreateRefused {
-    /// Returns the region as it was, and why.
+    /// Returns the region, unchanged, and the reason.
     pub fn into_parts(self) -> (RawRegion, CreateError)
         ensures region { result.0 ≡ self.region }
         ensures cause { result.1 ≡ self.cause }
@@ -37,7 +37,7 @@ impl CreateRefused {
         (self.region, self.cause)
     }
 
-    /// Returns the region as it was.
+    /// Returns the region, unchanged.
     pub fn into_region(self) -> RawRegion
         ensures { result ≡ self.region }
     {
@@ -45,7 +45,7 @@ impl CreateRefused {
     }
 }
 
-/// Its cause. The region's bytes are left out.
+/// Prints the cause, without the region's bytes.
 impl fmt::Debug for CreateRefused {
     fn fmt<W: fmt::Write>(&self, f: &mut fmt::Formatter<W>) -> fmt::Result {
         write!(f, "CreateRefused({:?})", self.cause)
@@ -60,19 +60,19 @@ impl From<CreateRefused> for CreateError {
     }
 }
 
-/// A region is too small for a segment that was to move into it: it ends before base plus the segment's size. Both come
-/// back as they were.
+/// The error of `relocate`: the region ends before base plus the segment's size. It returns the segment and the region
+/// unchanged.
 #[derive(Drop, Error)]
 #[error("region too small")]
 pub struct RelocateRefused {
-    /// The segment that was to move.
+    /// The segment from the call.
     pub segment: Segment,
-    /// The region that was handed in.
+    /// The region from the call.
     pub region: RawRegion,
 }
 
 impl RelocateRefused {
-    /// Returns the segment and the region as they were.
+    /// Returns the segment and the region, unchanged.
     pub fn into_parts(self) -> (Segment, RawRegion)
         ensures segment { result.0 ≡ self.segment }
         ensures region { result.1 ≡ self.region }
@@ -81,7 +81,7 @@ impl RelocateRefused {
     }
 }
 
-/// Its name alone. The bytes of segment and region are left out.
+/// Prints only its name, without the bytes of the segment and the region.
 impl fmt::Debug for RelocateRefused {
     fn fmt<W: fmt::Write>(&self, f: &mut fmt::Formatter<W>) -> fmt::Result {
         write!(f, "RelocateRefused")

@@ -1,47 +1,48 @@
-//! Where the words of a header and of an object's head stand, and what is written there.
+//! The offsets and values of the words in a segment's header and in an object's head.
 //!
-//! All is counted in bytes: of the header from the front of the segment, of an object from its handle. A word has 8.
+//! All lengths are in bytes. Offsets in the header count from the start of the segment, offsets in an object from its
+//! handle. A word has 8 bytes.
 ghost use Rattle.std.specs.Prelude.{◌≡◌, ◌+◌, ◌<◌, ◌^◌};
 ghost use Rattle.segment_manager.specs.{Directory.padded as padded_of, Layout.head_len};
 
-/// `MSEGFILE`, the lowest byte first.
+/// `MSEGFILE`, lowest byte first.
 pub const MAGIC: u64 = 0x454C_4946_4745_534D;
 
-/// The format of the layout that is written.
+/// The number of the current format.
 pub const FORMAT: u64 = 2;
 
-/// Where the header has the magic number.
+/// The offset of the magic number in the header.
 pub const MAGIC_AT: u64 = 0;
 
-/// Where it has the format.
+/// The offset of the format number in the header.
 pub const FORMAT_AT: u64 = 8;
 
-/// Where it has the size of the segment in bytes.
+/// The offset in the header of the segment's size in bytes.
 pub const SIZE_AT: u64 = 16;
 
-/// Where it has the index of names: the link to its block, then the number of its entries, then its capacity.
+/// The offset in the header of the index of names: the link to its block, the number of its entries, and its capacity.
 pub const NAMED_AT: u64 = 32;
 
-/// Where it has the index of kinds, in the same three words.
+/// The offset in the header of the index of kinds: the same three words.
 pub const UNIQUE_AT: u64 = 56;
 
-/// From where on it is reserved: these bytes are 0, up to the first block or gap.
+/// The offset of the reserved bytes in the header. They are 0, up to the first block or gap.
 pub const RESERVED_AT: u64 = 80;
 
-/// Where the head of an object has its second word: the length of the name, and the class in the upper half. The first
-/// word has the code of the kind, and the count of the values in the upper half.
+/// The offset of the second word of an object's head: the length of the name, and the class in the upper half. The
+/// first word is the code of the kind, and the number of elements in the upper half.
 pub const NAME_CLASS_AT: u64 = 8;
 
-/// The length of a head. After it stands the name with zeros up to a multiple of 8, and after that the value.
+/// The length of a head. The name follows, with zeros up to a multiple of 8, and then the value.
 pub const HEAD_LEN: u64 = 16;
 
-/// The bytes of a container in its object: a link to its storage or its root, and two words more.
+/// The length of a container in its object: a link to its storage or its root, and two words.
 pub const CONTAINER_LEN: u64 = 24;
 
-/// What one in the upper half of a word counts.
+/// The value of a 1 in the upper half of a word.
 pub const HALF: u64 = 0x1_0000_0000;
 
-/// Returns a number of bytes, up to the next multiple of 8.
+/// Rounds a length up to a multiple of 8.
 pub fn padded(len: u64) -> u64
     requires { len < 2 ^ 32 }
     ensures { result ≡ padded_of len }
@@ -49,7 +50,7 @@ pub fn padded(len: u64) -> u64
     (len + 7) / 8 * 8
 }
 
-/// Returns where the value of an object stands, after a name of `name_len` bytes.
+/// Returns the offset of an object's value, after a name of `name_len` bytes.
 pub fn value_at(name_len: u64) -> u64
     requires { name_len < 2 ^ 32 }
     ensures { result ≡ head_len + padded_of name_len }

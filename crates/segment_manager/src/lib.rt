@@ -1,16 +1,16 @@
 //! A segment: typed objects under names in one run of bytes, after Boost.Interprocess's managed memory segments.
 //!
-//! What a segment holds is a directory, a finite map from handles to objects with their values and blocks. Each call
-//! is one step of the directory machine: from the directory that the bytes denote to the one that they denote then.
+//! The contents of a segment are a directory: a finite map from handles to objects, with their values and blocks. Each
+//! call is one step of the directory machine, from the old directory to the new one.
 //!
-//! No method of a [`Segment`] has a condition on what the segment holds: they answer or refuse. Those that have another
-//! say under `# Conditions` how a caller meets it, or name the call that says it. There are three sorts:
-//! - a number is in range: the count of `construct` and `find_or_construct`, the base of `create` and `relocate`;
-//! - a key suits the kind of what is made ([`ConstructKey`]);
-//! - an iterator may be asked for its next item, and each that `construct_values` takes is of the kind.
+//! No method of a [`Segment`] has a condition on the segment's contents: each returns a result or an error. Other
+//! conditions stand under `# Conditions`, with a way to meet them or a call without the condition. There are three:
+//! - A number is in range: the count of `construct` and `find_or_construct`, the base of `create` and `relocate`.
+//! - A key suits the kind of the new object ([`ConstructKey`]).
+//! - An iterator can return its next item, and each item of `construct_values` has the kind.
 //!
-//! The functions of [`unchecked`] want to be told what the segment holds, and so does every call that is given an
-//! [`Object`], which [`locate`] found: it is still there ([`ObjectRef`]). No program needs these.
+//! The functions of [`unchecked`] have conditions on the segment's contents. So does every call with an [`Object`] from
+//! [`locate`]: the object must still exist ([`ObjectRef`]). No program needs these calls.
 #![tactic(auto)]
 
 mod blocks;

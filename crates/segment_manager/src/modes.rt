@@ -1,12 +1,12 @@
-//! How a segment is open.
+//! The mode in which a segment is open.
 
-/// How a segment is open.
+/// The mode in which a segment is open.
 #[derive(Clone, Copy, Debug, PartialEq, Eq)]
 pub enum Mode {
-    /// Commands may change the segment, and the changes are saved.
+    /// Commands can change the segment, and the changes are saved.
     Write,
-    /// Commands that may change the segment are refused.
+    /// Commands that can change the segment fail.
     ReadOnly,
-    /// Commands may change the segment, and nothing is saved.
+    /// Commands can change the segment, and the changes are not saved.
     CopyOnWrite,
 }

@@ -1,5 +1,4 @@
-//! Objects, whatever they hold: found by their keys, made, told of, read and written if they are scalars, and
-//! destroyed.
+//! Objects of all kinds: calls that find, construct, describe and destroy them, and read and write arrays of scalars.
 pub(crate) mod accessing;
 pub(crate) mod construct_keys;
 pub(crate) mod constructing;

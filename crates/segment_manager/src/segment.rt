@@ -11,10 +11,10 @@ use raw_region::{RawRegion, Window};
 use seg_types::Handle;
 use std::marker::Model;
 
-/// Typed objects under names in one run of bytes, with how it is open.
+/// Typed objects under names in one run of bytes, and the mode in which it is open.
 ///
-/// Contracts speak of its bytes, which denote one directory, and each call is a step of that directory. An object goes
-/// by its handle: the offset in bytes of its payload from the front of the segment.
+/// Contracts use its bytes, which denote one directory. Each call is a step of that directory. The handle of an object
+/// is the offset in bytes of its payload from the start of the segment.
 #[derive(Drop)]
 pub struct Segment {
     pub(crate) heap: Heap,
@@ -32,7 +32,7 @@ impl Model for Segment {
 }
 
 impl Segment {
-    /// Returns how the segment is open.
+    /// Returns the mode in which the segment is open.
     ///
     /// Example: `if segment.mode() == Mode::Write`.
     pub fn mode(&self) -> Mode
@@ -41,7 +41,7 @@ impl Segment {
         self.mode
     }
 
-    /// Returns all bytes of the segment, which are its image.
+    /// Returns all bytes of the segment: its image.
     ///
     /// Example: `let image = segment.as_bytes()`.
     pub fn as_bytes(&self) -> &[u8]
@@ -60,7 +60,7 @@ impl Segment {
         self.heap.header_word(SIZE_AT)
     }
 
-    /// Returns the bytes of all gaps, their tags included.
+    /// Returns the number of bytes in all gaps, their tags included.
     ///
     /// Example: `let bytes = segment.free()`.
     pub fn free(&self) -> u64
@@ -78,7 +78,7 @@ impl Segment {
         self.heap.region_left()
     }
 
-    /// Returns the region that the segment lies in, with the bytes that it has now.
+    /// Returns the region of the segment, with its current bytes.
     ///
     /// Example: `let region = segment.into_region()`.
     pub fn into_region(self) -> RawRegion
@@ -88,8 +88,8 @@ impl Segment {
         heap.into_window().into_region()
     }
 
-    /// Notes a handle if a block of the segment has it, so that calls by this handle find it at once. Any number may be
-    /// given. No byte changes.
+    /// Remembers a handle, which can be any number, if a block of the segment has it: calls with this handle then need
+    /// no search for it. No byte changes.
     ///
     /// Example: `segment.remember(handle)`.
     pub fn remember(&mut self, handle: Handle)
@@ -98,7 +98,7 @@ impl Segment {
         self.heap.remember(handle);
     }
 
-    /// Tells whether the segment is open for reading.
+    /// Returns true if the segment is open for reading.
     pub(crate) fn is_read_only(&self) -> bool
         ensures { result ≡ is_read_only self.now.mode }
     {
@@ -106,14 +106,13 @@ impl Segment {
     }
 }
 
-/// Returns the segment that the bytes of a window already are. No byte changes.
+/// Makes a segment of a window that already contains one. No byte changes.
 ///
 /// Example: `let segment = adopt(window, Mode::Write)`.
 ///
 /// # Conditions
 ///
-/// The bytes are a segment's, as those are of a window that a segment gave up. `image_check` opens bytes that
-/// nobody vouches for, without a condition.
+/// The bytes are a segment's, as in a window from a former segment. `image_check` opens any bytes, without a condition.
 pub fn adopt(window: Window, mode: Mode) -> Segment
     requires { IsSegment window.bytes }
     ensures cut { result.cut ≡ window }
@@ -122,13 +121,13 @@ pub fn adopt(window: Window, mode: Mode) -> Segment
     segment_of(Heap::adopt(window), mode)
 }
 
-/// Returns the segment that the bytes of a heap already are. No byte changes, and no tile is read.
+/// Makes a segment of a heap that already contains one. No byte changes, and it reads no tile.
 ///
 /// Example: `let segment = segment_of(heap, Mode::Write)`.
 ///
 /// # Conditions
 ///
-/// As those of [`adopt`].
+/// As [`adopt`].
 pub fn segment_of(heap: Heap, mode: Mode) -> Segment
     requires { IsSegment heap.bytes }
     ensures cut { result.cut ≡ heap }

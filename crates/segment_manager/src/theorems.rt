@@ -1,4 +1,4 @@
-//! What holds of every command, whatever the segment holds. Each function here does nothing: its contract is the law.
+//! Laws of all commands on all segments. Each function here does nothing: its contract is the law.
 ghost use Rattle.std.specs.Prelude.{◌≡◌};
 ghost use Rattle.raw_region.specs.Format.{current};
 ghost use Rattle.segment_manager.specs.{Denotes.magic_number, Denotes.two_halves, indexes.Entries.IndexesFollowObjects};
@@ -16,8 +16,8 @@ use crate::layout::{
     SIZE_AT, UNIQUE_AT,
 };
 
-/// States that a command that is refused changes nothing, and a segment that is open for reading refuses each command
-/// that may change it.
+/// States that a command that fails changes nothing, and that a segment that is open for reading refuses each command
+/// that can change it.
 pub fn refusals_change_nothing()
     ensures any_kind { RefusalsChangeNothing }
     ensures kind_fit { RefusalsOfKindChangeNothing }
@@ -29,54 +29,54 @@ pub fn reads_change_nothing()
     ensures kind_fit { ReadsOfKindChangeNothing }
 {}
 
-/// States how a step goes for a call that answers less than its command prints. It is refused for the reason that it
-/// answers, and a refused step leaves the directory.
+/// States the step of a call that returns less than its command prints. Its error is the command's error, and a step
+/// with an error keeps the directory.
 pub fn steps_lead_on()
     ensures step { StepsLeadOn }
     ensures changes { PoppedTextsLeadOn }
     ensures refused { RefusedCallsStay }
 {}
 
-/// States that a command on an object is the same under each key that means it, and the handle of an object that was
-/// located is such a key.
+/// States that a command on an object means the same with each key of the object, and that the handle of a located
+/// object is such a key.
 pub fn keys_mean_objects()
     ensures any_kind { KeysMeanObjects }
     ensures kind_fit { KeysOfKindMeanObjects }
     ensures handle { HandlesMeanObjects }
 {}
 
-/// States that a command on elements, or one that only reads, keeps each object. So an object that was located stays
-/// the object of its handle.
+/// States that commands on elements and commands that only read keep each object. So a located object stays the object
+/// of its handle.
 pub fn objects_stay()
     ensures { ObjectsStay }
 {}
 
-/// States that each index follows its objects: one that is put in or taken out is one entry more or less, and another
-/// value changes no entry.
+/// States that each index follows its objects: constructing or destroying an object adds or removes one entry, and a
+/// change of a value changes no entry.
 pub fn indexes_follow_objects()
     ensures { IndexesFollowObjects }
 {}
 
-/// States that several texts that ask for blocks get them one after another, each text that is not empty one. If one
-/// has no fit, there is no space for all.
+/// States that several texts get their blocks one after another, one for each text that is not empty. If one has no
+/// fit, there is no space for all.
 pub fn texts_are_placed()
     ensures { TextsArePlaced }
 {}
 
-/// States that of each object that the bytes of a segment denote, the words of its index entry are its kind's code, its
-/// count, its class and its name.
+/// States that for each object of a segment's bytes the words of its index entry are its kind's code, its count, its
+/// class and its name.
 pub fn entries_say_objects()
     ensures { EntriesSayObjects }
 {}
 
-/// States that an index that is less than the number of objects that was answered has an object: so the calls by place
-/// may be made.
+/// States that an index below the number of objects is the place of an object: it meets the condition of the calls by
+/// place.
 pub fn counted_are_below()
     ensures { CountedAreBelow }
 {}
 
-/// States that each constant of `layout` is what the definition of a segment's bytes names. These are the header's
-/// words, the words of an object's head, and what the upper half of a word counts.
+/// States that each constant of `layout` has the value in the definition of a segment's bytes. The constants are the
+/// offsets of the header's words and of an object's head, and the value of a 1 in the upper half of a word.
 pub fn layout_is_denoted()
     ensures magic { MAGIC ≡ magic_number }
     ensures format { FORMAT ≡ current }

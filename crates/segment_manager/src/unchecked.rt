@@ -1,7 +1,7 @@
-//! The calls with a condition on what a segment holds, for crates that know that it holds: the walks of a script's
-//! answers, the check of images, and the calls that change a segment's end. No program needs them, and `zaluxhoni` does
-//! not hand them on:
-//! each names, under `# Conditions`, the call that does the same without one.
+//! The calls with a condition on a segment's contents, for crates that know it to hold. These are the walks of a
+//! script's answers, the check of images, and the calls that move a segment's end. No program needs them, and
+//! `zaluxhoni` does not export them.
+//! Each names, under `# Conditions`, a call that does the same without one.
 pub use crate::blocks::sizing::{cut_end, extend_end};
 pub use crate::blocks::tiles::next_tile;
 pub use crate::containers::any_elements::set_any;

@@ -1,4 +1,4 @@
--- The texts of an object's elements are those of its value, whatever their layout.
+-- The texts of an object's elements are the texts of its value, in each layout.
 use Rattle.std.proofs.Common.{◌≡◌, ℕ, zero, suc, ℤ, Bool, true, false, ◌&&◌, List, [], ◌∷◌, length, map, Option, Some}
 use Rattle.std.proofs.Common.{None, Result, Ok, Err, if◌then◌else◌, slice_get, refl, sym, ap, ◌∙◌}
 use Rattle.best_fit.specs.Table.{BackingArray}
@@ -40,7 +40,7 @@ length-made g (x ∷ xs) = ap (λ n. suc n) (length-made g xs)
 
 -- ---- one element
 
--- the text of what is answered for an element, and nothing where there is none
+-- the text of an element in an answer, or nothing if there is none
 abbrev pub element_text : Spelling → ℕ → Answer → List ℕ
 element_text s i (Element k z) = s.scalar i k z
 element_text s i (TextElement bs) = s.text i bs
@@ -59,7 +59,7 @@ at-value sp i d key o v e f = ap (part_of (object_part sp i)) e ∙ ap (λ (w : 
 abbrev going_on : (Object → Plan) → Option Object → Plan
 going_on next r = with (elim r as (λ _. Result Object Refusal) [ None ↦ Err NotFound | Some o ↦ Ok o ]) next
 
--- what is answered for an element that there is, or not
+-- the answer for an element, if it exists or not
 abbrev element_of : Directory → ScalarKind → Option ℤ → Plan
 element_of d k r = with (elim r as (λ _. Result ℤ Refusal) [ None ↦ Err OutOfRange | Some z ↦ Ok z ]) (λ z.
     Reply (Element k z) d)
@@ -189,7 +189,7 @@ bytes_of_object r = elim r as (λ _. Result (List ℕ) Refusal) [ None ↦ Err N
 abbrev pub count_of_object : Option Object → ℕ
 count_of_object r = elim r as (λ _. ℕ) [ None ↦ 0 | Some o ↦ object_count o ]
 
--- a container that is no string has as many as are measured
+-- a container that is no string has as many elements as its length
 measured : (v : Value) → ((k : ScalarKind) → kind_of v ≡ Scalar k → ⊥) → (kind_of v ≡ String → ⊥)
     → length_in (sizes_of v) ≡ count_of_content (content_of v)
 measured (Numbers k zs) n m = absurd (n k refl)

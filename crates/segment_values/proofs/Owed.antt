@@ -1,4 +1,4 @@
--- What a call writes, one text after another, said of the places for which it is owed.
+-- The texts that a call writes, one after another, for the places at which it stands.
 use Rattle.std.proofs.Common.{◌≡◌, ℕ, ◌+◌, ◌<◌, List, [], ◌++◌, refl, sym, ap, subst, ◌∙◌, arith, Result, Ok, Err}
 use Rattle.std.proofs.lemmas.List.{append-nil}
 use Rattle.std.specs.Result.{IsErr}
@@ -14,7 +14,7 @@ pub failures_in-err : {A E : Type 0} (result : Result A E) → IsErr result → 
 failures_in-err (Ok x) h = absurd (cc h)
 failures_in-err (Err e) h = refl
 
--- where nothing is to be written nothing is
+-- if the text is empty nothing is written
 pub writes_none : {A E : Type 0} (old : WriterHistory) (a : A) (text : List ℕ) → text ≡ []
     → Writes {E = E} old old (Ok a) text
 writes_none old a text e = record {
@@ -34,7 +34,7 @@ module _ {P : Type 0} {Stands : P → Type 0} where
         = w.counted;
   }
 
-  -- the same text by other words
+  -- an equal text
   pub of-same : {A E : Type 0} {old new : WriterHistory} {result : Result A E} {said owed : P → List ℕ}
       → WritesFor old new result Stands said
       → ((d : P) → Stands d → said d ≡ owed d) → WritesFor old new result Stands owed
@@ -63,7 +63,7 @@ module _ {P : Type 0} {Stands : P → Type 0} where
     counted = omega (arith, first.counted, more.counted);
   }
 
-  -- the writer failed, whatever was to be written after
+  -- the writer failed, for any text that was to follow
   pub of-cut : {A B E F : Type 0} {old new : WriterHistory} {x : E} {result : Result B F} {a : P → List ℕ}
       (b : P → List ℕ) → IsErr result
       → WritesFor {A = A} old new (Err x) Stands a → WritesFor old new result Stands (λ d. a d ++ b d)

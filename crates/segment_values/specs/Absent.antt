@@ -1,4 +1,4 @@
--- Keys that a map lacks, as literals say them.
+-- Map keys that a map lacks, as literals.
 use Rattle.std.specs.Prelude.{◌≡◌, ℤ, Ok}
 use Rattle.seg_types.specs.declared.kinds.Kind.TheVariants.{Map}
 use Rattle.seg_types.specs.declared.kinds.ScalarKind.{ScalarKind}
@@ -8,7 +8,7 @@ use Rattle.segment_manager.specs.Calls.{kind_at}
 use Rattle.segment_manager.specs.Directory.{Directory}
 use Rattle.segment_manager.specs.Keeping.{LacksPair}
 
--- the object of the key is a map, and has not the key that the literal is
+-- the object of the key is a map that lacks the map key of the literal
 pub record LacksLiteral (key : Key) (l : Literal) (d : Directory) : Type 0 where
   pub keys : ScalarKind
   pub values : ScalarKind

@@ -1,4 +1,4 @@
--- The texts of an object's pairs, by what the calls answer that read them.
+-- The texts of an object's pairs, by the results of the calls that read them.
 use Rattle.std.specs.Prelude.{ℕ, List, Result, Ok, Err, slice_get}
 use Rattle.seg_types.specs.declared.kinds.ScalarKind.{ScalarKind}
 use Rattle.seg_types.specs.declared.refusals.Refusal.{Refusal}
@@ -10,12 +10,12 @@ use Rattle.segment_manager.specs.containers.Walks.{KindedPair, pairs_at}
 use Rattle.segment_manager.specs.Parts.{part_of}
 use Rattle.segment_values.specs.Layouts.{Spelling}
 
--- a length, if there is one
+-- a length, or 0 after an error
 abbrev pub length_in : Result (ℕ × ℕ) Refusal → ℕ
 length_in (Ok (len, capacity)) = len
 length_in (Err r) = 0
 
--- a key and a value, at a place
+-- the text of a key and a value, by the caller's spelling
 abbrev pub walked_text : Spelling → ℕ → KindedPair → List ℕ
 walked_text s i ((k, x), (v, y)) = s.pair i k v (x, y)
 
@@ -23,6 +23,6 @@ walked_text s i ((k, x), (v, y)) = s.pair i k v (x, y)
 abbrev pub pair_text : Spelling → ScalarKind → ScalarKind → ℕ → NumberPair → List ℕ
 pair_text s k v i p = s.pair i k v (item_of p)
 
--- the pair at a place of a map
+-- the text of the pair at an index of a map
 abbrev pub pair_part : Spelling → ScalarKind → ScalarKind → Directory → Key → ℕ → List ℕ
 pair_part s k v d key i = part_of (pair_text s k v i) (slice_get (pairs_at d key) i)

@@ -1,4 +1,4 @@
--- Elements of an array or a vector of scalars that are read by one call: this many from a place on.
+-- Elements of an array or a vector of scalars that one call reads: this many, from an index on.
 use Rattle.std.specs.Prelude.{◌≡◌, ◌≤◌, ℕ, ◌+◌, ◌*◌, ℤ, IsTrue, Result, Ok, Err, List}
 use Rattle.std.specs.Prelude.{length, map}
 use Rattle.std.specs.List.{list_all}
@@ -15,16 +15,16 @@ use Rattle.segment_manager.specs.objects.ElementLists.{list_at, numbers_in}
 use Rattle.segment_manager.specs.State.{AnswersWith, SegmentState, DenotesCurrent}
 pub use Rattle.segment_manager.specs.containers.Ranges.{is_row, numbers_if, range_at, range_in, range_of}
 
--- the elements of an object that was located, which is an array or a vector of scalars
+-- the elements of a located object, which is an array or a vector of scalars
 abbrev pub row_of : Located → Directory → List ℤ
 row_of o d = list_at numbers_in d (ByHandle o.handle) o.kind
 
--- the bytes spell values of a kind, one after another
+-- the bytes encode values of a kind, one after another
 pub record AreSpelled (k : ScalarKind) (zs : List ℤ) (bytes : List ℕ) : Type 0 where
   pub values : IsTrue (list_all (is_value k) zs)
   pub spelled_are : bytes ≡ spelled k zs
 
--- an object of a kind has as many elements as a run says, and its bytes spell them from the run's offset on
+-- an object of a kind has as many elements as a run, and its bytes from the run's offset on encode them
 pub record HasRow (s : SegmentState) (o : Located) (k : ScalarKind) (run : ElementRun) : Type 0 where
   pub inside : run.offset + size_of k * run.count ≤ length s.cut.bytes
   pub short : length s.cut.bytes ≤ 1073741824
@@ -32,7 +32,7 @@ pub record HasRow (s : SegmentState) (o : Located) (k : ScalarKind) (run : Eleme
   pub spells : (d : Directory) → DenotesCurrent s.cut.bytes d
       → AreSpelled k (row_of o d) (part s.cut.bytes run.offset (size_of k * run.count))
 
--- what a call read into a row, or why it did not
+-- the elements that a call read into a row, or its error
 abbrev pub read_into : {A : Type 0} → (A → ℤ) → List A → Result (Unit {0}) Refusal → Result (List ℤ) Refusal
 read_into whole row (Ok u) = Ok (map whole row)
 read_into whole row (Err why) = Err why

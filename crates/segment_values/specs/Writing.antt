@@ -1,9 +1,9 @@
--- What a call writes if that depends on what a machine or a segment stands for.
+-- The text that a call writes, if that depends on the state of a machine or a segment.
 use Rattle.std.specs.Prelude.{◌≡◌, ◌+◌, List, ℕ, Result}
 use Rattle.raw_region.specs.Answers.{failures_in}
 use Rattle.raw_region.specs.Device.{WriterHistory, Writes}
 
--- for each place where it stands the text that is owed there; and wherever it stands, a failure is counted once
+-- the call writes the text for each place at which it stands; after an error, one more write has failed
 pub record WritesFor {P A E : Type 0} (old new : WriterHistory) (result : Result A E) (Stands : P
     → Type 0) (owed : P → List ℕ) : Type 0 where
   pub writes : (place : P) → Stands place → Writes old new result (owed place)

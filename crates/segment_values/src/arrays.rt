@@ -1,4 +1,4 @@
-//! Arrays of scalars that are made of values.
+//! Constructs arrays of scalars from values.
 ghost use Rattle.std.specs.Prelude.{◌≤◌, length, map};
 ghost use Rattle.std.specs.Iterator.{YieldsFirst, item_count};
 ghost use Rattle.seg_types.specs.declared.kinds.Kind.TheVariants.{Scalar as ScalarOf};
@@ -10,7 +10,7 @@ ghost use Rattle.segment_manager.specs.State.{TakesStep, UnchangedIfRefused, han
 use seg_types::{Handle, NewKey, Refusal, Scalar};
 use segment_manager::Segment;
 
-/// The values of a row, one after another.
+/// An iterator over the values of a row.
 #[derive(Drop)]
 struct RowItems<'a, T> {
     left: &'a [T],
@@ -30,16 +30,16 @@ impl<'a, T: Scalar> Iterator for RowItems<'a, T> {
     }
 }
 
-/// Makes an array of the values of a row, and returns its handle.
+/// Makes an array with the values of a row, and returns its handle.
 ///
 /// # Conditions
 ///
-/// The row has from 1 to 1048576 values, and a key that says a kind says theirs.
+/// The row has from 1 to 1048576 values. A unique key has the array's kind.
 ///
 /// # Errors
 ///
 /// `ReadOnly` if the segment is open for reading. Otherwise `Exists` if an object has the key: nothing changes.
-/// Otherwise `NoSpace` if no gap is long enough: what the segment holds does not change, and the bytes of gaps may.
+/// Otherwise `NoSpace` if no gap is long enough: the objects do not change, but bytes of gaps can.
 pub fn construct_array<T: Scalar>(
     segment: &mut Segment,
     key: &NewKey,

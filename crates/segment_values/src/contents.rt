@@ -1,4 +1,4 @@
-//! What an object has: its elements, one after another, whatever their layout.
+//! Writes the contents of an object: its elements, one after another, in any layout.
 ghost use Rattle.std.specs.Prelude.{◌≡◌, ◌-◌, ◌^◌, ◌<◌, option_map, true};
 ghost use Rattle.seg_types.specs.declared.kinds.Kind.TheVariants.{Map as MapOf};
 ghost use Rattle.seg_types.specs.declared.kinds.ScalarKind.{ScalarKind as AnyScalarKind};
@@ -20,7 +20,7 @@ use seg_types::{Kind, ScalarKind, ScalarValue};
 use segment_manager::unchecked::{first_pair, next_pair};
 use segment_manager::{Object, Segment};
 
-/// Returns how many scalars, texts or pairs an object has. A string is one text.
+/// Returns the number of scalars, texts or pairs of an object. A string is one text.
 pub fn count_of(segment: &Segment, object: Object) -> u64
     requires { IsLocated segment.now (ByHandle object.handle) object }
     ensures { AnswersWith segment.now (λ d. count_at d (ByHandle object.handle)) result }
@@ -32,7 +32,7 @@ pub fn count_of(segment: &Segment, object: Object) -> u64
     }
 }
 
-/// Returns how many elements a vector, string or map has, and 0 if the object is none of these.
+/// Returns the number of elements of a vector, string or map; 0 for any other object.
 pub fn length_of(segment: &Segment, object: Object) -> u64
     requires { IsObject object segment.now }
     ensures { AnswersWith segment.now (λ d. length_in (sizes_at d (ByHandle object.handle))) result }
@@ -43,7 +43,7 @@ pub fn length_of(segment: &Segment, object: Object) -> u64
     }
 }
 
-/// Writes what an object has; `count` is how many elements there are.
+/// Writes the contents of an object with `count` elements.
 pub fn put_content<L: Layout, W: Sink>(
     layout: &L,
     segment: &Segment,
@@ -63,7 +63,7 @@ pub fn put_content<L: Layout, W: Sink>(
     }
 }
 
-/// Writes as many scalars or texts of an object.
+/// Writes `count` scalars or texts of an object.
 fn put_elements<L: Layout, W: Sink>(
     layout: &L,
     segment: &Segment,
@@ -83,7 +83,7 @@ fn put_elements<L: Layout, W: Sink>(
     Ok(())
 }
 
-/// Writes the scalar or the text at an index, and nothing if there is none. A string is one text.
+/// Writes the scalar or text at an index; writes nothing if there is none. A string is one text.
 fn put_element<L: Layout, W: Sink>(
     layout: &L,
     segment: &Segment,
@@ -113,7 +113,7 @@ fn put_element<L: Layout, W: Sink>(
     }
 }
 
-/// Writes as many pairs of a map by rising keys.
+/// Writes `count` pairs of a map by rising keys.
 fn put_pairs<L: Layout, W: Sink>(
     layout: &L,
     segment: &Segment,
@@ -139,7 +139,7 @@ fn put_pairs<L: Layout, W: Sink>(
     Ok(())
 }
 
-/// Returns the pair above a key of a map, if there is one more to write.
+/// Returns the pair after a key of a map, if `more` is true and there is one.
 fn pair_behind(
     segment: &Segment,
     object: Object,

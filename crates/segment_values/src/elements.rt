@@ -1,4 +1,4 @@
-//! Elements that become what a caller writes: of objects of scalars, of vectors and of strings.
+//! Sets elements of arrays, vectors and strings to values as callers write them.
 ghost use Rattle.std.specs.Prelude.{◌≡◌, Ok, OnErr, OnOk, false};
 ghost use Rattle.seg_types.specs.declared.kinds.Kind.TheVariants.{Strings as StringsKind};
 ghost use Rattle.seg_types.specs.declared.kinds.ScalarKind.{ScalarKind as AnyScalarKind};
@@ -16,14 +16,17 @@ use seg_types::{Key, Kind, Refusal, ScalarKind, WrittenValue};
 use segment_manager::unchecked::set_any;
 use segment_manager::{Object, Segment};
 
-/// Makes what is written the element at `index` in the object of a key. The object has scalars, or is a vector of
-/// scalars or of strings, or a string, which has bytes. Of an object of scalars no other byte changes.
+/// Sets the element at `index`. The object is an array of scalars, a vector of scalars or of strings, or a string,
+/// whose elements are bytes. In an array no other byte changes.
 ///
 /// # Errors
 ///
-/// `ReadOnly` if the segment is open for reading. Otherwise `NotFound` if no object has the key, `WrongKind` if it has
-/// no elements or the value has not their form, `OutOfRange` if the value is not in their range or there is no such
-/// element, `NoSpace` if a text has no fit. Nothing changes.
+/// The first that applies; nothing changes:
+/// - `ReadOnly` if the segment is open for reading;
+/// - `NotFound` if no object has the key;
+/// - `WrongKind` if the object has no elements, or the value does not have their form;
+/// - `OutOfRange` if the value is outside their range, or `index` is not below the length;
+/// - `NoSpace` if no gap is long enough for a text.
 #[inline(never)]
 pub fn set<L: WrittenValue>(
     segment: &mut Segment,
@@ -50,7 +53,7 @@ pub fn set<L: WrittenValue>(
     }
 }
 
-/// Sets an element of an object whose elements are scalars of a kind.
+/// Sets an element of an object whose elements are scalars of `kind`.
 fn set_scalar<L: WrittenValue>(
     segment: &mut Segment,
     object: Object,

@@ -1,4 +1,4 @@
-//! How the elements of an object are laid out in a text.
+//! The layout of an object's elements in a text.
 ghost use Rattle.std.specs.Prelude.{◌-◌, ◌^◌, ◌<◌};
 ghost use Rattle.raw_region.specs.Device.{Writes};
 ghost use Rattle.seg_types.specs.Values.{kind_of_scalar, value_of_scalar};
@@ -6,7 +6,7 @@ ghost use Rattle.seg_types.specs.Values.{kind_of_scalar, value_of_scalar};
 use raw_region::{DeviceFault, Sink};
 use seg_types::ScalarValue;
 
-/// What is written of an element, by its place among the elements of its object, from 0 on, and its value.
+/// The text of an element, by its index in the object, from 0 on, and its value.
 pub trait Layout {
     ghost use Rattle.segment_values.specs.Layouts.{Spelling};
 

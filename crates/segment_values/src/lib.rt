@@ -1,5 +1,5 @@
-//! The calls of a segment for callers that learn the kind of an object when the program runs: what they write, as a
-//! literal of a script or as a scalar, becomes a value of the object's kind.
+//! The calls of a segment for callers that learn the kind of an object at run time. A caller's value, a literal of a
+//! script or a scalar, is converted to the object's kind.
 #![tactic(auto)]
 
 mod arrays;

@@ -1,4 +1,4 @@
-//! The object of a key that is to be changed.
+//! Looks up an object for a change.
 ghost use Rattle.std.specs.Prelude.{MatchResult};
 ghost use Rattle.seg_types.specs.Keys.{key_seen};
 ghost use Rattle.segment_values.specs.Changes.{IsChangeableObject, IsUnchangeable};
@@ -6,7 +6,7 @@ ghost use Rattle.segment_values.specs.Changes.{IsChangeableObject, IsUnchangeabl
 use seg_types::{Key, Refusal};
 use segment_manager::{Mode, Object, Segment, locate};
 
-/// Returns the object of a key, which is to be changed.
+/// Returns the object of a key, for a change.
 ///
 /// # Errors
 ///

@@ -1,4 +1,4 @@
-//! Pairs of maps that what callers write puts, looks up and takes out.
+//! Puts, looks up and erases pairs of maps, with keys and values as callers write them.
 ghost use Rattle.std.specs.Prelude.{◌≡◌, OnErr};
 ghost use Rattle.seg_types.specs.Commands.{Lookup, Put, Remove};
 ghost use Rattle.seg_types.specs.Keys.{key_seen};
@@ -11,13 +11,16 @@ use crate::objects::object_to_change;
 use seg_types::{Key, Kind, Refusal, ScalarValue, WrittenValue, pair_of};
 use segment_manager::{Segment, locate};
 
-/// Puts the pair that two written values are into the map of a key, and returns whether its key is new.
+/// Sets the value of a map key in a map, and returns true if the map key is new.
 ///
 /// # Errors
 ///
-/// `ReadOnly` if the segment is open for reading. Otherwise `NotFound` if no object has the key, `WrongKind` if it is
-/// no map or a value has not the form of its kind, `OutOfRange` if a value is not in the range of its kind, `NoSpace`
-/// if the key is new and no gap is long enough for its block. Nothing changes.
+/// The first that applies; nothing changes:
+/// - `ReadOnly` if the segment is open for reading;
+/// - `NotFound` if no object has the key;
+/// - `WrongKind` if the object is no map, or one of the two does not have the form of its kind;
+/// - `OutOfRange` if one is outside the range of its kind;
+/// - `NoSpace` if the map key is new and no gap is long enough for its block.
 #[inline(never)]
 pub fn put_pair<A: WrittenValue, B: WrittenValue>(
     segment: &mut Segment,
@@ -39,12 +42,14 @@ pub fn put_pair<A: WrittenValue, B: WrittenValue>(
     }
 }
 
-/// Returns the value at the key that is written, in the map of a key.
+/// Returns the value of a map key in a map, or `None` if the map lacks the map key.
 ///
 /// # Errors
 ///
-/// `NotFound` if no object has the key, `WrongKind` if it is no map or what is written has not the form of its keys,
-/// `OutOfRange` if that is not in their range.
+/// The first that applies:
+/// - `NotFound` if no object has the key;
+/// - `WrongKind` if the object is no map, or `at` does not have the form of its map keys;
+/// - `OutOfRange` if `at` is outside their range.
 #[inline(never)]
 pub fn look_up<L: WrittenValue>(
     segment: &Segment,
@@ -63,13 +68,15 @@ pub fn look_up<L: WrittenValue>(
     }
 }
 
-/// Takes the pair with the key that is written out of the map of a key, and returns whether there was one. If there was
-/// none, nothing changes.
+/// Erases a map key from a map, and returns true if the map had it. If not, nothing changes.
 ///
 /// # Errors
 ///
-/// `ReadOnly` if the segment is open for reading. Otherwise `NotFound` if no object has the key, `WrongKind` if it is
-/// no map or what is written has not the form of its keys, `OutOfRange` if that is not in their range. Nothing changes.
+/// The first that applies; nothing changes:
+/// - `ReadOnly` if the segment is open for reading;
+/// - `NotFound` if no object has the key;
+/// - `WrongKind` if the object is no map, or `at` does not have the form of its map keys;
+/// - `OutOfRange` if `at` is outside their range.
 #[inline(never)]
 pub fn erase_pair<L: WrittenValue>(
     segment: &mut Segment,

@@ -1,4 +1,4 @@
-//! Elements of arrays and vectors of scalars, several read by one call.
+//! Reads several elements of an array or a vector of scalars in one call.
 ghost use Rattle.std.specs.Prelude.{◌≡◌, ◌+◌, ◌*◌, ◌≤◌, OnErr, drop, length, map, nat_le, take, true, List, ℤ};
 ghost use Rattle.seg_types.specs.Kinds.{is_value, spelling};
 ghost use Rattle.seg_types.specs.Names.{ByHandle};
@@ -11,13 +11,13 @@ use seg_types::theorems::scalar_is_number;
 use seg_types::{Kind, Refusal, Scalar};
 use segment_manager::{ElementRun, Object, ObjectRef, Segment, locate};
 
-/// Copies elements of the object of a key into a row: as many as the row has, from `first` on. The object is an array
-/// of scalars of the type, or a vector of them.
+/// Copies elements of an object into a row: as many as the row has, from `first` on. The object is an array or a vector
+/// of scalars of the type.
 ///
 /// # Errors
 ///
-/// `NotFound` if no object has the key, `WrongKind` if it is of another kind, `OutOfRange` if it has too few
-/// elements there. The row is as it was.
+/// `NotFound` if no object has the key, `WrongKind` if it has another kind, `OutOfRange` if it has too few elements
+/// from `first` on. The row is unchanged.
 pub fn read_elements<T: Scalar, O: ObjectRef>(
     segment: &Segment,
     key: &O,
@@ -33,7 +33,7 @@ pub fn read_elements<T: Scalar, O: ObjectRef>(
     read_object(segment, &object, first, row)
 }
 
-/// Copies elements of an object that was located into a row.
+/// Copies elements of a located object into a row.
 fn read_object<T: Scalar>(
     segment: &Segment,
     object: &Object,
@@ -56,7 +56,7 @@ fn read_object<T: Scalar>(
     Ok(())
 }
 
-/// Returns where the elements of such an object stand in the image.
+/// Returns the place of the object's elements in the image.
 fn row_run<T: Scalar>(segment: &Segment, object: &Object) -> ElementRun
     requires object { IsLocated segment.now (ByHandle object.now.handle) object.now }
     requires kind { is_row T.kind object.now.kind ≡ true }
@@ -69,14 +69,14 @@ fn row_run<T: Scalar>(segment: &Segment, object: &Object) -> ElementRun
     }
 }
 
-/// Tells whether objects of a kind are arrays of scalars of the type, or vectors of them.
+/// Returns true if objects of the kind are arrays or vectors of scalars of the type.
 fn is_row<T: Scalar>(kind: Kind) -> bool
     ensures { result ≡ is_row T.kind kind }
 {
     Kind::Vector(T::kind()).code() == kind.code() || Kind::Scalar(T::kind()).code() == kind.code()
 }
 
-/// Copies elements of such an object, which has them, from where they stand.
+/// Copies elements of an object, which has enough of them, from their place in the image into a row.
 fn copy_row<T: Scalar>(
     segment: &Segment,
     _object: &Object,
@@ -94,7 +94,7 @@ fn copy_row<T: Scalar>(
     read_values(&segment.as_bytes()[from..from + len], row);
 }
 
-/// Reads as many values as the row has from bytes that spell them.
+/// Reads as many values as the row has from their encodings.
 fn read_values<T: Scalar>(bytes: &[u8], row: &mut [T])
     requires { length bytes.now ≡ T.SIZE * length row.old }
     ensures { (zs : List ℤ) → AreSpelled T.kind zs bytes.now → map T.whole row.new ≡ zs }
@@ -105,7 +105,7 @@ fn read_values<T: Scalar>(bytes: &[u8], row: &mut [T])
     }
 }
 
-/// Returns the value that bytes spell; or another one, where they spell none.
+/// Returns the value that the bytes encode, or `other` if they encode none.
 fn value_or<T: Scalar>(bytes: &[u8], other: T) -> T
     requires { length bytes.now ≡ T.SIZE }
     ensures { (z : ℤ) → is_value T.kind z ≡ true → bytes.now ≡ spelling T.kind z → T.whole result ≡ z }
@@ -116,7 +116,7 @@ fn value_or<T: Scalar>(bytes: &[u8], other: T) -> T
     }
 }
 
-/// Tells whether `len` elements have `count` from `first` on.
+/// Returns true if `len` elements include `count` elements from `first` on.
 fn has_range(len: u64, first: u64, count: u64) -> bool
     ensures { result ≡ nat_le (first + count) len }
 {

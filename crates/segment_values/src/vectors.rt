@@ -1,4 +1,4 @@
-//! Vectors that take what a caller writes, and lose elements: the kind of the object says which call it is.
+//! Inserts and erases elements of vectors, with values as callers write them.
 ghost use Rattle.std.specs.Prelude.{◌≡◌, OnErr};
 ghost use Rattle.seg_types.specs.declared.kinds.Kind.TheVariants.{Strings as StringsKind, Vector as VectorOf};
 ghost use Rattle.seg_types.specs.Commands.{Erase, Quoted};
@@ -14,23 +14,26 @@ use crate::objects::object_to_change;
 use seg_types::{Key, Kind, Refusal, ScalarKind, ScalarValue, WrittenValue, by_kind, by_value};
 use segment_manager::{Object, Segment};
 
-/// Where a new element of a vector goes.
+/// The position of a new element in a vector.
 #[derive(Clone, Copy)]
 pub enum InsertSpot {
     /// After the last element.
     End,
-    /// Before the one at this index.
+    /// Before the element at this index.
     Before(u64),
 }
 
-/// Puts what is written into the vector of a key, where the spot says.
+/// Inserts an element into a vector.
 ///
 /// # Errors
 ///
-/// `ReadOnly` if the segment is open for reading. Otherwise `NotFound` if no object has the key, `WrongKind` if it is
-/// no vector or the value has not the form of its elements, `OutOfRange` if the value is not in their range or the spot
-/// is above the length, and nothing changes; `NoSpace` if the vector is full and its storage cannot be regrown, or a
-/// text has no fit: the objects are as before, and nothing changes if the value is no text.
+/// The first that applies; nothing changes, except after `NoSpace`:
+/// - `ReadOnly` if the segment is open for reading;
+/// - `NotFound` if no object has the key;
+/// - `WrongKind` if the object is no vector, or the value does not have the form of its elements;
+/// - `OutOfRange` if the value is outside their range, or the position is above the length;
+/// - `NoSpace` if the vector is full and its storage cannot be regrown, or if no gap is long enough for a text. All
+///   objects are then unchanged; nothing changes at all if the value is no text.
 #[inline(never)]
 pub fn add<L: WrittenValue>(
     segment: &mut Segment,
@@ -59,7 +62,7 @@ pub fn add<L: WrittenValue>(
     }
 }
 
-/// Puts a scalar into a vector, a vector of the scalar's kind.
+/// Inserts a scalar into a vector of the scalar's kind.
 fn add_scalar(
     segment: &mut Segment,
     object: Object,
@@ -77,7 +80,7 @@ fn add_scalar(
     }
 }
 
-/// Puts a text into a vector of strings.
+/// Inserts a text into a vector of strings.
 fn add_text(
     segment: &mut Segment,
     object: Object,
@@ -95,12 +98,12 @@ fn add_text(
     }
 }
 
-/// Leaves out the element at `index` in the vector of a key, of scalars or of strings.
+/// Removes the element at `index` from a vector of scalars or of strings.
 ///
 /// # Errors
 ///
 /// `ReadOnly` if the segment is open for reading. Otherwise `NotFound` if no object has the key, `WrongKind` if it is
-/// no vector, `OutOfRange` if it has no element there. Nothing changes.
+/// no vector, `OutOfRange` if `index` is not below the length. Nothing changes.
 #[inline(never)]
 pub fn erase(segment: &mut Segment, key: &Key, index: u64) -> Result<(), Refusal>
     ensures step { TakesStep segment.old segment.new (Erase (key_seen key.now) index) (done_answer result) }
@@ -114,7 +117,7 @@ pub fn erase(segment: &mut Segment, key: &Key, index: u64) -> Result<(), Refusal
     }
 }
 
-/// Leaves out an element of a vector, a vector of scalars of a kind.
+/// Removes an element from a vector of scalars of `kind`.
 fn erase_element(
     segment: &mut Segment,
     object: Object,

@@ -1,4 +1,4 @@
--- A gap, or the front of one, that is taken into use.
+-- A gap, or the front of one, that is allocated.
 use Rattle.best_fit.proofs.Common.{◌≡◌, refl, sym, ap, subst, ◌∙◌, ℕ, ◌+◌, ◌-◌, ◌/◌, ◌%◌, Bool, true, false, ◌||◌}
 use Rattle.best_fit.proofs.Common.{not, List, [], ◌∷◌, ◌++◌, length, arith, nat_le, ◌==◌, IsTrue, Some, None}
 use Rattle.best_fit.proofs.Common.{false≢true, WindowState, SameBytes, bytes_of, word_at, Role, Tile, current}
@@ -16,7 +16,7 @@ use Rattle.best_fit.proofs.tags.TileJoins.{cuts_to, extents_of-append, extents_o
 use Rattle.best_fit.proofs.tags.TagsAndLiveSet.{SaysHeap, said_row}
 use Rattle.best_fit.proofs.tags.UnchangedTags.{around_keeps, step_header}
 
--- the gap that is taken, and the window after each of the two steps
+-- the allocated gap, and the window after each of the two steps
 module _ (old : WindowState) (says : SaysHeap old (tiles_in old)) (g : Tile) (front0 back0 : List Tile)
     (list0 : tiles_in old ≡ front0 ++ (g ∷ back0)) (free : g.use_of ≡ None) (black : g.red ≡ false)
     (wanted : ℕ) (role : Role) where
@@ -26,7 +26,7 @@ module _ (old : WindowState) (says : SaysHeap old (tiles_in old)) (g : Tile) (fr
   abbrev taken_tile : Tile
   taken_tile = record g { len = share g.len wanted; use_of = Some role }
 
-  -- a gap taken into use: what is left of it, and the lists of tiles
+  -- an allocated gap: the remainder, and the lists of tiles
   pub record Taking : Type 0 where
     pub said : EncodesTiles old (front0 ++ (g ∷ back0))
     pub left : List Tile
@@ -37,7 +37,7 @@ module _ (old : WindowState) (says : SaysHeap old (tiles_in old)) (g : Tile) (fr
     pub splits : nat_le (wanted + 32) g.len ≡ true → left ≡ free_tile (g.offset + wanted) (g.len - wanted) ∷ []
     pub keeps : nat_le (wanted + 32) g.len ≡ false → left ≡ []
 
-  -- what a gap that is taken into use leaves
+  -- the remainder of an allocated gap
   pub taking : Taking
   taking =
       let said : EncodesTiles old (front0 ++ (g ∷ back0)) = subst (EncodesTiles old) list0 says.said in
@@ -66,7 +66,7 @@ module _ (old : WindowState) (says : SaysHeap old (tiles_in old)) (g : Tile) (fr
   stands = ap (λ (ts : List Tile). tile_in ts g.offset) list0 ∙ tile_in-around g.offset g back0 refl front0
       (away_front 128 front0 g back0 (length old.bytes - 16) taking_row)
 
-  -- what the cut needs
+  -- the conditions of the cut
   pub taking_stands : HasTileAt old g.offset
   taking_stands = record { tiles = tiles_in old; said = says.said; tile = g; stands = stands }
 
@@ -77,7 +77,7 @@ module _ (old : WindowState) (says : SaysHeap old (tiles_in old)) (g : Tile) (fr
     mid_list = changed_at-around g.offset g back0 refl (cut_to wanted) front0 t.away
         ∙ ap (λ (us : List Tile). front0 ++ us) t.is
 
-    -- the tags say the list in which the gap is cut
+    -- the tags describe the list in which the gap is cut
     pub mid_said : EncodesTiles mid (front0 ++ (cut_tile ∷ (t.left ++ back0)))
     mid_said = subst (EncodesTiles mid) mid_list (cut (front0 ++ (g ∷ back0)) t.said)
 
@@ -85,7 +85,7 @@ module _ (old : WindowState) (says : SaysHeap old (tiles_in old)) (g : Tile) (fr
     pub mid_same : SameExceptTags old mid (front0 ++ (g ∷ back0)) (front0 ++ (cut_tile ∷ (t.left ++ back0)))
     mid_same = subst (SameExceptTags old mid (front0 ++ (g ∷ back0))) mid_list (beside (front0 ++ (g ∷ back0)) t.said)
 
-    -- what the change of its use needs
+    -- the conditions of the change of use
     pub taking_used : CanTakeUse mid g.offset (Some role)
     taking_used =
         record {

@@ -1,4 +1,4 @@
--- A gap that is not in the tree becomes a block, and what is left of it a gap.
+-- A gap that is not in the tree becomes a block, and its remainder a gap.
 use Rattle.best_fit.proofs.Common.{◌≡◌, refl, sym, ap, subst, ◌∙◌, ℕ, ◌+◌, ◌-◌, ◌≤◌, inl, inr, Bool, true, false}
 use Rattle.best_fit.proofs.Common.{List, [], ◌∷◌, ◌++◌, length, arith, nat_le, length-append, Option, Some, WindowState}
 use Rattle.best_fit.proofs.Common.{bytes_of, Role, Tile, current, SameBytes-word, free_tile, of_colour, tile_in}
@@ -32,7 +32,7 @@ use Rattle.best_fit.proofs.allocation.GapFront.{new_same}
 use Rattle.best_fit.proofs.allocation.GapFront.{taken_black, taken_header, taken_keeps, taken_says, taken_size}
 use Rattle.best_fit.proofs.allocation.GapFront.{new_extents}
 
--- tags and a tree of all gaps lay out what they say
+-- good tags and a tree of all gaps encode the live set of the tags
 pub lays_out : (c : WindowState) → SaysHeap c (tiles_in c)
     → IsTreeOf (bytes_of c.bytes) 24 (payloads (sorted_gaps (gaps_in c)))
     → EncodesLiveSet current c.bytes (live_of c.bytes)
@@ -81,7 +81,7 @@ pub extents_recoloured : (front : List Tile) (t : Tile) (red : Bool) (back : Lis
 extents_recoloured front t red back = extents_of-append front (record t { red = red } ∷ back)
     ∙ sym (extents_of-append front (t ∷ back))
 
--- the gaps but for one that is not in the tree
+-- the number of gaps except one that is not in the tree
 out_count : (c : WindowState) (at len : ℕ) → (o : IsUnlinkedGap c at len)
     → length (gaps_in c) ≡ length (gaps_of o.front ++ gaps_of o.back) + 1
 out_count c at len o =
@@ -94,14 +94,15 @@ out_count c at len o =
       length-append (gaps_of o.front) (gaps_of o.back),
     )
 
--- what is known of the heap with the block, once the rest of the gap, if there is one, is in the tree
+-- the heap with the new block, after the remainder of the gap, if there is one, entered the tree
 pub record Planted (c e : WindowState) (at len wanted : ℕ) (role : Role) : Type 0 where
   pub live : EncodesLiveSet current e.bytes
       (added (live_of c.bytes) (record { offset = at; len = share len wanted; role = role }))
   pub keeps : KeepsBlocks c e (live_of c.bytes).extents
   pub black : is_red (bytes_of e.bytes) (at + 16) ≡ false
 
--- What is known once the front of the gap is in use: if it was cut, the rest is to be put into the tree of the others.
+-- The state after the front of the gap is in use. If the gap was cut, the remainder is not in the tree yet, which
+-- contains all others.
 pub record Taken (c new : WindowState) (at len wanted : ℕ) (role : Role) (is_cut : Bool) : Type 0 where
   pub front : List Gap
   pub gap : Gap
@@ -137,7 +138,7 @@ module _ (c : WindowState) (at len : ℕ) (o : IsUnlinkedGap c at len) (wanted :
     });
   }
 
-  -- the tile may be black
+  -- the tile can be black
   pub colour_may : MayHaveColour c at false
   colour_may = gap_may c (at + 16) at false gap_node refl
 
@@ -181,7 +182,7 @@ module _ (c : WindowState) (at len : ℕ) (o : IsUnlinkedGap c at len) (wanted :
         ∙ ap (λ (xs : List Extent). extents_of o.front ++ xs) (extents_of-free o.tile o.back o.free)))
         (around_keeps c c1 o.front (o.tile ∷ []) (g1 ∷ []) o.back said_c said1 same1)
 
-    -- what the cut needs
+    -- the conditions of the cut
     pub cut_stands : HasTileAt c1 at
     cut_stands = subst (λ k. HasTileAt c1 k) o.offset
         (taking_stands c1 says1 g1 o.front o.back tiles1 o.free refl wanted role)
@@ -312,7 +313,7 @@ module _ (c : WindowState) (at len : ℕ) (o : IsUnlinkedGap c at len) (wanted :
             (omega arith) ∙ SameBytes-word (bytes_of c.bytes) (bytes_of c1.bytes) 0 128 24 h1 (omega arith)
             (omega arith))
 
-        -- and so does the tree
+        -- and the tree stays
         tree3 : IsTreeOf (bytes_of c3.bytes) 24 (payloads (sorted_gaps (gaps_of o.front ++ gaps_of o.back)))
         tree3 =
             let hs = gaps_of o.front ++ gaps_of o.back in
@@ -334,7 +335,7 @@ module _ (c : WindowState) (at len : ℕ) (o : IsUnlinkedGap c at len) (wanted :
             ∙ ap (λ (hs : List Gap). gaps_of o.front ++ hs) (gaps_of-used block (t.left ++ o.back) role refl
             ∙ gaps_of-append t.left o.back)
 
-        -- where nothing is left
+        -- the case without a remainder
         kept_whole : nat_le (wanted + 32) g1.len ≡ false
             → EncodesLiveSet current c3.bytes
             (added (live_of c.bytes) (record { offset = at; len = share len wanted; role = role }))
@@ -348,7 +349,7 @@ module _ (c : WindowState) (at len : ℕ) (o : IsUnlinkedGap c at len) (wanted :
         abbrev rest : Tile
         rest = free_tile (g1.offset + wanted) (g1.len - wanted)
 
-        -- where a gap is left
+        -- the case with a remainder, which is a gap
         rest_lacks : nat_le (wanted + 32) g1.len ≡ true → LacksGap c3 (gaps_of o.front) (gap_of rest) (gaps_of o.back)
         rest_lacks e =
             record {
@@ -411,7 +412,7 @@ module _ (c : WindowState) (at len : ℕ) (o : IsUnlinkedGap c at len) (wanted :
                   };
             }
 
--- where the gap lies
+-- the bounds of the gap
 pub out_bounds : (c : WindowState) (at len : ℕ) → IsUnlinkedGap c at len → at + len ≤ 1073741824
 out_bounds c at len o =
     let says = tree_says c (gaps_of o.front ++ gaps_of o.back) o.tree in

@@ -1,4 +1,4 @@
--- A request: the least gap that is long enough is the first of the tree.
+-- An allocation: the least gap that is long enough is the first such gap of the tree.
 use Rattle.best_fit.proofs.Common.{◌≡◌, refl, sym, ap, subst, ◌∙◌, ℕ, ◌+◌, ◌-◌, ◌^◌, ◌<◌, ◌≤◌, ◌⊎◌, inl, inr, true}
 use Rattle.best_fit.proofs.Common.{false, List, [], ◌∷◌, ◌++◌, length, arith, IsTrue, none-some, same_Some, Option}
 use Rattle.best_fit.proofs.Common.{Some, None, map, filter, option_map, if◌then◌else◌, cases_Bool, and_from, leb-true}
@@ -26,7 +26,7 @@ use Rattle.best_fit.proofs.free_tree.LinkAndUnlink.{closed_more, holds_closed}
 use Rattle.best_fit.proofs.tags.TileRows.{Row, unused, used, use_cases, gaps_of-free, gaps_of-used, gaps_of-append}
 use Rattle.best_fit.proofs.tags.RowParts.{row_reaches}
 
--- fewer nodes have no more digits
+-- the number of digits rises with the number
 pub bits-le : (m n : ℕ) → m ≤ n → bits m ≤ bits n
 bits-le m n l =
     let top : n < 2 ^ bits n = subst (λ k. k < 2 ^ bits n) (number_digits_of 2 n (omega arith))
@@ -39,7 +39,7 @@ bits_some n = omega (arith, length-digits_of_step 2 (n + 1) (omega arith) (omega
 
 -- ---- the tree of a heap
 
--- its gaps are as many as the window's
+-- the live set of a heap has as many gaps as its window
 pub heap_bits : (c : WindowState) → IsHeap current c.bytes → bits (length (gaps (live_of c.bytes)) + 1)
     ≡ bits (length (gaps_in c) + 1)
 heap_bits c h = ap (λ (hs : List Gap). bits (length hs + 1)) (heap-gaps c h)
@@ -74,7 +74,7 @@ heap_tree c h =
 
 -- ---- the least gap that is long enough
 
--- it is one of them
+-- the gap is in the list and long enough
 pub record IsOf (gs : List Gap) (wanted : ℕ) (g : Gap) : Type 0 where
   pub xs : List Gap
   pub ys : List Gap
@@ -137,7 +137,7 @@ none_long wanted at (t ∷ ts) end row l =
 abbrev front_of : ℕ → Role → Gap → Extent
 front_of n role g = record { offset = g.offset; len = share g.len (room n); role = role }
 
--- what a request takes
+-- an allocation uses the front of the least gap that is long enough
 pub place_is : (c : WindowState) (n : ℕ) (role : Role) (o : Option Gap) → IsHeap current c.bytes
     → least (filter (is_long (room n)) (gaps_in c)) ≡ o → place (live_of c.bytes) n role
     ≡ option_map (front_of n role) o
@@ -145,7 +145,7 @@ unfolding place fit
 place_is c n role o h e = ap (option_map (front_of n role))
     (ap (λ (gs : List Gap). least (filter (is_long (room n)) gs)) (heap-gaps c h) ∙ e)
 
--- no gap is longer than 1 GiB: such a request has no place
+-- no gap is longer than 1 GiB, so such an allocation has no place
 pub too_long : (c : WindowState) (n : ℕ) (role : Role) → IsHeap current c.bytes → 1073741824 < n
     → place (live_of c.bytes) n role ≡ None
 too_long c n role h l =
@@ -166,7 +166,7 @@ listed_by hs wanted node (Some g) e f =
     subst (λ k. is_in k (payloads hs) ≡ true) (sym (same_Some node (node_of g) f))
     (subst (λ (gs : List Gap). is_in (node_of g) (payloads gs) ≡ true) (sym i.list) (in_here i.xs g i.ys))
 
--- the least gap that is long enough is one of them
+-- the least gap that is long enough is in the list
 pub least_listed : (hs : List Gap) (wanted node : ℕ)
     → Some node ≡ option_map node_of (least (filter (is_long wanted) hs)) → is_in node (payloads hs) ≡ true
 least_listed hs wanted node e = listed_by hs wanted node (least (filter (is_long wanted) hs)) refl e
@@ -196,7 +196,7 @@ found_by c wanted node h (Some g) e f =
       enough = leb-true wanted g.len i.enough;
     }
 
--- what the search of the tree finds is the least gap that is long enough
+-- the search of the tree finds the least gap that is long enough
 pub found : (c : WindowState) (wanted node : ℕ) → HasGapTree c (gaps_in c)
     → Some node ≡ option_map node_of (least (filter (is_long wanted) (gaps_in c))) → Found c wanted node
 found c wanted node h e = found_by c wanted node h (least (filter (is_long wanted) (gaps_in c))) refl e
@@ -205,23 +205,23 @@ none_by : (o : Option Gap) → None ≡ option_map node_of o → o ≡ None
 none_by None e = refl
 none_by (Some g) e = absurd (none_some (node_of g) e)
 
--- a search that finds nothing: no gap is long enough
+-- a search that finds nothing shows that no gap is long enough
 pub none_found : (c : WindowState) (wanted : ℕ)
     → None ≡ option_map node_of (least (filter (is_long wanted) (gaps_in c)))
     → least (filter (is_long wanted) (gaps_in c)) ≡ None
 none_found c wanted e = none_by (least (filter (is_long wanted) (gaps_in c))) e
 
--- its tile
+-- the tile of the gap that was found
 pub found_node : (c : WindowState) (wanted node : ℕ) → HasGapTree c (gaps_in c) → Found c wanted node → NodeAt c node
 found_node c wanted node h f = node_at c node (record { good = is_good-IsGoodHeap c h.good; listed = f.listed })
 
--- all gaps, round it
+-- the gaps before a gap, this gap, and the gaps after it
 pub round_it : (c : WindowState) (n : ℕ) → (f : FreeAt (tiles_in c) n)
     → gaps_in c ≡ gaps_of f.front ++ (gap_of f.tile ∷ gaps_of f.back)
 round_it c n f = ap gaps_of f.list ∙ gaps_of-append f.front (f.tile ∷ f.back)
     ∙ ap (λ (hs : List Gap). gaps_of f.front ++ hs) (gaps_of-free f.tile f.back f.free)
 
--- it is out of the tree
+-- the gap that was found has left the tree
 pub out_of_tree : (c d : WindowState) (node at len : ℕ) → (f : FreeAt (tiles_in c) node) → at + 16 ≡ node
     → f.tile.len ≡ len
     → ChangesGapTree c d → HasGapTree d (gaps_of f.front ++ gaps_of f.back) → IsUnlinkedGap d at len
@@ -242,7 +242,7 @@ out_of_tree c d node at len f o l r h =
           ∙ ap (λ (ys : List Gap). gaps_of f.front ++ ys) (same_gaps f.back s.back' s.backs))) h;
     }
 
--- the request is met
+-- the allocation succeeds
 pub met : (c d e : WindowState) (n : ℕ) (role : Role) (wanted node at : ℕ) → IsHeap current c.bytes → wanted ≡ room n
     → (f : Found c wanted node) → at + 16 ≡ node → (r : ChangesGapTree c d) → EncodesTiles d (tiles_in d)
     → EncodesLiveSet current e.bytes

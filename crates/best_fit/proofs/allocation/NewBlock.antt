@@ -1,5 +1,4 @@
--- A new block: it has room for what was asked for, it is still new after it is written, and what is written in a
--- block keeps the others.
+-- A new block: it has room for the request, it stays new when it is written, and a write to a block keeps the others.
 use Rattle.best_fit.proofs.Common.{◌≡◌, sym, ap, ◌∙◌, ℕ, ◌+◌, ◌-◌, ◌/◌, ◌%◌, ◌≤◌, ◌⊎◌, Bool, true, ◌&&◌, List, []}
 use Rattle.best_fit.proofs.Common.{◌∷◌, arith, ◌==◌, IsTrue, list_any, AllByRecursion, and_parts, and_from, or_cases}
 use Rattle.best_fit.proofs.Common.{or_left, or_right, eq-eqb, eqb-true, leb-true, le-leb, cases_eq, inl, inr, Memory}
@@ -48,7 +47,7 @@ roomy h n x = (handle x == h) && holds x n
 pub holds-fewer : (x : Extent) (n k : ℕ) → k ≤ n → IsTrue (holds x n) → IsTrue (holds x k)
 holds-fewer x n k l t = let long = leb-true (n + 16) x.len t in le-leb (k + 16) x.len (omega arith)
 
--- a new block has room for as many bytes as were asked for
+-- a new block has room for the requested bytes
 pub allocated-room : (format : ℕ) (old new : WindowState) (n : ℕ) (role : Role) (h k : ℕ)
     → AllocatesOk format old new n role h → k ≤ n → IsTrue (has_room (live_of new.bytes) h k)
 allocated-room format old new n role h k a l =
@@ -57,7 +56,7 @@ allocated-room format old new n role h k a l =
     (list_any-insert (roomy h k) a.extent (live_of old.bytes).extents
     (and_from (handle a.extent == h) (holds a.extent k) (eq-eqb (handle a.extent) h (sym a.at)) room))
 
--- its handle is one of the live set
+-- the new handle is in the live set
 pub allocated-is_live : (format : ℕ) (old new : WindowState) (n : ℕ) (role : Role) (h : ℕ)
     → AllocatesOk format old new n role h → IsTrue (is_live_in (live_of new.bytes) h)
 allocated-is_live format old new n role h a =
@@ -65,7 +64,7 @@ allocated-is_live format old new n role h a =
     (list_any-insert (λ (x : Extent). handle x == h) a.extent (live_of old.bytes).extents
     (eq-eqb (handle a.extent) h (sym a.at)))
 
--- what had room before still has it
+-- a block that had room before still has it
 pub allocated-room_before : (format : ℕ) (old new : WindowState) (n : ℕ) (role : Role) (h g k : ℕ)
     → AllocatesOk format old new n role h
     → IsTrue (has_room (live_of old.bytes) g k) → IsTrue (has_room (live_of new.bytes) g k)
@@ -109,7 +108,7 @@ names-has_room from (x ∷ xs) to h p t =
 
 -- ---- the other blocks
 
--- the extents of a proper list stand after what lies before it
+-- the extents of a proper list are after its beginning
 behind_beside : (from : ℕ) (xs : List Extent) (to h n : ℕ) → IsTrue (proper_from from xs to) → h + n ≤ from
     → AllByRecursion (IsBeside h n) xs
 behind_beside from [] to h n p l = tt
@@ -147,7 +146,7 @@ others_beside_step from x xs to h at n e f room rest (inr other) =
     let long = f.block.long in
     rw (others-past h x xs other) (record { long = omega arith; apart = inl (omega arith) }, rest later)
 
--- all other blocks lie beside the tags and the first n bytes of a block that has room for them
+-- all other blocks lie outside the tags and outside the first n bytes of a block that has room for them
 pub others-IsBeside : (from : ℕ) (xs : List Extent) (to h at n : ℕ) → at + 16 ≡ h → IsTrue (proper_from from xs to)
     → IsTrue (list_any (roomy h n) xs)
     → AllByRecursion (IsBeside at (16 + n)) (others h xs)
@@ -157,13 +156,13 @@ others-IsBeside from (x ∷ xs) to h at n e p t =
     others_beside_step from x xs to h at n e f (or_cases (roomy h n x) (list_any (roomy h n) xs) t)
     (others-IsBeside (end_of x) xs to h at n e f.rest) (cases_eq (handle x) h)
 
--- what is beside a range is beside a part of it
+-- a block outside a range is outside each part of the range
 part_step : (low n at k : ℕ) (x : Extent) → low ≤ at → at + k ≤ low + n → (end_of x ≤ low) ⊎ (low + n ≤ x.offset)
     → (end_of x ≤ at) ⊎ (at + k ≤ x.offset)
 part_step low n at k x begins ends (inl l) = inl (omega arith)
 part_step low n at k x begins ends (inr l) = inr (omega arith)
 
--- and so are all extents of a list
+-- and all extents of a list stay outside
 pub IsBeside-part : (low n at k : ℕ) (xs : List Extent) → low ≤ at → at + k ≤ low + n
     → AllByRecursion (IsBeside low n) xs → AllByRecursion (IsBeside at k) xs
 IsBeside-part low n at k [] begins ends all = tt
@@ -245,7 +244,7 @@ still_allocated-block format old mid new n role h from k room a c has begins end
           (changed-keeps_block format mid new from k h room c has (omega arith) ends));
     }
 
--- and so where the place is counted from its handle
+-- the same for an offset that counts from the block's handle
 pub still_allocated : (format : ℕ) (old mid new : WindowState) (n : ℕ) (role : Role) (h at k : ℕ)
     → AllocatesOk format old mid n role h → ChangesBytes format mid new (h + at) k
     → IsTrue (has_room (live_of mid.bytes) h (at + k)) → AllocatesOk format old new n role h

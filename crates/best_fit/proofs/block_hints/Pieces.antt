@@ -4,7 +4,7 @@ use Rattle.best_fit.proofs.Common.{List, [], ◌∷◌, slice_index, arith, case
 use Rattle.std.proofs.lemmas.List.{get_or-set_other}
 use Rattle.std.specs.Prelude.{slice_set}
 
--- a number that is read after one was set was there before, or is that one
+-- a place that is read after one was set has its old value, or the new one
 set_either : (xs : List ℕ) (at v i : ℕ)
     → (slice_index (slice_set xs at v) i ≡ slice_index xs i) ⊎ ((i ≡ at) × (slice_index (slice_set xs at v) i ≡ v))
 set_either [] at v i = inl refl
@@ -14,14 +14,14 @@ set_either (x ∷ xs) (suc at) v zero = inl refl
 set_either (x ∷ xs) (suc at) v (suc i) =
     elim (set_either xs at v i) [ inl same ↦ inl same | inr there ↦ inr (ap suc there.0, there.1) ]
 
--- no number stands where 0 was set
+-- a place that was set to 0 contains no handle
 set_zero : (xs : List ℕ) (at : ℕ) → slice_index (slice_set xs at 0) at ≡ 0
 set_zero [] at = refl
 set_zero (x ∷ xs) zero = refl
 set_zero (x ∷ xs) (suc at) = set_zero xs at
 
--- The handles before the pieces and those from piece k on are as before, and each that stands in a wider piece before k
--- stood in its shorter one.
+-- The handles before the pieces and from piece k on are unchanged, and each handle in a wider piece before k was in its
+-- shorter piece.
 pub record Widened (shorter wider : ℕ) (old now : List ℕ) (k : ℕ) : Type 0 where
   pub front : (i : ℕ) → i < 256 → slice_index now i ≡ slice_index old i
   pub ahead : (i : ℕ) → k ≤ i → slice_index now i ≡ slice_index old i
@@ -47,7 +47,7 @@ widened_clear shorter wider old now k far x =
       ];
     }
 
--- and its handle is noted in a wider piece that is not ahead
+-- and its handle is entered in a wider piece that is already passed
 pub widened_note : (shorter wider : ℕ) (old now next : List ℕ) (k v : ℕ) → 256 ≤ k → Widened shorter wider old now k
     → slice_index now k ≡ v → place_of shorter v ≡ k → place_of wider v ≤ k
     → ((i : ℕ) → (slice_index next i ≡ slice_index (slice_set now k 0) i)

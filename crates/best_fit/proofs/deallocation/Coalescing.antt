@@ -1,4 +1,4 @@
--- A block is given back: its free neighbours leave the tree, and the gap that it becomes with them enters it.
+-- A block is freed: its free neighbours leave the tree, and the gap that it forms with them enters the tree.
 use Rattle.best_fit.proofs.Common.{◌≡◌, refl, sym, ap, subst, ◌∙◌, ℕ, ◌+◌, ◌-◌, ◌*◌, ◌≤◌, false, List, [], ◌∷◌, ◌++◌}
 use Rattle.best_fit.proofs.Common.{length, append_assoc, arith, Option, Some, None, map, WindowState, bytes_of, Tile}
 use Rattle.best_fit.proofs.Common.{current, gap_offset, is_free, tile_in, true}
@@ -90,8 +90,8 @@ regrown-trans a b c r s =
       bytes = λ k i o. s.bytes k (kept_same (tiles_in a) (tiles_in b) k r.tiles ∙ i) o ∙ r.bytes k i o;
     }
 
--- What is known before the last step: the gap that the block has become is to be put into the tree of the others, and
--- with it there the block is given back.
+-- The state before the last step: the gap that the block became is not in the tree yet, which contains all others. When
+-- it enters the tree, the block is freed.
 pub record GivenBack (w four : WindowState) (at start : ℕ) : Type 0 where
   pub front : List Gap
   pub gap : Gap
@@ -123,11 +123,11 @@ module _ (w : WindowState) (at : ℕ) (heap : IsHeap current w.bytes) (b : Block
   abbrev tail : List Gap
   tail = gaps_of (rest_of b.back)
 
-  -- the next tile of a block is the first of those after
+  -- the next tile of a block is the first tile after it
   pub next_is : next_in (b.front ++ (b.tile ∷ b.back)) at ≡ first_in b.back
   next_is = next_in-around at b.tile b.back begins b.front away
 
-  -- the previous tile of a block is the last of those before
+  -- the previous tile of a block is the last tile before it
   pub previous_is : previous_in (b.front ++ (b.tile ∷ b.back)) at ≡ last_in b.front
   previous_is = previous_in-around at b.tile b.back begins b.front away
 
@@ -153,7 +153,7 @@ module _ (w : WindowState) (at : ℕ) (heap : IsHeap current w.bytes) (b : Block
     pub rest : ChangesGapTree w d
     pub steps : count ≤ start + 32 * bits (length (gaps_in w) + 1) + 35
 
-  -- the free neighbour before is taken out of the tree
+  -- the free neighbour before leaves the tree
   pub half_uprooted : (d : WindowState) (start n count : ℕ) → HasGapTree d ((init ++ last) ++ tail) → ChangesGapTree w d
       → n ≤ start + 2
       → count ≤ n + 32 * bits (length ((init ++ last) ++ (first ++ tail)) + 1) + 33
@@ -167,13 +167,13 @@ module _ (w : WindowState) (at : ℕ) (heap : IsHeap current w.bytes) (b : Block
         steps = omega arith;
       }
 
-  -- and so has the gap before
+  -- and the gap before has left the tree
   pub record Uprooted (d : WindowState) (start count : ℕ) : Type 0 where
     pub tree : HasGapTree d (init ++ tail)
     pub rest : ChangesGapTree w d
     pub steps : count ≤ start + 64 * bits (length (gaps_in w) + 1) + 68
 
-  -- both free neighbours are taken out of the tree
+  -- both free neighbours leave the tree
   pub uprooted : (d1 d : WindowState) (start n count : ℕ) → HalfUprooted d1 start n → HasGapTree d (init ++ tail)
       → ChangesGapTree d1 d
       → count ≤ n + 32 * bits (length (init ++ (last ++ tail)) + 1) + 33 → Uprooted d start count
@@ -208,7 +208,7 @@ module _ (w : WindowState) (at : ℕ) (heap : IsHeap current w.bytes) (b : Block
     tree_d : HasGapTree d (gaps_of (without_last s.front') ++ gaps_of (rest_of s.back'))
     tree_d = subst (λ (hs : List Gap). HasGapTree d hs) same_gaps_d h
 
-    -- the gap may have the colour that it has
+    -- the gap keeps a legal colour
     pub r_colour : MayHaveColour d at false
     r_colour = colour_may d says_d at s.front' s.tile' s.back' b.role s.list used_d begins_d
 

@@ -1,4 +1,4 @@
--- A block that is given back becomes one gap with those before and after it.
+-- A block that is freed becomes one gap with the gaps before and after it.
 use Rattle.best_fit.proofs.Common.{◌≡◌, refl, sym, ap, subst, ◌∙◌, ℕ, ◌+◌, ◌-◌, Bool, true, false, List, [], ◌∷◌}
 use Rattle.best_fit.proofs.Common.{◌++◌, length, append_assoc, if◌then◌else◌, inl, inr, ◌⊎◌, Option, Some, None}
 use Rattle.best_fit.proofs.Common.{both_ways, cond-true, cond-false, WindowState, Role, Tile, previous_in, last_in}
@@ -27,8 +27,7 @@ use Rattle.best_fit.proofs.gaps.LinksOnly.{step_cell}
 
 -- ---- a free tile that is joined with the one before it
 
--- what becomes of a list then
--- without the last, which is used or none
+-- the gaps of a list without its last tile, if that tile is in use or there is none
 gaps-last_used : (front : List Tile) → last_free false front ≡ false → gaps_of front ≡ gaps_of (without_last front)
 gaps-last_used [] e = refl
 gaps-last_used (t ∷ []) e = elim (use_cases t) [
@@ -193,12 +192,11 @@ in_parts_wide u xs ys front mid back f g h =
       | inr b ↦ in_back u front (mid ++ back) (in_back u mid back (g b))
     ]
 
--- the tags say one list
+-- the tags describe one list
 pub one_list : (c : WindowState) (ts us : List Tile) → EncodesTiles c ts → EncodesTiles c us → ts ≡ us
 one_list c ts us said told = sym (tiles_are_read_off c ts said) ∙ tiles_are_read_off c us told
 
--- what is known once the block at an offset, which stands between these tiles, is one gap with those before and
--- after it
+-- the state after the block at an offset, between these tiles, became one gap with the gaps before and after it
 pub record Freed (old new : WindowState) (at : ℕ) (front0 back0 : List Tile) : Type 0 where
   pub whole : Tile
   pub says : SaysHeap new (tiles_in new)
@@ -229,7 +227,7 @@ module _ (old : WindowState) (says : SaysHeap old (tiles_in old)) (at : ℕ) (fr
   away0 = subst (λ k. Away k front0) o (away_front 128 front0 tile0 back0 (length old.bytes - 16)
       (said_row old (front0 ++ (tile0 ∷ back0)) said0))
 
-  -- any tile may be black
+  -- any tile can be black
   pub colour_may : MayHaveColour old at false
   colour_may =
       record {
@@ -277,7 +275,7 @@ module _ (old : WindowState) (says : SaysHeap old (tiles_in old)) (at : ℕ) (fr
       same2 = subst (SameExceptTags one two (front0 ++ (black ∷ back0))) list2
           (change_same (front0 ++ (black ∷ back0)) said1)
 
-      -- a tile stands there
+      -- a tile is at this offset
       pub stands2 : HasTileAt two at
       stands2 = record {
         tiles = front0 ++ (unused_tile ∷ back0);
@@ -406,7 +404,7 @@ module _ (old : WindowState) (says : SaysHeap old (tiles_in old)) (at : ℕ) (fr
               ∙ joined_extents ∙ sym left_extents in
               λ i. record { size = size i; extents = extents i }
 
-          -- the gaps are those that were there, but for the two neighbours, and the new one
+          -- the gaps are the old ones without the two neighbours, and the new one
           left_gaps : gaps_in new ≡ gaps_of (without_last front0) ++ (gap_of last_step.whole ∷ gaps_of (rest_of back0))
           left_gaps =
               ap gaps_of (tiles_are_read_off new last_step.list said4 ∙ last_step.shape)

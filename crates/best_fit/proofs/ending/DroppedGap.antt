@@ -25,7 +25,7 @@ use Rattle.best_fit.proofs.tags.UnchangedTags.{In, in_front, inside, low_beside,
 
 -- ---- where the last block ends
 
--- the tiles end with one in use, or there are none
+-- the last tile is in use, or there is no tile
 abbrev pub EndsUsed : List Tile → Type 0
 EndsUsed ts = (t : Tile) → last_in ts ≡ Some t → is_free t ≡ false
 
@@ -51,7 +51,7 @@ pub ends_used : (ts : List Tile) (end : ℕ) → Row 128 ts end → EndsUsed ts 
 ends_used [] end r u = r
 ends_used (t ∷ ts) end r u = ends_on 128 128 t ts end r u
 
--- before a free tile stands none that is free
+-- the tile before a free tile is not free
 pub used_before : (b : Bool) (front : List Tile) (t : Tile) → Apart b (front ++ t ∷ [])
     → IsTrue (is_free t) → EndsUsed front
 used_before b [] t a f v e = absurd (none-some v e)
@@ -78,7 +78,7 @@ without_behind (u ∷ v ∷ front) t = ap (λ (ts : List Tile). u ∷ ts) (witho
 at_most : (n : ℕ) → n ≤ n
 at_most n = omega arith
 
--- how long the region is
+-- the length of the region
 length_cut : (c : WindowState) → length (whole c) ≡ length c.before + (length c.bytes + length c.after)
 length_cut c = omega (arith, length-append (c.before ++ c.bytes) c.after, length-append c.before c.bytes)
 
@@ -90,7 +90,7 @@ module _ (c : WindowState) (front : List Tile) (t : Tile) (list : tiles_in c ≡
   said : EncodesTiles c (front ++ t ∷ [])
   said = subst (EncodesTiles c) list says.said
 
-  -- what the drop needs
+  -- the conditions of the drop
   pub has_free_last : HasFreeLast c
   has_free_last = record {
     tiles = front ++ t ∷ [];
@@ -112,7 +112,7 @@ module _ (c : WindowState) (front : List Tile) (t : Tile) (list : tiles_in c ≡
     beside : SameExceptTags c d (front ++ t ∷ []) front
     beside = subst (SameExceptTags c d (front ++ t ∷ [])) (without_behind front t) (rest (front ++ t ∷ []) said)
 
-    -- what the cut needs
+    -- the conditions of the cut
     pub drop_fits : length d.before + n ≤ length (whole d)
     drop_fits = let within = front_d.within in omega (arith, length_cut d)
 

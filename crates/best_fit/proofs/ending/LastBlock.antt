@@ -1,4 +1,4 @@
--- A block is put after all others: the window is longer, and the bytes that it has more are a tile in use.
+-- A block is appended after all others: the window is longer, and the added bytes are a tile in use.
 use Rattle.best_fit.proofs.Common.{◌≡◌, refl, sym, ap, subst, ◌∙◌, ℕ, ◌+◌, ◌-◌, ◌%◌, ◌<◌, ◌≤◌, inl, inr, false, List}
 use Rattle.best_fit.proofs.Common.{[], ◌∷◌, ◌++◌, length, arith, IsTrue, ◌==◌, Some, list_any, append-nil, false≢true}
 use Rattle.best_fit.proofs.Common.{eq-eqb, or_left, or_right, WindowState, SameBytes, bytes_of, whole, current, Object}
@@ -61,7 +61,7 @@ module _ (c c1 : WindowState) (extra : ℕ) (heap : IsHeap current c.bytes) (lon
   front1 : FrontSaysTiles c1 (length c.bytes) (tiles_in c)
   front1 = let s = size1 in (front_is_a_window c c1 (tiles_in c) (omega arith) same1).0 says.said
 
-  -- what the tile needs
+  -- the conditions of the tile
   pub can_append : CanAppend c1 (length c.bytes)
   can_append =
       let s = size1 in
@@ -87,7 +87,7 @@ module _ (c c1 : WindowState) (extra : ℕ) (heap : IsHeap current c.bytes) (lon
     away = row_away 128 (tiles_in c) (length c.bytes - 16) (length c.bytes - 16)
         (said_row c (tiles_in c) says.said) (omega arith)
 
-    -- what the change of its use needs
+    -- the conditions of the change of use
     pub can_use : CanTakeUse c2 (length c.bytes - 16) (Some Object)
     can_use = record {
       tiles = tiles_in c ++ free ∷ [];
@@ -130,7 +130,7 @@ module _ (c c1 : WindowState) (extra : ℕ) (heap : IsHeap current c.bytes) (lon
       row_c : Row 128 (tiles_in c) (length c.bytes - 16)
       row_c = said_row c (tiles_in c) says.said
 
-      -- a byte beside all three lists of tags stays
+      -- a byte outside the tags of all three lists stays
       byte_stays : (k : ℕ) → k < length c.bytes - 16 → (t : Tile) → In t (tiles_in c) → t.offset + 16 ≤ k
           → k < t.offset + t.len → bytes_of c3.bytes k ≡ bytes_of c.bytes k
       byte_stays k l t i low high =
@@ -233,7 +233,7 @@ module _ (c c1 : WindowState) (extra : ℕ) (heap : IsHeap current c.bytes) (lon
         keeps = blocks3 own_extents;
       }
 
--- the same of a size that is that of the window
+-- the same lemma for a size that equals the window's
 pub record LongerWindow (c : WindowState) (extra size : ℕ) (c1 : WindowState) : Type 0 where
   pub room : CanAppend c1 size
   pub used : (c2 : WindowState)
@@ -252,7 +252,7 @@ pub record LongerWindow (c : WindowState) (extra size : ℕ) (c1 : WindowState) 
       → ((us : List Tile) → EncodesTiles c2 us → SameExceptTags c2 c3 us (with_use_at (size - 16) (Some Object) us))
       → AppendsBlock current c c3 extra × (gaps_in c3 ≡ gaps_in c)
 
--- a longer window of the same region: its front says the tiles, and the rest is free to use
+-- a longer window of the same region: its front describes the tiles, and the added bytes are free to use
 pub longer_window : (c : WindowState) (extra : ℕ) → IsHeap current c.bytes → 32 ≤ extra → extra % 16 ≡ 0
     → length c.bytes + extra ≤ 1073741824
     → length c.before + (length c.bytes + extra) ≤ length (whole c) → (size : ℕ) → size ≡ length c.bytes
@@ -271,7 +271,7 @@ longer_window c extra heap long multiple small fits size s c1 e =
       );
     })
 
--- ---- and it is given back
+-- ---- and the block is freed
 
 -- the last of proper extents begins where the others end, or later
 last_reaches : (from : ℕ) (xs : List Extent) (y : Extent) (to : ℕ) → IsTrue (proper_from from (xs ++ y ∷ []) to)
@@ -281,7 +281,7 @@ last_reaches from (x ∷ xs) y to h =
     let f = proper_from-IsFirst from x (xs ++ y ∷ []) to h in
     let on = last_reaches (end_of x) xs y to f.rest in let first = by_hole from x.offset f.hole in omega arith
 
--- it is taken out by its handle
+-- the last extent is removed by its handle
 pub others-last : (from : ℕ) (xs : List Extent) (y : Extent) (to : ℕ) → IsTrue (proper_from from (xs ++ y ∷ []) to)
     → others (handle y) (xs ++ y ∷ []) ≡ xs
 others-last from [] y to h = others-here (handle y) y [] refl
@@ -298,7 +298,7 @@ live-last [] y = or_left (handle y == handle y) false (eq-eqb (handle y) (handle
 live-last (x ∷ xs) y = or_right (handle x == handle y)
     (list_any (λ (z : Extent). handle z == handle y) (xs ++ y ∷ [])) (live-last xs y)
 
--- what laid out the block after all others lays out the others once it is given back
+-- bytes that encoded the block after all others encode the others after it is freed
 module _ (old mid : WindowState) (extra at : ℕ) (b : AppendsBlock current old mid extra)
     (is : at + 16 ≡ length old.bytes) where
   abbrev live_mid : LiveSet

@@ -1,4 +1,4 @@
--- The gap at the end of a heap, where there is one: it leaves the tree and is dropped.
+-- The gap at the end of a heap, if there is one: it leaves the tree and is dropped.
 use Rattle.best_fit.proofs.Common.{◌≡◌, refl, sym, ap, subst, ◌∙◌, ℕ, ◌+◌, ◌-◌, ◌≤◌, true, false, List, [], ◌∷◌, ◌++◌}
 use Rattle.best_fit.proofs.Common.{length, arith, Option, Some, None, map, cond-false, cond-true, append-nil}
 use Rattle.best_fit.proofs.Common.{same_Some, none-some, WindowState, bytes_of, current, SameBytes-refl, Tile, last_in}
@@ -22,7 +22,7 @@ use Rattle.best_fit.proofs.tags.TileRows.{use_cases, unused-free, used-not_free}
 use Rattle.best_fit.proofs.tile_walk.Walk.{live_extents}
 use Rattle.best_fit.proofs.free_tree.UnlinkIfGap.{One, one_listed, one_small}
 
--- ---- there is one
+-- ---- with a gap at the end
 
 -- the last tile of a heap is free
 pub record LastGap (w : WindowState) (at : ℕ) : Type 0 where
@@ -32,7 +32,7 @@ pub record LastGap (w : WindowState) (at : ℕ) : Type 0 where
   pub free : tile.use_of ≡ None
   pub offset : tile.offset ≡ at
 
--- the last tile is a gap: where it begins and what is before it
+-- the last tile is a gap: its offset, and the tiles before it
 pub last_gap : (w : WindowState) (at : ℕ) (o : Option Tile) → o ≡ last_in (tiles_in w) → gap_offset o ≡ Some at
     → LastGap w at
 last_gap w at None e g = absurd (none-some at g)
@@ -75,7 +75,7 @@ module _ (w : WindowState) (heap : IsHeap current w.bytes) (at : ℕ) (l : LastG
   one : One (gap_of l.tile ∷ []) at
   one = record { gap = gap_of l.tile; list = refl; offset = sym l.offset }
 
-  -- the last gap stands at the end of the list of gaps
+  -- the last gap is the end of the list of gaps
   pub last_gaps : gaps_in w ≡ gaps_of l.front ++ (gap_of l.tile ∷ [])
   last_gaps = ap gaps_of l.list ∙ gaps_of-append l.front (l.tile ∷ []) ∙ ap (λ (hs : List Gap). gaps_of l.front ++ hs)
       (gaps_of-free l.tile [] l.free)
@@ -110,7 +110,7 @@ module _ (w : WindowState) (heap : IsHeap current w.bytes) (at : ℕ) (l : LastG
     alike : SplitsAlike (tiles_in d) l.front l.tile []
     alike = splits_alike (tiles_in d) l.front l.tile [] (r.tiles ∙ ap (λ (ts : List Tile). map plain ts) l.list)
 
-    -- what the drop needs
+    -- the conditions of the drop
     pub left_alone : (front : List Tile) × (t : Tile) × (tiles_in d ≡ front ++ t ∷ []) × (t.use_of ≡ None)
         × HasGapTree d (gaps_of front)
     left_alone =
@@ -139,7 +139,7 @@ module _ (w : WindowState) (heap : IsHeap current w.bytes) (at : ℕ) (l : LastG
               (regrown_keeps w d (heap-says w heap).said (tree_says d (gaps_of l.front ++ []) tree).said r) r.size k;
         }
 
--- ---- there is none
+-- ---- without a gap at the end
 
 own_size : (w : WindowState) → live_of w.bytes ≡ of_size (live_of w.bytes) (length w.bytes)
 unfolding live_of

@@ -1,5 +1,5 @@
--- Tiles that stand in two memories, with the same payloads: their blocks and their tree are the same. And a window
--- that ends elsewhere.
+-- Tiles in two memories, with the same payloads: their blocks and their tree are the same. And a window whose end
+-- moves.
 use Rattle.best_fit.proofs.Common.{◌≡◌, sym, ap, subst, ◌∙◌, ℕ, ◌+◌, ◌-◌, ◌/◌, ◌%◌, ◌≤◌, true, List, ◌++◌, length}
 use Rattle.best_fit.proofs.Common.{take, drop, arith, ◌==◌, append_assoc, Option, slice_index, AllByRecursion}
 use Rattle.best_fit.proofs.Common.{length-append, Memory, WindowState, SameBytes, SameSurroundings, bytes_of, part}
@@ -21,7 +21,7 @@ use Rattle.best_fit.proofs.tags.UnchangedTags.{HasTag, In, all_used}
 
 -- ---- tiles in two memories
 
--- both say these tiles, and have the same bytes in their payloads and in the header
+-- both memories describe these tiles, and have the same bytes in their payloads and in the header
 pub record Carries (m m' : Memory) (ts : List Tile) (end : ℕ) : Type 0 where
   pub row : Row 128 ts end
   pub old : (t : Tile) → In t ts → HasTag m t
@@ -33,7 +33,7 @@ module _ (m m' : Memory) (ts : List Tile) (end : ℕ) (c : Carries m m' ts end) 
   tag_stays : (t : Tile) → In t ts → word_at m' (t.offset + 8) ≡ word_at m (t.offset + 8)
   tag_stays t i = (c.new t i).word ∙ sym (c.old t i).word
 
-  -- the blocks among them stay
+  -- the blocks of the tiles stay
   pub carried_blocks : AllByRecursion (SameBlock m m') (extents_of ts)
   carried_blocks = all_used (SameBlock m m') ts
       (λ t i role e. record { payload = c.payload t i; colour = ap (λ w. w % 16) (tag_stays t i) })
@@ -43,7 +43,7 @@ module _ (m m' : Memory) (ts : List Tile) (end : ℕ) (c : Carries m m' ts end) 
   link_stays t i n low high =
       ap (target_of n) (SameBytes-word m m' (t.offset + 16) (t.offset + t.len) n (c.payload t i) low high)
 
-  -- the fields of the gaps among them stay
+  -- the fields of the gaps stay
   carried_cell : (n : ℕ) → is_in n (payloads (gaps_of ts)) ≡ true → cells_of m' n ≡ cells_of m n
   carried_cell n h =
       let f = free_at ts n h in
@@ -59,7 +59,7 @@ module _ (m m' : Memory) (ts : List Tile) (end : ℕ) (c : Carries m m' ts end) 
   carried_root : link_at m' 24 ≡ link_at m 24
   carried_root = ap (target_of 24) (SameBytes-word m m' 0 128 24 c.header (omega arith) (omega arith))
 
-  -- and so does their tree
+  -- and their tree stays
   pub carried_tree : IsTreeOf m 24 (payloads (sorted_gaps (gaps_of ts)))
       → IsTreeOf m' 24 (payloads (sorted_gaps (gaps_of ts)))
   carried_tree old =
@@ -75,7 +75,7 @@ module _ (m m' : Memory) (ts : List Tile) (end : ℕ) (c : Carries m m' ts end) 
 
 -- ---- a window that ends elsewhere
 
--- the bytes after the base are the window's, and then those after it
+-- the bytes after the base are the window's, followed by the bytes after it
 in_three : (c : WindowState) → whole c ≡ c.before ++ (c.bytes ++ c.after)
 in_three c = append_assoc c.before c.bytes c.after
 
@@ -102,7 +102,7 @@ dropped_twice l base n m =
 
 module _ (c d : WindowState) (size : ℕ) (e : d ≡ cut_at (whole c) (length c.before) size)
     (inside : length c.before + size ≤ length (whole c)) where
-  -- it has the same place in the region
+  -- the window has the same place in the region
   pub resized_ends : EndsAt c d size
   resized_ends =
       subst (λ (v : WindowState). EndsAt c v size) (sym e) (record {
@@ -113,7 +113,7 @@ module _ (c d : WindowState) (size : ℕ) (e : d ≡ cut_at (whole c) (length c.
             ∙ ap (λ (l : List ℕ). drop (size - length c.bytes) l) (behind_window c);
       })
 
-  -- and the same bytes as far as both go
+  -- and the bytes are the same as far as both windows reach
   pub resized_same : (n : ℕ) → n ≤ length c.bytes → n ≤ size → SameBytes (bytes_of c.bytes) (bytes_of d.bytes) 0 n
   resized_same n a b =
       subst (λ (v : WindowState). SameBytes (bytes_of c.bytes) (bytes_of v.bytes) 0 n) (sym e) (record {
@@ -123,7 +123,7 @@ module _ (c d : WindowState) (size : ℕ) (e : d ≡ cut_at (whole c) (length c.
             ∙ ap (λ (l : List ℕ). slice_index l k) (own_bytes c);
       })
 
--- ---- what stays before the end moves, and after
+-- ---- changes before the end moves, and after
 
 length_whole : (a b : WindowState) → b.before ≡ a.before → b.after ≡ a.after → length b.bytes ≡ length a.bytes
     → length (whole b) ≡ length (whole a)
@@ -138,7 +138,7 @@ length_whole a b e f g =
       length-append b.before b.bytes,
     )
 
--- a window that ends elsewhere and then changes inside ends there
+-- a window whose end moves, and which then changes inside, keeps this end
 pub ends-then : (a b c : WindowState) (n : ℕ) → EndsAt a b n → SameSurroundings b c
     → length c.bytes ≡ length b.bytes → EndsAt a c n
 ends-then a b c n p place size =
@@ -149,7 +149,7 @@ ends-then a b c n p place size =
       after = ap (λ (l : List ℕ). drop (length a.bytes - n) l) place.after ∙ p.after;
     }
 
--- a window that changes inside and then ends elsewhere ends there
+-- a window that changes inside, and whose end then moves, has this end
 pub then-ends : (a b c : WindowState) (n : ℕ) → SameSurroundings a b → length b.bytes ≡ length a.bytes
     → EndsAt b c n → EndsAt a c n
 then-ends a b c n place size p =

@@ -1,4 +1,4 @@
--- Blocks exchanged several times, one after another: what all of it comes to, and what stays.
+-- Several exchanges of blocks, one after another: their common result, and the blocks that stay.
 use Rattle.best_fit.proofs.Common.{◌≡◌, ◌≢◌, refl, sym, ap, subst, ◌∙◌, inl, inr, ◌⊎◌, ℕ, ◌+◌, ◌<◌, ◌≤◌, Some, List}
 use Rattle.best_fit.proofs.Common.{[], ◌∷◌, ◌++◌, ◌==◌, arith, IsTrue, find, ⊤, AllByRecursion, Memory, WindowState}
 use Rattle.best_fit.proofs.Common.{bytes_of}
@@ -16,13 +16,13 @@ use Rattle.best_fit.proofs.extents.Spacing.{all_of-insert, all_of-inserted, amon
 use Rattle.best_fit.proofs.extents.Spacing.{found-more, found-new, in_use, in_use-alone, inserted-comm, live-rises}
 use Rattle.best_fit.proofs.extents.Spacing.{rising-insert, rising-inserted, without-inserted}
 
--- ---- two lists of extents that come to the same among others
+-- ---- two lists of extents with the same result among others
 
--- their order does not matter, where no two begin at one place
+-- the order of the lists does not matter if no two extents begin at one offset
 pub record SameSpread (xs ys : List Extent) : Type 0 where
   pub same : (zs : List Extent) → Rising 128 (inserted xs zs) → inserted xs zs ≡ inserted ys zs
 
--- extents of two lists are put in one list after the other
+-- the extents of two lists are inserted, one list after the other
 pub inserted-append : (xs ys zs : List Extent) → inserted (xs ++ ys) zs ≡ inserted xs (inserted ys zs)
 inserted-append [] ys zs = refl
 inserted-append (x ∷ xs) ys zs = ap (insert x) (inserted-append xs ys zs)
@@ -31,7 +31,7 @@ inserted-three : (xs ys ws zs : List Extent) → inserted (xs ++ (ys ++ ws)) zs 
     (inserted ys (inserted ws zs))
 inserted-three xs ys ws zs = inserted-append xs (ys ++ ws) zs ∙ ap (inserted xs) (inserted-append ys ws zs)
 
--- those in the middle come first
+-- the extents in the middle come first
 pub middle-first : (xs ys ws : List Extent) → SameSpread (xs ++ (ys ++ ws)) (ys ++ (xs ++ ws))
 middle-first xs ys ws = record {
   same = λ zs r.
@@ -48,7 +48,7 @@ spread-refl xs = record { same = λ zs r. refl }
 pub spread-trans : (xs ys ws : List Extent) → SameSpread xs ys → SameSpread ys ws → SameSpread xs ws
 spread-trans xs ys ws p q = record { same = λ zs r. p.same zs r ∙ q.same zs (subst (Rising 128) (p.same zs r) r) }
 
--- the last come first
+-- the last extents come first
 pub last-first : (xs ys : List Extent) → SameSpread (xs ++ ys) (ys ++ xs)
 last-first xs ys = record {
   same = λ zs r.
@@ -56,7 +56,7 @@ last-first xs ys = record {
       inserted-append xs ys zs ∙ inserted-comm xs ys zs a ∙ sym (inserted-append ys xs zs);
 }
 
--- the same ones after others
+-- the same extents after others
 pub spread-behind : (xs ys ws : List Extent) → SameSpread ys ws → SameSpread (xs ++ ys) (xs ++ ws)
 spread-behind xs ys ws p = record {
   same = λ zs r.
@@ -65,7 +65,7 @@ spread-behind xs ys ws p = record {
       ∙ sym (inserted-append xs ws zs);
 }
 
--- the same ones before others
+-- the same extents before others
 pub spread-before : (xs ys ws : List Extent) → SameSpread xs ys → SameSpread (xs ++ ws) (ys ++ ws)
 spread-before xs ys ws p = record {
   same = λ zs r. inserted-append xs ws zs ∙ p.same (inserted ws zs) (subst (Rising 128) (inserted-append xs ws zs) r)
@@ -77,7 +77,7 @@ spread-before xs ys ws p = record {
 abbrev of_extents : LiveSet → List Extent → LiveSet
 of_extents l xs = record l { extents = xs }
 
--- of those that came some are gone again
+-- some of the allocated extents are freed again
 pub left-over : (l : LiveSet) (gone come again left : List Extent) → SameSpread come (again ++ left)
     → IsTrue (is_proper (exchanged l gone come))
     → without_all again (exchanged l gone come).extents ≡ inserted left (without_all gone l.extents)
@@ -87,7 +87,7 @@ left-over l gone come again left x h =
     let parts : inserted come w ≡ inserted again (inserted left w) = x.same w up ∙ inserted-append again left w in
     ap (without_all again) parts ∙ without-inserted 128 again (inserted left w) (subst (Rising 128) parts up)
 
--- and others come in their place
+-- and others replace them
 pub exchanged-twice : (l : LiveSet) (gone come again left more : List Extent) → SameSpread come (again ++ left)
     → IsTrue (is_proper (exchanged l gone come))
     → exchanged (exchanged l gone come) again more ≡ exchanged l gone (more ++ left)
@@ -100,7 +100,7 @@ pub exchanged-live : (a b : WindowState) (from n : ℕ) (gone come : List Extent
     → ExchangesBlocks format a b from n gone come → live_of b.bytes ≡ exchanged (live_of a.bytes) gone come
 exchanged-live a b from n gone come format p = lay_out_one format b.bytes (exchanged (live_of a.bytes) gone come) p.live
 
--- ---- what stays
+-- ---- the blocks that stay
 
 but-both : (a b c : Memory) (from n : ℕ) (xs : List Extent) → AllByRecursion (SameBlockExcept a b from n) xs
     → AllByRecursion (SameBlockExcept b c from n) xs → AllByRecursion (SameBlockExcept a c from n) xs
@@ -110,8 +110,8 @@ but-both a b c from n (x ∷ xs) p q = (
   but-both a b c from n xs p.1 q.1,
 )
 
--- Blocks are exchanged, and then some of those that came for others. Each block that is written in, but for the n
--- bytes, is gone and comes.
+-- Blocks are exchanged, and then some of the allocated ones for others. A block that is written, except its n bytes,
+-- counts as freed and allocated.
 pub exchange-next : (format : ℕ) (a b c : WindowState) (from n : ℕ) (gone come again left more : List Extent)
     → SameSpread come (again ++ left)
     → ExchangesBlocks format a b from n gone come → ExchangesBlocks format b c from n again more
@@ -155,7 +155,7 @@ exchange-order format a b from n gone come other x p =
 wide-side : (from n k : ℕ) → (k < 0) ⊎ (0 + 0 ≤ k)
 wide-side from n k = inr (omega arith)
 
--- where nothing of the blocks that stay changes, nothing but any n bytes does
+-- if nothing in the blocks that stay changes, nothing but any n bytes changes
 but-wide : (a b : Memory) (from n : ℕ) (xs : List Extent) → AllByRecursion (SameBlockExcept a b 0 0) xs
     → AllByRecursion (SameBlockExcept a b from n) xs
 but-wide a b from n [] p = tt
@@ -183,7 +183,7 @@ but-refl : (m : Memory) (from n : ℕ) (xs : List Extent) → AllByRecursion (Sa
 but-refl m from n [] = tt
 but-refl m from n (x ∷ xs) = (record { payload = λ k a b c. refl; colour = refl }, but-refl m from n xs)
 
--- blocks in use go and come back
+-- blocks in use are freed and allocated again
 pub back-again : (l : LiveSet) (xs rest : List Extent) → IsTrue (is_proper l)
     → l.extents ≡ inserted xs rest → exchanged l xs xs ≡ l
 back-again l xs rest h e =
@@ -191,7 +191,7 @@ back-again l xs rest h e =
     ap (λ ys. of_extents l (inserted xs (without_all xs ys))) e ∙ ap (λ ys. of_extents l (inserted xs ys))
     (without-inserted 128 xs rest up) ∙ ap (of_extents l) (sym e)
 
--- nothing changed: to begin with, where these blocks are written in then
+-- nothing changed: the start of exchanges in which these blocks are written later
 pub exchange-same : (format : ℕ) (a : WindowState) (from n : ℕ) (xs rest : List Extent)
     → EncodesLiveSet format a.bytes (live_of a.bytes) → (live_of a.bytes).extents ≡ inserted xs rest
     → ExchangesBlocks format a a from n xs xs
@@ -203,7 +203,7 @@ exchange-same format a from n xs rest h e = record {
   blocks = but-refl (bytes_of a.bytes) from n (without_all xs (live_of a.bytes).extents);
 }
 
--- a block was taken into use
+-- a block was allocated
 pub exchange-taken : (format : ℕ) (old new : WindowState) (m : ℕ) (role : Role) (h from n : ℕ)
     → (a : AllocatesOk format old new m role h) → ExchangesBlocks format old new from n [] (a.extent ∷ [])
 exchange-taken format old new m role h from n a = record {
@@ -214,7 +214,7 @@ exchange-taken format old new m role h from n a = record {
   blocks = all-same-but (bytes_of old.bytes) (bytes_of new.bytes) from n (live_of old.bytes).extents a.keeps.blocks;
 }
 
--- one was given back
+-- a block was freed
 pub exchange-released : (format : ℕ) (old new : WindowState) (x : Extent) (from n : ℕ)
     → Deallocates format old new (handle x)
     → ExchangesBlocks format old new from n (x ∷ []) []
@@ -227,7 +227,7 @@ exchange-released format old new x from n r = record {
       (others (handle x) (live_of old.bytes).extents) r.keeps.blocks;
 }
 
--- one has another length
+-- one extent has another length
 pub exchange-resized : (format : ℕ) (old new : WindowState) (x y : Extent) (from n : ℕ) → handle y ≡ handle x
     → ResizesBlock format old new x y → ExchangesBlocks format old new from n (x ∷ []) (y ∷ [])
 exchange-resized format old new x y from n e r = record {
@@ -240,7 +240,7 @@ exchange-resized format old new x y from n e r = record {
       (others (handle x) (live_of old.bytes).extents) r.keeps.blocks;
 }
 
--- one was written in
+-- one block was written
 pub exchange-written : (format : ℕ) (old new : WindowState) (x : Extent) (rest : List Extent) (len at k from n : ℕ)
     → EncodesLiveSet format old.bytes (live_of old.bytes) → (live_of old.bytes).extents ≡ inserted (x ∷ []) rest
     → IsTrue (has_room (live_of old.bytes) (handle x) len) → ChangesBytes format old new at k → handle x ≤ at
@@ -259,13 +259,13 @@ exchange-written format old new x rest len at k from n h e room c low high =
           (others (handle x) (live_of old.bytes).extents) kept.blocks;
     }
 
--- ---- what is found
+-- ---- the extents that are found
 
--- this block is none of these
+-- this block is not in the list
 abbrev pub IsNone : ℕ → List Extent → Type 0
 IsNone h = AllByRecursion (λ (z : Extent). h ≢ handle z)
 
--- what is found is found without others
+-- an extent that is found is found without others
 pub found-without : (h : ℕ) (y : Extent) (xs zs : List Extent) → IsNone h xs → find (λ (w : Extent). handle w == h) zs
     ≡ Some y → find (λ (w : Extent). handle w == h) (without_all xs zs) ≡ Some y
 found-without h y [] zs n e = e
@@ -278,7 +278,7 @@ found-inserted h y [] zs n e = e
 found-inserted h y (x ∷ xs) zs n e = found-more h x y (inserted xs zs) (λ f. n.0 (sym f))
     (found-inserted h y xs zs n.1 e)
 
--- each that was put in is found
+-- each inserted extent is found
 abbrev pub IsFound : List Extent → Extent → Type 0
 IsFound zs y = find (λ (w : Extent). handle w == handle y) zs ≡ Some y
 
@@ -290,7 +290,7 @@ found-with x (y ∷ ys) zs d f = (
   found-with x ys zs d.1 f.1,
 )
 
--- extents that were put in are found
+-- inserted extents are found
 pub all-found-in : (xs zs : List Extent) → Rising 128 (inserted xs zs) → AllByRecursion (IsFound (inserted xs zs)) xs
 all-found-in [] zs r = tt
 all-found-in (x ∷ xs) zs r =
@@ -300,7 +300,7 @@ all-found-in (x ∷ xs) zs r =
           (all_of-inserted (λ (y : Extent). x.offset ≢ y.offset) xs zs f.differs).0 (all-found-in xs zs f.rest),
     )
 
--- Blocks that are found, no two of them one, are put in among the others.
+-- Blocks that are found, no two of them equal, are inserted among the others.
 pub record AreInUse (zs xs : List Extent) : Type 0 where
   pub is : zs ≡ inserted xs (without_all xs zs)
 
@@ -314,7 +314,7 @@ found-others : (h : ℕ) (xs zs : List Extent) → AllByRecursion (λ (y : Exten
 found-others h [] zs n f = tt
 found-others h (y ∷ ys) zs n f = (found-less (handle y) h y zs n.0 f.0, found-others h ys zs n.1 f.1)
 
--- no two of these are one block
+-- all extents of the list are different blocks
 abbrev pub AreOthers : List Extent → Type 0
 AreOthers [] = ⊤
 AreOthers (x ∷ xs) = AllByRecursion (λ (y : Extent). handle x ≢ handle y) xs × AreOthers xs
@@ -330,12 +330,12 @@ all-in-use (x ∷ xs) zs r d f =
     (found-others (handle x) xs zs (none-among x xs d.0) f.1) in
     record { is = a.is ∙ ap (insert x) below.is }
 
--- extents that stand one after another are no two of them one
+-- extents one after another are all different
 others-of : (x : Extent) (xs : List Extent) → Differs x xs → AllByRecursion (λ (y : Extent). handle x ≢ handle y) xs
 others-of x [] d = tt
 others-of x (y ∷ ys) d = ((λ e. d.0 (omega (arith, e))), others-of x ys d.1)
 
--- extents that are put in beside others have handles of their own
+-- extents that are inserted next to others have handles of their own
 pub rising-others : (xs zs : List Extent) → Rising 128 (inserted xs zs) → AreOthers xs
 rising-others [] zs r = tt
 rising-others (x ∷ xs) zs r =
@@ -344,7 +344,7 @@ rising-others (x ∷ xs) zs r =
       rising-others xs zs f.rest,
     )
 
--- and none of the others
+-- and differs from each of the others
 apart-none : (h : ℕ) (y : Extent) (xs zs : List Extent) → handle y ≡ h → zs ≡ insert y (others h zs)
     → Apart xs zs → IsNone h xs
 apart-none h y [] zs at e a = tt
@@ -352,7 +352,7 @@ apart-none h y (x ∷ xs) zs at e a =
     let d = all_of-insert (λ (w : Extent). x.offset ≢ w.offset) y (others h zs) (subst (Differs x) e a.0) in
     ((λ f. d.0 (omega (arith, at, f))), apart-none h y xs zs at e a.1)
 
--- an extent that was there before is none of those put in
+-- an extent that was there before differs from each inserted one
 pub found-none : (h : ℕ) (y : Extent) (xs zs : List Extent) → Rising 128 (inserted xs zs)
     → find (λ (w : Extent). handle w == h) zs ≡ Some y → IsNone h xs
 found-none h y xs zs r e =
@@ -366,7 +366,7 @@ all-found-if : (P : Extent → Type 0) (h : ℕ) (x z : Extent) (zs : List Exten
     → AllByRecursion P (insert x (others h zs)) → P x
 all-found-if P h x z zs a = (all_of-insert P x (others h zs) a).0
 
--- what holds of each block that stays holds of one that is found and is not gone
+-- a property of each block that stays holds for a block that is found and not freed
 pub stays : (P : Extent → Type 0) (l : LiveSet) (h : ℕ) (y : Extent) (gone : List Extent) → IsTrue (is_proper l)
     → extent_at l h ≡ Some y → IsNone h gone → Rising 128 (without_all gone l.extents)
     → AllByRecursion P (without_all gone l.extents) → P y
@@ -375,13 +375,13 @@ stays P l h y gone p e n r a =
     let w : IsAmong h y zs = among 128 h y zs r (found-without h y gone l.extents n e) in
     (all_of-insert P y (others h zs) (subst (AllByRecursion P) w.is a)).0
 
--- those that stay rise
+-- the extents that stay are in order
 pub rest-rises : (l : LiveSet) (gone come : List Extent) → IsTrue (is_proper (exchanged l gone come))
     → Rising 128 (without_all gone l.extents)
 rest-rises l gone come p =
     (rising-inserted 128 come (without_all gone l.extents) (live-rises (exchanged l gone come) p)).0
 
--- what an exchange keeps of one block that is not gone, but for the n bytes
+-- an exchange keeps a block that is not freed, except the n bytes
 pub kept-but : (a b : WindowState) (from n h : ℕ) (y : Extent) (gone come : List Extent) (format : ℕ)
     → IsHeap format a.bytes
     → ExchangesBlocks format a b from n gone come → extent_at (live_of a.bytes) h ≡ Some y → IsNone h gone
@@ -390,7 +390,7 @@ kept-but a b from n h y gone come format heap p e d =
     stays (SameBlockExcept (bytes_of a.bytes) (bytes_of b.bytes) from n) (live_of a.bytes) h y gone heap.proper e d
     (rest-rises (live_of a.bytes) gone come p.live.proper) p.blocks
 
--- it is in use still
+-- the block is still in use
 pub kept-found : (a b : WindowState) (from n h : ℕ) (y : Extent) (gone come : List Extent) (format : ℕ)
     → ExchangesBlocks format a b from n gone come → extent_at (live_of a.bytes) h ≡ Some y → IsNone h gone
     → extent_at (live_of b.bytes) h ≡ Some y
@@ -402,7 +402,7 @@ kept-found a b from n h y gone come format p e d =
     ap (λ (s : LiveSet). extent_at s h) (exchanged-live a b from n gone come format p)
     ∙ found-inserted h y come zs none here
 
--- all of it, where nothing of the blocks that stay changes
+-- all of the block stays if nothing in the blocks that stay changes
 pub kept : (a b : WindowState) (h : ℕ) (y : Extent) (gone come : List Extent) (format : ℕ) → IsHeap format a.bytes
     → ExchangesBlocks format a b 0 0 gone come → extent_at (live_of a.bytes) h ≡ Some y → IsNone h gone
     → SameBlock (bytes_of a.bytes) (bytes_of b.bytes) y
@@ -418,7 +418,7 @@ beside-but m m' from n x y f g (above h) s =
 beside-but m m' from n x y f g (below h) s =
     record { payload = record { at = λ k a b. s.payload k a b (inr (omega arith)) }; colour = s.colour }
 
--- a block that stays but for n bytes stays, where these are in another block
+-- a block that stays except n bytes stays if these bytes are in another block
 pub but-apart : (l : LiveSet) (m m' : Memory) (from n g h : ℕ) (x y : Extent) → IsTrue (is_proper l)
     → extent_at l g ≡ Some x → handle x ≤ from → from + n ≤ end_of x → g ≢ h → extent_at l h ≡ Some y
     → SameBlockExcept m m' from n y → SameBlock m m' y
@@ -433,7 +433,7 @@ but-apart l m m' from n g h x y p ex low high other e s =
     (subst (AllByRecursion (LiesBeside x)) w.is alone.beside)).0 in
     beside-but m m' from n x y low high beside s
 
--- and where the n bytes are those of another block
+-- and keeps all of the block if the n bytes are in another one
 pub kept-beside : (a b : WindowState) (from n g h : ℕ) (x y : Extent) (gone come : List Extent) (format : ℕ)
     → IsHeap format a.bytes → ExchangesBlocks format a b from n gone come
     → extent_at (live_of a.bytes) g ≡ Some x → handle x ≤ from → from + n ≤ end_of x → g ≢ h

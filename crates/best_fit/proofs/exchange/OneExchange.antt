@@ -1,4 +1,4 @@
--- A block that comes in the place of another.
+-- A block that replaces another.
 use Rattle.best_fit.proofs.Common.{◌≡◌, ◌≢◌, refl, sym, ap, subst, ◌∙◌, inl, ℕ, ◌+◌, ◌-◌, ◌%◌, ◌<◌, ◌≤◌, Bool, true}
 use Rattle.best_fit.proofs.Common.{false}
 use Rattle.best_fit.proofs.Common.{Option, Some, None, List, [], ◌∷◌, arith, if◌then◌else◌, IsTrue, IfSome}
@@ -35,7 +35,7 @@ pub record IsRoomy (l : LiveSet) (h n : ℕ) : Type 0 where
   pub at : handle extent ≡ h
   pub room : n + 16 ≤ extent.len
 
--- a block in use with room, as the live set says it
+-- a block in use with room, by the live set
 pub roomy : (c : WindowState) (h n : ℕ) → IsHeap current c.bytes → IsTrue (has_room (live_of c.bytes) h n)
     → IsRoomy (live_of c.bytes) h n
 roomy c h n heap t =
@@ -48,7 +48,7 @@ roomy c h n heap t =
       room = r.enough;
     }
 
--- a new block is taken, bytes are copied to it, and the old one is given back
+-- a new block is allocated, bytes are copied to it, and the old one is freed
 pub replaced : (s0 s1 s2 s3 : WindowState) (h n used g : ℕ) → IsHeap current s0.bytes
     → IsTrue (has_room (live_of s0.bytes) h used) → used ≤ n
     → (a : AllocatesOk current s0 s1 n Storage g) → n + 16 ≤ a.extent.len → ChangesBytes current s1 s2 g used
@@ -104,9 +104,9 @@ replaced s0 s1 s2 s3 h n used g heap t f a fits c e r =
           (omega arith) (omega arith);
     }
 
--- ---- what a request is given
+-- ---- the block of a request
 
--- an allocated block has the length that was asked for, and its tags
+-- an allocated block has the requested length, and its tags
 pub allocated-fits : (old mid : WindowState) (n h : ℕ) → (a : AllocatesOk current old mid n Storage h)
     → n + 16 ≤ a.extent.len
 allocated-fits old mid n h a =
@@ -159,7 +159,7 @@ is_short c h n used heap t r e f =
     let has : used + 16 ≤ x.len = q.room in
     record { roomy = q; short = lt-leb (n + 16) x.len (omega (arith, long, f, has)) }
 
--- a new block is none of those in use
+-- a new block differs from each block in use
 placed-other : (l : LiveSet) (h n : ℕ) (x y : Extent) → IsTrue (is_proper l) → extent_at l h ≡ Some x
     → place l n Storage ≡ Some y → Some x ≡ Some y → ⊥
 placed-other l h n x y proper found e same =
@@ -168,7 +168,7 @@ placed-other l h n x y proper found e same =
     (in_use-all (λ (z : Extent). y.offset ≢ z.offset) l h x proper found differs).0
     (ap (λ (z : Extent). z.offset) (sym (same_Some x y same)))
 
--- a block that is too short is lengthened, or placed anew
+-- a block that is too short is lengthened, or replaced
 pub regrow-short : (l : LiveSet) (x : Extent) (n : ℕ) (o : Option Extent) → holds x n ≡ false → longer l x n ≡ o
     → regrow l (Some x) n ≡ elim o as (λ _. Option Extent) [ Some y ↦ Some y | None ↦ place l n Storage ]
 unfolding regrow
@@ -177,13 +177,13 @@ regrow-short l x n o e f = λ i. if e i then Some x else elim (f i) as (λ _. Op
   | None ↦ place l n Storage
 ]
 
--- the block that is found is lengthened, where the answer is yes
+-- the block that was found is lengthened, if the result is true
 pub record IsLengthened (old new : WindowState) (x : Extent) (n : ℕ) : Type 0 where
   pub after : Extent
   pub longer : longer (live_of old.bytes) x n ≡ Some after
   pub resized : ResizesBlock current old new x after
 
--- a block that was lengthened where it stands
+-- a block that was lengthened in place
 pub lengthened_at : (old new : WindowState) (h n : ℕ) (result : Bool) (x : Extent)
     → extent_at (live_of old.bytes) h ≡ Some x
     → TryExtends current old new h n result → result ≡ true → IsLengthened old new x n
@@ -288,7 +288,7 @@ regrows-replaced old mid new h n used result res heap t r e f x was p =
     (sym q.roomy.found)
     (given-replaced old new h n used q.roomy.extent res heap q.roomy.found q.roomy.at q.short both.0 p')
 
--- a new block where there was none
+-- a new block where there was none before
 pub regrows-none : {E : Type 0} → (old new : WindowState) (n used : ℕ) (r : Result ℕ E)
     → Allocates current old new n Storage r → Regrows current old new None n used r
 unfolding regrow
@@ -371,7 +371,7 @@ exchanged-written old mid new gone y x h from n r e c f g =
           (all_of-insert (SameBlockExcept m m' from n) y rest all).1;
     }
 
--- ---- what regrowing gives
+-- ---- the result of regrowth
 
 serves-of : (y : Extent) (n : ℕ) → IsTrue (same_role y.role Storage) → n + 16 ≤ y.len → IsTrue (serves y Storage n)
 serves-of y n e f = and_from (same_role y.role Storage) (holds y n) e (le-leb (n + 16) y.len f)
@@ -394,7 +394,7 @@ regrow-serves-if l x y n r true e f = subst (λ (w : Extent). IsTrue (serves w S
     (serves-of x n r (leb-true (n + 16) x.len e))
 regrow-serves-if l x y n r false e f = regrow-serves-longer l x y n r (longer l x n) refl f
 
--- it serves as storage for this many bytes
+-- the block serves as storage for this many bytes
 pub regrow-serves : (l : LiveSet) (o : Option Extent) (y : Extent) (n : ℕ)
     → IfSome o (λ x. IsTrue (same_role x.role Storage)) → regrow l o n ≡ Some y → IsTrue (serves y Storage n)
 unfolding regrow

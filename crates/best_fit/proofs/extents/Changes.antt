@@ -14,7 +14,7 @@ use Rattle.best_fit.proofs.extents.Proper.{behind-past}
 use Rattle.best_fit.proofs.extents.Gaps.{IsFree, LiesIn-IsFree, proper_from-insert, HasExtent, gap_at-behind}
 use Rattle.best_fit.proofs.extents.FirstFit.{IsRoom, room-IsRoom, IsShare, share-IsShare, IsPlaced, place-IsPlaced}
 
--- ---- what a proper live set says of its size
+-- ---- the size of a proper live set
 
 -- the tiles of a segment of a legal size lie between 128 and a multiple of 16
 pub record IsProper (live : LiveSet) : Type 0 where
@@ -31,7 +31,7 @@ size_cases size (inr h) =
     let one = and_parts (size % 16 == 0) (nat_le 176 size) two.0 in
     let whole = eqb-true (size % 16) 0 one.0 in omega arith
 
--- a proper live set says it
+-- a proper live set passes the test
 pub is_proper-IsProper : (live : LiveSet) → IsTrue (is_proper live) → IsProper live
 unfolding is_proper
 is_proper-IsProper live h =
@@ -52,7 +52,7 @@ is_proper-extents live xs p list = and_from (is_legal_size live.size) (proper_fr
 
 -- ---- place and release
 
--- what is taken of a gap is a block
+-- the part of a gap that is allocated is a block
 placed_block : (n : ℕ) (g : Gap) (x : Extent) → IsFree g → x.offset ≡ g.offset → IsShare g.len (room n) x.len
     → IsRoom n (room n) → IsBlock x
 placed_block n g x free at share room =
@@ -69,7 +69,7 @@ left_cases : (at available wanted s : ℕ) → (s ≡ available) ⊎ ((s ≡ wan
 left_cases at available wanted s (inl e) = inl (omega arith)
 left_cases at available wanted s (inr e) = inr (let is = e.0 in let more = e.1 in omega arith)
 
--- so it is of a gap
+-- the same for a gap
 placed_left : (n : ℕ) (g : Gap) (x : Extent) → x.offset ≡ g.offset → IsShare g.len (room n) x.len
     → IsHole (end_of x) (g.offset + g.len)
 placed_left n g x at share = rw at (left_cases g.offset g.len (room n) x.len share.left)
@@ -88,7 +88,7 @@ is_proper-added live p n x placed =
     (proper_from-insert 128 live.extents (live.size - 16) g x p.list placed.fits.lies (inl (sym at)) block
     (placed_left n g x at share))
 
--- with what a request takes
+-- the live set with the extent of an allocation is proper
 pub is_proper-place : (live : LiveSet) → IsProper live → (n : ℕ) (role : Role)
     → IfSome (place live n role) (λ x. IsTrue (is_proper (added live x)))
 is_proper-place live p n role =
@@ -101,7 +101,7 @@ is_proper-released live p h = is_proper-extents live (others h live.extents) p
 
 -- ---- another length in place
 
--- what was found has the length of x
+-- the extent that was found has the length of x
 abbrev same_len : Extent → Option Extent → Bool
 same_len x o = elim o [ None ↦ false | Some y ↦ y.len == x.len ]
 
@@ -132,11 +132,11 @@ found_has : (x : Extent) (xs : List Extent) → IsTrue (same_len x (found x xs))
 found_has x [] h = absurd (false≢true h)
 found_has x (y ∷ ys) h = found_step x y ys (found_has x ys) h (cases_eq (handle y) (handle x))
 
--- an extent of the live set is one of its list
+-- an extent of the live set is in its list
 pub is_extent-HasExtent : (live : LiveSet) (x : Extent) → IsTrue (is_extent live x) → HasExtent x live.extents
 is_extent-HasExtent live x h = found_has x live.extents h
 
--- its handle is there
+-- its handle is in the list
 pub HasExtent-names : (x : Extent) (xs : List Extent) → HasExtent x xs → IsTrue (names (handle x) xs)
 HasExtent-names x [] has = absurd has
 HasExtent-names x (y ∷ ys) (inl has) = or_left (handle y == handle x) (names (handle x) ys)
@@ -144,14 +144,14 @@ HasExtent-names x (y ∷ ys) (inl has) = or_left (handle y == handle x) (names (
 HasExtent-names x (y ∷ ys) (inr has) = or_right (handle y == handle x) (names (handle x) ys)
     (HasExtent-names x ys has.1)
 
--- an extent that lies where a block lies is one
+-- an extent with the handle and length of a block is a block
 same_block : (y x : Extent) → IsBlock y → handle y ≡ handle x → y.len ≡ x.len → IsBlock x
 same_block y x b at len =
     let offset = b.offset in
     let long = b.long in
     let whole = b.len in record { offset = omega arith; long = omega arith; len = omega arith }
 
--- it is a block, and a hole lies after it up to a multiple of 16
+-- the extent is a block, and a hole follows it up to a multiple of 16
 pub record IsAmong (x : Extent) (next : ℕ) : Type 0 where
   pub block : IsBlock x
   pub hole : IsHole (end_of x) next
@@ -163,7 +163,7 @@ next_whole : (from : ℕ) (xs : List Extent) (to : ℕ) → to % 16 ≡ 0 → Is
 next_whole from [] to e p = e
 next_whole from (y ∷ ys) to e p = (proper_from-IsFirst from y ys to p).block.offset
 
--- so it is of each extent of a proper list
+-- the same for each extent of a proper list
 pub HasExtent-IsAmong : (from : ℕ) (xs : List Extent) (to : ℕ) (x : Extent) → to % 16 ≡ 0
     → IsTrue (proper_from from xs to) → HasExtent x xs → IsAmong x (next_of (behind (handle x) xs) to)
 HasExtent-IsAmong from [] to x e p has = absurd has
@@ -185,18 +185,18 @@ HasExtent-IsAmong from (y ∷ ys) to x e p (inr has) =
     let f = proper_from-IsFirst from y ys to p in
     rw (behind-past (handle x) y ys has.0) (HasExtent-IsAmong (end_of y) ys to x e f.rest has.1)
 
--- what is known of an extent of a proper live set: where the next begins
+-- an extent of a proper live set, and the offset of the next one
 pub record IsNeighbour (live : LiveSet) (x : Extent) (next : ℕ) : Type 0 where
   pub block : IsBlock x
   pub hole : IsHole (end_of x) next
   pub whole : next % 16 ≡ 0
   pub gap : end_of x + gap_after live x ≡ next
 
--- where the extent after x begins, or the end
+-- the offset of the extent after x, or the end
 unfoldable pub next_to : LiveSet → Extent → ℕ
 next_to live x = next_of (behind (handle x) live.extents) (live.size - 16)
 
--- so it is of each extent of a proper live set
+-- the same for each extent of a proper live set
 pub is_extent-IsNeighbour : (live : LiveSet) (x : Extent) → IsProper live → IsTrue (is_extent live x)
     → IsNeighbour live x (next_to live x)
 unfolding gap_after gaps next_to
@@ -230,15 +230,15 @@ share_whole : (available wanted len : ℕ) → available % 16 ≡ 0 → wanted %
     → IsShare available wanted len → len % 16 ≡ 0
 share_whole available wanted len a w share = let left = share.left in omega arith
 
--- a share is long enough where what is wanted is
+-- a share is long enough if the request is
 long_share : (available wanted len : ℕ) → 32 ≤ wanted → IsShare available wanted len → 32 ≤ len
 long_share available wanted len w share = let enough = share.enough in omega arith
 
--- what lies between two multiples of 16 is whole
+-- the length between two multiples of 16 is one too
 whole_sum : (at len gap next : ℕ) → at % 16 ≡ 0 → next % 16 ≡ 0 → at + len + gap ≡ next → (len + gap) % 16 ≡ 0
 whole_sum at len gap next a n e = omega arith
 
--- after a share lies a hole
+-- a hole follows a share
 longer_hole : (at len gap next wanted s : ℕ) → at + len + gap ≡ next
     → IsShare (len + gap) wanted s → IsHole (at + s) next
 longer_hole at len gap next wanted s joins share =
@@ -276,14 +276,14 @@ is_proper-longer live x n p h =
     (λ t. longer_here live x n p h
     (leb-true (room n) available (and_parts (nat_lt x.len (room n)) (nat_le (room n) available) t).1)) (λ _. tt)
 
--- what is cut off joins a gap, or is enough for a free block
+-- the part cut off joins a gap, or is enough for a free block
 shorter_hole : (at len gap next wanted : ℕ) → IsHole (at + len) next → at + len + gap ≡ next → wanted < len
     → ((nat_lt 0 gap) ≡ true) ⊎ ((nat_le (wanted + 32) len) ≡ true) → IsHole (at + wanted) next
 shorter_hole at len gap next wanted hole joins less (inl some) = inr (let more = ltb-true 0 gap some in omega arith)
 shorter_hole at len gap next wanted hole joins less (inr cut) =
     inr (let more = leb-true (wanted + 32) len cut in omega arith)
 
--- with x cut to what is wanted
+-- the live set with x cut to the requested length
 shorter_here : (live : LiveSet) (x : Extent) (n : ℕ) → IsProper live → IsTrue (is_extent live x)
     → (nat_lt (room n) x.len && (nat_lt 0 (gap_after live x) || nat_le (room n + 32) x.len)) ≡ true
     → IsTrue (is_proper (resized live (record x { len = room n })))

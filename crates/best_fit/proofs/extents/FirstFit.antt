@@ -16,11 +16,11 @@ pub record IsRoom (n r : ℕ) : Type 0 where
   pub len : r % 16 ≡ 0
   pub holds : n + 16 ≤ r
 
--- and so is `room n`
+-- and `room n` is such a room
 pub room-IsRoom : (n : ℕ) → IsRoom n (room n)
 room-IsRoom n = record { long = omega arith; len = omega arith; holds = omega arith }
 
--- what is taken of the bytes at hand: all, or what is wanted, where enough for a free block is left
+-- the number of available bytes that are used: all of them, or the requested number if enough for a free block remains
 pub record IsShare (available wanted s : ℕ) : Type 0 where
   pub enough : wanted ≤ s
   pub within : s ≤ available
@@ -36,11 +36,11 @@ share_cases available wanted fits (inr l) =
     rw (cond-false (nat_lt available (wanted + 32)) available wanted (le-ltb available (wanted + 32) l))
     (record { enough = omega arith; within = fits; left = inr (refl, l) })
 
--- what a request takes is such a share
+-- the share of a request is such a number
 pub share-IsShare : (available wanted : ℕ) → wanted ≤ available → IsShare available wanted (share available wanted)
 share-IsShare available wanted fits = share_cases available wanted fits (cases_lt available (wanted + 32))
 
--- ---- the least gap is one of the list
+-- ---- the least gap is in the list
 
 -- by whether the rest of the list has a least
 least_step : (P : Gap → Type 0) (g : Gap) (o : Option Gap) → P g → IfSome o P
@@ -48,12 +48,12 @@ least_step : (P : Gap → Type 0) (g : Gap) (o : Option Gap) → P g → IfSome 
 least_step P g None here rest = here
 least_step P g (Some h) here rest = cond_both (precedes g h) g h P (λ _. here) (λ _. rest)
 
--- what holds of each gap holds of the least
+-- a property of each gap holds for the least
 pub least-All : (P : Gap → Type 0) (gs : List Gap) → All P gs → IfSome (least gs) P
 least-All P [] all = tt
 least-All P (g ∷ gs) all = least_step P g (least gs) (All-head P g gs all) (least-All P gs (All-tail P g gs all))
 
--- what is so of the value of an answer
+-- a property of the value of a result
 pub IfSome_is : {A : Type 0} (P : A → Type 0) (o : Option A) (x : A) → o ≡ Some x → IfSome o P → P x
 IfSome_is P o x e h = subst (λ r. IfSome r P) e h
 
@@ -64,7 +64,7 @@ pub record IsFit (live : LiveSet) (n : ℕ) (g : Gap) : Type 0 where
   pub lies : LiesIn 128 live.extents (live.size - 16) g
   pub room : IsTrue (nat_le (room n) g.len)
 
--- the fit of a request is one
+-- the fit of a request is a fit
 pub fit-IsFit : (live : LiveSet) (n : ℕ) → IfSome (fit live n) (IsFit live n)
 unfolding fit gaps
 fit-IsFit live n =
@@ -100,26 +100,26 @@ place_step live n role (Some g) fits =
       len = share-IsShare g.len (room n) (leb-true (room n) g.len fits.room);
     }
 
--- what a request takes is the front of a fit
+-- an allocation uses the front of a fit
 pub place-IsPlaced : (live : LiveSet) (n : ℕ) (role : Role) → IfSome (place live n role) (IsPlaced live n)
 unfolding place
 place-IsPlaced live n role = place_step live n role (fit live n) (fit-IsFit live n)
 
--- what a request takes holds the bytes that were asked for
+-- an allocation holds the requested bytes
 pub IsPlaced-holds : (live : LiveSet) (n : ℕ) (x : Extent) → IsPlaced live n x → IsTrue (holds x n)
 IsPlaced-holds live n x placed =
     let enough = placed.len.enough in
     let fits = (room-IsRoom n).holds in
     le-leb (n + 16) x.len (omega arith)
 
--- and so does what `place` gives
+-- and the result of `place` holds the bytes
 pub place-holds : (live : LiveSet) (n : ℕ) (role : Role) (x : Extent) → place live n role ≡ Some x → IsTrue (holds x n)
 place-holds live n role x e = IsPlaced-holds live n x
     (IfSome_is (IsPlaced live n) (place live n role) x e (place-IsPlaced live n role))
 
 -- ---- lengths in place
 
--- what `longer` gives: the extent with a share of what is at hand, which holds n bytes
+-- the result of `longer`: the extent with a share of the available bytes, which holds n bytes
 pub record IsLonger (live : LiveSet) (x : Extent) (n : ℕ) (y : Extent) : Type 0 where
   pub same : record x { len = share (x.len + gap_after live x) (room n) } ≡ y
   pub short : x.len < room n
@@ -162,13 +162,13 @@ at_most_itself a = omega arith
 below_is_at_most : (a b : ℕ) → a < b → a ≤ b
 below_is_at_most a b l = omega arith
 
--- an extent shortened to hold n bytes holds them if it did, and is the same but for its length
+-- an extent shortened to hold n bytes holds them if it did before, and only its length differs
 pub record IsShorter (x : Extent) (n : ℕ) (y : Extent) : Type 0 where
   pub same : y ≡ record x { len = y.len }
   pub less : y.len ≤ x.len
   pub holds : IsTrue (holds x n) → IsTrue (holds y n)
 
--- the shorter extent, where x is cut
+-- the shorter extent, if x is cut
 shorter_step : (live : LiveSet) (x : Extent) (n : ℕ)
     → (nat_lt (room n) x.len && (nat_lt 0 (gap_after live x) || nat_le (room n + 32) x.len)) ≡ true
     → IsShorter x n (record x { len = room n })
@@ -181,7 +181,7 @@ shorter_step live x n t =
       holds = λ _. le-leb (n + 16) (room n) (room-IsRoom n).holds;
     }
 
--- what `shorter` gives is so
+-- the result of `shorter` has these properties
 pub shorter-IsShorter : (live : LiveSet) (x : Extent) (n : ℕ) → IsShorter x n (shorter live x n)
 unfolding shorter
 shorter-IsShorter live x n =

@@ -9,35 +9,35 @@ use Rattle.best_fit.proofs.extents.Proper.{IsBlock, IsHole, proper_from-IsFirst,
 use Rattle.best_fit.proofs.extents.Proper.{is_hole-IsHole, next_of, proper_from-hole, insert-here, insert-past, behind}
 use Rattle.best_fit.proofs.extents.Proper.{behind-here, behind-past}
 
--- ---- where a gap lies
+-- ---- the place of a gap
 
--- a gap is all that lies from a up to b
+-- a gap is exactly the range from a up to b
 pub record IsGap (a b : ℕ) (g : Gap) : Type 0 where
   pub offset : g.offset ≡ a
   pub end : g.offset + g.len ≡ b
   pub some : a < b
 
--- a gap is all that lies between two neighbours, before the first extent or after the last
+-- a gap is exactly the range between two neighbours, before the first extent or after the last
 abbrev pub LiesIn : ℕ → List Extent → ℕ → Gap → Type 0
 LiesIn from [] to g = IsGap from to g
 LiesIn from (y ∷ ys) to g = IsGap from y.offset g ⊎ LiesIn (end_of y) ys to g
 
--- between two places that are apart is one gap
+-- between two different offsets there is one gap
 pub gap_between-some : (a b : ℕ) → a < b → gap_between a b ≡ record { offset = a; len = b - a } ∷ []
 gap_between-some a b l = cond-true (nat_lt a b) (record { offset = a; len = b - a } ∷ []) [] (lt-ltb a b l)
 
--- and none between others
+-- and no gap between equal ones
 pub gap_between-none : (a b : ℕ) → b ≤ a → gap_between a b ≡ []
 gap_between-none a b l = cond-false (nat_lt a b) (record { offset = a; len = b - a } ∷ []) [] (le-ltb a b l)
 
--- by whether something lies between
+-- by whether there are bytes between the offsets
 between_cases : (a b : ℕ) → (a < b) ⊎ (b ≤ a) → All (IsGap a b) (gap_between a b)
 between_cases a b (inl l) =
     rw (gap_between-some a b l) (All-cons (IsGap a b) (record { offset = a; len = b - a }) []
     (record { offset = refl; end = omega arith; some = l }) (All-nil (IsGap a b)))
 between_cases a b (inr l) = rw (gap_between-none a b l) (All-nil (IsGap a b))
 
--- what is between two places is one gap at most
+-- between two offsets there is at most one gap
 pub gap_between-IsGap : (a b : ℕ) → All (IsGap a b) (gap_between a b)
 gap_between-IsGap a b = between_cases a b (cases_lt a b)
 
@@ -126,7 +126,7 @@ gap_len o = elim o [ None ↦ 0 | Some g ↦ g.len ]
 abbrev pub gap_at : ℕ → List Gap → Option Gap
 gap_at at gs = find (λ (g : Gap). g.offset == at) gs
 
--- the first gap begins there
+-- the first gap begins at this offset
 gap_at-here : (at : ℕ) (g : Gap) (gs : List Gap) → g.offset ≡ at → gap_at at (g ∷ gs) ≡ Some g
 gap_at-here at g gs e = cond-true (g.offset == at) (Some g) (gap_at at gs) (eq-eqb g.offset at e)
 
@@ -141,7 +141,7 @@ gap_at-append at (g ∷ gs) hs n =
     gap_at-past at g (gs ++ hs) (All-head (λ g. g.offset ≡ at → ⊥) g gs n)
     ∙ gap_at-append at gs hs (All-tail (λ g. g.offset ≡ at → ⊥) g gs n)
 
--- no gap of a list begins at a place where none of them does
+-- no gap of the list begins at this offset
 pub gap_at-none : (at : ℕ) (gs : List Gap) → All (λ g. g.offset ≡ at → ⊥) gs → gap_at at gs ≡ None
 gap_at-none at [] n = refl
 gap_at-none at (g ∷ gs) n =
@@ -155,14 +155,14 @@ gaps_elsewhere at from xs to l p =
     All-weaker (LiesIn from xs to) (λ g. g.offset ≡ at → ⊥) (λ g i e. let on = LiesIn-begins from xs to g p i in
     omega arith) (gaps_from from xs to) (gaps_from-LiesIn from xs to)
 
--- by whether something lies before the next extent
+-- by whether there are bytes before the next extent
 front_cases : (e b : ℕ) (gs : List Gap) → All (λ g. g.offset ≡ e → ⊥) gs → (e < b) ⊎ (b ≤ e) → e ≤ b
     → e + gap_len (gap_at e (gap_between e b ++ gs)) ≡ b
 front_cases e b gs n (inl l) o =
     rw (gap_between-some e b l) (rw (gap_at-here e (record { offset = e; len = b - e }) gs refl) (omega arith))
 front_cases e b gs n (inr l) o = rw (gap_between-none e b l) (rw (gap_at-none e gs n) (omega arith))
 
--- by whether something lies before the end
+-- by whether there are bytes before the end
 front_last : (e b : ℕ) → (e < b) ⊎ (b ≤ e) → e ≤ b → e + gap_len (gap_at e (gap_between e b)) ≡ b
 front_last e b (inl l) o =
     rw (gap_between-some e b l) (rw (gap_at-here e (record { offset = e; len = b - e }) [] refl) (omega arith))
@@ -181,12 +181,12 @@ gap_at-front e (x ∷ xs) to p =
     front_cases e x.offset (gaps_from (end_of x) xs to) (gaps_elsewhere e (end_of x) xs to (omega arith) f.rest)
     (cases_lt e x.offset) (omega arith)
 
--- this extent's handle and length are those of the first extent of its handle
+-- the first extent with this handle has this extent's length
 abbrev pub HasExtent : Extent → List Extent → Type 0
 HasExtent x [] = ⊥
 HasExtent x (y ∷ ys) = ((handle y ≡ handle x) × (y.len ≡ x.len)) ⊎ ((handle y ≡ handle x → ⊥) × HasExtent x ys)
 
--- it ends after the beginning of a proper list
+-- an extent ends after the beginning of a proper list
 pub HasExtent-ends : (from : ℕ) (xs : List Extent) (to : ℕ) (x : Extent) → IsTrue (proper_from from xs to)
     → HasExtent x xs → from < end_of x
 HasExtent-ends from [] to x p has = absurd has

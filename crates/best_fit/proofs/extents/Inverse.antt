@@ -1,4 +1,4 @@
--- A block that was placed and is given back.
+-- A block that was placed and is freed.
 use Rattle.best_fit.proofs.Common.{◌≡◌, ◌-◌, IsTrue, ℕ, Some, Role, Extent, LiveSet, is_proper, added, place}
 use Rattle.best_fit.specs.Fit.{GivingBackRestores}
 use Rattle.best_fit.proofs.extents.Changes.{is_proper-IsProper, is_proper-place}
@@ -12,7 +12,7 @@ placed_is_proper live n role x proper e =
     IfSome_is (λ (y : Extent). IsTrue (is_proper (added live y))) (place live n role) x e
     (is_proper-place live (is_proper-IsProper live proper) n role)
 
--- law: a block that is placed and given back leaves the live set
+-- law: freeing a block just placed restores the live set
 pub giving_back_restores : GivingBackRestores
 giving_back_restores live n role x proper e =
     let p = is_proper-IsProper (added live x) (placed_is_proper live n role x proper e) in

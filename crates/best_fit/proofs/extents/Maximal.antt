@@ -9,7 +9,7 @@ use Rattle.best_fit.proofs.extents.Proper.{IsFirst, proper_from-IsFirst, proper_
 use Rattle.best_fit.proofs.extents.Gaps.{LiesIn, gaps_from-LiesIn, gap_between-some}
 use Rattle.best_fit.proofs.extents.Changes.{IsProper, is_proper-IsProper}
 
--- an interval that is not empty, lies between two places and meets none of these extents
+-- an interval that is not empty, lies between two offsets and meets no extent of the list
 pub record IsBetween (from : ℕ) (xs : List Extent) (to a b : ℕ) : Type 0 where
   pub low : from ≤ a
   pub some : a < b
@@ -68,7 +68,7 @@ widest_step from y ys to g a b f after over to' some apart (inl l) =
     record { low = l; some = some; high = to'; apart = apart }
 widest_step from y ys to g a b f after over to' some apart (inr l) = absurd (let long = f.block.long in omega arith)
 
--- no wider interval meets none
+-- each wider interval meets an extent
 widest : (from : ℕ) (xs : List Extent) (to : ℕ) (g : Gap) (a b : ℕ) → IsTrue (proper_from from xs to)
     → LiesIn from xs to g → a ≤ g.offset → g.offset + g.len ≤ b → IsBetween from xs to a b
     → (a ≡ g.offset) × (b ≡ g.offset + g.len)

@@ -1,4 +1,4 @@
--- Extents put in and taken out: what stands in a list afterwards, and that the order of two changes does not matter.
+-- Extents that are inserted and removed: the list after it, and the order of two changes, which does not matter.
 use Rattle.best_fit.proofs.Common.{◌≡◌, refl, sym, ap, subst, ◌∙◌, ℕ, ◌<◌, ◌≤◌, ◌⊎◌, Bool, true, false, List, [], ◌∷◌}
 use Rattle.best_fit.proofs.Common.{arith, nat_lt, ◌==◌, IsTrue, ◌≢◌, list_any, AllByRecursion, both_ways, cond_both}
 use Rattle.best_fit.proofs.Common.{cases_lt, cases_eq, or_cases, or_left, or_right, inl, inr, Extent, handle, end_of}
@@ -6,9 +6,9 @@ use Rattle.best_fit.proofs.Common.{proper_from, insert, others}
 use Rattle.best_fit.proofs.extents.Proper.{IsFirst, proper_from-IsFirst, proper_from-hole, others-here, others-past}
 use Rattle.best_fit.proofs.extents.Proper.{insert-here, insert-past, insert-front}
 
--- ---- what stands in a list with one extent more
+-- ---- membership in a list with one more extent
 
--- two extents at different offsets can be put in in either order
+-- two extents at different offsets can be inserted in either order
 pub insert-comm : (x y : Extent) (zs : List Extent) → x.offset ≢ y.offset
     → insert x (insert y zs) ≡ insert y (insert x zs)
 insert-comm x y [] n = grind arith
@@ -51,7 +51,7 @@ insert_step P x y ys rest (inl l) all = (subst (AllByRecursion P) (insert-here x
 insert_step P x y ys rest (inr l) all =
     let both = subst (AllByRecursion P) (insert-past x y ys l) all in (both.0, rest both.1)
 
--- what holds of each extent with a new one holds of each without it
+-- a property of each extent of a list with a new one holds for each without it
 pub AllByRecursion-insert : (P : Extent → Type 0) (x : Extent) (ys : List Extent)
     → AllByRecursion P (insert x ys) → AllByRecursion P ys
 AllByRecursion-insert P x [] all = tt
@@ -71,7 +71,7 @@ AllByRecursion-insert_new P x [] all = all.0
 AllByRecursion-insert_new P x (y ∷ ys) all = new_step P x y ys (AllByRecursion-insert_new P x ys)
     (cases_lt x.offset y.offset) all
 
--- what holds of a new extent and of each other holds of all
+-- a property of a new extent and of each other holds for all
 pub AllByRecursion-insert_from : (P : Extent → Type 0) (x : Extent) (ys : List Extent) → P x → AllByRecursion P ys
     → AllByRecursion P (insert x ys)
 AllByRecursion-insert_from P x [] here all = (here, tt)
@@ -79,7 +79,7 @@ AllByRecursion-insert_from P x (y ∷ ys) here all =
     cond_both (nat_lt x.offset y.offset) (x ∷ y ∷ ys) (y ∷ insert x ys) (AllByRecursion P) (λ _. (here, all))
     (λ _. (all.0, AllByRecursion-insert_from P x ys here all.1))
 
--- what holds of each extent holds of each but one
+-- a property of each extent holds for each but one
 pub AllByRecursion-others : (P : Extent → Type 0) (h : ℕ) (ys : List Extent) → AllByRecursion P ys
     → AllByRecursion P (others h ys)
 AllByRecursion-others P h [] all = tt
@@ -87,7 +87,7 @@ AllByRecursion-others P h (y ∷ ys) all =
     cond_both (handle y == h) ys (y ∷ others h ys) (AllByRecursion P) (λ _. all.1)
     (λ _. (all.0, AllByRecursion-others P h ys all.1))
 
--- by whether the first extent is taken out, and whether it passes the test
+-- by whether the first extent is removed, and whether it passes the test
 past_step : (test : Extent → Bool) (h : ℕ) (y : Extent) (ys : List Extent) → (handle y ≡ h → test y ≡ false)
     → (IsTrue (list_any test ys) → IsTrue (list_any test (others h ys)))
     → (handle y ≡ h) ⊎ (handle y ≡ h → ⊥) → (test y ≡ true) ⊎ (list_any test ys ≡ true)
@@ -99,7 +99,7 @@ past_step test h y ys fails rest (inr n) (inl t) = rw (others-past h y ys n)
 past_step test h y ys fails rest (inr n) (inr t) = rw (others-past h y ys n)
     (or_right (test y) (list_any test (others h ys)) (rest t))
 
--- a test that some extent passes and none of this handle is passed by another
+-- a test that some extent passes, and none with this handle, passes for another
 pub list_any-others : (test : Extent → Bool) (h : ℕ) (ys : List Extent)
     → ((y : Extent) → handle y ≡ h → test y ≡ false) → IsTrue (list_any test ys) → IsTrue (list_any test (others h ys))
 list_any-others test h [] fails t = t
@@ -143,14 +143,14 @@ out_step from x y ys to rest (inr l) p =
     rw (insert-past x y ys l) (others-past (handle x) y (insert x ys) (λ e. omega arith)
     ∙ ap (λ zs. y ∷ zs) (rest f.rest))
 
--- what was put in and is taken out again leaves the list as it was
+-- inserting an extent and removing it restores the list
 pub others-insert_same : (from : ℕ) (x : Extent) (ys : List Extent) (to : ℕ)
     → IsTrue (proper_from from (insert x ys) to) → others (handle x) (insert x ys) ≡ ys
 others-insert_same from x [] to p = others-here (handle x) x [] refl
 others-insert_same from x (y ∷ ys) to p =
     out_step from x y ys to (others-insert_same (end_of y) x ys to) (cases_lt x.offset y.offset) p
 
--- by whether the new extent is put first, and whether the first one is taken out
+-- by whether the new extent is inserted first, and whether the first one is removed
 swap_step : (from : ℕ) (x y : Extent) (ys : List Extent) (to h : ℕ) → IsFirst from y ys to → (handle x ≡ h → ⊥)
     → others h (insert x ys) ≡ insert x (others h ys)
     → (x.offset < y.offset) ⊎ (y.offset ≤ x.offset) → (handle y ≡ h) ⊎ (handle y ≡ h → ⊥)
@@ -169,7 +169,7 @@ swap_step from x y ys to h f other rest (inr l) (inr n) =
     rw (insert-past x y ys l, others-past h y (insert x ys) n, others-past h y ys n, insert-past x y (others h ys) l)
     (ap (λ zs. y ∷ zs) rest)
 
--- one can be put in and another taken out of a proper list in either order
+-- inserting one extent and removing another of a proper list can be done in either order
 pub others-insert : (from : ℕ) (x : Extent) (ys : List Extent) (to h : ℕ) → IsTrue (proper_from from ys to)
     → (handle x ≡ h → ⊥) → others h (insert x ys) ≡ insert x (others h ys)
 others-insert from x [] to h p other = others-past h x [] other
@@ -178,7 +178,7 @@ others-insert from x (y ∷ ys) to h p other =
     swap_step from x y ys to h f other (others-insert (end_of y) x ys to h f.rest other)
     (cases_lt x.offset y.offset) (cases_eq (handle y) h)
 
--- two extents may be taken out in either order
+-- two extents can be removed in either order
 pub others-comm : (g h : ℕ) (xs : List Extent) → others g (others h xs) ≡ others h (others g xs)
 others-comm g h [] = refl
 others-comm g h (y ∷ ys) = by_case (cases_eq (handle y) g) (cases_eq (handle y) h) (others-comm g h ys)

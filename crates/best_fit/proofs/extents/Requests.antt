@@ -17,7 +17,7 @@ place-role : (live : LiveSet) (n : ℕ) (role : Role) → IfSome (place live n r
 unfolding place
 place-role live n role = role_of_front n role (fit live n)
 
--- the extent has the role that was asked for, and as many bytes
+-- the extent has the requested role, and as many bytes as requested
 pub place-serves : (live : LiveSet) (n : ℕ) (role : Role) (x : Extent) → place live n role ≡ Some x
     → IsTrue (serves x role n)
 place-serves live n role x e =

@@ -1,5 +1,5 @@
--- Extents put in by offset, and how they stand: the order of the puts does not matter, what was put in can be taken
--- out, and each is beside the others.
+-- Extents inserted by offset, and their spacing: the order of insertions does not matter, an inserted extent can be
+-- removed, and all extents are apart.
 use Rattle.best_fit.proofs.Common.{◌≡◌, refl, sym, ap, subst, ◌∙◌, ℕ, ◌+◌, ◌-◌, ◌%◌, ◌<◌, ◌≤◌, ◌≢◌, Bool, true, false}
 use Rattle.best_fit.proofs.Common.{◌&&◌, ◌==◌, Some, None, List, [], ◌∷◌, arith, if◌then◌else◌, inl, inr, IsTrue}
 use Rattle.best_fit.proofs.Common.{nat_lt, ⊤, find, AllByRecursion, list_any, and_parts, leb-true, eqb-true, eq-eqb}
@@ -14,13 +14,13 @@ use Rattle.best_fit.proofs.extents.Order.{AllByRecursion-insert_from, insert-com
 use Rattle.best_fit.proofs.extents.Proper.{is_hole-IsHole, insert-here, insert-past, others-here, others-past}
 use Rattle.best_fit.proofs.extents.Proper.{proper_from-IsFirst}
 
--- ---- what stands nowhere twice
+-- ---- extents at different offsets
 
--- the extent begins where none of these does
+-- no extent of the list begins at this extent's offset
 abbrev pub Differs : Extent → List Extent → Type 0
 Differs x = AllByRecursion (λ (y : Extent). x.offset ≢ y.offset)
 
--- no two of them begin at one place
+-- no two extents of both lists begin at one offset
 abbrev pub Apart : List Extent → List Extent → Type 0
 Apart xs ys = AllByRecursion (λ x. Differs x ys) xs
 
@@ -42,7 +42,7 @@ pub inserted-comm : (xs ys zs : List Extent) → Apart xs ys → inserted xs (in
 inserted-comm [] ys zs n = refl
 inserted-comm (x ∷ xs) ys zs n = ap (insert x) (inserted-comm xs ys zs n.1) ∙ insert-inserted x ys (inserted xs zs) n.0
 
--- ---- what holds of each
+-- ---- properties of each extent
 
 all_of-if : (P : Extent → Type 0) (b : Bool) (x z : Extent) (zs ws : List Extent)
     → (AllByRecursion P ws → P x × AllByRecursion P zs)
@@ -50,13 +50,13 @@ all_of-if : (P : Extent → Type 0) (b : Bool) (x z : Extent) (zs ws : List Exte
 all_of-if P true x z zs ws k h = (h.0, h.1)
 all_of-if P false x z zs ws k h = ((k h.1).0, (h.0, (k h.1).1))
 
--- what holds of all with one more holds of that one and of the others
+-- a property of all extents with one more holds for the new one and for the others
 pub all_of-insert : (P : Extent → Type 0) (x : Extent) (zs : List Extent) → AllByRecursion P (insert x zs)
     → P x × AllByRecursion P zs
 all_of-insert P x [] h = h
 all_of-insert P x (z ∷ zs) h = all_of-if P (nat_lt x.offset z.offset) x z zs (insert x zs) (all_of-insert P x zs) h
 
--- the same of many put in
+-- the same for several insertions
 pub all_of-inserted : (P : Extent → Type 0) (xs zs : List Extent) → AllByRecursion P (inserted xs zs)
     → AllByRecursion P xs × AllByRecursion P zs
 all_of-inserted P [] zs h = (tt, h)
@@ -89,12 +89,12 @@ proper-rises from (x ∷ xs) to h =
     let hole = f.hole in let long = f.block.long in
     (omega arith, rising-weak (x.offset + 1) (end_of x) xs (omega arith) (proper-rises (end_of x) xs to f.rest))
 
--- the same of a live set
+-- the same for a live set
 pub live-rises : (l : LiveSet) → IsTrue (is_proper l) → Rising 128 l.extents
 unfolding is_proper
 live-rises l h = proper-rises 128 l.extents (l.size - 16) (and_parts (is_legal_size l.size) _ h).1
 
--- what is left of what rises rises, and differs from what was put in
+-- removing extents from a rising list keeps it rising, and all of it differs from the inserted extents
 pub record IsFresh (n : ℕ) (x : Extent) (zs : List Extent) : Type 0 where
   pub from : n ≤ x.offset
   pub rest : Rising n zs
@@ -130,7 +130,7 @@ rising-inserted n (x ∷ xs) zs h =
     let inner : Rising n zs × Apart xs zs = rising-inserted n xs zs outer.rest in
     (inner.0, ((all_of-inserted (λ (y : Extent). x.offset ≢ y.offset) xs zs outer.differs).1, inner.1))
 
--- the extents put in are themselves apart from what was put in before
+-- the inserted extents are themselves apart from the extents inserted before
 pub apart-inserted : (n : ℕ) (xs ys zs : List Extent) → Rising n (inserted xs (inserted ys zs)) → Apart xs ys
 apart-inserted n [] ys zs h = tt
 apart-inserted n (x ∷ xs) ys zs h =
@@ -153,12 +153,12 @@ proper-spaced from (x ∷ xs) to h =
     let f = proper_from-IsFirst from x xs to h in let hole = f.hole in
     (omega arith, proper-spaced (end_of x) xs to f.rest)
 
--- the same of a live set
+-- the same for a live set
 pub live-spaced : (l : LiveSet) → IsTrue (is_proper l) → Spaced 128 l.extents
 unfolding is_proper
 live-spaced l h = proper-spaced 128 l.extents (l.size - 16) (and_parts (is_legal_size l.size) _ h).1
 
--- the second ends where the first begins, or before, or the other way round
+-- one of the two extents ends at or before the beginning of the other
 pub data LiesBeside (x y : Extent) : Type 0 where
   -- an extent that begins after another lies beside it
   above : end_of y ≤ x.offset → LiesBeside x y
@@ -169,7 +169,7 @@ spaced-beside : (x : Extent) (n : ℕ) (zs : List Extent) → end_of x ≤ n →
 spaced-beside x n [] f h = tt
 spaced-beside x n (z ∷ zs) f h = (below (omega (arith, h.0)), spaced-beside x (end_of z) zs (omega (arith, h.0)) h.1)
 
--- an extent among others has all of them beside it
+-- an extent is apart from all others of a list
 pub record IsAlone (n : ℕ) (x : Extent) (zs : List Extent) : Type 0 where
   pub from : n ≤ x.offset
   pub beside : AllByRecursion (LiesBeside x) zs
@@ -182,7 +182,7 @@ alone-if n false x z zs ws k h =
     let rest : IsAlone (end_of z) x zs = k h.1 in
     record { from = omega (arith, h.0, rest.from); beside = (above rest.from, rest.beside) }
 
--- so an extent among others has them all beside it
+-- so an extent is apart from all others of its list
 pub spaced-insert : (n : ℕ) (x : Extent) (zs : List Extent) → Spaced n (insert x zs) → IsAlone n x zs
 spaced-insert n x [] h = record { from = h.0; beside = tt }
 spaced-insert n x (z ∷ zs) h = alone-if n (nat_lt x.offset z.offset) x z zs (insert x zs)
@@ -195,21 +195,21 @@ others-if : (b : Bool) (x z : Extent) (zs ws : List Extent) → x.offset ≢ z.o
 others-if true x z zs ws n e = others-here (handle x) x (z ∷ zs) refl
 others-if false x z zs ws n e = others-past (handle x) z ws (λ f. n (omega (arith, f))) ∙ ap (λ vs. z ∷ vs) e
 
--- what was put in is what is taken out
+-- the inserted extent is the one that is removed
 pub others-insert : (x : Extent) (zs : List Extent) → Differs x zs → others (handle x) (insert x zs) ≡ zs
 others-insert x [] n = others-here (handle x) x [] refl
 others-insert x (z ∷ zs) n = others-if (nat_lt x.offset z.offset) x z zs (insert x zs) n.0 (others-insert x zs n.1)
 
--- what was put in is taken out again
+-- an inserted extent is removed again
 pub without-inserted : (n : ℕ) (xs zs : List Extent) → Rising n (inserted xs zs) → without_all xs (inserted xs zs) ≡ zs
 without-inserted n [] zs h = refl
 without-inserted n (x ∷ xs) zs h =
     let outer : IsFresh n x (inserted xs zs) = rising-insert n x (inserted xs zs) h in
     ap (without_all xs) (others-insert x (inserted xs zs) outer.differs) ∙ without-inserted n xs zs outer.rest
 
--- ---- what a live set has
+-- ---- properties of a live set
 
--- an extent with a length, at a place that may be one
+-- an extent with a legal length, at a legal offset
 pub record IsSound (x : Extent) : Type 0 where
   pub aligned : x.offset % 16 ≡ 0
   pub long : 32 ≤ x.len
@@ -265,13 +265,13 @@ among n h x (z ∷ zs) r e = among-if n h x z zs r (among (z.offset + 1) h x zs 
 pub in_use : (l : LiveSet) (h : ℕ) (x : Extent) → IsTrue (is_proper l) → extent_at l h ≡ Some x → IsAmong h x l.extents
 in_use l h x p e = among 128 h x l.extents (live-rises l p) e
 
--- it is beside the others
+-- the block is apart from the others
 pub in_use-alone : (l : LiveSet) (h : ℕ) (x : Extent) → IsTrue (is_proper l) → extent_at l h ≡ Some x
     → IsAlone 128 x (others h l.extents)
 in_use-alone l h x p e = spaced-insert 128 x (others h l.extents)
     (subst (Spaced 128) (in_use l h x p e).is (live-spaced l p))
 
--- what holds of each block holds of it and of the others
+-- a property of each block holds for this block and for the others
 pub in_use-all : (P : Extent → Type 0) (l : LiveSet) (h : ℕ) (x : Extent) → IsTrue (is_proper l)
     → extent_at l h ≡ Some x → AllByRecursion P l.extents → P x × AllByRecursion P (others h l.extents)
 in_use-all P l h x p e a = all_of-insert P x (others h l.extents) (subst (AllByRecursion P) (in_use l h x p e).is a)
@@ -324,7 +324,7 @@ pub room-new : (l : LiveSet) (x : Extent) (n : ℕ) → n + 16 ≤ x.len → IsT
 room-new l x n f = list_any-insert (λ (y : Extent). (handle y == handle x) && holds y n) x l.extents
     (and_from (handle x == handle x) (holds x n) (eq-eqb (handle x) (handle x) refl) (le-leb (n + 16) x.len f))
 
--- ---- what stays
+-- ---- the blocks that stay
 
 beside-same : (m m' : Memory) (x y : Extent) (from n : ℕ) → SameBytesExcept m m' from n → handle x ≤ from
     → from + n ≤ end_of x → LiesBeside x y → SameBlock m m' y
@@ -358,15 +358,15 @@ written-keeps a b x ys from n alone place s f g =
       blocks = all-beside (bytes_of a.bytes) (bytes_of b.bytes) x ys from n s f g alone.beside;
     }
 
--- what is kept of these blocks
+-- a part of these blocks is kept if all are
 pub keeps-of : (a b : WindowState) (xs ys : List Extent) → KeepsBlocks a b xs
     → (AllByRecursion (SameBlock (bytes_of a.bytes) (bytes_of b.bytes)) xs
     → AllByRecursion (SameBlock (bytes_of a.bytes) (bytes_of b.bytes)) ys) → KeepsBlocks a b ys
 keeps-of a b xs ys k f = record { place = k.place; front = k.front; behind = k.behind; blocks = f k.blocks }
 
--- ---- what is found
+-- ---- the extents that are found
 
--- with another put in, and with another taken out
+-- with another extent inserted, and with another removed
 found-more-if : (t : Extent → Bool) (b : Bool) (y x z : Extent) (zs ws : List Extent) → t y ≡ false
     → (find t zs ≡ Some x → find t ws ≡ Some x) → find t (z ∷ zs) ≡ Some x
     → find t (if b then y ∷ z ∷ zs else z ∷ ws) ≡ Some x
@@ -379,7 +379,7 @@ found-more-if t false y x z zs ws n k e = found-more-head t x z zs ws k (t z) e
     found-more-head t x z zs ws k true e = e
     found-more-head t x z zs ws k false e = k e
 
--- an extent is found too if another is put in
+-- an extent is still found after another is inserted
 pub found-more : (h : ℕ) (y x : Extent) (zs : List Extent) → handle y ≢ h → find (λ (w : Extent). handle w == h) zs
     ≡ Some x → find (λ (w : Extent). handle w == h) (insert y zs) ≡ Some x
 found-more h y x [] n e = absurd (cc)
@@ -398,7 +398,7 @@ found-less-if h g x z zs n k true false p q e =
 found-less-if h g x z zs n k false false p q e =
     ap (λ b. cond b (Some z) (find (λ (w : Extent). handle w == h) (others g zs))) p ∙ k e
 
--- an extent is found too if another is taken out
+-- an extent is still found after another is removed
 pub found-less : (h g : ℕ) (x : Extent) (zs : List Extent) → h ≢ g → find (λ (w : Extent). handle w == h) zs ≡ Some x
     → find (λ (w : Extent). handle w == h) (others g zs) ≡ Some x
 found-less h g x [] n e = absurd (cc)
@@ -413,7 +413,7 @@ found-new-if true y z zs ws n e = ap (λ b. cond b (Some y) (find (λ (w : Exten
 found-new-if false y z zs ws n e = ap (λ b. cond b (Some z) (find (λ (w : Extent). handle w == handle y) ws))
     (ne_eqb (handle z) (handle y) (λ f. n (omega (arith, f)))) ∙ e
 
--- the one that was put in
+-- the inserted extent is found
 pub found-new : (y : Extent) (zs : List Extent) → Differs y zs
     → find (λ (w : Extent). handle w == handle y) (insert y zs) ≡ Some y
 found-new y [] n = ap (λ b. cond b (Some y) None) (eq-eqb (handle y) (handle y) refl)

@@ -67,7 +67,7 @@ tagged_too m size h =
     and_from (are_tags current m 128 0 (tiles_of m size) (size - 16)) (is_merged (tiles_of m size))
     (tags_too m 128 0 (tiles_of m size) (size - 16) two.0) two.1
 
--- they say tiles
+-- good tags describe tiles
 pub tagged_says : (c : WindowState) → IsTrue (is_legal_size (length c.bytes))
     → IsTrue (has_tags current (bytes_of c.bytes) (length c.bytes)) → SaysHeap c (tiles_in c)
 tagged_says c size tags =
@@ -92,13 +92,13 @@ pub record Cleared (old new : WindowState) (passed rest : List Tile) : Type 0 wh
 pub cleared_start : (c : WindowState) → Cleared c c [] (tiles_in c)
 cleared_start c = record { list = refl; kept = refl; size = refl; null = tt }
 
--- where the links of a tile stand
+-- the offset of the links of a tile
 pub record LinkPlace (c : WindowState) (at : ℕ) : Type 0 where
   pub whole : (at + 16) % 16 ≡ 0
   pub inside : at + 32 ≤ length c.bytes
   pub small : at + 32 ≤ 1073741824
 
--- where the links of a gap stand
+-- the offset of the links of a gap
 pub link_place : (old new : WindowState) (tile : Tile) → Turn new (Cleared old new) tile → LinkPlace new tile.offset
 link_place old new tile t =
     let m = t.meets in let long = m.long in let within = m.within in let size = m.size in

@@ -1,4 +1,4 @@
--- Where the removal of a gap from the tree begins, by what a search for it says.
+-- The point at which the removal of a gap from the tree begins, by a search for it.
 use Rattle.best_fit.proofs.Common.{◌≡◌, sym, ap, ◌∙◌, ℕ, true, List, Option, Some, None, IfSome}
 use Rattle.best_fit.proofs.Common.{WindowState, bytes_of, Tree, IsSearchTree, nodes_of, first_not_before, is_in}
 use Rattle.best_fit.proofs.Common.{link_at, Gap, payloads, sorted_gaps}
@@ -15,7 +15,7 @@ at_exit : (exit o : Option ℕ) → exit ≡ o → IfSome exit (λ n. o ≡ Some
 at_exit None o e = tt
 at_exit (Some n) o e = sym e
 
--- what is said of each search tree of the gaps is said of the tree that a heap has
+-- a property of each search tree of the gaps holds for the tree of a heap
 pub may_begin : (c : WindowState) (found exit : Option ℕ)
     → ((t : Tree) → IsSearchTree (comes_before (gaps_in c)) (gap_cells c) (link_at (bytes_of c.bytes) 24) t
     → IfSome found (λ n. exit ≡ remove_point_of (comes_before (gaps_in c)) n t))
@@ -26,7 +26,7 @@ may_begin c (Some n) exit says = record {
       (says h.tree.tree (search_tree c hs h));
 }
 
--- a gap of the tree is what is found where it is looked for
+-- a search for a gap of the tree finds this gap
 pub found_itself : (c : WindowState) (hs : List Gap) (h : HasGapTree c hs) (node : ℕ) (sought : GapProbe)
     → is_in node (payloads hs) ≡ true → sought ≡ own_probe (gaps_in c) node
     → first_not_before (stands_before (gaps_in c) sought) (payloads (sorted_gaps hs)) ≡ Some node

@@ -1,4 +1,4 @@
--- A gap is taken out of the tree, or put into it.
+-- A gap is removed from the tree, or inserted into it.
 use Rattle.best_fit.proofs.Common.{◌≡◌, refl, sym, ap, subst, ◌∙◌, ℕ, ◌+◌, ◌-◌, ◌≤◌, ◌⊎◌, inl, inr, Bool, true, ◌&&◌}
 use Rattle.best_fit.proofs.Common.{List, ◌∷◌, ◌++◌, length, arith, IsTrue, Option, Some, None, map, list_all}
 use Rattle.best_fit.proofs.Common.{false≢true, both_ways, cases_eq, and_from, WindowState, SameBytesExcept}
@@ -40,7 +40,7 @@ kept_gaps c d kept = same_gaps (tiles_in c) (tiles_in d) (ap (λ (k : GapTreeFra
 good_of : (d : WindowState) (n : ℕ) → is_gap_node d n ≡ true → IsGoodHeap d
 good_of d n h = (is_gap_node-GapNode d n h).good
 
--- ---- taken out
+-- ---- removal
 
 module _ (c d e : WindowState) (xs : List Gap) (g : Gap) (ys : List Gap) (node : ℕ) (is : node ≡ node_of g)
     (h : HasGapTree c (xs ++ (g ∷ ys)))
@@ -121,7 +121,7 @@ holds_closed f (fork red l n r) m h i =
       ]
     ]
 
--- where the gap of a node lies whose links may be anything
+-- the place of the gap of a node whose links are arbitrary
 pub lacking_node : (c : WindowState) (xs : List Gap) (g : Gap) (ys : List Gap) (node : ℕ) → node ≡ node_of g
     → LacksGap c xs g ys → NodeAt c node
 lacking_node c xs g ys node is l =
@@ -266,7 +266,7 @@ module _ (c a b : WindowState) (xs : List Gap) (g : Gap) (ys : List Gap) (node :
         };
       }
 
--- ---- put in
+-- ---- insertion
 
 -- a gap is put into a tree of some others
 module _ (b d e : WindowState) (xs : List Gap) (g : Gap) (ys : List Gap) (node : ℕ) (is : node ≡ node_of g)
@@ -305,7 +305,7 @@ module _ (b d e : WindowState) (xs : List Gap) (g : Gap) (ys : List Gap) (node :
         let some = subst (λ (gs : List Gap). AreSomeGaps gs (xs ++ (g ∷ ys))) (sym (kept_gaps b d kept)) whole in
         rooted d e (xs ++ (g ∷ ys)) s.0 root grown_good some s.1 (s.2 ∙ grown_nodes) leads_to size same
 
--- the only gap that is not in the tree is put in
+-- the only gap that is not in the tree is inserted
 module _ (c b d e : WindowState) (xs : List Gap) (g : Gap) (ys : List Gap) (node : ℕ) (is : node ≡ node_of g)
     (l : LacksGap c xs g ys) (h : HasGapTree b (xs ++ ys)) (cleared : kept_of b ≡ kept_of c) where
   gaps_c : gaps_in b ≡ xs ++ (g ∷ ys)
@@ -330,9 +330,9 @@ module _ (c b d e : WindowState) (xs : List Gap) (g : Gap) (ys : List Gap) (node
     pub put_tree : HasGapTree e (xs ++ (g ∷ ys))
     put_tree = grown_tree b d e xs g ys node is whole h root grows node_there nodes kept leads_to size same
 
--- ---- what the calls ask and answer
+-- ---- conditions and results of the calls
 
--- a node of some gaps stands in the tree
+-- the node of a gap of the list is in the tree
 pub in_tree_of : (c : WindowState) (hs : List Gap) (n : ℕ) → (h : HasGapTree c hs) → is_in n (payloads hs) ≡ true
     → is_in n (nodes_of h.tree.tree) ≡ true
 in_tree_of c hs n h i = ap (λ (ns : List ℕ). is_in n ns) h.tree.lists ∙ in_sorted n hs ∙ i
@@ -349,7 +349,7 @@ node_of_tree c hs n h i = GapNode-is_gap_node c n (record {
 pub node_inside : (d : WindowState) (n : ℕ) → is_gap_node d n ≡ true → 24 + 8 ≤ length d.bytes
 node_inside d n h = let low = (legal_size (length d.bytes) (good_of d n h).size).low in omega arith
 
--- the windows of the two calls differ as said
+-- the windows of the two calls differ only in the tree
 pub taken_rest : (c d e : WindowState) (n : ℕ) → is_gap_node d n ≡ true → kept_of d ≡ kept_of c → SameSurroundings d e
     → length e.bytes ≡ length d.bytes → SameBytesExcept (bytes_of d.bytes) (bytes_of e.bytes) 24 8 → ChangesGapTree c e
 taken_rest c d e n h kept place size same =

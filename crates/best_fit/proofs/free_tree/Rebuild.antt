@@ -57,7 +57,7 @@ some_front gs xs ys s =
 -- ---- the next gap
 
 module _ (c : WindowState) (xs : List Gap) (g : Gap) (node : ℕ) (is : node ≡ node_of g) (n : IsNextGap c xs g) where
-  -- it is a node
+  -- the gap is a node
   pub is_a_node : is_gap_node c node ≡ true
   is_a_node = GapNode-is_gap_node c node (record {
     good = is_good-IsGoodHeap c n.tree.good;
@@ -85,7 +85,7 @@ module _ (c : WindowState) (xs : List Gap) (g : Gap) (node : ℕ) (is : node ≡
         };
       }
 
-  -- it has its place after the gaps of the tree
+  -- the gap's place is after the gaps of the tree
   pub next_place : is_ordered_with (comes_before (gaps_in c)) node (nodes_of n.tree.tree.tree) ≡ true
   unfolding before_it
   next_place = grown_place c c c xs g [] node is with_next before_it
@@ -192,7 +192,7 @@ module _ (old mid new : WindowState) (says : SaysHeap old (tiles_in old)) (empty
   pub rebuilt_heap : IsHeap current new.bytes
   rebuilt_heap = lays_out new says_new h.tree
 
-  -- the free tree of the heap is built anew
+  -- the free tree of the heap is rebuilt
   pub rebuilt : AreBytes old.bytes → AreBytes new.bytes → RebuildsFreeTree current old new
   unfolding current
   rebuilt small small' = record {

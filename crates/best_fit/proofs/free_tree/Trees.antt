@@ -1,4 +1,4 @@
--- The tree of gaps as link_tree sees it, and what its calls leave.
+-- The tree of gaps for link_tree, and its state after the calls.
 use Rattle.best_fit.proofs.Common.{◌≡◌, refl, sym, ap, subst, ◌∙◌, ℕ, ◌+◌, ◌-◌, ◌/◌, ◌%◌, ◌≤◌, ◌⊎◌, inl, inr, Bool}
 use Rattle.best_fit.proofs.Common.{true, false, ◌&&◌, ◌||◌, List, [], ◌∷◌, ◌++◌, length, arith, ◌==◌, IsTrue}
 use Rattle.best_fit.proofs.Common.{length-append, append_assoc, Option, Some, None, map, if◌then◌else◌, list_all}
@@ -36,7 +36,7 @@ tree_nodes c hs h n i =
       listed = h.some.listed n (sym (in_sorted n hs) ∙ ap (λ (ns : List ℕ). is_in n ns) (sym h.tree.lists) ∙ i);
     })
 
--- it is a search tree
+-- the tree of gaps is a search tree
 pub search_tree : (c : WindowState) (hs : List Gap) → (h : HasGapTree c hs) → IsSearchTree (comes_before (gaps_in c))
     (gap_cells c) (link_at (bytes_of c.bytes) 24) h.tree.tree
 search_tree c hs h =
@@ -68,7 +68,7 @@ length-inserted g (h ∷ hs) =
     cond_both (precedes g h) (g ∷ h ∷ hs) (h ∷ insert_gap g hs) (λ gs. length gs ≡ length (h ∷ hs) + 1)
     (λ _. omega arith) (λ _. omega arith)
 
--- as many gaps as there are stand in order
+-- sorting keeps the number of gaps
 pub length-sorted : (hs : List Gap) → length (payloads (sorted_gaps hs)) ≡ length hs
 length-sorted hs = length-payloads (sorted_gaps hs) ∙ sorts hs
   where
@@ -159,7 +159,7 @@ none_round at [] g ys r = none_above g.offset (g.offset + 1) ys (omega arith) r.
 none_round at (x ∷ xs) g ys r = let b = rises_low (x.offset + 1) xs g ys r.1 in
     (λ e. omega arith, none_round (x.offset + 1) xs g ys r.1)
 
--- no gap begins at a place: no node stands there
+-- no gap begins at an offset, so no node does
 pub none_in : (at : ℕ) (hs : List Gap) → NoneAt at hs → is_in (at + 16) (payloads hs) ≡ false
 none_in at [] n = refl
 none_in at (h ∷ hs) n = by_test (cases_Bool ((at + 16) == (h.offset + 16))) (none_in at hs n.1)
@@ -181,7 +181,7 @@ in_dropped n (x ∷ xs) g ys i = by_place (or_cases (n == x.offset + 16) (is_in 
     by_place (inl e) ih = or_left (n == x.offset + 16) (is_in n (payloads (xs ++ (g ∷ ys)))) e
     by_place (inr e) ih = or_right (n == x.offset + 16) (is_in n (payloads (xs ++ (g ∷ ys)))) (ih e)
 
--- another node than that of a gap is one of the other gaps
+-- a node other than a gap's is the node of another gap
 pub in_other : (n : ℕ) (xs : List Gap) (g : Gap) (ys : List Gap) → (n ≡ g.offset + 16 → ⊥)
     → is_in n (payloads (xs ++ (g ∷ ys))) ≡ true → is_in n (payloads (xs ++ ys)) ≡ true
 in_other n [] g ys o i = by_place (or_cases (n == g.offset + 16) (is_in n (payloads ys)) i)
@@ -198,7 +198,7 @@ in_other n (x ∷ xs) g ys o i = by_place (or_cases (n == x.offset + 16) (is_in 
     by_place (inl e) ih = or_left (n == x.offset + 16) (is_in n (payloads (xs ++ ys))) e
     by_place (inr e) ih = or_right (n == x.offset + 16) (is_in n (payloads (xs ++ ys))) (ih e)
 
--- the node of a gap is one of the gaps
+-- the node of a gap is among the nodes of the gaps
 pub in_here : (xs : List Gap) (g : Gap) (ys : List Gap) → is_in (g.offset + 16) (payloads (xs ++ (g ∷ ys))) ≡ true
 in_here [] g ys = or_left ((g.offset + 16) == (g.offset + 16)) (is_in (g.offset + 16) (payloads ys))
     (eq-eqb (g.offset + 16) (g.offset + 16) refl)

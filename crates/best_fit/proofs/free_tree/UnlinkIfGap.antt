@@ -1,4 +1,4 @@
--- A tile that is free is taken out of the tree, and any other is not in it.
+-- A tile that is free is removed from the tree; any other tile is not in the tree.
 use Rattle.best_fit.proofs.Common.{◌≡◌, refl, sym, ap, subst, ◌∙◌, ℕ, ◌+◌, ◌≤◌, true, List, [], ◌∷◌, ◌++◌, length}
 use Rattle.best_fit.proofs.Common.{arith, Option, Some, None, cond-true, cond-false, same_Some, WindowState, Tile}
 use Rattle.best_fit.proofs.Common.{is_free}
@@ -16,7 +16,7 @@ pub record One (gs : List Gap) (at : ℕ) : Type 0 where
   pub list : gs ≡ gap ∷ []
   pub offset : at ≡ gap.offset
 
--- at most one gap: it begins where the offset says
+-- there is at most one gap, at this offset
 pub one_gap : (gs : List Gap) (at : ℕ) → Some at ≡ offset_of gs → length gs ≤ 1 → One gs at
 one_gap [] at e l = absurd (none_some at (sym e))
 one_gap (g ∷ []) at e l = record { gap = g; list = refl; offset = same_Some at g.offset e }
@@ -44,7 +44,7 @@ option_few (Some t) =
           (gaps_of-used t [] role e) in omega arith
     ]
 
--- ---- one that is there
+-- ---- an existing gap
 
 module _ (c : WindowState) (xs gs ys : List Gap) (at : ℕ) (o : One gs at) (h : HasGapTree c (xs ++ (gs ++ ys))) where
   pub one_tree : HasGapTree c (xs ++ (o.gap ∷ ys))
@@ -67,7 +67,7 @@ pub none_tree : (c : WindowState) (xs gs ys : List Gap) → gs ≡ [] → HasGap
     → HasGapTree c (xs ++ ys)
 none_tree c xs gs ys e h = subst (λ (ks : List Gap). HasGapTree c (xs ++ (ks ++ ys))) e h
 
--- what does not change is regrown
+-- an unchanged window is a change of the tree
 pub regrown-refl : (c : WindowState) → ChangesGapTree c c
 regrown-refl c = record {
   place = record { before = refl; after = refl };

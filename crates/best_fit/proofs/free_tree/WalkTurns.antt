@@ -7,7 +7,7 @@ use Rattle.best_fit.proofs.tags.TileRows.{unused, used, use_cases, gaps_of-appen
 use Rattle.best_fit.proofs.tile_walk.Walk.{Meets, first_here, meets, next_here, next_nearer, none_left, passed_on}
 use Rattle.best_fit.proofs.tile_walk.Walk.{to_go}
 
--- the tile at hand is the first of those left, and this holds of the tiles that are passed and of those
+-- the current tile is the first of the remaining ones, and the property holds for the passed and the remaining tiles
 pub record Walk (c : WindowState) (P : List Tile → List Tile → Type 0) (ahead : Option Tile) : Type 0 where
   pub passed : List Tile
   pub rest : List Tile
@@ -20,7 +20,7 @@ pub walk_start : (c : WindowState) (P : List Tile → List Tile → Type 0) (ts 
     → (ahead : Option Tile) → ((us : List Tile) → EncodesTiles c us → ahead ≡ first_in us) → Walk c P ahead
 walk_start c P ts said holds ahead is = record { passed = []; rest = ts; said = said; here = is ts said; holds = holds }
 
--- the tile that the walk has come to
+-- the current tile of the walk
 pub record Turn (c : WindowState) (P : List Tile → List Tile → Type 0) (tile : Tile) : Type 0 where
   pub passed : List Tile
   pub back : List Tile
@@ -43,7 +43,7 @@ turn c P ahead w tile is =
       meets = meets c w.passed tile h.back said;
     }
 
--- The tile at an offset is passed: what is left of the walk are the tiles after it. Its colour may have changed.
+-- The tile at an offset is passed: the walk continues with the tiles after it. Its colour can have changed.
 pub record Passed (c : WindowState) (P : List Tile → List Tile → Type 0) (at : ℕ) : Type 0 where
   pub passed : List Tile
   pub tile : Tile
@@ -81,7 +81,7 @@ passed_goes_on c P at p next is =
       holds = p.holds;
     }
 
--- the walk comes nearer to the end
+-- the walk comes closer to the end
 pub passed_nearer : (c : WindowState) (P : List Tile → List Tile → Type 0) (n : ℕ) (tile : Tile)
     → Passed c P tile.offset
     → length c.bytes ≡ n → (ahead next : Option Tile) → ahead ≡ Some tile
@@ -128,7 +128,7 @@ gaps_past_block passed t some = elim (use_cases t) [
       (gaps_of-used t [] role e) ∙ append-nil (gaps_of passed)
 ]
 
--- a gap that is passed is one more
+-- passing a gap counts one more
 pub gaps_past_gap : (passed : List Tile) (t : Tile) → t.use_of ≡ None → gaps_of (passed ++ (t ∷ [])) ≡ gaps_of
     passed ++ (gap_of t ∷ [])
 gaps_past_gap passed t free = gaps_of-append passed (t ∷ []) ∙ ap (λ (gs : List Gap). gaps_of passed ++ gs)

@@ -1,4 +1,5 @@
--- Where only links and colours of gaps and word 24 change, all bytes beside the gaps stay, those of tags too.
+-- If only links and colours of gaps and word 24 change, all bytes outside the gaps stay, and with them the bytes of
+-- tags.
 use Rattle.best_fit.proofs.Common.{◌≡◌, refl, sym, ap, subst, ◌∙◌, ℕ, zero, suc, ◌+◌, ◌-◌, ◌*◌, ◌<◌, ◌≤◌, ◌⊎◌, inl}
 use Rattle.best_fit.proofs.Common.{inr, List, [], ◌∷◌, length, arith, nat_lt, Some, map, AllByRecursion, cases_lt}
 use Rattle.best_fit.proofs.Common.{lt-ltb, or_left, Memory, WindowState, SameBytes, bytes_of, word_at, current, Role}
@@ -56,7 +57,7 @@ module _ (m m' : Memory) (small : (k : ℕ) → m k < 256) (small' : (k : ℕ) �
   behind k at offset n o low (inl l) = absurd (omega arith)
   behind k at offset n o low (inr l) = omega arith
 
-  -- the bytes from a tile on
+  -- the tags from a tile on keep their bytes
   same_from : (at before : ℕ) (ts us : List Tile) (end : ℕ) → AreTags current m at before ts end
       → AreTags current m' at before us end → map plain us ≡ map plain ts
       → ((t : Tile) (role : Role) → In t ts → t.use_of ≡ Some role → SameBytes m m' (t.offset + 16) (t.offset + t.len))
@@ -97,7 +98,7 @@ module _ (old new : WindowState) (says : SaysHeap old (tiles_in old)) (said : En
   gaps_old = ap gaps (says-live old (tiles_in old) says) ∙ gaps-live_in (length old.bytes) (tiles_in old)
       (said_row old (tiles_in old) says.said) says.apart
 
-  -- a byte beside all gaps and word 24 stays
+  -- a byte outside all gaps and word 24 stays
   pub beside_gaps : (k : ℕ) → k < length old.bytes → (k < 24) ⊎ (32 ≤ k)
       → AllByRecursion (IsBesideGap k) (gaps (live_of old.bytes)) → bytes_of new.bytes k ≡ bytes_of old.bytes k
   beside_gaps k high away beside = by_place (cases_lt k 128)
@@ -114,7 +115,7 @@ module _ (old new : WindowState) (says : SaysHeap old (tiles_in old)) (said : En
           (λ t role i e. (regrown_block old new says.said said r t i role e).payload) k l (omega arith)
           (subst (AllByRecursion (IsBesideGap k)) gaps_old beside)
 
-  -- the gaps of tiles, each of which has this
+  -- a property of the gap of each free tile is a property of all gaps
   each_gap : (P : Gap → Type 0) (ts : List Tile) → ((t : Tile) → In t ts → is_free t ≡ true → P (gap_of t))
       → AllByRecursion P (gaps_of ts)
   each_gap P [] h = tt

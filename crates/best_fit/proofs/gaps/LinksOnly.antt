@@ -13,7 +13,7 @@ use Rattle.best_fit.proofs.tags.TagsAndLiveSet.{SaysHeap, said_row}
 use Rattle.best_fit.proofs.tags.TileRows.{Row, extents_of, extent_of, used-not_free}
 use Rattle.best_fit.proofs.tags.UnchangedTags.{In, inside, tag_in, all_used}
 
--- a window with a tree says its tiles
+-- the tags of a window with a tree describe its tiles
 pub tree_says : (c : WindowState) (hs : List Gap) → HasGapTree c hs → SaysHeap c (tiles_in c)
 tree_says c hs h = let g = is_good-IsGoodHeap c h.good in record { said = said_of c g; apart = apart_of c g }
 
@@ -64,7 +64,7 @@ in_any t (u ∷ us) k (inl p) low high =
 in_any t (u ∷ us) k (inr h) low high =
     or_right (nat_le (own_from u) k && nat_lt k (u.offset + u.len)) (lies_behind us k) (in_any t us k h low high)
 
--- where the bytes of a tile begin
+-- the offset of a tile's own bytes
 own_at : (t : Tile) (b : Bool) (k : ℕ) → is_free t ≡ b → t.offset + (if b then 32 else 16) ≤ k → own_from t ≤ k
 own_at t b k e l = subst (λ (c : Bool). t.offset + (if c then 32 else 16) ≤ k) (sym e) l
 
@@ -177,7 +177,7 @@ splits_alike (u ∷ us) (f ∷ fs) t back e =
       backs = r.backs;
     }
 
--- ---- a gap that stands before and afterwards
+-- ---- a gap before and after the change
 
 module _ (old new : WindowState) (ts us : List Tile) (said : EncodesTiles old ts) (says : EncodesTiles new us)
     (same : SameExceptTags old new ts us) (u : Tile) (m : ℕ) (i : In u ts) (j : In u us)

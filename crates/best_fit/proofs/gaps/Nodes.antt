@@ -1,4 +1,4 @@
--- A gap as a node: where it lies, what its fields say, and that no two nodes share a byte.
+-- A gap as a node: its place and its fields; no two nodes share a byte.
 use Rattle.best_fit.proofs.Common.{◌≡◌, refl, sym, ap, subst, ◌∙◌, ℕ, ◌+◌, ◌-◌, ◌/◌, ◌%◌, ◌≤◌, ◌⊎◌, inl, inr, true}
 use Rattle.best_fit.proofs.Common.{false, List, [], ◌∷◌, ◌++◌, length, arith, ◌==◌, Option, Some, None, find}
 use Rattle.best_fit.proofs.Common.{false≢true, or_cases, or_left, or_right, eqb-true, eq-eqb, ne_eqb, cond-true}
@@ -172,7 +172,7 @@ pub record NodeAt (c : WindowState) (n : ℕ) : Type 0 where
   pub ends : n + free_tile.tile.len ≤ length c.bytes
   pub size : length c.bytes ≤ 1073741824
 
--- the tags of a good heap say its tiles
+-- the tags of a good heap describe its tiles
 pub said_of : (c : WindowState) → IsGoodHeap c → EncodesTiles c (tiles_in c)
 said_of c g =
     let good = (good_tags_say_tiles c g.size).0 g.tags in
@@ -184,7 +184,7 @@ apart_of c g =
     let good = (good_tags_say_tiles c g.size).0 g.tags in
     subst (Apart false) (sym (tiles_are_read_off c good.0 good.1)) (is_merged-Apart good.0 good.2)
 
--- a free tile is a node, whatever its links are
+-- a free tile is a node, for any values of its links
 pub node_from : (c : WindowState) (n : ℕ) → EncodesTiles c (tiles_in c) → Apart false (tiles_in c)
     → is_in n (payloads (gaps_in c)) ≡ true → NodeAt c n
 node_from c n said apart listed =
@@ -215,7 +215,7 @@ node_from c n said apart listed =
 pub node_at : (c : WindowState) (n : ℕ) → GapNode c n → NodeAt c n
 node_at c n g = node_from c n (said_of c g.good) (apart_of c g.good) g.listed
 
--- its tile stands there
+-- the node's tile is at its offset
 pub node_tile : (c : WindowState) (n at : ℕ) → NodeAt c n → at + 16 ≡ n → HasTileAt c at
 node_tile c n at d e =
     let o = d.free_tile.at in let same : d.free_tile.tile.offset ≡ at = omega arith in

@@ -76,12 +76,12 @@ in_tile [] k h = absurd (false≢true h)
 in_tile (t ∷ ts) k h = tile_step t ts k (in_tile ts k)
     (or_cases (nat_le (own_from t) k && nat_lt k (t.offset + t.len)) (lies_behind ts k) h)
 
--- it stands after the tag
+-- the byte is after the tag
 behind_tag : (b : Bool) (o k : ℕ) → o + (if b then 32 else 16) ≤ k → o + 16 ≤ k
 behind_tag true o k l = omega arith
 behind_tag false o k l = l
 
--- it lies beside all tags, and beside the links of a gap
+-- the byte is outside all tags, and outside the links of a gap
 record IsClear (c : WindowState) (n k : ℕ) : Type 0 where
   beside : IsBesideTags (tiles_in c) k
   below : k < length c.bytes - 16
@@ -120,7 +120,7 @@ kept_clear c n k d least h = by_place (or_cases (nat_lt k 128) (lies_behind (til
               (row_disjoint 128 (tiles_in c) (length c.bytes - 16) d.free_tile.tile b.tile d.row d.is_in_list b.listed);
         }
 
--- a change of the links and the colour of one gap keeps what is kept
+-- a change of the links and the colour of one gap keeps the kept state
 module _ (c d : WindowState) (n : ℕ) (node : NodeAt c n) (place : SameSurroundings c d) (size : length d.bytes
     ≡ length c.bytes)
     (tiles : map plain (tiles_in d) ≡ map plain (tiles_in c))
@@ -155,7 +155,7 @@ module _ (c d : WindowState) (n : ℕ) (node : NodeAt c n) (place : SameSurround
 
 -- ---- one field
 
--- what a setter does to the window
+-- the effect of a setter on the window
 pub record Changed (c d : WindowState) (n : ℕ) : Type 0 where
   pub us : List Tile
   pub said : EncodesTiles d us
@@ -217,15 +217,15 @@ module _ (c d : WindowState) (n : ℕ) (g : GapNode c n) (h : Changed c d n) whe
   pub order_stays : comes_before (gaps_in d) ≡ comes_before (gaps_in c)
   order_stays = ap comes_before gaps_stay
 
-  -- what is looked for stands as before
+  -- probes are compared as before
   pub probes_stay : stands_before (gaps_in d) ≡ stands_before (gaps_in c)
   probes_stay = ap stands_before gaps_stay
 
-  -- what is kept stays the same
+  -- the kept state stays the same
   pub kept_stays : kept_of d ≡ kept_of c
   kept_stays = kept_round c d n node h.place h.size same_tiles h.bytes
 
-  -- the cells, where one of them becomes another
+  -- the cells after a change of one of them
   pub one_cell : (f : Cell → Cell) → cells_of (bytes_of d.bytes) n ≡ f (cells_of (bytes_of c.bytes) n)
       → gap_cells d ≡ (λ (m : ℕ). if m == n then f (gap_cells c m) else gap_cells c m)
   one_cell f own = λ i m. at m i

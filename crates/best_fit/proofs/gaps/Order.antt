@@ -1,4 +1,4 @@
--- Gaps in their order, and their payloads: one put in, one taken out, and the first that is long enough.
+-- Gaps in their order, and their payloads: inserting one, removing one, and the first that is long enough.
 use Rattle.best_fit.proofs.Common.{◌≡◌, refl, sym, ap, subst, ◌∙◌, ℕ, ◌+◌, ◌<◌, ◌≤◌, ◌⊎◌, inl, inr, Bool, true, false}
 use Rattle.best_fit.proofs.Common.{◌&&◌, ◌||◌, not, List, [], ◌∷◌, ◌++◌, arith, nat_lt, nat_le, ◌==◌, Option, Some}
 use Rattle.best_fit.proofs.Common.{None, filter, find, option_map, if◌then◌else◌, list_all, AllByRecursion, both_ways}
@@ -13,7 +13,7 @@ use Rattle.best_fit.proofs.Common.{node_of}
 use Rattle.link_tree.proofs.Laws.{rises_put, without_none}
 use Rattle.best_fit.specs.GapLaws.{Comes, comes, comes-Comes, Comes-comes, comes-false, comes-trans, comes_transitive}
 
--- ---- one put in before others
+-- ---- inserting one
 
 insert-first : (g h : Gap) (hs : List Gap) → precedes g h ≡ true → insert_gap g (h ∷ hs) ≡ g ∷ h ∷ hs
 insert-first g h hs e = cond-true (precedes g h) (g ∷ h ∷ hs) (h ∷ insert_gap g hs) e
@@ -61,7 +61,7 @@ not_both g h a = by_test (cases_Bool (precedes h g))
     by_test (inl t) = absurd (same (comes-Comes g.len g.offset g.len g.offset (precedes-trans g h g a t)))
     by_test (inr f) = f
 
--- two gaps can be put in in either order
+-- two gaps can be inserted in either order
 comm_ordered : (g h : Gap) (ks : List Gap) → precedes g h ≡ true → insert_gap g (insert_gap h ks)
     ≡ insert_gap h (insert_gap g ks)
 comm_ordered g h [] e =
@@ -94,18 +94,18 @@ insert-comm g h ks n = by_test (cases_Bool (precedes g h))
     by_test (inl e) = comm_ordered g h ks e
     by_test (inr e) = sym (comm_ordered h g ks (one_precedes g h n e))
 
--- none of the gaps begins there
+-- no gap of the list begins at this offset
 abbrev pub NoneAt : ℕ → List Gap → Type 0
 NoneAt at gs = AllByRecursion (λ (h : Gap). h.offset ≡ at → ⊥) gs
 
--- a gap among others is put in where it belongs
+-- a gap among others is inserted at its place in the order
 pub sorted-around : (g : Gap) (xs ys : List Gap) → NoneAt g.offset xs → sorted_gaps (xs ++ (g ∷ ys)) ≡ insert_gap g
     (sorted_gaps (xs ++ ys))
 sorted-around g [] ys n = refl
 sorted-around g (x ∷ xs) ys n = ap (insert_gap x) (sorted-around g xs ys n.1)
     ∙ insert-comm x g (sorted_gaps (xs ++ ys)) n.0
 
--- ---- what stands in a list
+-- ---- membership in a list
 
 in_step : (n : ℕ) (g h : Gap) (hs : List Gap) → is_in n (payloads (insert_gap g hs)) ≡ is_in n (payloads (g ∷ hs))
     → is_in n (payloads (h ∷ insert_gap g hs)) ≡ is_in n (payloads (g ∷ h ∷ hs))
@@ -130,7 +130,7 @@ pub in_sorted : (n : ℕ) (gs : List Gap) → is_in n (payloads (sorted_gaps gs)
 in_sorted n [] = refl
 in_sorted n (g ∷ gs) = in_inserted n g (sorted_gaps gs) ∙ ap (λ (b : Bool). (n == g.offset + 16) || b) (in_sorted n gs)
 
--- ---- one taken out
+-- ---- removing one
 
 without_here : (n m : ℕ) (ns : List ℕ) → n ≡ m → without n (m ∷ ns) ≡ without n ns
 without_here n m ns e = cond-true (n == m) (without n ns) (m ∷ without n ns) (eq-eqb n m e)
@@ -148,7 +148,7 @@ out_rest n m ns h = by_test (cases_Bool (is_in n ns))
     by_test (inl t) = absurd (both_ways (is_in n (m ∷ ns)) h (or_right (n == m) (is_in n ns) t))
     by_test (inr f) = f
 
--- a gap that was put in and is taken out again
+-- inserting a gap and removing it restores the list
 pub without-inserted : (n : ℕ) (g : Gap) (hs : List Gap) → node_of g ≡ n → is_in n (payloads hs) ≡ false
     → without n (payloads (insert_gap g hs)) ≡ payloads hs
 without-inserted n g [] e out = without_here n (node_of g) [] (sym e)
@@ -186,7 +186,7 @@ pub fits-sorted : (gs hs : List Gap) → HaveGapLengths gs hs → HaveGapLengths
 fits-sorted gs [] f = tt
 fits-sorted gs (h ∷ hs) f = fits-insert gs h (sorted_gaps hs) f.0 (fits-sorted gs hs f.1)
 
--- a gap put in is a node put in
+-- inserting a gap inserts its node
 pub put_is : (gs : List Gap) (g : Gap) (hs : List Gap) → len_in gs (node_of g) ≡ g.len → HaveGapLengths gs hs
     → insert_in_order (comes_before gs) (node_of g) (payloads hs) ≡ payloads (insert_gap g hs)
 put_is gs g [] a f = refl
@@ -260,7 +260,7 @@ no_less : (k n w : ℕ) → w ≤ k → Comes k n w 0 → ⊥
 no_less k n w l (inl x) = omega arith
 no_less k n w l (inr x) = let y = x.1 in omega arith
 
--- no gap of just that length stands before it
+-- no gap of exactly this length precedes the gap
 not_before : (k n w : ℕ) → not (comes k n w 0) ≡ nat_le w k
 not_before k n w = elim (cases_lt k w) [
   | inl l ↦ rw (Comes-comes k n w 0 (inl l), lt-leb w k l) refl
@@ -284,7 +284,7 @@ first_long gs wanted (h ∷ hs) f =
     (λ t. cond-true (is_long wanted h) (Some (node_of h)) (first_not_before before (payloads hs)) t)
     (λ t. cond-false (is_long wanted h) (Some (node_of h)) (first_not_before before (payloads hs)) t ∙ ih)
 
--- the lesser of a gap and another, if there is one
+-- the first of a gap and another, if there is one
 abbrev pub lesser_of : Gap → Option Gap → Option Gap
 lesser_of g o = elim o [ None ↦ Some g | Some h ↦ Some (if precedes g h then g else h) ]
 
@@ -339,7 +339,7 @@ find-short wanted g (h ∷ hs) l = by_test (find-short wanted g hs l) (cases_Boo
         ap (find (is_long wanted)) (insert-later g h hs a)
         ∙ ap (λ (o : Option Gap). if is_long wanted h then Some h else o) ih
 
--- the first of the sorted ones that is long enough is the least of those that are
+-- the first gap of the sorted list that is long enough is the least such gap
 least_long : (wanted : ℕ) (hs : List Gap) → find (is_long wanted) (sorted_gaps hs) ≡ least (filter (is_long wanted) hs)
 least_long wanted [] = refl
 least_long wanted (h ∷ hs) = by_test (least_long wanted hs) (cases_Bool (is_long wanted h))

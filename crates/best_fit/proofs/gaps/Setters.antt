@@ -146,7 +146,7 @@ module _ (c d : WindowState) (n : ℕ) (to : Option ℕ) (g : GapNode c n) (targ
       (and_from (leads (λ k. is_in k ns) to) (leads (λ k. is_in k ns) (cells_of (bytes_of c.bytes) n).right)
       (leads_in c to target) two.1))
 
-  -- writing the left link changes the cell as it says
+  -- writing the left link changes only this field of the cell
   pub left_cells : gap_cells d ≡ with_left (gap_cells c) n to
   unfolding with_left
   left_cells = one_cell c d n g left_changed (λ (x : Cell). record x { left = to }) left_own
@@ -173,14 +173,14 @@ module _ (c d : WindowState) (n : ℕ) (to : Option ℕ) (g : GapNode c n) (targ
       (and_from (leads (λ k. is_in k ns) (cells_of (bytes_of c.bytes) n).left) (leads (λ k. is_in k ns) to) two.0
       (leads_in c to target)))
 
-  -- writing the right link changes the cell as it says
+  -- writing the right link changes only this field of the cell
   pub right_cells : gap_cells d ≡ with_right (gap_cells c) n to
   unfolding with_right
   right_cells = one_cell c d n g right_changed (λ (x : Cell). record x { right = to }) right_own
 
 -- ---- a colour is set
 
--- a byte beside all tags stays so if a tile takes another colour
+-- a byte outside all tags stays outside if a tile changes its colour
 pub beside_recoloured : (front : List Tile) (t : Tile) (red : Bool) (back : List Tile) (k : ℕ)
     → IsBesideTags (front ++ (t ∷ back)) k → IsBesideTags (front ++ (record t { red = red } ∷ back)) k
 beside_recoloured [] t red back k h = h
@@ -293,13 +293,13 @@ module _ (c d : WindowState) (n at : ℕ) (red : Bool) (g : GapNode c n) (o : at
             cell_stays (bytes_of c.bytes) (bytes_of d.bytes) m (left_stays m e) (right_stays m e) (other_red m e far);
       }
 
-  -- writing the colour changes the cell as it says
+  -- writing the colour changes only this field of the cell
   pub red_cells : gap_cells d ≡ with_red (gap_cells c) n red
   unfolding with_red
   red_cells = one_cell c d n g red_changed (λ (x : Cell). record x { red = red }) red_own
-  -- a free tile may have any colour
+  -- a free tile can have any colour
 
--- a gap may have either colour
+-- a gap can have either colour
 pub gap_may : (c : WindowState) (n at : ℕ) (red : Bool) → GapNode c n → at + 16 ≡ n → MayHaveColour c at red
 unfolding current
 gap_may c n at red g o =

@@ -57,7 +57,7 @@ pub record IsSummed (c : WindowState) (ns : List ℕ) : Type 0 where
   pub all : sum_by (len_in (gaps_in c)) ns ≡ free_bytes (live_of c.bytes)
   pub few : sum_by (len_in (gaps_in c)) ns ≤ 1073741824
 
--- the sums of the tree's nodes are those of the gaps
+-- the sum over the tree's nodes is the sum over the gaps
 pub tree_summed : (c : WindowState) → IsHeap current c.bytes → (h : HasGapTree c (gaps_in c))
     → IsSummed c (nodes_of h.tree.tree)
 unfolding free_bytes
@@ -72,7 +72,7 @@ tree_summed c heap h =
 
 -- ---- along the calls
 
--- each call adds what its item counts, and the name stays
+-- each call adds its item's value, and the name stays
 pub adds_up : {P : Type 0} (R : P → ℕ → P → Type 0) (Sees : P → Type 0) (name total : P → ℕ)
     (f : ℕ → ℕ) (good : ℕ → Bool)
     → ((p : P) (x : ℕ) (q : P) → Sees p → good x ≡ true → total p + f x < 18446744073709551616 → R p x q

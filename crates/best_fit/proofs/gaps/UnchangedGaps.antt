@@ -1,4 +1,4 @@
--- Gaps that stay: no byte of them changes where bytes of the header or of one block's payload do.
+-- Gaps that stay: no byte of them changes if bytes of the header or of one block's payload change.
 use Rattle.best_fit.proofs.Common.{◌≡◌, refl, subst, ℕ, ◌+◌, ◌-◌, ◌≤◌, ◌⊎◌, inl, inr, Bool, true, false}
 use Rattle.best_fit.proofs.Common.{List, [], ◌∷◌, arith, nat_lt, ◌==◌, ◌&&◌, if◌then◌else◌, IsTrue, list_any}
 use Rattle.best_fit.proofs.Common.{false≢true, or_cases, and_parts, eqb-true, leb-true, ltb-true, AllByRecursion}
@@ -16,7 +16,7 @@ use Rattle.best_fit.proofs.tags.UnchangedTags.{all_joined}
 abbrev SameGap : Memory → Memory → Gap → Type 0
 SameGap m m' g = SameBytes m m' g.offset (g.offset + g.len)
 
--- what lies between two offsets stays where bytes below or after it change
+-- the bytes between two offsets stay if only bytes below or after them change
 between : (m m' : Memory) (at n a b : ℕ) → SameBytesExcept m m' at n → (at + n ≤ a) ⊎ (b ≤ at)
     → AllByRecursion (SameGap m m') (gap_between a b)
 between m m' at n a b same beside = by_test (nat_lt a b) refl beside
@@ -42,7 +42,7 @@ above m m' at n from (x ∷ xs) to same l p =
 abbrev has : ℕ → ℕ → Extent → Bool
 has h k x = (handle x == h) && holds x k
 
--- the gaps round the block whose payload changes
+-- the gaps around the block whose payload changes
 around : (m m' : Memory) (at n h k from : ℕ) (xs : List Extent) (to : ℕ) → SameBytesExcept m m' at n → h ≤ at
     → at + n ≤ h + k → IsTrue (proper_from from xs to) → IsTrue (list_any (has h k) xs)
     → AllByRecursion (SameGap m m') (gaps_from from xs to)
@@ -123,7 +123,7 @@ free-all : (m : Memory) (gs : List Gap)
 free-all m [] = tt
 free-all m (g ∷ gs) = (SameBytes-refl m (g.offset + 32) (g.offset + g.len), free-all m gs)
 
--- the free bytes of gaps, where nothing changes
+-- the free bytes of gaps, if nothing changes
 pub free-refl : (c : WindowState)
     → AllByRecursion (λ (g : Gap). SameBytes (bytes_of c.bytes) (bytes_of c.bytes) (g.offset + 32)
     (g.offset + g.len)) (gaps (live_of c.bytes))

@@ -1,4 +1,4 @@
--- A node's cell changes, and nothing else that a tree of nodes is told of.
+-- A node's cell changes, and nothing else that the tree reads.
 use Rattle.best_fit.proofs.Common.{refl, ℕ, GapNode, GapTree}
 use Rattle.link_tree.specs.Frame.{SameExceptCells}
 use Rattle.best_fit.specs.contracts.heap.nodes.GapTreeNodes.TheImpl.{ghosts}

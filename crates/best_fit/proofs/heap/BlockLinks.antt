@@ -16,7 +16,7 @@ block_aligned c h b =
     (in_around b.front b.tile b.back) in
     let o = b.at in omega arith
 
--- n bytes in a block
+-- n bytes from an offset on in a block
 pub record Spot (c : WindowState) (h at n : ℕ) : Type 0 where
   pub room : Room c h (at + n)
   pub aligned : h % 16 ≡ 0
@@ -24,7 +24,7 @@ pub record Spot (c : WindowState) (h at n : ℕ) : Type 0 where
   pub inside : h + at + n ≤ length c.bytes
   pub size : length c.bytes ≤ 1073741824
 
--- in the window that a heap is seen as
+-- n bytes in a block, of a window that is equal to the heap's
 pub spot : (v c : WindowState) (h at n : ℕ) → v ≡ c → IsHeap current c.bytes
     → IsTrue (has_room (live_of v.bytes) h (at + n))
     → Spot c h at n
@@ -35,14 +35,14 @@ spot v c h at n e heap has =
     let b = room.block in let enough = room.enough in let o = b.at in let ends = b.inside in let low = b.low in
     record { room = room; aligned = block_aligned c h b; low = omega arith; inside = omega arith; size = b.size }
 
--- one link
+-- a write of one link changes only its bytes
 pub link_changed : (c d : WindowState) (h at : ℕ) → IsHeap current c.bytes → Spot c h at 8 → SameSurroundings c d
     → length d.bytes ≡ length c.bytes
     → SameBytesExcept (bytes_of c.bytes) (bytes_of d.bytes) (h + at) 8 → ChangesBytes current c d (h + at) 8
 link_changed c d h at heap s place size same = payload_changed c d h (at + 8) (h + at) 8 heap place size s.room
     (omega arith) (omega arith) same
 
--- n links
+-- a copy of n links changes only their bytes
 pub links_changed : (c d : WindowState) (h at source n moved : ℕ) → IsHeap current c.bytes
     → Spot c h at (8 * n) → moved ≡ h + at
     → d ≡ with_bytes c (patched c.bytes moved (relinked (bytes_of c.bytes) source moved n))
@@ -55,7 +55,7 @@ links_changed c d h at source n moved heap s e w =
     subst (λ k. d ≡ with_bytes c (patched c.bytes k ws)) e w in
     subst (λ k. ChangesBytes current c d (h + at) k) long (bytes_changed c d h at ws heap room w2)
 
--- n bytes that are copied
+-- a copy of n bytes changes only these bytes
 pub bytes_copied : (c d : WindowState) (from h at n : ℕ) → IsHeap current c.bytes → Spot c h at n
     → from + n ≤ length c.bytes
     → d ≡ with_bytes c (patched c.bytes (h + at) (part c.bytes from n))

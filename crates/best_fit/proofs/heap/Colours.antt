@@ -18,7 +18,7 @@ use Rattle.best_fit.proofs.tags.TileRows.{Apart, Row, extent_of, extents_of}
 use Rattle.best_fit.proofs.tags.UnchangedTags.{In, all_extents, around_keeps, inside, step_word}
 use Rattle.best_fit.proofs.tags.Writes.{Block, NodeBlock, free_stays}
 
--- it may have any colour
+-- the node's tile can have any colour
 pub node_may : (c : WindowState) (h at : ℕ) (red : Bool) → NodeBlock c h → at + 16 ≡ h → MayHaveColour c at red
 node_may c h at red n e =
     let b = n.block in let o = b.at in let same : b.tile.offset ≡ at = omega arith in
@@ -76,7 +76,7 @@ module _ (c d : WindowState) (h at : ℕ) (red : Bool) (heap : IsHeap current c.
   payload_byte t i k low high = let j = inside 128 t (front ++ (tile ∷ back)) (length c.bytes - 16) k row i low
       high in beside k j.beside j.high
 
-  -- so do the fields of a gap
+  -- and the fields of a gap stay
   gap_word : (m k : ℕ) → NodeAt c m → m ≤ k → k + 8 ≤ m + 16
       → word_at (bytes_of d.bytes) k ≡ word_at (bytes_of c.bytes) k
   gap_word m k n low high =

@@ -35,7 +35,7 @@ laid_extents : (n : ℕ) → extents_of (laid n) ≡ []
 laid_extents n = cond_both (n == 144) [] (free_tile 128 (n - 144) ∷ []) (λ (ts : List Tile). extents_of ts ≡ [])
     (λ _. refl) (λ _. extents_of-free (free_tile 128 (n - 144)) [] refl)
 
--- what is laid out and has a tree of its gaps is without blocks
+-- a window that is laid out and has a tree of its gaps encodes the live set without blocks
 laid_live : (d : WindowState) (n : ℕ) → length d.bytes ≡ n → EncodesTiles d (laid n)
     → IsTreeOf (bytes_of d.bytes) 24 (payloads (sorted_gaps (gaps_of (laid n))))
     → EncodesLiveSet current d.bytes (no_blocks n)
@@ -61,7 +61,7 @@ module _ (c d : WindowState) (said : EncodesTiles c (laid (length c.bytes))) (sm
       cond-true (length c.bytes == 144) [] (free_tile 128 (length c.bytes - 144) ∷ [])
       (eq-eqb (length c.bytes) 144 (omega arith))
 
-  -- a window with no room for a gap says the live set with no block
+  -- a window without room for a gap encodes the live set without blocks
   pub planted_none : EncodesLiveSet current d.bytes (no_blocks (length c.bytes))
   planted_none =
       laid_live d (length c.bytes) size
@@ -78,7 +78,7 @@ module _ (c d : WindowState) (said : EncodesTiles c (laid (length c.bytes))) (sm
   pub none_links : AllByRecursion (HasNullLinks current (bytes_of d.bytes)) (gaps (no_blocks (length c.bytes)))
   none_links = subst (AllByRecursion (HasNullLinks current (bytes_of d.bytes))) (sym (no_gap (length c.bytes) small)) tt
 
--- with one
+-- with one gap
 module _ (c a b d : WindowState) (said : EncodesTiles c (laid (length c.bytes))) (large : 144 < length c.bytes)
     (left : link_at (bytes_of a.bytes) 144 ≡ None) (size1 : length a.bytes ≡ length c.bytes)
     (same1 : SameBytesExcept (bytes_of c.bytes) (bytes_of a.bytes) 144 8)
@@ -116,7 +116,7 @@ module _ (c a b d : WindowState) (said : EncodesTiles c (laid (length c.bytes)))
   right_d : link_at (bytes_of d.bytes) 152 ≡ None
   right_d = SameBytesExcept-link (bytes_of b.bytes) (bytes_of d.bytes) 24 8 152 same3 (inr (omega arith)) ∙ right
 
-  -- a window of one gap says the live set with no block
+  -- a window of one gap encodes the live set without blocks
   pub planted_one : EncodesLiveSet current d.bytes (no_blocks (length c.bytes))
   planted_one =
       let red = tile_colour d (gap ∷ []) gap 144 said_d (one_tile_at_an_offset d [] gap [] said_d) refl in
@@ -148,7 +148,7 @@ module _ (c a b d : WindowState) (said : EncodesTiles c (laid (length c.bytes)))
           let e : 152 ≡ at = omega arith in
           subst (λ k. word_at (bytes_of d.bytes) k ≡ 1) e (null_word 152 (word_at (bytes_of d.bytes) 152) right_d)
 
--- bytes beside the tags that are laid
+-- a byte in the header or after the first tag lies in no tag of a window that is laid out
 pub laid_beside : (n k : ℕ) → (k < 128) ⊎ (144 ≤ k) → IsBesideTags (laid n) k
 laid_beside n k h = cond_both (n == 144) [] (free_tile 128 (n - 144) ∷ []) (λ (ts : List Tile). IsBesideTags ts k)
     (λ _. tt) (λ _. (h, tt))

@@ -1,4 +1,4 @@
--- A block takes the gap after it, which leaves the tree, and what is cut off enters it.
+-- A block is joined with the gap after it, which leaves the tree, and the part cut off enters the tree.
 use Rattle.best_fit.proofs.Common.{◌≡◌, refl, sym, ap, subst, ◌∙◌, ℕ, ◌+◌, ◌-◌, ◌*◌, ◌≤◌, Bool, true, false, List, []}
 use Rattle.best_fit.proofs.Common.{◌∷◌, ◌++◌, length, arith, nat_le, Option, Some, map, min, Memory, WindowState}
 use Rattle.best_fit.proofs.Common.{bytes_of, gap_offset}
@@ -38,7 +38,7 @@ free-plain (t ∷ ts) = refl
 same_free : (ts us : List Tile) → map plain us ≡ map plain ts → free_len (first_in us) ≡ free_len (first_in ts)
 same_free ts us e = sym (free-plain us) ∙ ap (λ (vs : List Tile). free_len (first_in vs)) e ∙ free-plain ts
 
--- the front of a block that stays, stays
+-- a front of a block stays if the block stays
 front_block : (m m' : Memory) (x : Extent) (k : ℕ) → k ≤ x.len → SameBlock m m' x
     → SameBlock m m' (record x { len = k })
 front_block m m' x k l s = record {
@@ -47,8 +47,8 @@ front_block m m' x k l s = record {
   colour = s.colour;
 }
 
--- What is known once the block has taken the gap after it and is cut, or not: if it is, the gap that is cut off is to
--- be put into the tree of the others.
+-- The state after the block was joined with the gap after it, and cut or not. If it was cut, the remainder is a gap
+-- that is not in the tree yet, which contains all other gaps.
 pub record Recut (w new : WindowState) (at wanted : ℕ) (is_cut : Bool) : Type 0 where
   pub front : List Gap
   pub gap : Gap
@@ -68,7 +68,7 @@ module _ (w : WindowState) (at : ℕ) (heap : IsHeap current w.bytes) (b : Block
   away = subst (λ k. Away k b.front) begins (away_front 128 b.front b.tile b.back (length w.bytes - 16)
       (said_row w (b.front ++ (b.tile ∷ b.back)) b.said))
 
-  -- the next tile is the first of those after
+  -- the next tile is the first tile after the block
   pub behind_is : next_in (b.front ++ (b.tile ∷ b.back)) at ≡ first_in b.back
   behind_is = next_in-around at b.tile b.back begins b.front away
 
@@ -93,13 +93,13 @@ module _ (w : WindowState) (at : ℕ) (heap : IsHeap current w.bytes) (b : Block
     role = b.role;
   }
 
-  -- the gap after has left the tree, after this many touches of some before
+  -- the gap after the block has left the tree, and the touches from `before` on are within the bound
   pub record TailUprooted (d : WindowState) (before count : ℕ) : Type 0 where
     pub tree : HasGapTree d (gaps_of b.front ++ gaps_of (rest_of b.back))
     pub rest : ChangesGapTree w d
     pub steps : count ≤ before + 32 * bits (length (gaps_in w) + 1) + 34
 
-  -- the gap after is taken out of the tree
+  -- the gap after the block leaves the tree
   pub tail_uprooted : (d : WindowState) (before n count : ℕ)
       → HasGapTree d (gaps_of b.front ++ gaps_of (rest_of b.back))
       → ChangesGapTree w d → n ≤ before + 1
@@ -142,7 +142,7 @@ module _ (w : WindowState) (at : ℕ) (heap : IsHeap current w.bytes) (b : Block
     abbrev j : ℕ
     j = (t_joins d says_d at s.front' s.tile' s.back' b.role s.list used_d begins_d wanted).gap
 
-    -- it is as long as before
+    -- the tile and the gap after it are as long as the old block and the gap after it
     long_d : s.tile'.len + j ≡ b.tile.len + gap_after (live_of w.bytes) (extent_of b.tile b.role)
     long_d =
         let l : s.tile'.len ≡ b.tile.len = ap (λ (t : Tile). t.len) s.tiles in
@@ -152,11 +152,11 @@ module _ (w : WindowState) (at : ℕ) (heap : IsHeap current w.bytes) (b : Block
         ∙ sym (gap_is w heap (at + 16) at b begins wanted) in
         omega arith
 
-    -- the tile of the block is there
+    -- the tile of the block is at its offset
     pub c_stands0 : HasTileAt d at
     c_stands0 = t_stands0 d says_d at s.front' s.tile' s.back' b.role s.list used_d begins_d wanted
 
-    -- and the gap after it is where it was read
+    -- the gap after it is at its old offset
     pub c_behind0 : (ts : List Tile) → EncodesTiles d ts → gap_offset (next_in ts at) ≡ gap_offset (first_in b.back)
     c_behind0 ts said = t_behind0 d says_d at s.front' s.tile' s.back' b.role s.list used_d begins_d wanted ts said
         ∙ first-plain b.back s.back' s.backs

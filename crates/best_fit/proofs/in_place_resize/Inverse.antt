@@ -1,4 +1,4 @@
--- A block that was lengthened where it stands, and is shortened by as much again.
+-- A block that was lengthened in place, and is shortened again by as much.
 use Rattle.best_fit.proofs.Common.{◌≡◌, refl, sym, ap, subst, ◌∙◌, inl, inr, ◌⊎◌, ℕ, ◌+◌, ◌-◌, ◌%◌, ◌<◌, ◌≤◌, Bool}
 use Rattle.best_fit.proofs.Common.{true, false, ◌==◌, Option, Some, None, List, [], ◌∷◌, min, arith, if◌then◌else◌}
 use Rattle.best_fit.proofs.Common.{IsTrue, nat_le, nat_lt, option_map, eq-eqb, le-leb, lt-leb, lt-ltb, or_left}
@@ -21,7 +21,7 @@ use Rattle.best_fit.proofs.extents.Spacing.{Differs, IsAmong, IsFresh, Rising, f
 use Rattle.best_fit.proofs.extents.Spacing.{others-insert}
 use Rattle.best_fit.proofs.extents.Spacing.{rising-insert}
 
--- ---- what stands after a block of another length
+-- ---- the gap after a block of another length
 
 behind-if : (h : ℕ) (b : Bool) (x y z : Extent) (zs us ws : List Extent) → handle x ≡ h → handle y ≡ h
     → (handle z ≡ h → ⊥) → behind h us ≡ behind h ws
@@ -63,7 +63,7 @@ block-of l h x p e =
         subst (λ (o : Option Extent). IsTrue (elim o as (λ _. Bool) [ None ↦ false | Some y ↦ y.len == x.len ]))
         (sym e) (eq-eqb x.len x.len refl)
 
--- shortened to what it was before
+-- the block shortened to its old length
 back-live : (l : LiveSet) (h : ℕ) (x : Extent) (s : ℕ) → IsBlockOf l h x
     → resized (resized l (record x { len = s })) x ≡ l
 back-live l h x s b =
@@ -138,7 +138,7 @@ len-is x o r e f = let is : Some (x.len - 16) ≡ Some r = ap (option_map (λ (x
 short-of : (x : Extent) (n r : ℕ) → x.len - 16 ≡ r → r < n → holds x n ≡ false
 short-of x n r e f = lt-leb (n + 16) x.len (omega (arith, e, f))
 
--- it was lengthened
+-- the block was lengthened
 pub wide-longer : (old new : WindowState) (h n : ℕ) (result : Bool) (r : ℕ) → IsHeap current old.bytes
     → option_map (λ (x : Extent). x.len - 16) (extent_at (live_of old.bytes) h) ≡ Some r → r < n
     → TryExtends current old new h n result → result ≡ true → WidensBlock current old new h n
@@ -169,7 +169,7 @@ wide-longer old new h n result r heap f less e is =
       same = λ is. let less = ap (λ (z : Extent). z.len) is in absurd (omega (arith, more));
     }
 
--- it was not
+-- the block was not lengthened
 pub not-wide : (old new : WindowState) (h n : ℕ) (result : Bool) (r : ℕ) → option_map (λ (x : Extent). x.len - 16)
     (extent_at (live_of old.bytes) h) ≡ Some r → r < n
     → TryExtends current old new h n result → result ≡ false → CannotWiden old new h n
@@ -179,7 +179,7 @@ not-wide old new h n result r f less e is =
     let short = short-of e.extent n r (len-is e.extent (extent_at l h) r e.found f) less in
     record { before = e.extent; found = e.found; regrown = regrow-short l e.extent n None short no.0; same = no.1 }
 
--- it had the room
+-- the block already had the room
 wide-held : (c : WindowState) (h n : ℕ) (o : Option Extent) (r : ℕ) → IsHeap current c.bytes
     → extent_at (live_of c.bytes) h
     ≡ o → option_map (λ (x : Extent). x.len - 16) o ≡ Some r → n ≤ r → WidensBlock current c c h n
@@ -218,7 +218,7 @@ pub wide-same : (c : WindowState) (h n r : ℕ) → IsHeap current c.bytes → o
     (extent_at (live_of c.bytes) h) ≡ Some r → n ≤ r → WidensBlock current c c h n
 wide-same c h n r heap f g = wide-held c h n (extent_at (live_of c.bytes) h) r heap refl f g
 
--- ---- what was taken or lengthened is given back
+-- ---- freeing or shortening undoes it
 
 own-still : (m0 m1 m2 : Memory) (x y : Extent) → y.offset ≡ x.offset → x.len ≤ y.len
     → SameBlock m0 m1 (record x { len = min x.len y.len }) → SameBlock m1 m2 (record y { len = min y.len x.len })

@@ -1,4 +1,4 @@
--- A block that is lengthened or shortened where it stands, by what is read of its tile and the one after it.
+-- A block that is lengthened or shortened in place, by the lengths read of its tile and the next one.
 use Rattle.best_fit.proofs.Common.{List, ◌≡◌, refl, sym, ap, subst, ◌∙◌, ℕ, ◌+◌, ◌-◌, ◌<◌, ◌≤◌, ◌⊎◌, inl, inr, Bool}
 use Rattle.best_fit.proofs.Common.{true, false, ◌&&◌, ◌||◌, ◌∷◌, ◌++◌, length, arith, nat_lt, nat_le, none-some}
 use Rattle.best_fit.proofs.Common.{same_Some, Option, Some, None, min, lt-leb, and_from, cases_lt, cond-true}
@@ -26,7 +26,7 @@ false_last false b e = refl
 
 -- ---- longer
 
--- there is no longer one where the block is long enough, or not even with the gap after it
+-- there is no longer block if the block is long enough, or too short even with the gap after it
 pub longer_none : (live : LiveSet) (x : Extent) (n : ℕ) → (room n ≤ x.len) ⊎ (x.len + gap_after live x < room n)
     → longer live x n ≡ None
 unfolding longer
@@ -40,7 +40,7 @@ longer_none live x n (inr l) =
     (false_last (nat_lt x.len (room n)) (nat_le (room n) (x.len + gap_after live x))
     (lt-leb (room n) (x.len + gap_after live x) l))
 
--- else there is
+-- otherwise there is one
 pub longer_some : (live : LiveSet) (x : Extent) (n : ℕ) → x.len < room n → room n ≤ x.len + gap_after live x
     → longer live x n ≡ Some (record x { len = share (x.len + gap_after live x) (room n) })
 unfolding longer
@@ -50,7 +50,7 @@ longer_some live x n less fits =
     (and_from (nat_lt x.len (room n)) (nat_le (room n) (x.len + gap_after live x)) (lt-ltb x.len (room n) less)
     (le-leb (room n) (x.len + gap_after live x) fits))
 
--- nothing changes where there is no longer one
+-- nothing changes if there is no longer block
 pub not_extended : (old : WindowState) (h n : ℕ) → (b : Block old h)
     → (room n ≤ b.tile.len) ⊎ (b.tile.len + gap_after (live_of old.bytes) (extent_of b.tile b.role) < room n)
     → TryExtends current old old h n false
@@ -63,7 +63,7 @@ not_extended old h n b why =
       refused = λ e. (refl, refl);
     }
 
--- and where there is one, the block becomes it
+-- and if there is one, the block becomes it
 pub extended : (old new : WindowState) (h n wanted : ℕ) → (b : Block old h) → wanted ≡ room n → b.tile.len < wanted
     → wanted ≤ b.tile.len + gap_after (live_of old.bytes) (extent_of b.tile b.role)
     → SplitsBlock current old new h wanted → TryExtends current old new h n true
@@ -95,7 +95,7 @@ extended old new h n wanted b e less fits cut =
           }) (sym f ∙ is));
     }
 
--- a request for more bytes than any window has needs a longer block than there is
+-- a request for more bytes than any window has needs a longer block than can exist
 pub room_above : (n : ℕ) → 1073741824 < n → 1073741824 < room n
 room_above n l = let wanted = (room-IsRoom n).holds in omega arith
 
@@ -119,13 +119,13 @@ le_shift a b c e = elim (cases_lt c 32) [
   | inr l ↦ le-leb (a + 32) b (omega arith) ∙ sym (le-leb 32 c l)
 ]
 
--- what is cut off becomes part of a gap
+-- the part cut off becomes part of a gap
 pub may_cut-read : (live : LiveSet) (x : Extent) (n gap cut : ℕ) → gap ≡ gap_after live x → cut + room n ≡ x.len
     → may_cut live x n ≡ (nat_lt 0 gap || nat_le 32 cut)
 may_cut-read live x n gap cut g c = ap (λ k. nat_lt 0 k || nat_le (room n + 32) x.len) (sym g)
     ∙ ap (λ (b : Bool). nat_lt 0 gap || b) (le_shift (room n) x.len cut c)
 
--- a block that is no longer than asked stays
+-- a block that is no longer than requested stays
 pub shorter_same : (live : LiveSet) (x : Extent) (n : ℕ) → x.len ≤ room n → shorter live x n ≡ x
 unfolding shorter
 shorter_same live x n l =
@@ -141,7 +141,7 @@ shorter_kept live x n e =
     (record x { len = room n }) x
     (false_last (nat_lt (room n) x.len) (nat_lt 0 (gap_after live x) || nat_le (room n + 32) x.len) e)
 
--- a longer block is cut to what was asked
+-- a longer block is cut to the requested length
 pub shorter_cut : (live : LiveSet) (x : Extent) (n : ℕ) → room n < x.len → may_cut live x n ≡ true
     → shorter live x n ≡ record x { len = room n }
 unfolding shorter
@@ -162,7 +162,7 @@ share_all : (available wanted : ℕ) → available < wanted + 32 → share avail
 share_all available wanted l = cond-true (nat_lt available (wanted + 32)) available wanted
     (lt-ltb available (wanted + 32) l)
 
--- what is cut of a block with the gap after it is what `shorter` gives
+-- a block with the gap after it, cut, is the result of `shorter`
 cut_cases : (live : LiveSet) (x : Extent) (n : ℕ) → room n < x.len → (gap_after live x ≡ 0) ⊎ (32 ≤ gap_after live x)
     → (x.len < room n + 32) ⊎ (room n + 32 ≤ x.len)
     → record x { len = share (x.len + gap_after live x) (room n) } ≡ shorter live x n
@@ -221,7 +221,7 @@ shortened old new h n heap b less cuts cut =
       same = subst Q same is_cut;
     }
 
--- one that stays is as it was
+-- a block that stays is unchanged
 resized_same : (old : WindowState) (heap : IsHeap current old.bytes) (h : ℕ) (b : Block old h)
     → resized (live_of old.bytes) (extent_of b.tile b.role) ≡ live_of old.bytes
 unfolding live_of
@@ -264,12 +264,12 @@ pub not_shortened : (old : WindowState) (h n : ℕ) → (heap : IsHeap current o
 not_shortened old h n heap b l = block_stays old h n heap b
     (shorter_same (live_of old.bytes) (extent_of b.tile b.role) n l)
 
--- so is one of which nothing may be cut off
+-- a block of which nothing can be cut off also stays
 pub not_cut : (old : WindowState) (h n : ℕ) → (heap : IsHeap current old.bytes) → (b : Block old h)
     → may_cut (live_of old.bytes) (extent_of b.tile b.role) n ≡ false → ShrinksInPlace current old old h n
 not_cut old h n heap b e = block_stays old h n heap b (shorter_kept (live_of old.bytes) (extent_of b.tile b.role) n e)
 
--- ---- what is read before a block is made longer or shorter
+-- ---- reads before a block is lengthened or shortened
 
 -- the length of the block, and that of the gap after it
 pub record Measured (w : WindowState) (h : ℕ) (b : Block w h) (len gap : ℕ) : Type 0 where
@@ -277,7 +277,7 @@ pub record Measured (w : WindowState) (h : ℕ) (b : Block w h) (len gap : ℕ) 
   pub gap_is : gap ≡ gap_after (live_of w.bytes) (extent_of b.tile b.role)
   pub high : b.tile.len + gap_after (live_of w.bytes) (extent_of b.tile b.role) ≤ 1073741824
 
--- what is read of a block and of the gap after it, as the live set says it
+-- the lengths read of a block and of the gap after it are those in the live set
 pub measured : (w : WindowState) (at : ℕ) (heap : IsHeap current w.bytes) (b : Block w (at + 16)) (t : Tile)
     → ((ts : List Tile) → EncodesTiles w ts → tile_in ts at ≡ Some t)
     → (gap : ℕ) → ((ts : List Tile) → EncodesTiles w ts → gap ≡ free_behind at ts) → Measured w (at + 16) b t.len gap

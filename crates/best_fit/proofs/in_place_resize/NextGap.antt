@@ -27,7 +27,7 @@ use Rattle.best_fit.proofs.tags.Writes.{Block}
 
 -- ---- the gap after a tile
 
--- after a free tile, and where nothing else lies between, the next extent begins
+-- after a free tile, or at once if there is none, the next extent begins
 next_at : (at : ℕ) (ts : List Tile) (end : ℕ) → Row at ts end → Apart true ts → next_of (extents_of ts) end ≡ at
 next_at at [] end row a = sym row
 next_at at (t ∷ ts) end row a =
@@ -55,7 +55,7 @@ behind_between at (u ∷ front) t back end role r e =
 
 module _ (old : WindowState) (heap : IsHeap current old.bytes) (h at : ℕ) (b : Block old h)
     (o : b.tile.offset ≡ at) (wanted : ℕ) where
-  -- what the block becomes with the gap after it
+  -- the block joined with the gap after it
   pub joins : JoinsTo b.tile b.back
   joins = joins_to b.tile b.back
 
@@ -90,7 +90,7 @@ module _ (old : WindowState) (heap : IsHeap current old.bytes) (h at : ℕ) (b :
   same_len x y e = ap (λ (v : Option Extent). elim v as (λ _. Bool) [ None ↦ false | Some z ↦ z.len == x.len ]) e
       ∙ eq-eqb x.len x.len refl
 
-  -- the block is one of the live set
+  -- the block is in the live set
   pub is_one : IsTrue (is_extent (live_of old.bytes) (extent_of b.tile b.role))
   is_one =
       same_len extent (find (λ (y : Extent). handle y == handle extent) (live_of old.bytes).extents)
@@ -110,14 +110,14 @@ module _ (old : WindowState) (heap : IsHeap current old.bytes) (h at : ℕ) (b :
       ∙ next_at (b.tile.offset + b.tile.len + joins.gap) joins.left (length old.bytes - 16) left_row
       (joins.apart (is_free b.tile) apart.1)
 
-  -- the gap after it is what it is joined with
+  -- the gap after the block is the gap that it is joined with
   pub gap_is : gap_after (live_of old.bytes) (extent_of b.tile b.role) ≡ joins.gap
   gap_is =
       let n = is_extent-IsNeighbour (live_of old.bytes) (extent_of b.tile b.role)
       (is_proper-IsProper (live_of old.bytes) heap.proper) is_one in
       let reaches = n.gap in let is = next_is in omega arith
 
-  -- so it is read
+  -- its length is the one that was read
   pub gap_read : (g : ℕ) → ((ts : List Tile) → EncodesTiles old ts → g ≡ free_behind at ts)
       → g ≡ gap_after (live_of old.bytes) (extent_of b.tile b.role)
   gap_read g is =
@@ -141,14 +141,14 @@ module _ (old : WindowState) (says : SaysHeap old (tiles_in old)) (at : ℕ) (fr
   said0 : EncodesTiles old (front0 ++ (tile0 ∷ back0))
   said0 = subst (EncodesTiles old) list0 says.said
 
-  -- what the tile becomes with the gap after it
+  -- the tile joined with the gap after it
   pub t_joins : JoinsTo tile0 back0
   t_joins = joins_to tile0 back0
 
   abbrev t_joined : Tile
   t_joined = record tile0 { len = tile0.len + t_joins.gap }
 
-  -- what is cut off the tile
+  -- the tile after the cut
   pub t_cuts : CutsTo wanted (record tile0 { len = tile0.len + t_joins.gap }) t_joins.left
   t_cuts = cuts_to wanted (record tile0 { len = tile0.len + t_joins.gap }) t_joins.left
 
@@ -168,7 +168,7 @@ module _ (old : WindowState) (says : SaysHeap old (tiles_in old)) (at : ℕ) (fr
   unfolding live_of
   t_extents = ap extents_of list0
 
-  -- the tile is there before
+  -- the tile is at its offset before
   pub t_stands0 : HasTileAt old at
   t_stands0 = record {
     tiles = front0 ++ (tile0 ∷ back0);
@@ -197,7 +197,7 @@ module _ (old : WindowState) (says : SaysHeap old (tiles_in old)) (at : ℕ) (fr
     same1 = subst (SameExceptTags old mid (front0 ++ (tile0 ∷ back0))) list1
         (join_same (front0 ++ (tile0 ∷ back0)) said0)
 
-    -- the tile is there in between
+    -- the tile is at its offset in between
     pub t_stands1 : HasTileAt mid at
     t_stands1 = record {
       tiles = front0 ++ (t_joined ∷ t_joins.left);

@@ -1,4 +1,4 @@
--- A block's payload lent to be written: whatever is left there, the heap stays one.
+-- A block's payload is lent for writing: any write keeps the heap.
 use Rattle.best_fit.proofs.Common.{◌≡◌, refl, sym, ap, subst, ◌∙◌, ℕ, ◌+◌, ◌-◌, ◌≤◌, List, length, arith, IsTrue}
 use Rattle.best_fit.proofs.Common.{Some, None, length_refill, refill, WindowState, HasBytesAt, SameBytesExcept}
 use Rattle.best_fit.proofs.Common.{bytes_of, part, patched}

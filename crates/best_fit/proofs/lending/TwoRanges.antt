@@ -14,7 +14,7 @@ use Rattle.best_fit.proofs.tags.TagsAndLiveSet.{heap-says, said_row}
 use Rattle.best_fit.proofs.tags.UnchangedTags.{In}
 use Rattle.best_fit.proofs.tags.Writes.{Block, block_payload}
 
--- what is put where it stood changes nothing
+-- writing back the same bytes changes nothing
 patched_same : (b : List ℕ) (from n : ℕ) → from + n ≤ length b → patched b from (part b from n) ≡ b
 patched_same b from n h = ap (λ (k : ℕ). take from b ++ part b from n ++ drop (from + k) b) (length-part b from n h)
     ∙ whole-cut_at b from n
@@ -28,7 +28,7 @@ second_written b from n from' n' ws us h e =
     ap (λ (vs : List ℕ). patched vs from' (refill n' (part b from' n') us)) (ap (patched b from) all
     ∙ patched_same b from n h)
 
--- what a call was given and left, said of both ranges
+-- the arguments and the result of a call, for both ranges
 pub called : {F : Type 0} (g : Once F (Bor (List ℕ) × (MutBor (List ℕ) × Unit {0}))
     (Unit {0} × (MutBor (List ℕ) × Unit {0}))) (f : F) (x y : List ℕ) {p : Bor (List ℕ)} {q q' : MutBor (List ℕ)}
     → g.post f (p, (q, tt)) (tt, (q', tt)) → p.now ≡ x → q.now ≡ y → CallsOnTwo g f x y q'.now

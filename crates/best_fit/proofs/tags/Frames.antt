@@ -1,4 +1,4 @@
--- What stays: blocks beside a change, and what two changes one after the other both keep.
+-- Blocks that stay: blocks outside a change, and blocks that each of two changes keeps.
 use Rattle.best_fit.proofs.Common.{refl, ap, ◌∙◌, ℕ, ◌+◌, ◌%◌, ◌≤◌, ◌⊎◌, List, [], ◌∷◌, arith, AllByRecursion, inl}
 use Rattle.best_fit.proofs.Common.{inr, Memory, WindowState, SameBytes, SameBytesExcept, bytes_of, SameBytes-refl}
 use Rattle.best_fit.proofs.Common.{SameBytes-trans, SameBytesExcept-SameBytes}
@@ -18,7 +18,7 @@ pub SameBlock-trans : (a b c : Memory) (x : Extent) → SameBlock a b x → Same
 SameBlock-trans a b c x p q =
     record { payload = SameBytes-trans a b c (handle x) (end_of x) p.payload q.payload; colour = q.colour ∙ p.colour }
 
--- a block whose tags and payload lie outside of n bytes from a place on
+-- a block whose tag and payload lie outside n bytes from an offset on
 pub record IsBeside (from n : ℕ) (x : Extent) : Type 0 where
   pub long : handle x ≤ end_of x
   pub apart : (end_of x ≤ from) ⊎ (from + n ≤ x.offset)
@@ -30,13 +30,13 @@ beside_payload m m' from n x same (inl l) = SameBytesExcept-SameBytes m m' from 
 beside_payload m m' from n x same (inr l) =
     SameBytesExcept-SameBytes m m' from n (handle x) (end_of x) same (inr (omega arith))
 
--- and its tag is a word beside those bytes
+-- and its tag is a word outside these bytes
 beside_tag : (from n : ℕ) (x : Extent) → handle x ≤ end_of x → (end_of x ≤ from) ⊎ (from + n ≤ x.offset)
     → (x.offset + 8 + 8 ≤ from) ⊎ (from + n ≤ x.offset + 8)
 beside_tag from n x long (inl l) = inl (omega arith)
 beside_tag from n x long (inr l) = inr (omega arith)
 
--- such a block stays where those bytes change
+-- such a block stays if these bytes change
 pub SameBlock-beside : (m m' : Memory) (from n : ℕ) (x : Extent) → SameBytesExcept m m' from n
     → IsBeside from n x → SameBlock m m' x
 SameBlock-beside m m' from n x same b =
@@ -46,7 +46,7 @@ SameBlock-beside m m' from n x same b =
           (beside_tag from n x b.long b.apart));
     }
 
--- such blocks stay where those bytes change
+-- such blocks stay if these bytes change
 pub AllByRecursion-beside : (m m' : Memory) (from n : ℕ) (xs : List Extent) → SameBytesExcept m m' from n
     → AllByRecursion (IsBeside from n) xs → AllByRecursion (SameBlock m m') xs
 AllByRecursion-beside m m' from n [] same all = tt
@@ -66,7 +66,7 @@ blocks-trans a b c (x ∷ xs) p q = (SameBlock-trans a b c x p.0 q.0, blocks-tra
 
 -- ---- windows
 
--- what does not change keeps all
+-- an unchanged window keeps all blocks
 pub keeps-refl : (a : WindowState) (xs : List Extent) → KeepsBlocks a a xs
 keeps-refl a xs =
     record {
@@ -76,7 +76,7 @@ keeps-refl a xs =
       blocks = blocks-refl (bytes_of a.bytes) xs;
     }
 
--- two changes keep what each keeps
+-- two changes keep the blocks that each keeps
 pub keeps-trans : (a b c : WindowState) (xs : List Extent) → KeepsBlocks a b xs → KeepsBlocks b c xs
     → KeepsBlocks a c xs
 keeps-trans a b c xs p q =
@@ -87,7 +87,7 @@ keeps-trans a b c xs p q =
       blocks = blocks-trans (bytes_of a.bytes) (bytes_of b.bytes) (bytes_of c.bytes) xs p.blocks q.blocks;
     }
 
--- what keeps the blocks with a new one keeps those without it
+-- a window that keeps the blocks with a new one keeps the blocks without it
 pub keeps-insert : (a b : WindowState) (x : Extent) (xs : List Extent) → KeepsBlocks a b (insert x xs)
     → KeepsBlocks a b xs
 keeps-insert a b x xs k =
@@ -98,7 +98,7 @@ keeps-insert a b x xs k =
       blocks = AllByRecursion-insert (SameBlock (bytes_of a.bytes) (bytes_of b.bytes)) x xs k.blocks;
     }
 
--- what keeps all blocks keeps all but one
+-- a window that keeps all blocks keeps all but one
 pub keeps-others : (a b : WindowState) (h : ℕ) (xs : List Extent) → KeepsBlocks a b xs → KeepsBlocks a b (others h xs)
 keeps-others a b h xs k =
     record {

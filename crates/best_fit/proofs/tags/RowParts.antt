@@ -8,12 +8,12 @@ use Rattle.best_fit.proofs.tags.TileRows.{Row, Apart}
 
 -- ---- rows in two parts
 
--- where a row ends that begins at a place
+-- the end of a row that begins at an offset
 abbrev pub row_end : ℕ → List Tile → ℕ
 row_end at [] = at
 row_end at (t ∷ ts) = row_end (at + t.len) ts
 
--- a row is one row after another
+-- a row is a row followed by another
 pub row_front : (at : ℕ) (ts us : List Tile) (end : ℕ) → Row at (ts ++ us) end → Row at ts (row_end at ts)
 row_front at [] us end r = refl
 row_front at (t ∷ ts) us end r = (r.0, r.1, r.2, row_front (at + t.len) ts us end r.3)
@@ -23,14 +23,14 @@ pub row_back : (at : ℕ) (ts us : List Tile) (end : ℕ) → Row at (ts ++ us) 
 row_back at [] us end r = r
 row_back at (t ∷ ts) us end r = row_back (at + t.len) ts us end r.3
 
--- it ends where it begins or later
+-- a row ends at or after its beginning
 pub row_reaches : (at : ℕ) (ts : List Tile) (end : ℕ) → Row at ts end → at ≤ end
 row_reaches at [] end r = let e = r in omega arith
 row_reaches at (t ∷ ts) end r = let on = row_reaches (at + t.len) ts end r.3 in omega arith
 
--- ---- a tile and what stands round it
+-- ---- a tile and its neighbours
 
--- none of the tiles begins there
+-- no tile of the list begins at this offset
 abbrev pub Away : ℕ → List Tile → Type 0
 Away at [] = Unit {0}
 Away at (t ∷ ts) = (t.offset ≡ at → ⊥) × Away at ts
@@ -50,19 +50,19 @@ away_front at front t back end r =
     row_away at front (row_end at front) t.offset (row_front at front (t ∷ back) end r) (omega arith)
 
 module _ (at : ℕ) (t : Tile) (behind : List Tile) (o : t.offset ≡ at) where
-  -- it is the tile at its offset
+  -- the tile is the one at its offset
   pub tile_in-around : (before : List Tile) → Away at before → tile_in (before ++ (t ∷ behind)) at ≡ Some t
   tile_in-around [] a = cond-true (t.offset == at) (Some t) (tile_in behind at) (eq-eqb t.offset at o)
   tile_in-around (u ∷ us) a = cond-false (u.offset == at) (Some u) (tile_in (us ++ (t ∷ behind)) at)
       (ne_eqb u.offset at a.0) ∙ tile_in-around us a.1
 
-  -- the tile after it is the first of those after it
+  -- the next tile is the first tile after it
   pub next_in-around : (before : List Tile) → Away at before → next_in (before ++ (t ∷ behind)) at ≡ first_in behind
   next_in-around [] a = cond-true (t.offset == at) (first_in behind) (next_in behind at) (eq-eqb t.offset at o)
   next_in-around (u ∷ us) a = cond-false (u.offset == at) (first_in (us ++ (t ∷ behind)))
       (next_in (us ++ (t ∷ behind)) at) (ne_eqb u.offset at a.0) ∙ next_in-around us a.1
 
-  -- it changes, and those before it stay
+  -- the tile changes, and the tiles before it stay
   pub changed_at-around : (change : Tile → List Tile → List Tile) (before : List Tile) → Away at before
       → changed_at at change (before ++ (t ∷ behind)) ≡ before ++ change t behind
   changed_at-around change [] a = cond-true (t.offset == at) (change t behind)
@@ -79,12 +79,12 @@ module _ (at : ℕ) (t : Tile) (behind : List Tile) (o : t.offset ≡ at) where
       cond-false (u.offset == at) last (previous_from (Some u) (us ++ (t ∷ behind)) at) (ne_eqb u.offset at a.0)
       ∙ before_from (Some u) us a.1
 
-  -- the tile before it is the last of those before it
+  -- the previous tile is the last tile before it
   pub previous_in-around : (before : List Tile) → Away at before
       → previous_in (before ++ (t ∷ behind)) at ≡ last_in before
   previous_in-around before a = before_from None before a ∙ none_last before
 
--- whether the last of some tiles is free, or what stands before them where there are none
+-- whether the last tile of a list is free, or a given value if the list is empty
 abbrev pub last_free : Bool → List Tile → Bool
 last_free b [] = b
 last_free b (t ∷ ts) = last_free (is_free t) ts
@@ -99,7 +99,7 @@ pub apart_back : (b : Bool) (ts us : List Tile) → Apart b (ts ++ us) → Apart
 apart_back b [] us a = a
 apart_back b (t ∷ ts) us a = apart_back (is_free t) ts us a.1
 
--- two parts with no free neighbours, also where they meet, have none together
+-- two lists without free neighbours, even where they meet, form one
 pub apart_joined : (b : Bool) (ts us : List Tile) → Apart b ts → Apart (last_free b ts) us → Apart b (ts ++ us)
 apart_joined b [] us a c = c
 apart_joined b (t ∷ ts) us a c = (a.0, apart_joined (is_free t) ts us a.1 c)
@@ -122,7 +122,7 @@ last_in-EndsWith (t ∷ u ∷ ts) p e = ends_step t p (u ∷ ts) (last_in-EndsWi
 abbrev pub is_free_option : Option Tile → Bool
 is_free_option o = elim o [ None ↦ false | Some t ↦ is_free t ]
 
--- whether the last tile is free, as both functions say it
+-- whether the last tile is free, by both functions
 pub last_free-last_in : (ts : List Tile) → last_free false ts ≡ is_free_option (last_in ts)
 last_free-last_in [] = refl
 last_free-last_in (t ∷ []) = refl

@@ -1,4 +1,4 @@
--- What the tags of a window say of its live set, and back.
+-- The live set of a window's tags, and the tags of a live set.
 use Rattle.best_fit.proofs.Common.{◌≡◌, refl, sym, ap, subst, ◌∙◌, ℕ, ◌-◌, ◌%◌, ◌≤◌, inl, false, List, ◌++◌, length}
 use Rattle.best_fit.proofs.Common.{arith, IsTrue, map, and_from, WindowState, bytes_of, Tile, current, is_legal_size}
 use Rattle.best_fit.proofs.Common.{EncodesTiles, good_tags_say_tiles, legal, tiles_are_read_off, LiveSet, gaps}
@@ -21,7 +21,7 @@ pub record IsLegal (n : ℕ) : Type 0 where
 pub legal_size : (n : ℕ) → IsTrue (is_legal_size n) → IsLegal n
 legal_size n h = let l = legal n h in record { low = l.low; high = l.high; whole = l.whole }
 
--- the tags of a window say these tiles, and no two free ones are neighbours
+-- the tags of a window describe these tiles, and no two free ones are neighbours
 pub record SaysHeap (c : WindowState) (ts : List Tile) : Type 0 where
   pub said : EncodesTiles c ts
   pub apart : Apart false ts
@@ -34,7 +34,7 @@ live_in n ts = record { size = n; extents = extents_of ts }
 pub said_row : (c : WindowState) (ts : List Tile) → EncodesTiles c ts → Row 128 ts (length c.bytes - 16)
 said_row c ts said = AreContiguous-Row current 128 ts (length c.bytes - 16) (tiles_fill_the_window c ts said)
 
--- a heap's tags say its tiles
+-- a heap's tags describe its tiles
 pub heap-says : (c : WindowState) → IsHeap current c.bytes → SaysHeap c (tiles_in c)
 unfolding live_of
 heap-says c h =
@@ -42,7 +42,7 @@ heap-says c h =
     let says : SaysHeap c good.0 = record { said = good.1; apart = is_merged-Apart good.0 good.2 } in
     subst (SaysHeap c) (sym (tiles_are_read_off c good.0 good.1)) says
 
--- the extents among tiles that the tags say are proper
+-- the extents of the tiles of tags are proper
 pub proper_live : (n : ℕ) (ts : List Tile) → IsTrue (is_legal_size n) → Row 128 ts (n - 16) → Apart false ts
     → IsTrue (is_proper (live_in n ts))
 unfolding is_proper
@@ -69,7 +69,7 @@ says-EncodesLiveSet c ts s free =
       free = free;
     }
 
--- and say it
+-- and these extents are the window's live set
 pub says-live : (c : WindowState) (ts : List Tile) → SaysHeap c ts → live_of c.bytes ≡ live_in (length c.bytes) ts
 unfolding live_of
 says-live c ts s = λ i. record { size = length c.bytes; extents = extents_of (tiles_are_read_off c ts s.said i) }
@@ -81,7 +81,7 @@ gaps-live_in n ts row apart =
     gaps_from-row false 128 128 ts (n - 16) (inl (refl, refl)) row apart
     ∙ ap (λ gs. gs ++ gaps_of ts) (gap_between-none 128 128 (omega arith))
 
--- of a heap too
+-- the gaps of a heap's live set are the gaps of its tiles
 pub heap-gaps : (c : WindowState) → IsHeap current c.bytes → gaps (live_of c.bytes) ≡ gaps_of (tiles_in c)
 unfolding live_of
 heap-gaps c h = let s = heap-says c h in

@@ -1,4 +1,4 @@
--- What a list becomes where a tile is cut, or joined with a free one after it, by what is read of that tile.
+-- A list after a tile is cut, or joined with a free one after it, by the tile that was read.
 use Rattle.best_fit.proofs.Common.{◌≡◌, refl, sym, ap, subst, ◌∙◌, ℕ, ◌+◌, ◌-◌, ◌<◌, ◌≤◌, List, [], ◌∷◌, ◌++◌, length}
 use Rattle.best_fit.proofs.Common.{append_assoc, arith, nat_lt, Option, Some, None, cond-true, cond-false, lt-ltb}
 use Rattle.best_fit.proofs.Common.{le-ltb, WindowState, Tile, first_in, in_two, next_in, previous_in, tile_in, is_free}
@@ -38,7 +38,7 @@ pub record ReadGap (o : Option Tile) (at : ℕ) : Type 0 where
   pub free : is_free tile ≡ true
   pub offset : tile.offset ≡ at
 
--- where a gap begins, a free tile does
+-- at the offset of a gap there is a free tile
 pub read_gap : (o : Option Tile) (at : ℕ) → gap_offset o ≡ Some at → ReadGap o at
 read_gap None at e = absurd (none-some at e)
 read_gap (Some t) at e = elim (use_cases t) [
@@ -81,7 +81,7 @@ unjoined_cases t [] e = refl
 unjoined_cases t (u ∷ back) e =
     cond-false (is_free u) (record t { len = t.len + u.len } ∷ back) (t ∷ u ∷ back) (no_free_tile u e)
 
--- and nothing is joined where there is none
+-- and nothing is joined if there is no free tile
 pub unjoined_list : (ts : List Tile) (at : ℕ) (t : Tile) → tile_in ts at ≡ Some t → gap_offset (next_in ts at) ≡ None
     → joined_free_at at ts ≡ ts
 unjoined_list ts at t e none =
@@ -89,7 +89,7 @@ unjoined_list ts at t e none =
     s.changed with_free_behind
     ∙ ap (λ (us : List Tile). s.front ++ us) (unjoined_cases t s.back (ap gap_offset (sym s.next) ∙ none)) ∙ sym s.is
 
--- a free tile stands after
+-- a free tile follows
 pub free_next : (c : WindowState) (at gap : ℕ) → (h : HasTileAt c at) → gap_offset (next_in h.tiles at) ≡ Some gap
     → HasFreeNext c at
 free_next c at gap h e =
@@ -118,7 +118,7 @@ joined_after (Some p) ts at e =
     cond-true (is_free p) (joined_free_at p.offset ts) ts (ap is_free same ∙ f.free)
     ∙ ap (λ k. joined_free_at k ts) (ap (λ (t : Tile). t.offset) same ∙ f.offset)
 
--- and none stays as it is
+-- without a free tile the list stays
 pub not_joined : (o : Option Tile) (ts : List Tile) → gap_offset o ≡ None
     → elim o as (λ _. List Tile) [
       | None ↦ ts
@@ -138,7 +138,7 @@ after_cases front p ends c t back said =
     (away_front 128 ends.front p (t ∷ back) (length c.bytes - 16)
     (said_row c (ends.front ++ (p ∷ (t ∷ back))) said'))
 
--- after the gap before a free tile stands this
+-- after the gap before a free tile comes this tile
 pub gap_after_previous : (c : WindowState) (ts : List Tile) (at : ℕ) (t : Tile) (before : ℕ) → EncodesTiles c ts
     → tile_in ts at ≡ Some t → is_free t ≡ true → gap_offset (previous_in ts at) ≡ Some before
     → gap_offset (next_in ts before) ≡ Some at
@@ -166,7 +166,7 @@ before_cases front p ends c t back said =
       stands = one_tile_at_an_offset c ends.front p (t ∷ back) said';
     }
 
--- stands in the list too
+-- the tile is in the list too
 pub tile_before : (c : WindowState) (at : ℕ) (p : Tile) → (h : HasTileAt c at)
     → previous_in h.tiles at ≡ Some p → HasTileAt c p.offset
 tile_before c at p h e =

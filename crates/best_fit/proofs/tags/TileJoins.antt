@@ -1,5 +1,4 @@
--- Tiles that are joined, cut and given another use: what becomes of the extents, and that no two free tiles are
--- neighbours.
+-- Tiles that are joined, cut and given another use: their extents, and that no two free tiles are neighbours.
 use Rattle.best_fit.proofs.Common.{◌≡◌, refl, sym, ap, subst, ◌∙◌, ℕ, ◌+◌, ◌-◌, ◌<◌, ◌≤◌, inl, inr, Bool, true, false}
 use Rattle.best_fit.proofs.Common.{List, [], ◌∷◌, ◌++◌, arith, nat_lt, nat_le, IsTrue, Some, None, false≢true}
 use Rattle.best_fit.proofs.Common.{both_ways, cases_lt, cond-true, cond-false, le-ltb, lt-ltb, le-leb, leb-true}
@@ -11,7 +10,7 @@ use Rattle.best_fit.proofs.tags.TileRows.{Row, Apart, Apart-weaker, unused, used
 use Rattle.best_fit.proofs.tags.TileRows.{extents_of, extent_of, extents_of-free, extents_of-used, gaps_of-used}
 use Rattle.best_fit.proofs.tags.UnchangedTags.{In}
 
--- a tile of a row begins after those before it
+-- a tile of a row begins after the tiles before it
 pub row_before : (at : ℕ) (u : Tile) (front : List Tile) (t : Tile) (back : List Tile) (end : ℕ)
     → Row at (u ∷ (front ++ (t ∷ back))) end → u.offset + u.len ≤ t.offset
 row_before at u [] t back end r = let o = r.0 in let o' = r.3.0 in omega arith
@@ -25,7 +24,7 @@ abbrev pub rest_of : List Tile → List Tile
 rest_of [] = []
 rest_of (t ∷ ts) = ts
 
--- what a tile becomes with the free one after it, and what is left after it
+-- a tile joined with the free one after it, and the tiles after both
 pub record JoinsTo (t : Tile) (back : List Tile) : Type 0 where
   pub gone : List Tile
   pub left : List Tile
@@ -48,7 +47,7 @@ same_row at ts end r = let e : at ≡ at + 0 = omega arith in subst (λ k. Row k
 true_is_used : (u : Tile) (role : Role) → u.use_of ≡ Some role → IsTrue true → IsTrue (is_free u) → ⊥
 true_is_used u role e behind free = both_ways (is_free u) (used-not_free u role e) free
 
--- what a tile becomes with the free one after it
+-- the tile joined with the free one after it
 pub joins_to : (t : Tile) (back : List Tile) → JoinsTo t back
 joins_to t [] =
     record {
@@ -101,7 +100,7 @@ joins_to t (u ∷ back) =
 
 -- ---- a tile that is cut
 
--- what a tile becomes that is cut, and what is free after it then
+-- a tile that is cut, and the free tile after it
 pub record CutsTo (len : ℕ) (t : Tile) (back : List Tile) : Type 0 where
   pub left : List Tile
   pub is : cut_to len t back ≡ record t { len = share t.len len } ∷ (left ++ back)
@@ -110,7 +109,7 @@ pub record CutsTo (len : ℕ) (t : Tile) (back : List Tile) : Type 0 where
   pub splits : nat_le (len + 32) t.len ≡ true → left ≡ free_tile (t.offset + len) (t.len - len) ∷ []
   pub keeps : nat_le (len + 32) t.len ≡ false → left ≡ []
 
--- what a tile becomes that is cut
+-- the tile that is cut
 pub cuts_to : (len : ℕ) (t : Tile) (back : List Tile) → CutsTo len t back
 cuts_to len t back =
     let rest = free_tile (t.offset + len) (t.len - len) in
@@ -143,7 +142,7 @@ cuts_to len t back =
 
 -- ---- the extents
 
--- those of two lists
+-- the extents of two lists of tiles
 pub extents_of-append : (ts us : List Tile) → extents_of (ts ++ us) ≡ extents_of ts ++ extents_of us
 extents_of-append ts us = filter_map-append as_extent ts us
 
@@ -160,7 +159,7 @@ insert_before at (t ∷ ts) end x r l =
           (omega arith) ∙ ap (λ xs. x ∷ xs) (sym (extents_of-used t ts role e))
     ]
 
--- an extent that begins where a tile does is put in between those before the tile and those after it
+-- an extent at the offset of a tile is inserted between the extents before the tile and after it
 pub insert_between : (at : ℕ) (front : List Tile) (t : Tile) (back : List Tile) (end : ℕ) (x : Extent)
     → Row at (front ++ (t ∷ back)) end → x.offset ≡ t.offset
     → insert x (extents_of front ++ extents_of back) ≡ extents_of front ++ (x ∷ extents_of back)
@@ -180,7 +179,7 @@ insert_between at (u ∷ front) t back end x r e =
           (sym (extents_of-used u front q f))
     ]
 
--- the extent of a handle is taken out from between the others
+-- the extent of a handle is removed from between the others
 pub others_between : (at : ℕ) (front : List Tile) (t : Tile) (back : List Tile) (end : ℕ) (x : Extent) (h : ℕ)
     → Row at (front ++ (t ∷ back)) end → x.offset ≡ t.offset → handle x ≡ h
     → others h (extents_of front ++ (x ∷ extents_of back)) ≡ extents_of front ++ extents_of back
@@ -198,13 +197,13 @@ others_between at (u ∷ front) t back end x h r e same =
           ∙ ap (λ xs. extent_of u q ∷ xs) rest ∙ ap (λ xs. xs ++ extents_of back) (sym (extents_of-used u front q f))
     ]
 
--- the extents round a tile in use
+-- the extents around a tile in use
 pub extents_of-around : (front : List Tile) (t : Tile) (back : List Tile) (role : Role) → t.use_of ≡ Some role
     → extents_of (front ++ (t ∷ back)) ≡ extents_of front ++ (extent_of t role ∷ extents_of back)
 extents_of-around front t back role e = extents_of-append front (t ∷ back)
     ∙ ap (λ xs. extents_of front ++ xs) (extents_of-used t back role e)
 
--- and round a free one
+-- and around a free tile
 pub extents_of-around_free : (front : List Tile) (t : Tile) (back : List Tile) → t.use_of ≡ None
     → extents_of (front ++ (t ∷ back)) ≡ extents_of front ++ extents_of back
 extents_of-around_free front t back e = extents_of-append front (t ∷ back)

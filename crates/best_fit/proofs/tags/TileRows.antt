@@ -1,5 +1,5 @@
--- Tiles in a row: each begins where the one before it ends. Those of a heap are the extents and the gaps of its live
--- set.
+-- Tiles in a row: each begins at the end of the one before it. The tiles of a heap are the extents and the gaps of its
+-- live set.
 use Rattle.best_fit.proofs.Common.{◌≡◌, refl, sym, ap, subst, ◌∙◌, ℕ, ◌+◌, ◌-◌, ◌%◌, ◌<◌, ◌≤◌, ◌⊎◌, Bool, true, false}
 use Rattle.best_fit.proofs.Common.{◌&&◌, ◌||◌, not, List, [], ◌∷◌, ◌++◌, arith, nat_lt, nat_le, ◌==◌, IsTrue, Option}
 use Rattle.best_fit.proofs.Common.{Some, None, map, filter_map, cons_option, false≢true, and_parts, and_from}
@@ -27,7 +27,7 @@ AreContiguous-Row format at (t ∷ ts) end h =
     (and_parts (nat_le 32 t.len && (t.len % 16 == 0)) (not t.red || may_be_red format t.use_of) h.1).0 in
     (h.0, leb-true 32 t.len sizes.0, eqb-true (t.len % 16) 0 sizes.1, AreContiguous-Row format (at + t.len) ts end h.2)
 
--- no two free tiles are neighbours, where a free one stands before the list or not
+-- no two free tiles are neighbours, after a tile that is free or not
 abbrev pub Apart : Bool → List Tile → Type 0
 Apart b [] = Unit {0}
 Apart b (t ∷ ts) = (IsTrue b → IsTrue (is_free t) → ⊥) × Apart (is_free t) ts
@@ -38,13 +38,13 @@ not_both true true h g i = false≢true h
 not_both true false h g i = false≢true i
 not_both false b h g i = false≢true g
 
--- and so their test of not both holds
+-- if not both conditions hold, the test of "not both" passes
 pub from_not_both : (a b : Bool) → (IsTrue a → IsTrue b → ⊥) → IsTrue (not (a && b))
 from_not_both true true h = absurd (h refl refl)
 from_not_both true false h = refl
 from_not_both false b h = refl
 
--- what is merged is apart
+-- in a merged list no two free tiles are neighbours
 merged_behind : (t : Tile) (ts : List Tile) → IsTrue (is_merged (t ∷ ts)) → Apart (is_free t) ts
 merged_behind t [] h = tt
 merged_behind t (u ∷ ts) h =
@@ -56,7 +56,7 @@ pub is_merged-Apart : (ts : List Tile) → IsTrue (is_merged ts) → Apart false
 is_merged-Apart [] h = tt
 is_merged-Apart (t ∷ ts) h = (λ no. absurd (false≢true no), merged_behind t ts h)
 
--- and what is apart is merged
+-- and a list without free neighbours is merged
 pub Apart-is_merged : (b : Bool) (ts : List Tile) → Apart b ts → IsTrue (is_merged ts)
 Apart-is_merged b [] a = refl
 Apart-is_merged b (t ∷ []) a = refl
@@ -64,12 +64,12 @@ Apart-is_merged b (t ∷ u ∷ ts) a =
     and_from (not (is_free t && is_free u)) (is_merged (u ∷ ts)) (from_not_both (is_free t) (is_free u) a.1.0)
     (Apart-is_merged (is_free t) (u ∷ ts) a.1)
 
--- what is apart after a free tile is apart after any
+-- a list that can follow a free tile can follow any tile
 pub Apart-weaker : (b : Bool) (ts : List Tile) → Apart b ts → Apart false ts
 Apart-weaker b [] a = tt
 Apart-weaker b (t ∷ ts) a = (λ no. absurd (false≢true no), a.1)
 
--- ---- what a tile is used for
+-- ---- the use of a tile
 
 -- the extents of the tiles in use
 abbrev pub extents_of : List Tile → List Extent
@@ -79,7 +79,7 @@ extents_of ts = filter_map as_extent ts
 abbrev pub extent_of : Tile → Role → Extent
 extent_of t role = record { offset = t.offset; len = t.len; role = role }
 
--- by what a tile is used for
+-- the cases of a tile's use
 pub data Use (t : Tile) : Type 0 where
   -- a tile with no role is free
   unused : t.use_of ≡ None → Use t
@@ -116,19 +116,19 @@ extent_in t u = elim u [ None ↦ None | Some role ↦ Some (extent_of t role) ]
 pub extents_of-free : (t : Tile) (ts : List Tile) → t.use_of ≡ None → extents_of (t ∷ ts) ≡ extents_of ts
 extents_of-free t ts e = ap (λ (u : Option Role). cons_option (extent_in t u) (extents_of ts)) e
 
--- a tile in use is one
+-- a tile in use is one extent
 pub extents_of-used : (t : Tile) (ts : List Tile) (role : Role) → t.use_of ≡ Some role
     → extents_of (t ∷ ts) ≡ extent_of t role ∷ extents_of ts
 extents_of-used t ts role e = ap (λ (u : Option Role). cons_option (extent_in t u) (extents_of ts)) e
 
 -- ---- spans and gaps
 
--- nothing lies between an end and a begin that are one
+-- an end and an equal beginning have no gap between them
 pub span_between-none : (a b : ℕ) → b ≤ a → span_between a b ≡ []
 span_between-none a b l = cond-false (nat_lt a b) (record { offset = a; len = b - a; use_of = None } ∷ [])
     [] (le-ltb a b l)
 
--- a gap lies between an end and a later begin
+-- a gap lies between an end and a later beginning
 pub span_between-some : (a b : ℕ) → a < b → span_between a b ≡ record { offset = a; len = b - a; use_of = None } ∷ []
 span_between-some a b l = cond-true (nat_lt a b) (record { offset = a; len = b - a; use_of = None } ∷ [])
     [] (lt-ltb a b l)
@@ -144,7 +144,7 @@ free_span t e long =
     span_between-some t.offset (t.offset + t.len) (omega arith)
     ∙ (λ i. record { offset = t.offset; len = len i; use_of = sym e i } ∷ [])
 
--- nothing lies before a row that is after no free tile
+-- there is no gap before a row that follows no free tile
 here_behind : (from at : ℕ) (t : Tile) → IsTrue (is_free t) → (b : Bool) → (IsTrue b → IsTrue (is_free t) → ⊥)
     → Before b from at → from ≡ at
 here_behind from at t free b clash (inl e) = e.1

@@ -1,4 +1,5 @@
--- What stays where the tags of a window change: the blocks whose tiles stand before and afterwards, and the header.
+-- The parts that stay when the tags of a window change: the blocks whose tiles are there before and after, and the
+-- header.
 use Rattle.best_fit.proofs.Common.{◌≡◌, refl, sym, ap, subst, ◌∙◌, ℕ, ◌+◌, ◌-◌, ◌%◌, ◌<◌, ◌≤◌, ◌⊎◌, inl, inr, Bool}
 use Rattle.best_fit.proofs.Common.{List, [], ◌∷◌, ◌++◌, length, arith, Some, Option, AllByRecursion, Memory}
 use Rattle.best_fit.proofs.Common.{WindowState}
@@ -27,7 +28,7 @@ pub in_back : (t : Tile) (ts us : List Tile) → In t us → In t (ts ++ us)
 in_back t [] us h = h
 in_back t (u ∷ ts) us h = inr (in_back t ts us h)
 
--- what lies before a row is beside its tags
+-- a byte before a row lies in no tag of it
 pub low_beside : (at : ℕ) (ts : List Tile) (end k : ℕ) → Row at ts end → k < at → IsBesideTags ts k
 low_beside at [] end k r l = tt
 low_beside at (t ∷ ts) end k r l = let o = r.0 in
@@ -51,7 +52,7 @@ inside_here at t u ts end k r e low high =
       high = omega arith;
     }
 
--- the payload of a tile of a row lies beside all tags
+-- the payload of a tile of a row lies outside all tags
 pub inside : (at : ℕ) (t : Tile) (ts : List Tile) (end k : ℕ) → Row at ts end → In t ts → t.offset + 16 ≤ k
     → k < t.offset + t.len → IsInside ts at end k
 inside at t [] end k r h low high = absurd h
@@ -78,7 +79,7 @@ tag_in format m at before (u ∷ ts) end t h r (inr i) = tag_in format m (at + u
 same_colour : (len len' u r : ℕ) → len % 16 ≡ 0 → len' % 16 ≡ 0 → (len' + u + r) % 16 ≡ (len + u + r) % 16
 same_colour len len' u r e e' = omega arith
 
--- the tile of an extent, or one as long, stands before and afterwards
+-- the tile of an extent, or one of its length, is there before and after
 pub record Stays (ts us : List Tile) (x : Extent) : Type 0 where
   pub old : Tile
   pub new : Tile
@@ -164,9 +165,9 @@ module _ (old new : WindowState) (ts us : List Tile) (said : EncodesTiles old ts
         blocks = step_blocks xs all;
       }
 
--- ---- the blocks round a change
+-- ---- the blocks around a change
 
--- what holds of each tile in use holds of all extents
+-- a property of each tile in use holds for all extents
 pub all_used : (P : Extent → Type 0) (ts : List Tile) → ((t : Tile) → In t ts → (role : Role) → t.use_of ≡ Some role
     → P (extent_of t role)) → AllByRecursion P (extents_of ts)
 all_used P [] h = tt
@@ -178,7 +179,7 @@ all_used P (t ∷ ts) h =
           (h t (inl refl) role e, rest) in subst (AllByRecursion P) (sym (extents_of-used t ts role e)) both
     ]
 
--- what holds of each tile in use holds of the extents
+-- a property of each tile in use holds for the extents
 pub all_extents : (P : Extent → Type 0) (ts : List Tile)
     → ((t : Tile) → In t ts → (role : Role) → P (extent_of t role)) → AllByRecursion P (extents_of ts)
 all_extents P ts h = all_used P ts (λ t i role e. h t i role)
@@ -202,7 +203,7 @@ stays_whole ts us t role i j =
       within_new = at_most_itself t.len;
     }
 
--- what holds of two lists holds of both together
+-- a property of all elements of two lists holds for both together
 pub all_joined : {A : Type 0} (P : A → Type 0) (xs ys : List A) → AllByRecursion P xs → AllByRecursion P ys
     → AllByRecursion P (xs ++ ys)
 all_joined P [] ys a b = b
@@ -220,7 +221,7 @@ around_stays front olds news back =
     (λ t i role. stays_whole ts us t role (in_back t front (olds ++ back) (in_back t olds back i))
     (in_back t front (news ++ back) (in_back t news back i))))
 
--- so do the place and the header
+-- and so do the place and the header
 pub around_keeps : (old new : WindowState) (front olds news back : List Tile)
     → EncodesTiles old (front ++ (olds ++ back))
     → EncodesTiles new (front ++ (news ++ back))

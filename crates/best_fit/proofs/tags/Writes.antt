@@ -35,7 +35,7 @@ use Rattle.best_fit.proofs.tags.TileRows.{extents_of-used}
 
 -- ---- a block that passes a test
 
--- a tile in use whose extent passes a test stands in a list
+-- a tile in use whose extent passes a test is in a list
 pub record Passing (test : Extent → Bool) (ts : List Tile) : Type 0 where
   pub front : List Tile
   pub tile : Tile
@@ -71,7 +71,7 @@ passing_used test t ts role e rest (inl h) = record {
 }
 passing_used test t ts role e rest (inr h) = passing_behind test t ts (rest h)
 
--- where an extent among tiles passes a test, a tile does
+-- if an extent among tiles passes a test, a tile does
 pub passing : (test : Extent → Bool) (ts : List Tile) → IsTrue (list_any test (extents_of ts)) → Passing test ts
 passing test [] h = absurd (false≢true h)
 passing test (t ∷ ts) h =
@@ -172,7 +172,7 @@ pub record Room (c : WindowState) (h n : ℕ) : Type 0 where
   pub block : Block c h
   pub enough : n + 16 ≤ block.tile.len
 
--- a block with room, as the live set says it, stands in the window
+-- a block with room, by the live set, is in the window
 pub room_block : (c : WindowState) (h n : ℕ) → IsHeap current c.bytes → IsTrue (has_room (live_of c.bytes) h n)
     → Room c h n
 unfolding live_of block_from passing
@@ -196,7 +196,7 @@ node_role Index e = absurd (false≢true e)
 node_role Storage e = absurd (false≢true e)
 node_role Node e = refl
 
--- a node block, as the live set says it, stands in the window
+-- a node block, by the live set, is in the window
 pub node_block : (c : WindowState) (h : ℕ) → IsHeap current c.bytes → IsTrue (is_node_in (live_of c.bytes) h)
     → NodeBlock c h
 unfolding live_of block_from passing
@@ -258,7 +258,7 @@ same_live c d heap said size free =
     (says-EncodesLiveSet d (tiles_in c) t
     (subst (λ (l : LiveSet). IsFreeTree current (bytes_of d.bytes) l) (sym e) free))
 
--- a header word may change
+-- a header word can change
 pub header_changed : (c d : WindowState) (at : ℕ) → IsHeap current c.bytes → SameSurroundings c d
     → length d.bytes ≡ length c.bytes
     → at % 8 ≡ 0 → at < 128 → at ≢ 24
@@ -293,7 +293,7 @@ apart_from c h m b n =
     by_case (inr (inl l)) = let at = n.free_tile.at in let long = n.long in inl (omega arith)
     by_case (inr (inr l)) = let at = n.free_tile.at in inr (omega arith)
 
--- bytes of a payload may change
+-- bytes of a payload can change
 pub payload_changed : (c d : WindowState) (h k from n : ℕ) → IsHeap current c.bytes → SameSurroundings c d
     → length d.bytes ≡ length c.bytes → Room c h k → h ≤ from → from + n ≤ h + k
     → SameBytesExcept (bytes_of c.bytes) (bytes_of d.bytes) from n → ChangesBytes current c d from n
@@ -316,11 +316,11 @@ payload_changed c d h k from n heap place size room begins ends same =
     by_case m (inl l) = let at = room.block.at in inl (omega arith)
     by_case m (inr l) = let at = room.block.at in let enough = room.enough in inr (omega arith)
 
--- what lays out some live set is a heap
+-- bytes that encode a live set are a heap
 pub laid-heap : (b : List ℕ) (live : LiveSet) → EncodesLiveSet current b live → IsHeap current b
 laid-heap b live l = subst (EncodesLiveSet current b) (sym (lay_out_one current b live l)) l
 
--- what is read where a block begins is its tile
+-- the tile that is read at a block's beginning is its tile
 pub read_block : (c : WindowState) (h at : ℕ) → (b : Block c h) → at + 16 ≡ h → (t : Tile)
     → ((ts : List Tile) → EncodesTiles c ts → tile_in ts at ≡ Some t) → t ≡ b.tile
 read_block c h at b e t is =
@@ -328,7 +328,7 @@ read_block c h at b e t is =
     same_Some t b.tile (sym (is (b.front ++ (b.tile ∷ b.back)) b.said)
     ∙ ap (λ k. tile_in (b.front ++ (b.tile ∷ b.back)) k) same ∙ b.stands)
 
--- ---- what the writers of a window do
+-- ---- the effect of the writers of a window
 
 -- a word in a block
 pub word_changed : (c d : WindowState) (h at x : ℕ) → IsHeap current c.bytes → Room c h (at + 8)
@@ -360,7 +360,7 @@ bytes_changed c d h at ws heap room e =
     (length-patched c.bytes (h + at) ws inside) room (omega arith) (omega arith)
     (patched-SameBytesExcept c.bytes (h + at) ws inside))
 
--- stand there
+-- the bytes that were written are there
 pub bytes_read : (c d : WindowState) (at : ℕ) (ws : List ℕ) → at + length ws ≤ length c.bytes
     → d ≡ with_bytes c (patched c.bytes at ws) → HasBytesAt (bytes_of d.bytes) at ws
 bytes_read c d at ws inside e = let P : WindowState → Type 0 =
@@ -387,7 +387,7 @@ pub block_len : (c : WindowState) (h at : ℕ) → (b : Block c h) → at + 16 �
     → ((ts : List Tile) → EncodesTiles c ts → tile_in ts at ≡ Some t) → t.len ≡ b.tile.len
 block_len c h at b e t is = ap (λ (u : Tile). u.len) (read_block c h at b e t is)
 
--- a tile at an offset is the one there in each list that the tags say
+-- a tile at an offset is the one there in each list of the tags
 pub tile_in_list : (c : WindowState) (at : ℕ) → (h : HasTileAt c at) → (ts : List Tile) → EncodesTiles c ts
     → tile_in ts at ≡ Some h.tile
 tile_in_list c at h ts said =
@@ -402,7 +402,7 @@ block_role c h b = ap (option_map (λ (x : Extent). x.role)) b.extent
 payload_in : (c : WindowState) (h : ℕ) → Option Extent → List ℕ
 payload_in c h o = elim o [ None ↦ [] | Some x ↦ part c.bytes h (x.len - 16) ]
 
--- the payload of a block, as the live set says it
+-- the payload of a block, by the live set
 pub block_payload : (c : WindowState) (h : ℕ) → (b : Block c h) → payload_at c.bytes (live_of c.bytes) h
     ≡ part c.bytes h (b.tile.len - 16)
 unfolding payload_in

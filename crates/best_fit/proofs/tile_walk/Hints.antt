@@ -1,4 +1,4 @@
--- Block hints lead to blocks in use, and a walk may begin at one.
+-- Block hints are handles of blocks in use, and a walk can begin at one.
 use Rattle.best_fit.proofs.Common.{◌≡◌, ◌≢◌, refl, sym, ap, subst, ◌∙◌, ℕ, ◌+◌, ◌-◌, ◌<◌, ◌≤◌, ◌⊎◌, inl}
 use Rattle.best_fit.proofs.Common.{inr, Bool, true, false, ◌||◌, List, [], ◌∷◌, ◌++◌, length, append_assoc}
 use Rattle.best_fit.proofs.Common.{arith, ◌==◌, IsTrue, Option, Some, None, is_some, IfSome, list_any}
@@ -20,9 +20,9 @@ use Rattle.best_fit.proofs.tags.TileRows.{Row, unused, used, use_cases, extents_
 use Rattle.best_fit.proofs.tile_walk.Walk.{Left, Next, StillNames, live_extents, names_start}
 use Rattle.best_fit.proofs.tags.Writes.{Block, laid-heap, live_block, read_block}
 
--- ---- what is noted
+-- ---- adding a hint
 
--- empty hints lead to blocks, as there is none
+-- without hints each hint is the handle of a block
 pub none-lead : (p : BlockHints) (b : List ℕ) → AreNone p → LeadToBlocks p b
 none-lead p b none h n = absurd (none h n)
 
@@ -34,7 +34,7 @@ noted-lead p q b a lead live more h n =
 
 -- ---- blocks that stay in use
 
--- where all blocks of a live set are among those of the next one
+-- if each block of a live set is in the next one, the hints stay valid
 pub held-on : (p : BlockHints) (b b' : List ℕ) (live : LiveSet) → LeadToBlocks p b → EncodesLiveSet current b' live
     → ((h : ℕ) → IsTrue (is_live_in (live_of b) h) → IsTrue (is_live_in live h)) → IsHintedHeap b' p
 held-on p b b' live lead laid stay =
@@ -44,7 +44,7 @@ held-on p b b' live lead laid stay =
           (stay h (lead h n));
     }
 
--- the same blocks
+-- the hints stay valid if the blocks are the same
 pub held-same : (p : BlockHints) (b b' : List ℕ) → LeadToBlocks p b → EncodesLiveSet current b' (live_of b)
     → IsHintedHeap b' p
 held-same p b b' lead laid = held-on p b b' (live_of b) lead laid (λ h l. l)
@@ -82,7 +82,7 @@ skip_tile h t ts n =
           (ne_eqb (t.offset + 16) h n)
     ]
 
--- nor do those before a tile that does not stand after it
+-- nor is it the handle of a tile before one at or before it
 skip_front : (h at : ℕ) (front : List Tile) (t : Tile) (back : List Tile) (end : ℕ)
     → Row at (front ++ (t ∷ back)) end → t.offset + 16 ≤ h
     → list_any (λ (x : Extent). handle x == h) (extents_of (front ++ (t ∷ back))) ≡ list_any
@@ -92,7 +92,7 @@ skip_front h at (u ∷ us) t back end r l =
     let ends = row_before at u us t back end r in let long = r.1 in
     skip_tile h u (us ++ (t ∷ back)) (λ e. omega arith) ∙ skip_front h (at + u.len) us t back end r.3 l
 
--- nor those after it
+-- nor of a tile after it
 none_behind : (h at : ℕ) (ts : List Tile) (end : ℕ) → Row at ts end → h < at + 16
     → list_any (λ (x : Extent). handle x == h) (extents_of ts) ≡ false
 none_behind h at [] end r l = refl
@@ -107,7 +107,7 @@ row_left c passed t back said =
     let r = row_back 128 passed (t ∷ back) (length c.bytes - 16) (said_row c (passed ++ (t ∷ back)) said) in
     subst (λ k. Row (k + t.len) back (length c.bytes - 16)) (sym r.0) r.3
 
--- what a tile at or after a handle tells of it
+-- a tile at or after a handle decides whether the handle is live
 pub names_told : (c : WindowState) (h : ℕ) (t : Tile) → (n : Next c (StillNames c h) t) → h ≤ t.offset + 16
     → (answer : Bool)
     → ((t.offset + 16 ≡ h) → answer ≡ is_some t.use_of) → ((t.offset + 16 ≡ h → ⊥) → answer ≡ false)
@@ -129,7 +129,7 @@ names_told c h t n l answer same other =
       | inr d ↦ other d ∙ sym none ∙ sym (skip_tile h t n.back d) ∙ n.holds
     ]
 
--- a walk that looks for a handle may begin at a block that does not stand after it
+-- a walk that searches for a handle can begin at a block at or before it
 pub left_from : (c : WindowState) (h known : ℕ) → IsHeap current c.bytes → IsTrue (is_live_in (live_of c.bytes) known)
     → known ≤ h → (t : Tile) → ((ts : List Tile) → EncodesTiles c ts → tile_in ts (known - 16) ≡ Some t)
     → Left c (Some t) (StillNames c h)
@@ -184,7 +184,7 @@ used_is_live c P t n some =
 abbrev pub Beyond : WindowState → ℕ → List Tile → Type 0
 Beyond c k ts = (at : ℕ) × Row at ts (length c.bytes - 16) × (k ≤ at)
 
--- what a walk has left after a block
+-- the tiles that a walk has ahead after a block
 pub left_behind : (c : WindowState) (h : ℕ) → IsHeap current c.bytes → IsTrue (is_live_in (live_of c.bytes) h)
     → (next : Option Tile) → ((ts : List Tile) → EncodesTiles c ts → next ≡ next_in ts (h - 16))
     → Left c next (Beyond c h)
@@ -200,23 +200,23 @@ left_behind c h heap live next is =
       holds = (b.tile.offset + b.tile.len, row_left c b.front b.tile b.back b.said, omega arith);
     }
 
--- what is beyond a tile is beyond the next one
+-- a tile beyond another is beyond the next one
 pub beyond_next : (c : WindowState) (k : ℕ) (t : Tile) (back : List Tile) → Beyond c k (t ∷ back) → Beyond c k back
 beyond_next c k t back y = let l = y.2 in (y.0 + t.len, y.1.3, omega arith)
 
--- one of them is another block
+-- one of these tiles is another block
 pub beyond_other : (c : WindowState) (k : ℕ) (t : Tile) (back : List Tile) → Beyond c k (t ∷ back) → t.offset + 16 ≢ k
 beyond_other c k t back y = let l = y.2 in let o = y.1.0 in λ e. omega arith
 
 -- ---- the nearest block hint
 
--- it leads to a block that does not stand after the handle
+-- the hint is the handle of a block at or before the handle
 pub record Nearest (c : WindowState) (h known : ℕ) : Type 0 where
   pub live : IsTrue (is_live_in (live_of c.bytes) known)
   pub block : Block c known
   pub near : known ≤ h
 
--- a hint at or before a handle is a place where a walk may begin
+-- a walk can begin at a hint at or before a handle
 pub nearest_block : (c : WindowState) (p : BlockHints) (h known : ℕ) → IsHintedHeap c.bytes p → (o : Option ℕ)
     → IfSome o (λ k. IsHinted p k × (k ≤ h)) → o ≡ Some known → Nearest c h known
 nearest_block c p h known held o is e =
@@ -224,7 +224,7 @@ nearest_block c p h known held o is e =
     let live = held.hints known two.0 in
     record { live = live; block = live_block c known held.heap live; near = two.1 }
 
--- ---- what each call of the heap leaves
+-- ---- the hints after each call of the heap
 
 extended_cases : (p : BlockHints) (old new : WindowState) (h n : ℕ) (r : Bool) → IsHintedHeap old.bytes p
     → (x : TryExtends current old new h n r) → (o : Option Extent) → longer (live_of old.bytes) x.extent n
@@ -235,13 +235,13 @@ extended_cases p old new h n r held x (Some y) e =
     held-on p old.bytes new.bytes (resized (live_of old.bytes) y) held.hints (x.lengthened y e).1.live
     (resized-stay (live_of old.bytes) y)
 
--- hints stay good if a block is lengthened where it stands
+-- hints stay valid if a block is lengthened in place
 pub extended-held : (p : BlockHints) (old new : WindowState) (h n : ℕ) (r : Bool) → IsHintedHeap old.bytes p
     → TryExtends current old new h n r → IsHintedHeap new.bytes p
 extended-held p old new h n r held x = extended_cases p old new h n r held x
     (longer (live_of old.bytes) x.extent n) refl
 
--- hints stay good if a block is shortened where it stands
+-- hints stay valid if a block is shortened in place
 pub shortened-held : (p : BlockHints) (old new : WindowState) (h n : ℕ) → LeadToBlocks p old.bytes
     → ShrinksInPlace current old new h n → IsHintedHeap new.bytes p
 shortened-held p old new h n lead x =
@@ -273,7 +273,7 @@ allocated-held p q old new n role a lead x more =
       hints = noted-lead p q new.bytes a held.hints (allocated-is_live current old new n role a x) more;
     }
 
--- none leads to the block k, and each to a block in use
+-- no hint is the block k, and each is a block in use
 pub passed-lead : (p : BlockHints) (c d : WindowState) (k : ℕ) → c ≡ d
     → ((h : ℕ) → IsHinted p h → (h ≢ k) × IsTrue (is_live_in (live_of c.bytes) h)) → (h : ℕ) → IsHinted p h
     → (h ≢ k) × IsTrue (is_live_in (live_of d.bytes) h)

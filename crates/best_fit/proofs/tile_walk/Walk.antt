@@ -14,7 +14,7 @@ use Rattle.best_fit.proofs.tags.RowParts.{row_reaches}
 use Rattle.best_fit.proofs.tags.TagsAndLiveSet.{heap-says, legal_size, said_row}
 use Rattle.best_fit.proofs.tags.TileRows.{Row, unused, used, use_cases, extents_of, extents_of-free, extents_of-used}
 
--- how far a walk has to go from the tile at hand to the end
+-- the distance of a walk from the current tile to the end
 abbrev pub to_go : ℕ → Option Tile → ℕ
 to_go end None = 0
 to_go end (Some t) = end - t.offset
@@ -31,7 +31,7 @@ nearer t [] end n r l = let e : t.offset + t.len ≡ end = r.3 in let long = r.1
 nearer t (u ∷ us) end n r l = let o = r.3.0 in let long = r.1 in
     let on = row_reaches (t.offset + t.len) (u ∷ us) end r.3 in omega arith
 
--- the tile at hand is the first of those left, of which this holds
+-- the current tile is the first of the remaining ones, for which the property holds
 pub record Left (c : WindowState) (ahead : Option Tile) (P : List Tile → Type 0) : Type 0 where
   pub passed : List Tile
   pub rest : List Tile
@@ -46,11 +46,11 @@ left_start c P heap ahead is holds =
     let said = (heap-says c heap).said in
     record { passed = []; rest = tiles_in c; said = said; here = is (tiles_in c) said; holds = holds }
 
--- its tags say tiles
+-- the tags of a heap's window describe tiles
 pub window_tiled : (c : WindowState) → IsHeap current c.bytes → IsTiledWindow c
 window_tiled c heap = record { tiles = tiles_in c; said = (heap-says c heap).said }
 
--- of a list whose first one is known
+-- a list whose first tile is known
 pub record Here (tile : Tile) (rest : List Tile) : Type 0 where
   pub back : List Tile
   pub list : rest ≡ tile ∷ back
@@ -62,7 +62,7 @@ first_here tile ahead [] e f = absurd (none-some tile (sym f ∙ e))
 first_here tile ahead (t ∷ ts) e f =
     record { back = ts; list = ap (λ (u : Tile). u ∷ ts) (same_Some t tile (sym f ∙ e)) }
 
--- a tile that a walk has come to
+-- a tile that a walk has reached
 pub record Meets (c : WindowState) (tile : Tile) : Type 0 where
   pub has : HasTileAt c tile.offset
   pub long : 32 ≤ tile.len
@@ -74,7 +74,7 @@ module _ (c : WindowState) (passed : List Tile) (tile : Tile) (back : List Tile)
   rows : Row tile.offset (tile ∷ back) (length c.bytes - 16)
   rows = row_at 128 passed tile back (length c.bytes - 16) (said_row c (passed ++ (tile ∷ back)) said)
 
-  -- the tile ahead is the one that the tags say
+  -- the tile ahead is the tile of the tags
   pub meets : Meets c tile
   meets =
       record {
@@ -89,7 +89,7 @@ module _ (c : WindowState) (passed : List Tile) (tile : Tile) (back : List Tile)
         size = (legal_size (length c.bytes) said.size).high;
       }
 
-  -- it is passed
+  -- the tile is passed
   pub passed_on : EncodesTiles c ((passed ++ (tile ∷ [])) ++ back)
   passed_on = subst (EncodesTiles c) (sym (append_assoc passed (tile ∷ []) back)) said
 
@@ -106,7 +106,7 @@ module _ (c : WindowState) (passed : List Tile) (tile : Tile) (back : List Tile)
       (nearer tile back (length c.bytes - 16) (length c.bytes) rows
       (let low = (legal_size (length c.bytes) said.size).low in omega arith))
 
--- what holds of the tile at hand and those after it
+-- a property of the current tile and the tiles after it
 pub record Next (c : WindowState) (P : List Tile → Type 0) (tile : Tile) : Type 0 where
   pub passed : List Tile
   pub back : List Tile
@@ -114,7 +114,7 @@ pub record Next (c : WindowState) (P : List Tile → Type 0) (tile : Tile) : Typ
   pub holds : P (tile ∷ back)
   pub meets : Meets c tile
 
--- the tile ahead: what is left after it
+-- the tile ahead, and the tiles after it
 pub left_next : (c : WindowState) (ahead : Option Tile) (P : List Tile → Type 0) → Left c ahead P → (tile : Tile)
     → ahead ≡ Some tile → Next c P tile
 left_next c ahead P l tile is =
@@ -129,7 +129,7 @@ left_next c ahead P l tile is =
       meets = meets c l.passed tile h.back said;
     }
 
--- where the walk goes on
+-- the walk continues with the next tile
 pub left_goes_on : (c : WindowState) (P Q : List Tile → Type 0) (tile : Tile) → (n : Next c P tile)
     → (next : Option Tile)
     → ((ts : List Tile) → EncodesTiles c ts → next ≡ next_in ts tile.offset) → Q n.back → Left c next Q
@@ -142,7 +142,7 @@ left_goes_on c P Q tile n next is holds =
       holds = holds;
     }
 
--- the walk comes nearer to the end
+-- the walk comes closer to the end
 pub left_nearer : (c : WindowState) (P : List Tile → Type 0) (tile : Tile) → (n : Next c P tile)
     → (ahead next : Option Tile)
     → ahead ≡ Some tile → ((ts : List Tile) → EncodesTiles c ts → next ≡ next_in ts tile.offset)
@@ -160,22 +160,22 @@ none_left (t ∷ ts) e = absurd (none-some t e)
 pub left_end : (c : WindowState) (ahead : Option Tile) (P : List Tile → Type 0) → Left c ahead P → ahead ≡ None → P []
 left_end c ahead P l none = subst P (none_left l.rest (sym none ∙ l.here)) l.holds
 
--- ---- what the walks look for
+-- ---- the targets of the walks
 
 -- the blocks in use are the tiles in use
 pub live_extents : (c : WindowState) → (live_of c.bytes).extents ≡ extents_of (tiles_in c)
 unfolding live_of
 live_extents c = refl
 
--- a handle is still to be found
+-- a handle is among the remaining tiles
 abbrev pub StillNames : WindowState → ℕ → List Tile → Type 0
 StillNames c h rest = list_any (λ (x : Extent). handle x == h) (extents_of rest) ≡ is_live_in (live_of c.bytes) h
 
--- at the start each block may bear the handle
+-- at the start each block can have the handle
 pub names_start : (c : WindowState) (h : ℕ) → StillNames c h (tiles_in c)
 names_start c h = ap (λ xs. list_any (λ (x : Extent). handle x == h) xs) (sym (live_extents c))
 
--- after a tile that is not the handle's the others may
+-- after a tile without the handle the others can have it
 pub names_passed : (c : WindowState) (h : ℕ) (t : Tile) (back : List Tile) → StillNames c h (t ∷ back)
     → (t.offset + 16 ≡ h → ⊥) → StillNames c h back
 names_passed c h t back s n =
@@ -187,7 +187,7 @@ names_passed c h t back s n =
           ∙ sym (ap (λ xs. list_any (λ (x : Extent). handle x == h) xs) (extents_of-used t back role f)) ∙ s
     ]
 
--- this many blocks and those left are all
+-- this many blocks and the remaining ones are all
 abbrev pub StillLive : WindowState → ℕ → List Tile → Type 0
 StillLive c count rest = count + length (extents_of rest) ≡ length (live_of c.bytes).extents
 
@@ -195,7 +195,7 @@ StillLive c count rest = count + length (extents_of rest) ≡ length (live_of c.
 pub live_start : (c : WindowState) → StillLive c 0 (tiles_in c)
 live_start c = zero-add (length (extents_of (tiles_in c))) ∙ ap length (sym (live_extents c))
 
--- a tile in use is one more
+-- a tile in use counts one more
 pub live_more : (c : WindowState) (count : ℕ) (t : Tile) (back : List Tile) → StillLive c count (t ∷ back)
     → is_some t.use_of ≡ true → StillLive c (count + 1) back
 live_more c count t back s some =
@@ -236,7 +236,7 @@ live_few c count rest heap s =
     let all : length (live_of c.bytes).extents ≡ length (extents_of (tiles_in c)) =
     ap length (live_extents c) in omega arith
 
--- the tile of an index is still to come, this many before it
+-- the tile of an index is ahead, with this many tiles before it
 abbrev pub StillAt : WindowState → ℕ → ℕ → List Tile → Type 0
 StillAt c before index rest = slice_get rest (index - before) ≡ slice_get (tiles_in c) index
 
@@ -244,7 +244,7 @@ StillAt c before index rest = slice_get rest (index - before) ≡ slice_get (til
 pub index_start : (c : WindowState) (index : ℕ) → StillAt c 0 index (tiles_in c)
 index_start c index = let same : index - 0 ≡ index = omega arith in ap (slice_get (tiles_in c)) same
 
--- a tile that is passed is one less
+-- passing a tile reduces the distance by one
 pub index_passed : (c : WindowState) (before index : ℕ) (t : Tile) (back : List Tile)
     → StillAt c before index (t ∷ back)
     → before < index → StillAt c (before + 1) index back
@@ -325,7 +325,7 @@ module _ (c d : WindowState) (heap : IsHeap current c.bytes) (e : d ≡ c) where
   heap_stands : (i : ℕ) (t : Tile) → slice_get (tiles_in d) i ≡ Some t → slice_get (tiles_in c) i ≡ Some t
   heap_stands i t stands = sym (ap (λ (v : WindowState). slice_get (tiles_in v) i) e) ∙ stands
 
-  -- a tile of the heap is there
+  -- a tile of the heap is at its offset
   pub heap_has : (t : Tile) → IsTileOf d.bytes t → HasTileAt c t.offset
   heap_has t is = index_has c heap is.index t (heap_stands is.index t is.stands)
 

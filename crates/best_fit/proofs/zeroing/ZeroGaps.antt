@@ -62,7 +62,7 @@ zeroing_start old heap ahead is =
       here = is (tiles_in old) said;
     }
 
--- the tile that the walk has come to
+-- the tile that the walk has reached
 pub record Turn (old new : WindowState) (tile : Tile) : Type 0 where
   pub passed : List Tile
   pub back : List Tile
@@ -82,18 +82,18 @@ all_split : (P : Gap → Type 0) (xs ys : List Gap) → AllByRecursion P (xs ++ 
 all_split P [] ys h = (tt, h)
 all_split P (x ∷ xs) ys h = let rest = all_split P xs ys h.1 in ((h.0, rest.0), rest.1)
 
--- it is passed: what is left of the walk are the tiles after it
+-- the tile is passed: the walk continues with the tiles after it
 pub record Passed (old new : WindowState) (tile : Tile) : Type 0 where
   pub passed : List Tile
   pub back : List Tile
   pub said : EncodesTiles new (passed ++ (tile ∷ back))
   pub zeroed : Zeroed old new (passed ++ (tile ∷ [])) back
 
--- the tile that was passed is there
+-- the passed tile is at its offset
 pub passed_has : (old new : WindowState) (tile : Tile) → Passed old new tile → HasTileAt new tile.offset
 passed_has old new tile p = (meets new p.passed tile p.back p.said).has
 
--- the walk goes on after the tile that was passed
+-- the walk continues after the passed tile
 pub passed_goes_on : (old new : WindowState) (tile : Tile) → Passed old new tile → (next : Option Tile)
     → ((ts : List Tile) → EncodesTiles new ts → next ≡ next_in ts tile.offset)
     → Zeroing old new next
@@ -105,7 +105,7 @@ passed_goes_on old new tile p next is =
       here = next_here new p.passed tile p.back p.said next is;
     }
 
--- the walk comes nearer to the end
+-- the walk comes closer to the end
 pub passed_nearer : (old new : WindowState) (tile : Tile) → Passed old new tile → (ahead next : Option Tile)
     → ahead ≡ Some tile
     → ((ts : List Tile) → EncodesTiles new ts → next ≡ next_in ts tile.offset) → to_go (length old.bytes) next
@@ -142,7 +142,7 @@ zeroing_used old new next tile t some e =
       };
     })
 
--- what is zero before the bytes that change stays so
+-- bytes before the bytes that change stay zero
 zero_kept : (m m' : Memory) (at : ℕ) (ts : List Tile) (end from n : ℕ) → Row at ts end → end ≤ from
     → SameBytesExcept m m' from n → AllByRecursion (IsZero m) (gaps_of ts) → AllByRecursion (IsZero m') (gaps_of ts)
 zero_kept m m' at [] end from n r l same zero = tt
@@ -220,7 +220,7 @@ zeroing_free old new next tile t none e =
     away k (inl l) = inl (omega arith)
     away k (inr l) = let long = t.meets.long in inr (omega arith)
 
--- ---- what lies beside the free bytes of all gaps
+-- ---- the bytes outside the free bytes of all gaps
 
 module _ (t : Tile) (k : ℕ) (low : t.offset ≤ k) (high : k < t.offset + t.len) (own : t.use_of ≡ None
     → k < t.offset + 32) where
@@ -244,7 +244,7 @@ module _ (t : Tile) (k : ℕ) (low : t.offset ≤ k) (high : k < t.offset + t.le
             subst (AllByRecursion (IsBesideFree current k)) (sym (gaps_of-free u us e)) both
       ]
 
--- so do the bytes below the first tile
+-- and so do the bytes below the first tile
 below_beside : (at : ℕ) (ts : List Tile) (end k : ℕ) → Row at ts end → k < at
     → AllByRecursion (IsBesideFree current k) (gaps_of ts)
 below_beside at [] end k r l = tt
@@ -256,7 +256,7 @@ below_beside at (u ∷ us) end k r l =
           (inl (omega arith), rest) in subst (AllByRecursion (IsBesideFree current k)) (sym (gaps_of-free u us e)) both
     ]
 
--- where only the free bytes of gaps change, all else stays
+-- if only the free bytes of gaps change, all other bytes stay
 module _ (old new : WindowState) (heap : IsHeap current old.bytes) (same : (k : ℕ)
     → AllByRecursion (IsBesideFree current k)
     (gaps_of (tiles_in old)) → bytes_of new.bytes k ≡ bytes_of old.bytes k) where

@@ -1,4 +1,4 @@
-//! Building of the tree of gaps, over a window whose tags are good.
+//! Builds the tree of gaps over a window with good tags.
 ghost use Rattle.std.specs.Prelude.{◌≡◌, ◌+◌, ◌%◌, ◌≤◌, IsTrue, List, [], ◌∷◌, ◌++◌, length, None};
 ghost use Rattle.raw_region.specs.Format.{current};
 ghost use Rattle.raw_region.specs.Memory.{AreBytes, SameBytesExcept, SameSurroundings, bytes_of};
@@ -18,10 +18,9 @@ use offset_link::load;
 use raw_region::{Window, bytes_are_octets};
 
 impl Heap {
-    /// Makes the heap of a window that has blocks and gaps, and no tree of the gaps. It writes the tree into the gaps,
-    /// and the link to it into the word at 24. The window has a legal size and good tags, and no gap is red. The old
-    /// word at 24 and the old links of the gaps are lost, and all else stays. There are no hints until `insert_hint`
-    /// adds them.
+    /// Makes a heap of a window that has blocks and gaps but no tree of the gaps. It writes the tree into the gaps, and
+    /// the link to it into the word at 24. The window has a legal size and good tags, and no gap is red. It overwrites
+    /// the word at 24 and the links of the gaps; all else stays. There are no hints until `insert_hint` adds them.
     pub fn rebuild(window: Window) -> Heap
         requires size { IsTrue (is_legal_size (length window.bytes)) }
         requires tags { IsTrue (has_tags 0 (bytes_of window.bytes) (length window.bytes)) }
@@ -37,7 +36,7 @@ impl Heap {
     }
 }
 
-/// Makes both links of each gap null, and the tree empty.
+/// Sets both links of each gap to null, and empties the tree.
 fn clear_gaps(window: &mut Window)
     requires size { IsTrue (is_legal_size (length window.old.bytes)) }
     requires tags { IsTrue (has_tags current (bytes_of window.old.bytes) (length window.old.bytes)) }
@@ -54,7 +53,7 @@ fn clear_gaps(window: &mut Window)
     set_link(window, FREE_TREE_ROOT, None);
 }
 
-/// Makes the links at `node` and after it null.
+/// Sets the link at `node` and the next one to null.
 fn clear(window: &mut Window, node: u64)
     requires aligned { node % 8 ≡ 0 }
     requires max_size { node ≤ 1073741824 }
@@ -69,7 +68,7 @@ fn clear(window: &mut Window, node: u64)
     set_link(window, node + RIGHT_LINK, None);
 }
 
-/// Puts all gaps into the tree, which is empty, one after the other.
+/// Inserts all gaps into the empty tree, one after the other.
 fn plant_gaps(gaps: &mut GapTree)
     requires { HasGapTree gaps.old.window [] }
     ensures tree { HasGapTree gaps.new.window (gaps_in gaps.new.window) }
@@ -84,7 +83,7 @@ fn plant_gaps(gaps: &mut GapTree)
     }
 }
 
-/// Inserts the first gap after all gaps of the tree.
+/// Inserts the first gap that follows all gaps of the tree.
 fn plant(gaps: &mut GapTree, node: u64)
     requires { (xs : List Gap) × (g : Gap) × (node ≡ node_of g) × IsNextGap gaps.old.window xs g }
     ensures tree { (xs : List Gap) (g : Gap) → node ≡ node_of g → IsNextGap gaps.old.window xs g

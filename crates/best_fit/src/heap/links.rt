@@ -16,7 +16,8 @@ use offset_link::{Places, load, shift, shift_non_null};
 use raw_region::Window;
 
 impl Heap {
-    /// Returns where the header's link at `at` leads: a multiple of 8 below 128, and not 24.
+    /// Returns the target of the header's link at `at`: a multiple of 8 below 128, and not 24. `None` if the link is
+    /// null.
     pub fn header_link(&self, at: u64) -> Option<u64>
         requires aligned { at % 8 ≡ 0 }
         requires in_range { at < HEADER_LEN }
@@ -26,7 +27,7 @@ impl Heap {
         load(&self.gaps.window, at)
     }
 
-    /// Makes the header's link at `at`, a multiple of 8 below 128 and not 24, lead to a multiple of 16, or nowhere.
+    /// Sets the header's link at `at`, a multiple of 8 below 128 and not 24. The target is a multiple of 16, or none.
     pub fn set_header_link(&mut self, at: u64, to: Option<u64>)
         requires aligned { at % 8 ≡ 0 }
         requires in_range { at < HEADER_LEN }
@@ -38,7 +39,7 @@ impl Heap {
         set_link(&mut self.gaps.window, at, to);
     }
 
-    /// Returns where the link at `at` in the block of a handle leads.
+    /// Returns the target of the link at `at` in a block, or `None` if the link is null.
     pub fn link(&self, handle: u64, at: u64) -> Option<u64>
         requires aligned { at % 8 ≡ 0 }
         requires room { IsTrue (has_room (live_of self.now.bytes) handle (at + 8)) }
@@ -47,7 +48,7 @@ impl Heap {
         load(&self.gaps.window, handle + at)
     }
 
-    /// Makes the link at `at` in the block of a handle lead to a multiple of 16, or nowhere.
+    /// Sets the link at `at` in a block. The target is a multiple of 16, or none.
     pub fn set_link(&mut self, handle: u64, at: u64, to: Option<u64>)
         requires aligned { at % 8 ≡ 0 }
         requires room { IsTrue (has_room (live_of self.old.bytes) handle (at + 8)) }
@@ -58,8 +59,8 @@ impl Heap {
         set_link(&mut self.gaps.window, handle + at, to);
     }
 
-    /// Makes the `n` links from `to_at` on in the block `to` lead where those from `from_at` on in the block `from`
-    /// lead. It may be one block, and the two ranges may overlap.
+    /// Copies the `n` links from `from_at` on in the block `from` to `to_at` in the block `to`; each keeps its target.
+    /// Both can be the same block, and the ranges can overlap.
     pub fn shift_links(&mut self, from: u64, from_at: u64, to: u64, to_at: u64, n: u64)
         requires from_aligned { from_at % 8 ≡ 0 }
         requires to_aligned { to_at % 8 ≡ 0 }
@@ -72,7 +73,7 @@ impl Heap {
         move_to(&mut self.gaps.window, from + from_at, to + to_at, n);
     }
 
-    /// Moves links as `shift_links` does, if none of them is null, in about half the time.
+    /// Copies links as `shift_links` does, if none of them is null, in about half the time.
     pub fn shift_non_null_links(&mut self, from: u64, from_at: u64, to: u64, to_at: u64, n: u64)
         requires from_aligned { from_at % 8 ≡ 0 }
         requires to_aligned { to_at % 8 ≡ 0 }
@@ -85,7 +86,7 @@ impl Heap {
         move_non_null_to(&mut self.gaps.window, from + from_at, to + to_at, n);
     }
 
-    /// Tells whether the block of a handle is red. Only a node block may be.
+    /// Returns true if a block is red. Only a node block can be red.
     pub fn node_red(&self, handle: u64) -> bool
         requires { IsTrue (is_live_in (live_of self.now.bytes) handle) }
         ensures { result ≡ is_red (bytes_of self.now.bytes) handle }
@@ -93,7 +94,7 @@ impl Heap {
         tile_at(&self.gaps.window, handle - TAG_LEN).red
     }
 
-    /// Makes the node block of a handle red, or black.
+    /// Sets the colour of a node block.
     pub fn set_node_red(&mut self, handle: u64, red: bool)
         requires { IsTrue (is_node_in (live_of self.old.bytes) handle) }
         ensures { Recolours current self.old self.new handle red }
@@ -102,7 +103,7 @@ impl Heap {
     }
 }
 
-/// Makes the `n` links from `target` on lead where those from `source` on lead.
+/// Copies the `n` links from `source` on to `target`; each keeps its target.
 fn move_to(window: &mut Window, source: u64, target: u64, n: u64)
     requires source_aligned { source % 8 ≡ 0 }
     requires target_aligned { target % 8 ≡ 0 }
@@ -116,7 +117,7 @@ fn move_to(window: &mut Window, source: u64, target: u64, n: u64)
     shift(window, source, n, way(source, target));
 }
 
-/// Moves links as `move_to` does, if none of them is null.
+/// Copies links as `move_to` does, if none of them is null.
 fn move_non_null_to(window: &mut Window, source: u64, target: u64, n: u64)
     requires source_aligned { source % 8 ≡ 0 }
     requires target_aligned { target % 8 ≡ 0 }
@@ -130,7 +131,7 @@ fn move_non_null_to(window: &mut Window, source: u64, target: u64, n: u64)
     shift_non_null(window, source, n, way(source, target));
 }
 
-/// Returns how far it is from one link to another.
+/// Returns the distance and the direction from one link to another.
 fn way(source: u64, target: u64) -> Places
     requires source_aligned { source % 8 ≡ 0 }
     requires target_aligned { target % 8 ≡ 0 }

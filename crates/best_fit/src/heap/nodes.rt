@@ -18,27 +18,27 @@ use link_tree::{Nodes, NodesMut};
 use offset_link::{load, store, store_null};
 use raw_region::Window;
 
-/// Where the right link of a node of a tree stands after the left one, in bytes.
+/// The distance from a node's left link to its right link, in bytes.
 pub const RIGHT_LINK: u64 = 8;
 
 /// The offset of the header's word that links to the root of the free tree.
 pub const FREE_TREE_ROOT: u64 = 24;
 
-/// The payload of the first tile.
+/// The handle of the first tile.
 const FIRST_GAP: u64 = HEADER_LEN + TAG_LEN;
 
 /// The target of a search among the gaps: the first gap that is longer than `len`, or has this length and its payload
-/// at `from` or after it.
+/// at or after `from`.
 #[derive(Clone, Copy, Debug)]
 pub struct GapProbe {
     /// The length in bytes.
     pub len: u64,
-    /// The payload from which gaps of this length count.
+    /// The least payload of a gap with this length.
     pub from: u64,
 }
 
-/// A window whose gaps are nodes, each named by its payload: its links are the first two words there, and its colour is
-/// the colour of its tile. A gap precedes longer gaps, and gaps of its length at greater offsets.
+/// A window whose gaps are nodes, each named by the offset of its payload. The first two words there are its links, and
+/// its colour is its tile's colour. A gap precedes longer gaps, and gaps of its length at greater offsets.
 #[derive(Drop)]
 pub struct GapTree {
     pub(super) window: Window,
@@ -109,7 +109,7 @@ impl NodesMut for GapTree {
     }
 }
 
-/// Makes the link at `at` lead to a multiple of 16, or nowhere.
+/// Sets the link at `at`. The target is a multiple of 16, or none.
 pub fn set_link(window: &mut Window, at: u64, to: Option<u64>)
     requires aligned { at % 8 ≡ 0 }
     requires in_bounds { at + 8 ≤ length window.old.bytes }
@@ -125,7 +125,7 @@ pub fn set_link(window: &mut Window, at: u64, to: Option<u64>)
     }
 }
 
-/// Makes the one gap of a window the tree, or no gap if there is none.
+/// Makes a tree of the one gap of a window, or an empty tree if there is no gap.
 pub fn plant_first(window: &mut Window)
     requires layout { EncodesTiles window.old (laid (length window.old.bytes)) }
     ensures live { EncodesLiveSet current window.new.bytes (no_blocks (length window.old.bytes)) }

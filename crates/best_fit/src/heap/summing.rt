@@ -1,4 +1,4 @@
-//! The bytes of all gaps, from the tree of the gaps: no block in use is gone to.
+//! Sums the bytes of all gaps over the tree of the gaps, without a visit of blocks in use.
 ghost use Rattle.std.specs.Prelude.{◌≡◌, true};
 ghost use Rattle.raw_region.specs.Format.{current};
 ghost use Rattle.best_fit.specs.Extents.{free_bytes as free_bytes_of};
@@ -11,7 +11,7 @@ use link_tree::walk;
 use offset_link::load;
 use raw_region::Window;
 
-/// Where the word that tells a gap's length stands in its tag; its lowest four bits tell the use and the colour.
+/// The offset in a gap's tag of the word with its length. The lowest four bits of the word are the use and the colour.
 const LENGTH: u64 = 8;
 
 /// Returns the length of the gap with this payload. The number can be any number.
@@ -24,7 +24,7 @@ fn len_before(window: &Window, node: u64) -> u64
     window.read_u64(node - TAG_LEN + LENGTH) / 16 * 16
 }
 
-/// Returns the bytes of all gaps.
+/// Returns the number of bytes in all gaps.
 pub fn free_bytes(gaps: &GapTree) -> u64
     requires { IsHeap current gaps.now.window.bytes }
     ensures { result ≡ free_bytes_of (live_of gaps.now.window.bytes) }

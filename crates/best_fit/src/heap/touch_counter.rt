@@ -1,4 +1,4 @@
-//! How the calls of a heap whose touches are bounded reach its tiles and the tree of its gaps: each touch is counted.
+//! Access of a heap's calls to its tiles and to the tree of its gaps. It counts each touch.
 ghost use Rattle.std.specs.Prelude.{◌≡◌, ℕ, ◌+◌, ◌*◌, ◌%◌, ◌^◌, ◌<◌, ◌≤◌, true, ◌-◌, Option, Some, None, IfSome, List};
 ghost use Rattle.std.specs.Prelude.{◌∷◌, ◌++◌, length, filter, is_some, option_map, false};
 ghost use Rattle.raw_region.specs.Memory.{cut_at, whole};
@@ -23,7 +23,7 @@ use block_tags::{Role, TAG_LEN, Tile};
 use link_tree::{RemovePoint, find_remove_point, insert, remove_at};
 use offset_link::load;
 
-/// The gaps of a heap's window, and how often they were touched: by a step of their tree, or by a call on one tile.
+/// The gaps of a heap's window, and the number of touches: steps of their tree, and calls on one tile.
 #[derive(Drop)]
 pub struct TouchCounter<'a> {
     gaps: &'a mut GapTree,
@@ -31,7 +31,7 @@ pub struct TouchCounter<'a> {
 }
 
 impl<'a> TouchCounter<'a> {
-    /// Makes a counter of touches, which stands at 0.
+    /// Makes a counter of touches with the value 0.
     pub fn new(gaps: &'a mut GapTree) -> TouchCounter<'a>
         ensures same_borrow { result.gaps.ghost_name ≡ gaps.entry.ghost_name }
         ensures gaps { result.gaps.now ≡ gaps.old }
@@ -47,8 +47,8 @@ impl<'a> TouchCounter<'a> {
         self.count
     }
 
-    /// Takes the first gap of the tree that has at least `wanted` bytes out of it, and returns its payload. If there is
-    /// none, nothing changes.
+    /// Removes the first gap with at least `wanted` bytes from the tree, and returns its payload. If there is no such
+    /// gap, nothing changes.
     pub fn take_best_fit(&mut self, wanted: u64) -> Option<u64>
         requires tree { (hs : List Gap) × HasGapTree self.old.gaps.now.window hs }
         requires no_overflow { self.old.count < 2 ^ 63 }
@@ -76,7 +76,7 @@ impl<'a> TouchCounter<'a> {
         Some(node)
     }
 
-    /// Takes a gap out of the tree.
+    /// Removes a gap from the tree.
     #[inline(always)]
     pub fn unlink_gap(&mut self, node: u64)
         requires tree { (hs : List Gap) × HasGapTree self.old.gaps.now.window hs × (is_in node (payloads hs) ≡ true) }
@@ -90,7 +90,7 @@ impl<'a> TouchCounter<'a> {
         ensures same_borrow { self.new.gaps.ghost_name ≡ self.old.gaps.ghost_name }
     {
         let root = load(&self.gaps.window, FREE_TREE_ROOT);
-        // The root is there without a search, as where there is one gap.
+        // The gap is the root, as the only gap is, so no search is needed.
         if root == Some(node) {
             self.take_out_at(root, None, node);
         } else {
@@ -98,7 +98,7 @@ impl<'a> TouchCounter<'a> {
         }
     }
 
-    /// Takes a gap out of the tree after a search for it.
+    /// Removes a gap from the tree after a search for it.
     #[inline(never)]
     fn take_out_below(&mut self, root: Option<u64>, node: u64)
         requires root { root ≡ root_of_gaps self.old.gaps.now.window }
@@ -114,12 +114,12 @@ impl<'a> TouchCounter<'a> {
     {
         let sought = probe_of(&*self.gaps, node);
         let way = way_to(&*self.gaps, root, &sought);
-        // One more than the search, for the look at the gap's own tag.
+        // One more than the search, for reading the gap's own tag.
         self.count += way.steps + 1;
         self.take_out_at(root, way.exit, node);
     }
 
-    /// Takes a gap out of the tree, from the root or from where a search found that the removal begins.
+    /// Removes a gap from the tree, beginning at the root or at the exit that a search found.
     #[inline(always)]
     fn take_out_at(&mut self, root: Option<u64>, exit: Option<u64>, node: u64)
         requires root { root ≡ root_of_gaps self.old.gaps.now.window }
@@ -139,7 +139,7 @@ impl<'a> TouchCounter<'a> {
         set_link(&mut self.gaps.window, FREE_TREE_ROOT, changed.root);
     }
 
-    /// Inserts a gap into the tree; all other gaps are in it. Its links can have any value.
+    /// Inserts a gap into the tree, which contains all other gaps. The gap's links can have any value.
     pub fn link_gap(&mut self, node: u64)
         requires tree { (xs : List Gap) × (g : Gap) × (ys : List Gap) × (node ≡ node_of g)
             × LacksGap self.old.gaps.now.window xs g ys }
@@ -174,7 +174,7 @@ impl<'a> TouchCounter<'a> {
         block_tags::tile_at(&self.gaps.window, at)
     }
 
-    /// Cuts the tile at `at` in two, of which the second is free.
+    /// Splits the tile at `at` after `len` bytes. The second part is free.
     pub fn split(&mut self, at: u64, len: u64)
         requires tile { CanSplit self.old.gaps.now.window at len }
         requires no_overflow { self.old.count + 1 < 2 ^ 64 }
@@ -215,7 +215,7 @@ impl<'a> TouchCounter<'a> {
         block_tags::previous(&self.gaps.window, at)
     }
 
-    /// Joins the tile after the one at `at`, which is free, to it.
+    /// Joins the tile at `at` with the free tile after it.
     pub fn merge_next(&mut self, at: u64)
         requires tile { HasFreeNext self.old.gaps.now.window at }
         requires no_overflow { self.old.count + 1 < 2 ^ 64 }
@@ -230,7 +230,7 @@ impl<'a> TouchCounter<'a> {
         block_tags::merge_next(&mut self.gaps.window, at);
     }
 
-    /// Gives the tile at `at` another use, or none.
+    /// Sets the use of the tile at `at`, or frees it.
     pub fn set_use(&mut self, at: u64, use_of: Option<Role>)
         requires tile { CanTakeUse self.old.gaps.now.window at use_of }
         requires no_overflow { self.old.count + 1 < 2 ^ 64 }
@@ -245,7 +245,7 @@ impl<'a> TouchCounter<'a> {
         block_tags::set_use(&mut self.gaps.window, at, use_of);
     }
 
-    /// Makes the tile at `at` black.
+    /// Sets the colour of the tile at `at` to black.
     pub fn blacken(&mut self, at: u64)
         requires tile { MayHaveColour self.old.gaps.now.window at false }
         requires no_overflow { self.old.count + 1 < 2 ^ 64 }
@@ -267,7 +267,7 @@ impl<'a> TouchCounter<'a> {
         self.gaps.window.size()
     }
 
-    /// Moves the window's end, to `size` bytes after its base. No tile is touched.
+    /// Moves the window's end to `size` bytes after its base. It touches no tile.
     pub fn resize(&mut self, size: u64)
         requires in_bounds { length self.old.gaps.now.window.before + size ≤ length (whole self.old.gaps.now.window) }
         ensures cut { self.new.gaps.now.window
@@ -278,7 +278,7 @@ impl<'a> TouchCounter<'a> {
         self.gaps.window.resize(size);
     }
 
-    /// Adds a free tile if the tags fill the first `old_size` bytes of the window: it reaches to the window's end.
+    /// Adds a free tile to a window whose tags fill its first `old_size` bytes. The tile reaches to the window's end.
     pub fn append_free(&mut self, old_size: u64)
         requires fits { CanAppend self.old.gaps.now.window old_size }
         requires no_overflow { self.old.count + 1 < 2 ^ 64 }
@@ -308,7 +308,7 @@ impl<'a> TouchCounter<'a> {
         block_tags::last(&self.gaps.window)
     }
 
-    /// Takes away the last tile, which is free, and returns the number of bytes that the window needs for the others.
+    /// Removes the last tile, which is free, and returns the number of bytes that the window needs for the others.
     pub fn drop_last(&mut self) -> u64
         requires tile { HasFreeLast self.old.gaps.now.window }
         requires no_overflow { self.old.count + 1 < 2 ^ 64 }
@@ -324,7 +324,7 @@ impl<'a> TouchCounter<'a> {
     }
 }
 
-/// Makes both links of a gap null.
+/// Sets both links of a gap to null.
 fn clear_links(gaps: &mut GapTree, node: u64)
     requires gap { (xs : List Gap) × (g : Gap) × (ys : List Gap) × (node ≡ node_of g)
         × LacksGap gaps.old.window xs g ys }
@@ -337,7 +337,7 @@ fn clear_links(gaps: &mut GapTree, node: u64)
     set_link(&mut gaps.window, node + RIGHT_LINK, None);
 }
 
-/// Returns the probe that finds a gap itself.
+/// Returns the probe that finds this gap.
 fn probe_of(gaps: &GapTree, node: u64) -> GapProbe
     requires { is_gap_node gaps.now.window node ≡ true }
     ensures { result ≡ own_probe (gaps_in gaps.now.window) node }
@@ -346,7 +346,7 @@ fn probe_of(gaps: &GapTree, node: u64) -> GapProbe
     GapProbe { len, from: node }
 }
 
-/// Returns the first gap of the tree that does not precede the probe, and the point where its removal begins.
+/// Returns the first gap of the tree that does not precede the probe, and the node at which its removal begins.
 fn way_to(gaps: &GapTree, root: Option<u64>, sought: &GapProbe) -> RemovePoint
     requires root { root ≡ root_of_gaps gaps.now.window }
     requires tree { (hs : List Gap) × HasGapTree gaps.now.window hs }

@@ -1,4 +1,4 @@
--- What the tags say where the end of the tiles moves.
+-- The tiles of the tags after the end of the tiles moves.
 use Rattle.std.proofs.Common.{◌≡◌, refl, sym, ap, subst, ◌∙◌, ℕ, ◌+◌, ◌-◌, ◌%◌, ◌<◌, ◌≤◌, ◌⊎◌, inl, inr, Some, None}
 use Rattle.std.proofs.Common.{Bool, false, List, [], ◌∷◌, ◌++◌, length, arith, cond, IsTrue, ◌==◌}
 use Rattle.std.proofs.lemmas.Bool.{eq-eqb}
@@ -238,7 +238,7 @@ module _ (c : WindowState) (h : HasFreeLast c) (w : ℕ) (e : w ≡ word_at (byt
       ends_with (bytes_of c.bytes) 128 0 ts (length c.bytes - 16) h.last said.tags
       (ap last_in (one_list c h.tiles ts h.said said) ∙ h.ends)
 
-  -- where the last tile begins
+  -- the offset of the last tile
   pub record LastAt : Type 0 where
     pub is : length c.bytes - 16 - w ≡ h.last.offset
     pub low : 128 ≤ length c.bytes - 16 - w
@@ -311,7 +311,7 @@ laid_rest_of c c1 c2 c3 d size n e =
     → SameExceptTags c d [] (laid (length c.bytes)) in
     subst P (sym e) (laid_rest c c1 c2 c3 d size)
 
--- after bytes are appended the tags say the list with a free tile more
+-- after bytes are appended, the tags describe the list with one more free tile
 pub appended_says_of : (c c1 c2 d : WindowState) (m : ℕ) → CanAppend c m → (n : ℕ) → n ≡ length c.bytes
     → WritesWord c c1 (m - 8) (n - m) → WritesWord c1 c2 (n - 16) (n - m) → WritesWord c2 d (n - 16 + 8) 1
     → (ts : List Tile) → FrontSaysTiles c m ts → EncodesTiles d (with_free ts (m - 16) (length c.bytes - 16))
@@ -336,11 +336,11 @@ module _ (c : WindowState) (h : HasFreeLast c) (n : ℕ) (e : n ≡ length c.byt
   pub last_word : w ≡ word_at (bytes_of c.bytes) (length c.bytes - 16)
   last_word = f ∙ ap (λ (k : ℕ). word_at (bytes_of c.bytes) (k - 16)) e
 
-  -- the last tile stands where the end tag says
+  -- the last tile has the length in the end tag
   pub last_at_of : LastAt c h w last_word
   last_at_of = last_at c h w last_word
 
-  -- after the last tile is dropped the front of the window says the others
+  -- after the last tile is dropped, the front of the window describes the other tiles
   pub dropped_says_of : (d : WindowState) → WritesWord c d (n - 16 - w + 8) 1 → (ts : List Tile) → EncodesTiles c ts
       → FrontSaysTiles d (n - 16 - w + 16) (without_last ts)
   dropped_says_of =

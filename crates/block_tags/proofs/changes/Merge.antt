@@ -1,4 +1,4 @@
--- What the tags say where a tile is joined to the one after it.
+-- The tiles of the tags after a tile is joined with the next one.
 use Rattle.std.proofs.Common.{◌≡◌, sym, ap, subst, ◌∙◌, ℕ, ◌+◌, ◌-◌, ◌%◌, ◌<◌, ◌≤◌, ◌⊎◌, inl, inr, Some, None, List, []}
 use Rattle.std.proofs.Common.{◌∷◌, length, arith}
 use Rattle.std.specs.Prelude.{Option}
@@ -124,7 +124,7 @@ module _ (c : WindowState) (at : ℕ) (h : HasFreeNext c at) (t : Tile) (e : t �
         (subst (λ (us : List Tile). AreTags current (bytes_of c.bytes) at j.s.before (t ∷ us) (length c.bytes - 16))
         j.is j.s.tags))
 
-    -- after a merge the tags say the list with one tile for both
+    -- after a merge the tags describe the list with one tile for both
     pub joined_says : EncodesTiles d (joined_at at ts)
     joined_says = changed_says c d ts at t said j.stands in_one size j.s (stays 128 at (inl (omega arith))) now
 

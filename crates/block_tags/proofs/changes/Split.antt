@@ -1,4 +1,4 @@
--- What the tags say where a tile is split.
+-- The tiles of the tags after a tile is split.
 use Rattle.std.proofs.Common.{◌≡◌, refl, sym, ap, subst, ◌∙◌, ℕ, ◌+◌, ◌-◌, ◌<◌, ◌≤◌, ◌⊎◌, inl, inr, Some, None, false}
 use Rattle.std.proofs.Common.{List, ◌∷◌, length, arith}
 use Rattle.raw_region.specs.Memory.{WindowState, SameBytes, word_at, bytes_of}
@@ -111,7 +111,7 @@ module _ (c c1 c2 c3 d : WindowState) (at len : ℕ) (h : CanSplit c at len) (t 
     size : length d.bytes ≡ length c.bytes
     size = p4.size ∙ p3.size ∙ p2.size ∙ p1.size
 
-    -- after a split the tags say the list with both parts
+    -- after a split the tags describe the list with both parts
     pub split_says : EncodesTiles d (split_at at len ts)
     split_says = changed_says c d ts at t said stands (in_two len) size s (stays 128 at (inl (omega arith)))
         (cut_tags s.before s.behind (length c.bytes - 16) s.tags)

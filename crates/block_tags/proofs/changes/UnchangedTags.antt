@@ -1,4 +1,4 @@
--- Tags whose bytes stay say the same tiles, whatever else changes.
+-- Unchanged tags describe the same tiles, even if other bytes change.
 use Rattle.std.proofs.Common.{◌≡◌, sym, ap, subst, ◌∙◌, ℕ, ◌+◌, ◌-◌, ◌≤◌, inl, inr, Some, Bool, List, [], ◌∷◌, length}
 use Rattle.std.proofs.Common.{arith, cond, IsTrue, ◌==◌}
 use Rattle.std.specs.List.{AllByRecursion}
@@ -36,7 +36,7 @@ AreTags-same format m m' at before (t ∷ ts) end h tags last =
       AreTags-same format m m' (at + t.len) t.len ts end h.4 tags.1 last,
     )
 
--- law: tags whose bytes stay say the same tiles
+-- law: unchanged tags describe the same tiles
 pub tags_that_stay_say_the_same : TagsThatStaySayTheSame
 tags_that_stay_say_the_same c d ts said size same = record {
   size = subst (λ (n : ℕ). IsTrue (is_legal_size n)) (sym size) said.size;
@@ -54,7 +54,7 @@ tags_behind format m m' first (t ∷ ts) to from n h l same =
     let e = h.0 in let rest = tags_behind format m m' (first + t.len) ts to from n h.2 (omega arith) same in
     record { tags = (record { at = λ k a b. same.at k (inr (omega arith)) }, rest.tags); last = rest.last }
 
--- law: bytes of the header may change, and the tags say the same
+-- law: a change of bytes in the header keeps the tiles
 pub header_may_change : HeaderMayChange
 header_may_change c d ts said size from n l same =
     tags_that_stay_say_the_same c d ts said size
@@ -85,7 +85,7 @@ tags_round format m m' first (u ∷ us) to from n at t h e a b same =
       omega arith,
     ))
 
--- law: bytes of a payload may change, and the tags say the same
+-- law: a change of bytes in a payload keeps the tiles
 pub payload_may_change : PayloadMayChange
 payload_may_change c d ts at t said stands size from n a b same =
     tags_that_stay_say_the_same c d ts said size

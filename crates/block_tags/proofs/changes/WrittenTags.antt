@@ -1,4 +1,4 @@
--- What the tags say where words of them are written.
+-- The tiles of the tags after words of them are written.
 use Rattle.std.proofs.Common.{◌≡◌, refl, sym, subst, ◌∙◌, ℕ, ◌+◌, ◌-◌, ◌<◌, inl, inr, Some, None, Bool, List, ◌∷◌}
 use Rattle.std.proofs.Common.{length, arith, ◌||◌, not, IsTrue}
 use Rattle.std.specs.Prelude.{Option}
@@ -22,7 +22,7 @@ module _ (c d : WindowState) (ts : List Tile) (at : ℕ) (t : Tile) (said : Enco
   abbrev S : Type 0
   S = Standing current (bytes_of c.bytes) 128 0 None ts (length c.bytes - 16) at t
 
-  -- after a change of one tile the tags say the changed list
+  -- after a change of one tile the tags describe the changed list
   pub changed_says : (s : S) → SameBytes (bytes_of c.bytes) (bytes_of d.bytes) 128 at
       → AreTags current (bytes_of d.bytes) at s.before (change t s.behind) (length c.bytes - 16)
       → EncodesTiles d (changed_at at change ts)
@@ -92,7 +92,7 @@ module _ (c d : WindowState) (at : ℕ) (u : Option Role) (h : CanTakeUse c at u
   may_use = subst (λ (v : Tile).
       IsTrue (not v.red || may_be_red current u)) (sym (e ∙ reads c h.tiles at h.tile h.said h.stands)) h.colour
 
-  -- after a word of use is written the tags say the list with that tile in its use
+  -- after the word of a use is written, the tags describe the list with this tile in the new use
   pub used_says : EncodesTiles d (with_use_at at u ts)
   used_says = marked_says c d at t u t.red x f p may_use (used_for u) (λ us.
       refl) ts said (stands_in c at there_to_use t e ts said)
@@ -113,7 +113,7 @@ module _ (c d : WindowState) (at : ℕ) (r : Bool) (h : MayHaveColour c at r) (t
   may_colour = subst (λ (v : Tile).
       IsTrue (not r || may_be_red current v.use_of)) (sym (e ∙ reads c h.tiles at h.tile h.said h.stands)) h.colour
 
-  -- after a word of use or colour is written the tags say the list with that tile changed
+  -- after the word of a use or colour is written, the tags describe the list with this tile changed
   pub coloured_says : EncodesTiles d (with_red_at at r ts)
   coloured_says = marked_says c d at t t.use_of r x f p may_colour (of_colour r) (λ us.
       refl) ts said (stands_in c at there_to_colour t e ts said)

@@ -6,7 +6,7 @@ use Rattle.raw_region.proofs.Laws.{SameBytesExcept-SameBytes, SameBytesExcept-wo
 use Rattle.raw_region.proofs.Laws.{with_bytes-SameSurroundings, word-own, word_written-SameBytesExcept}
 use Rattle.block_tags.specs.Windows.{WritesWord}
 
--- what `write_u64` says
+-- the contract of `write_u64`
 pub put : (old new : WindowState) (at x : ℕ) → at + 8 ≤ length old.bytes → x < 2 ^ 64
     → new ≡ with_bytes old (patched old.bytes at (word_bytes x)) → WritesWord old new at x
 put old new at x h small e =
@@ -18,7 +18,7 @@ put old new at x h small e =
       rest = word_written-SameBytesExcept old.bytes at x h;
     })
 
--- what is beside a word that is put
+-- the bytes outside a word that is written stay
 pub put-SameBytes : (old new : WindowState) (at x : ℕ) → WritesWord old new at x → (from to : ℕ)
     → (to ≤ at) ⊎ (at + 8 ≤ from) → SameBytes (bytes_of old.bytes) (bytes_of new.bytes) from to
 put-SameBytes old new at x p from to beside =

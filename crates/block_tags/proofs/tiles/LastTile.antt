@@ -1,4 +1,4 @@
--- The tile before the end tag, which says its length.
+-- The tile before the end tag, whose length is in the end tag.
 use Rattle.std.proofs.Common.{◌≡◌, refl, sym, ap, subst, ◌∙◌, ℕ, ◌+◌, ◌-◌, ◌<◌, Some, None, List, [], ◌∷◌, length}
 use Rattle.std.proofs.Common.{arith}
 use Rattle.std.specs.Prelude.{Option}
@@ -13,7 +13,7 @@ use Rattle.block_tags.proofs.tiles.TileInList.{IsBefore}
 use Rattle.block_tags.proofs.tiles.TagsSayTiles.{Found, before_none, before_some}
 use Rattle.block_tags.proofs.tiles.TileLists.{last_or, none_last}
 
--- the end tag says the length of the last tile
+-- the end tag has the length of the last tile
 end_before : (m : Memory) (at before : ℕ) (o : Option Tile) (ts : List Tile) (end : ℕ)
     → AreTags current m at before ts end → IsBefore m at before o → IsBefore m end (word_at m end) (last_or o ts)
 end_before m at before o [] end h b =
@@ -37,11 +37,11 @@ module _ (c : WindowState) (size : ℕ) (s : size ≡ length c.bytes) (before : 
       (subst (λ (o : Option Tile). IsBefore (bytes_of c.bytes) (size - 16) (word_at (bytes_of c.bytes) (size - 16))
       o) (none_last ts) b)
 
-  -- an end tag that says no length before it: there is no tile
+  -- if the length in the end tag is 0, there is no tile
   pub last_none : before ≡ 0 → (ts : List Tile) → EncodesTiles c ts → None ≡ last_in ts
   last_none z ts said = before_none (bytes_of c.bytes) (size - 16) before (last_in ts) (at_end ts said) z
 
-  -- an end tag that says a length: the last tile is found at that distance
+  -- if the length in the end tag is not 0, the last tile is at this distance
   pub last_found : 0 < before → (ts : List Tile) → EncodesTiles c ts
       → Found (bytes_of c.bytes) (size - 16) before (last_in ts)
   last_found z ts said = before_some (bytes_of c.bytes) (size - 16) before (last_in ts) (at_end ts said) z

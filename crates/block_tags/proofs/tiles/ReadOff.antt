@@ -1,4 +1,4 @@
--- The tags say one list of tiles: the one that is read off.
+-- The tags describe one list of tiles: the list that is read.
 use Rattle.std.proofs.Common.{◌≡◌, refl, sym, ap, ◌∙◌, ℕ, zero, suc, ◌+◌, ◌-◌, ◌*◌, ◌/◌, ◌%◌, ◌<◌, ◌≤◌, Some, None}
 use Rattle.std.proofs.Common.{Bool, true, false, List, [], ◌∷◌, arith, nat_le, cond, ◌&&◌, ◌||◌, not, IsTrue, ◌==◌}
 use Rattle.std.proofs.Common.{lit<}
@@ -11,11 +11,11 @@ use Rattle.block_tags.specs.declared.tile.Tile.{Tile}
 use Rattle.block_tags.specs.Tiles.{AreTilesOf, AreTags, are_tags, has_tags, is_merged, is_tile, may_be_red, SayOneList}
 use Rattle.block_tags.specs.Tiles.{tag_word, use_bits, red_bit, tile_at, tiles_from, tiles_of, role_of_bits}
 
--- the use that a second word says
+-- the use in a second word
 abbrev use_in : ℕ → Option Role
 use_in w = cond (w % 2 == 0) None (Some (role_of_bits (w % 16 / 4 * 4)))
 
--- a tile's second word says its use
+-- a tile's second word has its use
 same_use : (n : ℕ) (u : Option Role) (r : Bool) → n % 16 ≡ 0 → use_in (n + use_bits u + red_bit r) ≡ u
 same_use n None true e = grind arith
 same_use n None false e = grind arith
@@ -41,11 +41,11 @@ bits_small (Some Storage) false = lit< tt
 bits_small (Some Node) true = lit< tt
 bits_small (Some Node) false = lit< tt
 
--- a tile's second word says its length
+-- a tile's second word has its length
 same_len : (n : ℕ) (u : Option Role) (r : Bool) → n % 16 ≡ 0 → (n + use_bits u + red_bit r) / 16 * 16 ≡ n
 same_len n u r e = let small = bits_small u r in omega arith
 
--- a tile's second word says its colour
+-- a tile's second word has its colour
 same_red : (n : ℕ) (u : Option Role) (r : Bool) → n % 16 ≡ 0 → ((n + use_bits u + red_bit r) / 2 % 2 == 1) ≡ r
 same_red n None true e = grind arith
 same_red n None false e = grind arith
@@ -58,7 +58,7 @@ same_red n (Some Storage) false e = grind arith
 same_red n (Some Node) true e = grind arith
 same_red n (Some Node) false e = grind arith
 
--- what the test of a tile says of its length
+-- the length of a tile that passes the test
 pub record IsWhole (t : Tile) : Type 0 where
   pub long : 32 ≤ t.len
   pub whole : t.len % 16 ≡ 0
@@ -70,7 +70,7 @@ is_tile-IsWhole format t h =
     let both = and_parts (nat_le 32 t.len) (t.len % 16 == 0) len in
     record { long = leb-true 32 t.len both.0; whole = eqb-true (t.len % 16) 0 both.1 }
 
--- the tile that a tile's second word says is that tile
+-- the tile of a tile's second word is this tile
 pub tile_at-tag_word : (m : Memory) (at : ℕ) (t : Tile) → t.offset ≡ at → t.len % 16 ≡ 0
     → word_at m (at + 8) ≡ tag_word t → tile_at m at ≡ t
 tile_at-tag_word m at t o e w = λ i. record {
@@ -87,7 +87,7 @@ AreTags-reaches format m at before [] end h = let e = h.0 in omega arith
 AreTags-reaches format m at before (t ∷ ts) end h = let on = AreTags-reaches format m (at + t.len) t.len ts end h.4
     in omega arith
 
--- what is read off from an offset on, by whether the end is reached
+-- the tiles that are read from an offset on, by whether the end is reached
 abbrev next : ℕ → Memory → ℕ → ℕ → Bool → List Tile
 next more m at end b = elim b [
   | false ↦ []
@@ -95,7 +95,7 @@ next more m at end b = elim b [
       in t ∷ tiles_from more m (at + t.len) end
 ]
 
--- tiles that the tags say are read off, if there may be this many
+-- the tiles of the tags are read, if the bound allows this many
 pub tiles_from-AreTags : (format : ℕ) (m : Memory) (more at before : ℕ) (ts : List Tile) (end : ℕ)
     → AreTags format m at before ts end → end < at + 32 * more + 32 → tiles_from more m at end ≡ ts
 tiles_from-AreTags format m zero at before [] end h few = refl
@@ -112,20 +112,20 @@ tiles_from-AreTags format m (suc more) at before (t ∷ ts) end h few =
     ap (next more m at end) (lt-ltb at end (omega arith))
     ∙ ap (λ (u : Tile). u ∷ tiles_from more m (at + u.len) end) same ∙ ap (λ us. t ∷ us) rest
 
--- the tiles that the tags of a segment say are those that are read off
+-- the tiles of a segment's tags are the tiles that are read
 pub tiles_of-AreTilesOf : (format : ℕ) (m : Memory) (size : ℕ) (ts : List Tile) → AreTilesOf format m size ts
     → tiles_of m size ≡ ts
 tiles_of-AreTilesOf format m size ts h =
     let on = AreTags-reaches format m 128 0 ts (size - 16) h in
     tiles_from-AreTags format m (size / 32) 128 0 ts (size - 16) h (omega arith)
 
--- the tags of a segment say one list of tiles
+-- the tags of a segment describe one list of tiles
 pub say_one_list : SayOneList
 say_one_list format size m ts small h = tiles_of-AreTilesOf format m size ts h
 
 -- ---- the test and the relation
 
--- the test holds where the tags say the tiles
+-- the test passes if the tags describe the tiles
 pub AreTags-are_tags : (format : ℕ) (m : Memory) (at before : ℕ) (ts : List Tile) (end : ℕ)
     → AreTags format m at before ts end → IsTrue (are_tags format m at before ts end)
 AreTags-are_tags format m at before [] end h =
@@ -143,7 +143,7 @@ AreTags-are_tags format m at before (t ∷ ts) end h =
     (eq-eqb (word_at m (at + 8)) (tag_word t) h.3))
     (AreTags-are_tags format m (at + t.len) t.len ts end h.4)
 
--- and the tags say the tiles where the test holds
+-- and the tags describe the tiles if the test passes
 pub are_tags-AreTags : (format : ℕ) (m : Memory) (at before : ℕ) (ts : List Tile) (end : ℕ)
     → IsTrue (are_tags format m at before ts end) → AreTags format m at before ts end
 are_tags-AreTags format m at before [] end h =
@@ -166,20 +166,20 @@ are_tags-AreTags format m at before (t ∷ ts) end h =
       are_tags-AreTags format m (at + t.len) t.len ts end four.1,
     )
 
--- good tags say the tiles that are read off
+-- good tags describe the tiles that are read
 pub has_tags-AreTilesOf : (format : ℕ) (m : Memory) (size : ℕ) → IsTrue (has_tags format m size)
     → AreTilesOf format m size (tiles_of m size)
 has_tags-AreTilesOf format m size h =
     are_tags-AreTags format m 128 0 (tiles_of m size) (size - 16)
     (and_parts (are_tags format m 128 0 (tiles_of m size) (size - 16)) (is_merged (tiles_of m size)) h).0
 
--- no two free tiles that good tags say are neighbours
+-- no two free tiles of good tags are neighbours
 pub has_tags-is_merged : (format : ℕ) (m : Memory) (size : ℕ) → IsTrue (has_tags format m size)
     → IsTrue (is_merged (tiles_of m size))
 has_tags-is_merged format m size h =
     (and_parts (are_tags format m 128 0 (tiles_of m size) (size - 16)) (is_merged (tiles_of m size)) h).1
 
--- tags are good that say tiles of which no two free ones are neighbours
+-- tags are good if they describe tiles of which no two free ones are neighbours
 pub AreTilesOf-has_tags : (format : ℕ) (m : Memory) (size : ℕ) (ts : List Tile) → AreTilesOf format m size ts
     → IsTrue (is_merged ts) → IsTrue (has_tags format m size)
 AreTilesOf-has_tags format m size ts h merged =

@@ -17,7 +17,7 @@ use Rattle.std.proofs.lemmas.Bool.{and_parts}
 use Rattle.block_tags.proofs.tiles.ReadOff.{is_tile-IsWhole}
 use Rattle.block_tags.proofs.tiles.TagsSayTiles.{legal}
 
--- no two free tiles side by side, after one that is free or not
+-- no two free tiles are side by side, after a tile that is free or not
 merged_after : Bool → List Tile → Bool
 merged_after free [] = true
 merged_after free (t ∷ ts) = not (free && is_free t) && merged_after (is_free t) ts
@@ -187,7 +187,7 @@ bad_here format (suc more) m at before free end h b =
     ∙ ap (λ (c : Bool). c && from_here format more m (at + (tile_at m at).len) (tile_at m at).len
     (is_free (tile_at m at)) end) b
 
--- where the tags are wrong that good ones lead to, they stop
+-- if good tags lead to a bad tag, they stop there
 stops_there : (format : ℕ) (m : Memory) (size end at before : ℕ) (free : Bool) → end ≡ size - 16
     → Leads format m end at before free → is_good_there format m end at before free ≡ false → StopsAt format m size at
 stops_there format m size end at before free e l h =

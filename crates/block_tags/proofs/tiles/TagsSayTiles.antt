@@ -1,4 +1,4 @@
--- A window whose tags say tiles: they say one list, and a tile of it lies in the window.
+-- A window whose tags describe tiles: they describe one list, and each tile of it lies in the window.
 use Rattle.std.proofs.Common.{◌≡◌, refl, sym, ap, subst, ◌∙◌, ℕ, ◌+◌, ◌-◌, ◌%◌, ◌^◌, ◌<◌, ◌≤◌, ◌⊎◌, Some, None, List}
 use Rattle.std.proofs.Common.{[], ◌∷◌, length, arith, IsTrue}
 use Rattle.std.specs.Prelude.{Option}
@@ -23,20 +23,20 @@ pub record Legal (n : ℕ) : Type 0 where
 pub legal : (n : ℕ) → IsTrue (is_legal_size n) → Legal n
 legal n h = record { low = grind arith; high = grind arith; whole = grind arith; room = grind arith }
 
--- the tags of a window say one list
+-- the tags of a window describe one list
 pub one_list : (c : WindowState) (ts us : List Tile) → EncodesTiles c ts → EncodesTiles c us → us ≡ ts
 one_list c ts us g h =
     let n = legal (length c.bytes) g.size in let small : length c.bytes < 2 ^ 63 = omega arith in
     sym (say_one_list current (length c.bytes) (bytes_of c.bytes) us small h.tags)
     ∙ say_one_list current (length c.bytes) (bytes_of c.bytes) ts small g.tags
 
--- a tile that is found in the list stands there
+-- a tile that is found in the list begins at its offset
 pub stood : (c : WindowState) (ts : List Tile) (at : ℕ) (tile : Tile) → EncodesTiles c ts → tile_in ts at ≡ Some tile
     → Standing current (bytes_of c.bytes) 128 0 None ts (length c.bytes - 16) at tile
 stood c ts at tile said stands =
     standing current (bytes_of c.bytes) 128 0 None ts (length c.bytes - 16) at tile said.tags refl stands
 
--- what the tags at an offset say is the tile there
+-- the tile in the tag at an offset is the tile of the list
 pub reads : (c : WindowState) (ts : List Tile) (at : ℕ) (tile : Tile) → EncodesTiles c ts
     → tile_in ts at ≡ Some tile → tile_at (bytes_of c.bytes) at ≡ tile
 reads c ts at tile said stands =
@@ -67,12 +67,12 @@ fits_in c ts at tile said stands =
       size = omega arith;
     }
 
--- the same of what is read at the offset
+-- the bounds of a tile that is read at the offset
 pub fits : (c : WindowState) (at : ℕ) (h : HasTileAt c at) (t : Tile) → t ≡ tile_at (bytes_of c.bytes) at → Fits c at t
 fits c at h t e = let P : Tile → Type 0 = λ (u : Tile). Fits c at u
     in subst P (sym (e ∙ reads c h.tiles at h.tile h.said h.stands)) (fits_in c h.tiles at h.tile h.said h.stands)
 
--- and it is the tile of each list that the tags say
+-- the tile that is read is the tile of each list that the tags describe
 pub stands_in : (c : WindowState) (at : ℕ) (h : HasTileAt c at) (t : Tile) → t ≡ tile_at (bytes_of c.bytes) at
     → (ts : List Tile) → EncodesTiles c ts → tile_in ts at ≡ Some t
 stands_in c at h t e ts said =
@@ -81,14 +81,14 @@ stands_in c at h t e ts said =
 
 -- ---- neighbours
 
--- tags that begin before the end say a first tile: the one there
+-- tags that begin before the end describe a first tile at their offset
 pub first_some : (format : ℕ) (m : Memory) (at before : ℕ) (ts : List Tile) (end : ℕ)
     → AreTags format m at before ts end → at < end → (t : Tile) → t ≡ tile_at m at → Some t ≡ first_in ts
 first_some format m at before [] end h l t e = let o = h.0 in absurd (omega arith)
 first_some format m at before (u ∷ ts) end h l t e =
     ap (λ (v : Tile). Some v) (e ∙ tile_at-tag_word m at u h.0 ((is_tile-IsWhole format u h.1).whole) h.3)
 
--- tags that begin at the end say no tile
+-- tags that begin at the end describe no tile
 pub first_none : (format : ℕ) (m : Memory) (at before : ℕ) (ts : List Tile) (end : ℕ)
     → AreTags format m at before ts end → end ≤ at → None ≡ first_in ts
 first_none format m at before [] end h l = refl

@@ -1,5 +1,4 @@
--- A tile in the list that the tags say: what its tags are, what stands round it, and what the list becomes where it
--- changes.
+-- A tile in the list of the tags: its tags, its neighbours, and the list after a change of it.
 use Rattle.std.proofs.Common.{◌≡◌, refl, sym, ap, subst, ◌∙◌, ℕ, ◌+◌, ◌%◌, ◌<◌, ◌≤◌, ◌⊎◌, inl, inr, Some, None, Bool}
 use Rattle.std.proofs.Common.{true, false, List, [], ◌∷◌, arith, nat_le, cond, ◌&&◌, ◌||◌, not, IsTrue, ◌==◌}
 use Rattle.std.specs.Prelude.{Option}
@@ -62,7 +61,7 @@ abbrev pub IsBefore : Memory → ℕ → ℕ → Option Tile → Type 0
 IsBefore m at before None = before ≡ 0
 IsBefore m at before (Some p) = (before ≡ p.len) × (p.offset + p.len ≡ at) × (32 ≤ p.len) × (tile_at m p.offset ≡ p)
 
--- a tile in the list that the tags say: those before and after it, and its tags
+-- a tile in the list of the tags: the tiles before and after it, and its tags
 pub record Standing (format : ℕ) (m : Memory) (from first : ℕ) (last : Option Tile) (ts : List Tile) (end at : ℕ)
     (tile : Tile) : Type 0 where
   pub before : ℕ

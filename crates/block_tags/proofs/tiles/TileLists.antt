@@ -24,11 +24,11 @@ use Rattle.block_tags.proofs.tiles.TagsSayTiles.{legal, reads}
 pub tiles_are_read_off : TilesAreReadOff
 tiles_are_read_off c ts said = tiles_of-AreTilesOf current (bytes_of c.bytes) (length c.bytes) ts said.tags
 
--- law: a tile of the list is the one that its tag says
+-- law: a tile of the list is the tile of its tag
 pub tile_is_read_off : TileIsReadOff
 tile_is_read_off c ts at t said stands = reads c ts at t said stands
 
--- law: tags that pass the test say the tiles that are read off
+-- law: tags that pass the test describe the tiles that are read
 pub good_tags_say_tiles : GoodTagsSayTiles
 good_tags_say_tiles c size = (
   (λ h. (
@@ -115,7 +115,7 @@ last_or-last_in : (t : Tile) (ts : List Tile) → last_or (Some t) ts ≡ last_i
 last_or-last_in t [] = refl
 last_or-last_in t (u ∷ ts) = last_or-last_in u ts
 
--- the last of a list, as both functions say it
+-- the last tile of a list, by both functions
 pub none_last : (ts : List Tile) → last_or None ts ≡ last_in ts
 none_last [] = refl
 none_last (t ∷ ts) = last_or-last_in t ts

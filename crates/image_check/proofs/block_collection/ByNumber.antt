@@ -1,4 +1,4 @@
--- Blocks in the order of their places: what is found at a number and by a payload.
+-- Blocks in the order of their offsets: look-ups by number and by payload.
 use Rattle.image_check.proofs.Common.{AreBelow, Block, Blocks, Err, IsRow, None, Ok, Option, Result, Some, [], ap}
 use Rattle.image_check.proofs.Common.{arith, block_at, cond-false, cond-true, eq-eqb, eqb-true, false≢true, inl, inr}
 use Rattle.image_check.proofs.Common.{length, nat_eq, ne_eqb, refl, set_value, slice_get, subst, suc, sym, zero, ℕ}
@@ -29,12 +29,12 @@ row-found (e ∷ es) n (suc i) r w =
     cond-false (nat_eq n e.0) (Some e.1) (block_at es n) (ne_eqb n e.0 (λ f. absurd (omega arith)))
     ∙ row-found es n i (rises-behind e es r) (record { block = w.block; is = w.is })
 
--- what stands at a number is found by its payload
+-- the block with a number is found by its payload
 pub entry-found : (es : Blocks) (i : ℕ) (x : ℕ × Block) → HasSortedPayloads es → slice_get es i ≡ Some x
     → block_at es x.0 ≡ Some x.1
 entry-found es i x r g = row-found es x.0 i r (record { block = x.1; is = g })
 
--- ---- a payload that is looked for
+-- ---- searching for a payload
 
 -- the key at a number is the row's
 pub key-row : (es : Blocks) (n i : ℕ) → slice_get (keys_of es) i ≡ Some n → IsRow es n i
@@ -62,7 +62,7 @@ bound-absent es m n below h = row-absent es n (λ i x g f. let z = below i x g i
 
 -- ---- one more, and another in the place of one
 
--- what stands in a list with one more is that one, or stood there before
+-- an element of a list with one more is the new one, or was there before
 pushed : (es : Blocks) (e : ℕ × Block) (i : ℕ) (x : ℕ × Block) → slice_get (es ++ e ∷ []) i ≡ Some x
     → (slice_get es i ≡ Some x) ⊎ ((i ≡ length es) × (e ≡ x))
 pushed [] e zero x g = inr (refl, cc)
@@ -80,7 +80,7 @@ rises-push es n b r h i j x y l f g =
     in absurd (omega arith)) (pushed es (n, b) i x f))
     (pushed es (n, b) j y g)
 
--- blocks stay sorted with a later one after them
+-- blocks stay sorted if a later one is appended
 pub order-push : (es : Blocks) (n : ℕ) (b : Block) → n < 2 ^ 32 → AreSortedBlocks es → AreBelow es n
     → AreSortedBlocks (es ++ (n, b) ∷ [])
 order-push es n b s o h = record {
@@ -147,7 +147,7 @@ one-more zero (suc i) h = inl (omega arith)
 one-more (suc j) (suc i) h = ⊎_elim (λ k. inl (omega (arith, k))) (λ k.
     inr (omega (arith, k))) (one-more j i (omega arith))
 
--- what an insertion leaves where it succeeds
+-- a property after an insertion that succeeds
 pub ok-then : {A E : Type 0} (r : Result A E) (P : Type 0) → IsOk r → OnOk r P → P
 ok-then (Ok x) P i p = p
 ok-then (Err e) P i p = absurd (false≢true i)

@@ -1,4 +1,4 @@
--- A block that the map has is one of the live set that the bytes say.
+-- Each block of the map is a block of the live set of the bytes.
 use Rattle.image_check.proofs.Common.{AreBlocks, Block, Blocks, Extent, IsTrue, List, None, Option, Role, Some, Tile}
 use Rattle.image_check.proofs.Common.{[], and_parts, ap, as_extent, block_at, bytes_of, cond, cons_option, eq-eqb}
 use Rattle.image_check.proofs.Common.{eqb-true, false, filter_map, handle, is_live_in, is_use, length, list_any}
@@ -9,7 +9,7 @@ use Rattle.best_fit.specs.Heap.{live_of}
 use Rattle.image_check.specs.Passes.{tiles_in}
 use Rattle.image_check.proofs.block_collection.Lookup.{use-of}
 
--- a handle is that of one of these
+-- whether an extent of the list has the handle
 abbrev has_handle : ℕ → List Extent → Bool
 has_handle h xs = list_any (λ (x : Extent). handle x == h) xs
 

@@ -1,4 +1,4 @@
--- The blocks of tiles that stand one after the other are looked up by payload.
+-- The blocks of contiguous tiles are looked up by payload.
 use Rattle.image_check.proofs.Common.{AreBelow, AreBlocks, Block, Blocks, HasTiles, Index, IsBlockAt, IsMarkingOf}
 use Rattle.image_check.proofs.Common.{IsTileAt, IsTrue, IsUnmarked, List, Node, None, Option, Owner, Role, Row, Some}
 use Rattle.image_check.proofs.Common.{Storage, Tile, WindowState, [], and_from, and_parts, ap, arith, block_at}
@@ -23,7 +23,7 @@ use Rattle.image_check.proofs.block_collection.Places.{in_row, payload-inside}
 use Rattle.image_check.proofs.block_collection.UsedTile.{from-there, same_role-is, same_role-refl}
 use mathlib.Core.Logic.{inl}
 
--- a tile that is found stands there, and is not before the first
+-- a tile that is found is at its offset, and not before the first
 found-far : (at : ℕ) (ts : List Tile) (end : ℕ) (role : Role) (n : ℕ) (t : Tile) → Row at ts end
     → tile_of ts role n ≡ Some t → at + 16 ≤ n
 found-far at ts end role n t a e =
@@ -148,7 +148,7 @@ gathered-tiles (t ∷ ts) n b e =
 pub gathered : (at : ℕ) (ts : List Tile) (end : ℕ) → Row at ts end → AreBlocks ts (entries_of ts)
 gathered at ts end a = record { tiles = gathered-tiles ts; blocks = gathered-blocks at ts end a }
 
--- ---- none has an owner
+-- ---- no block has an owner
 
 free-in : (b : Block) → b.owner ≡ None → owner_in (Some b) ≡ None
 free-in b e = by (same_role b.role Object)
@@ -180,7 +180,7 @@ none-owned (t ∷ ts) n = first-owner (entry_of t) (entries_of ts) n (entry-free
 
 -- ---- blocks of the same frame
 
--- a block of the same role and length is there
+-- the list has a block of the same role and length
 pub record SameBlock (fs : Blocks) (n : ℕ) (b : Block) : Type 0 where
   pub block : Block
   pub is : block_at fs n ≡ Some block
@@ -220,7 +220,7 @@ same_frame (e ∷ es) (g ∷ fs) n b f h =
     let rest : frames es ≡ frames fs = cc in
     same-if n e.0 g.0 e.1 g.1 b es fs (nat_eq n e.0) refl first (same_frame es fs n b rest) h
 
--- blocks of the frame of tiles are those tiles
+-- blocks with the roles and lengths of tiles are the blocks of these tiles
 pub frame-AreBlocks : (ts : List Tile) (es fs : Blocks) → frames es ≡ frames fs → AreBlocks ts fs → AreBlocks ts es
 frame-AreBlocks ts es fs f a = record {
   tiles = λ n b e.
@@ -233,12 +233,12 @@ frame-AreBlocks ts es fs f a = record {
       record { block = s.block; is = s.is; role_is = s.role_is ∙ w.role_is; len = s.len ∙ w.len };
 }
 
--- ---- what is due
+-- ---- the visits that are due
 
 abbrev entry_for : ℕ → ℕ → Option Role → Option (ℕ × Block)
 entry_for offset len o = elim o [ None ↦ None | Some role ↦ Some (offset + 16, new_block role len) ]
 
--- what is due for blocks of such a frame
+-- the visits that are due for blocks with these roles and lengths
 abbrev framed_due : List (ℕ × Role × ℕ) → ℕ
 framed_due [] = 0
 framed_due (f ∷ fs) = visit_budget f.1 f.2 + framed_due fs
@@ -278,7 +278,7 @@ unspent_budget-most ts es f =
 pub gathered-unmarked : (ts : List Tile) → IsUnmarked ts (entries_of ts)
 gathered-unmarked ts = record { frame = refl; none = none-owned ts }
 
--- the gathered blocks are those of the tags
+-- the collected blocks are the blocks of the tags
 pub tags-blocks : (b : List ℕ) → HasTiles b → AreBlocks (tiles_in b) (entries_of (tiles_in b))
 tags-blocks b h = gathered 128 (tiles_in b) (length b - 16)
     (has_tags-AreWholeTiles current (bytes_of b) (length b) h.tags).row
@@ -305,9 +305,9 @@ unmarked-marking format b es h u = record {
   followed = λ n o t f e. let g = u.none n in absurd (cc);
 }
 
--- ---- the walk that gathers them
+-- ---- the walk that collects the blocks
 
--- what stands before a place has its blocks before it
+-- a block before a place has only earlier blocks before it
 below-first : (o : Option (ℕ × Block)) (es : Blocks) (n : ℕ) → ((k : ℕ) (b : Block) → o ≡ Some (k, b) → k < n)
     → AreBelow es n → AreBelow (cons_option o es) n
 below-first None es n f h = h
@@ -348,7 +348,7 @@ pub entry-is : (t : Tile) (role : Role) → t.use_of ≡ Some role → entry_of 
 entry-is t role e = ap (λ (o : Option Role).
     elim o [ None ↦ None | Some r ↦ Some (t.offset + 16, new_block r t.len) ]) e
 
--- as many blocks as there are
+-- the count is the number of blocks
 pub count-push : (front : List Tile) (here : Tile)
     → length (entries_of (front ++ here ∷ [])) ≡ length (entries_of front) + length (option_to_list (entry_of here))
 count-push front here = ap (λ (es : Blocks). length es) (entries-push front here)
@@ -387,7 +387,7 @@ pub record Gathering (seen visits room spared : ℕ) (es : Blocks) (front : List
   pub more : seen + length front ≤ visits
   pub most : visits ≤ seen + (length front + length front)
 
--- all tiles are those passed, this one and those after
+-- the tiles are the passed ones, this one and the later ones
 pub at-all : (c : WindowState) (Kept : List Tile → Type 0) (here : Tile) → (a : WalksAt c Kept here)
     → tiles_in c.bytes ≡ a.front ++ here ∷ a.back
 at-all c Kept here a = tiles_are_read_off c (a.front ++ here ∷ a.back) a.said
@@ -408,7 +408,7 @@ count-behind (f ∷ front) here back = by (entry_of f) (count-behind front here 
     by None h = h
     by (Some e) h = omega arith
 
--- there is room for one block more
+-- there is room for one more block
 pub gathering-room : (c : WindowState) (seen visits room spared : ℕ) (es : Blocks) (here : Tile)
     → WalksAt c (Gathering seen visits room spared es) here → length (entries_of (tiles_in c.bytes)) ≤ room
     → length (option_to_list (entry_of here)) ≤ spared
@@ -419,14 +419,14 @@ gathering-room c seen visits room spared es here a h =
     let left = a.kept.spare in
     omega arith
 
--- the blocks so far lie below the tile
+-- the blocks so far are below the tile
 pub gathering-below : (c : WindowState) (seen visits room spared : ℕ) (es : Blocks) (here : Tile)
     → WalksAt c (Gathering seen visits room spared es) here → AreBelow es (here.offset + 16)
 gathering-below c seen visits room spared es here a =
     subst (λ (fs : Blocks). AreBelow fs (here.offset + 16)) (sym a.kept.entries)
     (below-here 128 a.front here a.back (length c.bytes - 16) (said_row c (a.front ++ here ∷ a.back) a.said))
 
--- one tile more is gathered
+-- one more tile is collected
 pub gathering-more : (seen visits room spared : ℕ) (es : Blocks) (front : List Tile) (here : Tile) (v2 s2 : ℕ)
     (fs : Blocks) → Gathering seen visits room spared es front
     → visits + 1 ≤ v2 → v2 ≤ visits + 2 → fs ≡ es ++ option_to_list (entry_of here)

@@ -1,4 +1,4 @@
--- What the rows of the map say of their owners is what the tiles say of theirs.
+-- The owners in the rows of the map are the owners of the tiles.
 use Rattle.image_check.proofs.Common.{Block, Blocks, HasTiles, Index, List, Node, None, Option, Owner, Role, Row, Some}
 use Rattle.image_check.proofs.Common.{Storage, Tile, [], ap, arith, block_at, bytes_of, cond, cons_option, entries_of}
 use Rattle.image_check.proofs.Common.{false, filter_map, frames, has_owner, is_some, length, new_block, not, owner_at}
@@ -15,12 +15,12 @@ use Rattle.image_check.proofs.frame.Tags.{has_tags-AreWholeTiles}
 
 -- ---- a tile and its block
 
--- by the use of a tile and what is noted at its payload
+-- the test by the use of a tile and the owner entered at its payload
 abbrev tested : Option Role → Option Owner → Bool
 tested u o = not (elim u [ None ↦ false | Some r ↦ same_role Index r ] || elim u
     [ None ↦ false | Some r ↦ same_role Storage r ] || elim u [ None ↦ false | Some r ↦ same_role Node r ]) || is_some o
 
--- a block that has what it needs is one of a tile that does, and the other way round
+-- a block passes the test exactly if its tile does
 same-test : (role : Role) (o : Option Owner) → tested (Some role) (cond (same_role role Object) None o) ≡
     (same_role role Object || is_some o)
 same-test Object o = refl
@@ -64,7 +64,7 @@ rows-weigh b es h f =
     let same = few-rows b es f in
     omega arith
 
--- there is a row for each tile in use
+-- there is one row for each tile in use
 used-count : (o : Option Role) (offset len : ℕ) (es : Blocks) (rs : List Role) → length es ≡ length rs
     → length (cons_option (elim o [ None ↦ None | Some role ↦ Some (offset + 16, new_block role len) ]) es)
     ≡ length (cons_option o rs)

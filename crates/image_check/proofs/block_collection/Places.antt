@@ -1,4 +1,4 @@
--- Where the tiles that good tags say lie, and their payloads.
+-- The offsets of the tiles of good tags, and their payloads.
 use Rattle.image_check.proofs.Common.{IsTrue, List, Memory, Role, Row, Some, Tile, [], and_parts, ap, arith, eqb-true}
 use Rattle.image_check.proofs.Common.{has_tags, is_legal_size, is_use, leb-true, nat_le, or_cases, refl, tile_of}
 use Rattle.image_check.proofs.Common.{tiles_of, ℕ, ◌%◌, ◌&&◌, ◌+◌, ◌-◌, ◌==◌, ◌∙◌, ◌∷◌, ◌≡◌, ◌≤◌}
@@ -6,7 +6,7 @@ use Rattle.image_check.proofs.bytes.Members.{Mem, find_mem}
 use Rattle.image_check.proofs.frame.Tags.{has_tags-AreWholeTiles}
 use mathlib.Core.Logic.{inl, inr}
 
--- a tile among those of a row
+-- a tile of a row
 pub record InRow (at end : ℕ) (t : Tile) : Type 0 where
   pub low : at ≤ t.offset
   pub high : t.offset + t.len ≤ end
@@ -18,7 +18,7 @@ row-end : (at : ℕ) (ts : List Tile) (end : ℕ) → Row at ts end → at ≤ e
 row-end at [] end a = omega arith
 row-end at (u ∷ ts) end a = let l = row-end (at + u.len) ts end a.3 in omega arith
 
--- a tile of a row stands in it
+-- a tile of a row is in it
 pub in_row : (at : ℕ) (ts : List Tile) (end : ℕ) (t : Tile) → Row at ts end → Mem t ts → InRow at end t
 in_row at [] end t a h = absurd h
 in_row at (u ∷ ts) end t a (inl e) =

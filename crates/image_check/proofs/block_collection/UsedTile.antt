@@ -1,4 +1,4 @@
--- Which tile stands for an extent in use, and when two rows of extents are one.
+-- The tile of an extent in use, and when two rows of extents are equal.
 use Rattle.image_check.proofs.Common.{Extent, Index, IsTrue, List, Node, None, Option, Rising, Role, Row, Some, Storage}
 use Rattle.image_check.proofs.Common.{Tile, [], and_from, and_parts, ap, arith, as_extent, cond, eq-eqb, eqb-true}
 use Rattle.image_check.proofs.Common.{false, false≢true, filter, handle, is_use, payload, refl, rising-weak, same_role}
@@ -12,7 +12,7 @@ use mathlib.Core.Logic.{inl, inr}
 
 -- ---- roles
 
--- roles that are tested to be the same are the same
+-- roles that pass the test of equality are equal
 pub same_role-is : (r s : Role) → IsTrue (same_role r s) → r ≡ s
 same_role-is Object Object h = refl
 same_role-is Index Index h = refl
@@ -101,7 +101,7 @@ pub record Stands (ts : List Tile) (role : Role) (x : Extent) : Type 0 where
   pub use_of : IsTrue (is_use role tile)
   pub found : tile_of ts role (handle x) ≡ Some tile
 
--- an extent in use, of this role, stands among the tiles
+-- an extent in use, of this role, is among the tiles
 pub used-IsMember : (at : ℕ) (ts : List Tile) (end : ℕ) (role : Role) (x : Extent) → Row at ts end → Mem x (used ts)
     → IsTrue (same_role x.role role) → Stands ts role x
 used-IsMember at ts end role x a h s =
@@ -123,7 +123,7 @@ used-IsMember at ts end role x a h s =
 
 -- ---- rows of extents that rise
 
--- what stands in a row stands after its beginning
+-- an extent of a row is after the row's beginning
 pub rising-from : (n : ℕ) (xs : List Extent) (x : Extent) → Rising n xs → Mem x xs → n ≤ x.offset
 rising-from n [] x r h = absurd h
 rising-from n (y ∷ ys) x r (inl e) = let f = ap (λ (z : Extent). z.offset) e in let l = r.0 in omega arith
@@ -169,7 +169,7 @@ pub rising-filter : (p : Extent → Bool) (n : ℕ) (xs : List Extent) → Risin
 rising-filter p n [] r = tt
 rising-filter p n (x ∷ xs) r = kept-if n (p x) x (filter p xs) r.0 (rising-filter p (x.offset + 1) xs r.1)
 
--- ---- sorted extents are those that were sorted
+-- ---- sorting sorted extents changes nothing
 
 -- each extent is among the sorted ones
 pub mem-sorted : (x : Extent) (xs : List Extent) → Mem x xs → Mem x (sorted xs)
@@ -177,7 +177,7 @@ mem-sorted x xs h = mem_all (λ y.
     Mem y (sorted xs)) xs x (all_of-sorted (λ y.
     Mem y (sorted xs)) xs (all_mem (λ y. Mem y (sorted xs)) (sorted xs) (λ y k. k))) h
 
--- and each of the sorted ones is one of them
+-- and each sorted extent is one of the extents
 pub mem-of-sorted : (x : Extent) (xs : List Extent) → Mem x (sorted xs) → Mem x xs
 mem-of-sorted x xs h = mem_all (λ y.
     Mem y xs) (sorted xs) x (all-sorted (λ y. Mem y xs) xs (all_mem (λ y. Mem y xs) xs (λ y k. k))) h

@@ -1,9 +1,9 @@
--- What a pass may spend on all tiles, from what it spends on each.
+-- The bound of a pass for all tiles, from its bound for each.
 use Rattle.image_check.proofs.Common.{List, Rates, Row, Tile, [], add-one, ap, arith, length, rate_of, weigh, ℕ, ◌*◌}
 use Rattle.image_check.proofs.Common.{◌+◌, ◌/◌, ◌∷◌, ◌≡◌, ◌≤◌}
 use Rattle.image_check.proofs.read_off.GoodValues.{mul-next}
 
--- all of them together
+-- the sum over all tiles
 abbrev pub costs : (Tile → ℕ) → List Tile → ℕ
 costs cost [] = 0
 costs cost (t ∷ ts) = cost t + costs cost ts
@@ -17,7 +17,7 @@ costs-weigh rates cost at (t ∷ ts) end a h =
     let more = costs-weigh rates cost (at + t.len) ts end a.3 h in
     omega arith
 
--- the same for each
+-- the cost of a list if each tile costs the same
 pub costs-each : (n : ℕ) (ts : List Tile) → costs (λ t. n) ts ≡ n * length ts
 costs-each n [] = omega arith
 costs-each n (t ∷ ts) = let l = costs-each n ts in let s = mul-next n (length ts) in let u = add-one (length ts)

@@ -1,5 +1,4 @@
--- Counts of visits: what tiles weigh, and that all passes together stay within 64 for each 16 bytes of the size, and
--- 64.
+-- Counts of visits: the rates of tiles, and the bound of all passes together: 64 for each 16 bytes of the size, and 64.
 use Rattle.image_check.proofs.Common.{EncodesTiles, HasTiles, Index, IsLinkClosed, IsTrue, List, Node, None, Option}
 use Rattle.image_check.proofs.Common.{Rates, Role, Row, Some, Spends, Storage, Tile, WindowState, [], ap, arith}
 use Rattle.image_check.proofs.Common.{bytes_of, is_in, is_legal_size, is_place, is_place-PayloadBounds, leads}
@@ -66,7 +65,7 @@ part-paid : (old new m u w n : ℕ) → new ≤ old + (m + w) → m ≤ 640 → 
     → new ≤ old + 64 * (n / 16 + 1)
 part-paid old new m u w n a few size weight = omega arith
 
--- ---- what tiles weigh
+-- ---- the weight of tiles
 
 pub weigh-append : (r : Rates) (xs ys : List Tile) → weigh r (xs ++ ys) ≡ weigh r xs + weigh r ys
 weigh-append r [] ys = omega arith
@@ -171,7 +170,7 @@ Within r old now ts = (old ≤ now) × (now ≤ old + weigh r ts)
 pub within-none : (r : Rates) (old : ℕ) → Within r old old []
 within-none r old = (omega arith, omega arith)
 
--- one tile more: the count stays within
+-- one more tile: the count stays within the bound
 pub within-more : (r : Rates) (old now next : ℕ) (front : List Tile) (here : Tile) → Within r old now front
     → now ≤ next → next ≤ now + rate_of r here.use_of * (here.len / 16)
     → Within r old next (front ++ here ∷ [])
@@ -192,11 +191,11 @@ within-stop c r old now next front here back said w l m =
     (weigh-append r front (here ∷ back)) (ap (weigh r) (tiles_are_read_off c (front ++ here ∷ back) said)) in
     (on old now next w.0 l, paid)
 
--- or has passed them all
+-- or the walk has passed all tiles
 pub within-all : (b : List ℕ) (r : Rates) (old now : ℕ) → Within r old now (tiles_in b) → Spends r 0 b old now
 within-all b r old now w = let low = w.0 in let high = w.1 in (low, omega arith)
 
--- ---- what a tile is worth
+-- ---- the rate of a tile
 
 -- two visits for each tile are within the rate of tags
 pub two-for-tile : (u : Option Role) (n : ℕ) → 32 ≤ n → 2 ≤ rate_of tag_rates u * (n / 16)
@@ -229,7 +228,7 @@ steps-spend c old steps new h few e =
     steps-paid old steps new (units (tiles_in c.bytes)) (weigh step_rates (tiles_in c.bytes)) (length c.bytes)
     (size-units c h) (weigh-five (tiles_in c.bytes)) few e
 
--- what two passes spend together
+-- the sum of what two passes spend
 pub spend-both : (b : List ℕ) (r s : Rates) (m n old mid new : ℕ) → Spends r m b old mid → Spends s n b mid new
     → Spends (both r s) (m + n) b old new
 spend-both b r s m n old mid new x y =
@@ -260,7 +259,7 @@ spend-within b r s m old new less x =
 pub search-short : (n steps : ℕ) → n < 2 ^ 26 - 1 → steps ≤ 2 * bits (n + 1) → steps ≤ 52
 search-short n steps l s = let short = length-digits_of-le 2 26 (n + 1) (omega arith) (omega arith) in omega arith
 
--- the places where a payload may begin are closed under links, and there is one for each 16 bytes at most
+-- the offsets at which a payload can begin are closed under links, and there is at most one for each 16 bytes
 listed-link : (c : WindowState) (o : Option ℕ) → leads (is_place c) o ≡ true
     → leads (λ n. is_in n (multiples (length c.bytes / 16))) o ≡ true
 listed-link c None h = refl
@@ -354,7 +353,7 @@ module _ (c : WindowState) (old framed gathered : ℕ) (h : HasTiles c.bytes)
       (spend-both c.bytes frame_rates (both gathering_rates block_rates) 51 64 old framed gathered x
       (spend-less c.bytes gathering_rates block_rates 2 62 framed gathered y))
 
-  -- the visits of the blocks, with those before
+  -- the visits of the blocks, together with those before
   pub blocks-spent : (new : ℕ) → Spends block_rates 62 c.bytes gathered new → Spends all_rates 115 c.bytes old new
   blocks-spent new z = spend-both c.bytes frame_rates (both gathering_rates block_rates) 51 64 old framed new x
       (spend-both c.bytes gathering_rates block_rates 2 62 framed gathered new y z)
@@ -379,7 +378,7 @@ noted-raised c old passed new count h x few e =
     all-part c (both all_rates note_rates) 115 old new h noted-most (omega arith)
     (spend-both c.bytes all_rates note_rates 115 0 old passed new x (omega arith, omega arith))
 
--- where the tags are wrong, they alone were read
+-- if the tags are wrong, only they were read
 pub tags-raised : (b : List ℕ) (old tags new : ℕ) → 32 * tags + 112 ≤ length b → new ≡ old + tags
     → IsRaisedFor (length b) old new
 tags-raised b old tags new few e = (omega arith, omega arith)

@@ -1,4 +1,4 @@
--- Bytes and the numbers in them: how large a word is, which bytes spell it, and which words are made of zeros.
+-- Bytes and their numbers: the size of a word, its bytes, and the words of zeros.
 use Rattle.image_check.proofs.Common.{AllByRecursion, AreZero, IsTrue, List, Memory, [], and_from, and_parts, ap}
 use Rattle.image_check.proofs.Common.{are_bytes, arith, bytes_of, cases_lt, eq-eqb, eqb-true, is_zero, length}
 use Rattle.image_check.proofs.Common.{list_all-append, little_number, lt-ltb, ltb-true, nat_lt, read, refl, slice_index}
@@ -74,7 +74,7 @@ AreZero-cons m at n e z = record {
 pub AreZero-within : (m : Memory) (a b c d : ℕ) → a ≤ c → d ≤ b → AreZero m a b → AreZero m c d
 AreZero-within m a b c d f g z = record { at = λ k h l. z.at k (omega arith) (omega arith) }
 
--- the test of zeros says that they are
+-- the test of zeros is exact
 pub is_zero-AreZero : (m : Memory) (at n : ℕ) → IsTrue (is_zero (read m at n)) → AreZero m at (at + n)
 is_zero-AreZero m at zero h = AreZero-none m at
 is_zero-AreZero m at (suc n) h =

@@ -1,4 +1,5 @@
--- The fields that count are the claims of a list of objects and of two tables: each is one, and each one counts.
+-- The fields that count are the claims of a list of objects and of two tables: each field is a claim, and each claim
+-- counts.
 use Rattle.image_check.proofs.Common.{BackingArray, Bytes, Elements, Field, IsTree, IsTrue, Kind, List, Memory, Node}
 use Rattle.image_check.proofs.Common.{Numbers, Pairs, Some, Texts, Tile, Tree, Value, [], ap, cells_of, counted_fields}
 use Rattle.image_check.proofs.Common.{element_fields, flat_map, handle, index_field, is_some, kind_of, length, link_at}
@@ -14,17 +15,17 @@ use Rattle.image_check.proofs.claims.Fields.{storage_claims, table_claims, value
 use Rattle.image_check.proofs.claims.TreeClaims.{IsLinkOf, links-closed, tree-covered}
 use mathlib.Core.Logic.{inl, inr}
 
--- where the value of an object stands
+-- the offset of an object's value
 abbrev pub place_of : Object → ℕ
 place_of o = handle o.extent + 16 + padded (length o.name)
 
--- a kind and a place are those of one of the objects
+-- a kind and an offset of one of the objects
 pub record IsAmong (os : List Object) (p : Kind × ℕ) : Type 0 where
   pub object : Object
   pub mem : Mem object os
   pub is : p ≡ (kind_of object.value, place_of object)
 
--- the objects' values are those that the tiles have, and their fields those of the values
+-- the objects' values are the values of the tiles, and their fields the fields of the values
 pub record IsClaimed (format : ℕ) (m : Memory) (ts : List Tile) (os : List Object) (named unique : BackingArray) :
     Type 0 where
   pub of : (p : Kind × ℕ) → Mem p (values format m ts) → IsAmong os p
@@ -49,7 +50,7 @@ tables_claims named unique = table_claims 32 named ++ table_claims 56 unique
 abbrev pub all_claims : Memory → List Tile → List Object → BackingArray → BackingArray → List Field
 all_claims m ts os named unique = flat_map (claims_of m ts) os ++ tables_claims named unique
 
--- the tree of a map that is read is the tree there, of nodes that are tiles
+-- the tree of a map that is read is the tree there, and its nodes are tiles
 record IsThere (m : Memory) (ts : List Tile) (at : ℕ) (t : Tree) : Type 0 where
   linked : IsTree (cells_of m) (link_at m at) t
   nodes : IsTrue (list_all (λ n. is_some (tile_of ts Node n)) (nodes_of t))
@@ -76,7 +77,7 @@ root-link m ts K (Pairs k v ps) at r c x (inl e) =
       claimed = λ f k. c f (subst (λ o. Mem f (option_tree_claims at o)) (sym r.1) k);
     })
 
--- the links of a map are gone through
+-- the links of a map are followed
 node-counted : (m : Memory) (ts : List Tile) (links : List ℕ) (fields : List Field) → Covers m ts [] links fields
     → (v : Value) (at : ℕ) → IsTreeRead m ts v at
     → ((x : ℕ) → Mem x (root_link (kind_of v, at)) → Mem x links) → (f : Field) → Mem f (node_claims m ts v at)
@@ -98,7 +99,7 @@ module _ (format : ℕ) (m : Memory) (ts : List Tile) (os : List Object) (named 
   abbrev all : List Field
   all = all_claims m ts os named unique
 
-  -- ---- each field that counts is one
+  -- ---- each field that counts is a claim
 
   of-object : (o : Object) (f : Field) → Mem o os → Mem f (claims_of m ts o) → Mem f all
   of-object o f k l = mem_left f (flat_map (claims_of m ts) os) (tables_claims named unique)
@@ -188,7 +189,7 @@ module _ (format : ℕ) (m : Memory) (ts : List Tile) (os : List Object) (named 
         ]
       ]
 
-  -- ---- and each of them counts
+  -- ---- and each claim counts
 
   of-four : (f : Field) → Mem f four → Mem f (counted_fields format m ts)
   of-four f k = mem_left f four nodes k

@@ -237,7 +237,7 @@ module _ (format : ℕ) (m : Memory) (ts : List Tile) where
     ]
   ]
 
-  -- ---- what counts is in the list
+  -- ---- each field that counts is in the list
 
   of-four : (f : Field) → Mem f four → Mem f (counted_fields format m ts)
   of-four f k = mem_left f four nodes k
@@ -312,7 +312,7 @@ module _ (format : ℕ) (m : Memory) (ts : List Tile) where
   ]
 
   module _ (end : ℕ) (a : Row 128 ts end) where
-    -- one tile is not for two uses
+    -- no tile has two uses
     two-uses : (at n : ℕ) (role : Role) → same_role Node role ≡ false → LeadsTo m ts Node at n
         → LeadsTo m ts role at n → ⊥
     two-uses at n role e l q =

@@ -68,7 +68,7 @@ module _ (ts : List Tile) (end : ℕ) (a : Row 128 ts end) (m : Memory) (os : Li
       (of-table g.one (mem_right g.one (table_claims 32 named) (table_claims 56 unique) g.mem)) (sym f.is ∙ e ∙ g.is) in
       absurd (omega arith))))
 
-  -- ---- all of them
+  -- ---- all claims together
 
   own-apart : (o : Object) (k : Mem o os) (x : Extent) → Mem x (used ts) → IsOther x → handle o.extent ≡ handle x → ⊥
   own-apart o k x h n e =

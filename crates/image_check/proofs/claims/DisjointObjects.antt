@@ -47,13 +47,13 @@ module _ (ts : List Tile) (end : ℕ) (a : Row 128 ts end) (m : Memory) (os : Li
       let off = p.offset in
       record { from = omega arith; to = omega arith }
 
-  -- where a claim that is no link of a tree stands
+  -- the offset of a claim that is no link of a tree
   data Home (o : Object) (x : ℕ) : Type 0 where
     at_place : value_len o.value ≡ 24 → x ≡ place_of o → Home o x
     in_array : (t : Tile) → Mem t ts → IsTrue (is_use Storage t) → Lies x t → value_len o.value ≡ 24
         → Mem (field (place_of o) (payload t)) (storage_claims o.value (place_of o)) → Home o x
 
-  -- where a link of a tree stands
+  -- the offset of a link of a tree
   data NodeHome (o : Object) (x : ℕ) : Type 0 where
     at_root : value_len o.value ≡ 24 → x ≡ place_of o → NodeHome o x
     in_node : (t : Tile) → Mem t ts → IsTrue (is_use Node t) → Lies x t → NodeHome o x
@@ -93,7 +93,7 @@ module _ (ts : List Tile) (end : ℕ) (a : Row 128 ts end) (m : Memory) (os : Li
       let p = r.objects o k in
       two-roles p.tile t ObjectRole q p.mem h p.use_of i (place_of o) (place-lies o k e) l n
 
-  -- values of two objects stand at two places
+  -- the values of two objects are at two offsets
   places-differ : (o p : Object) (k : Mem o os) (l : Mem p os) → value_len o.value ≡ 24 → value_len p.value ≡ 24
       → (o.extent.offset ≡ p.extent.offset → ⊥) → place_of o ≡ place_of p → ⊥
   places-differ o p k l e f n g =
@@ -298,7 +298,7 @@ module _ (ts : List Tile) (end : ℕ) (a : Row 128 ts end) (m : Memory) (os : Li
       subst Distinct (value-targets m ts o.value at p.good p.tree)
       (subst Distinct (sym (map-append target_in ss (es ++ ns))) all)
 
-  -- ---- its claims stand after the header
+  -- ---- the claims of an object are after the header
 
   home-tile : (o : Object) (k : Mem o os) (x : ℕ) → Home o x → 128 ≤ x
   home-tile o k x (at_place e f) =
@@ -320,6 +320,6 @@ module _ (ts : List Tile) (end : ℕ) (a : Row 128 ts end) (m : Memory) (os : Li
   part-high o k f (home x) = home-tile o k f.at x
   part-high o k f (node x) = node-tile-home o k f.at (node-home o k f x)
 
-  -- a field of an object stands after the header
+  -- a field of an object is after the header
   pub claim-high : (o : Object) (k : Mem o os) (f : Field) → Mem f (claims_of m ts o) → 128 ≤ f.at
   claim-high o k f h = part-high o k f (part-of o k f h)

@@ -1,5 +1,5 @@
--- Where the fields of a value stand: in its own place, in its array, or in a node of its tree; and which tiles these
--- lie in.
+-- The places of a value's fields: in its own place, in its array, or in a node of its tree; and the tiles that contain
+-- them.
 use Rattle.image_check.proofs.Common.{AllByRecursion, AllByRecursion-front, BackingArray, Bytes, Elements, Extent}
 use Rattle.image_check.proofs.Common.{Field, IsTrue, List, Memory, Node, None, NumberPair, Numbers, Option, OwnedText}
 use Rattle.image_check.proofs.Common.{Pairs, Role, Row, ScalarKind, Some, Storage, Texts, Tile, Tree, Value, []}
@@ -28,12 +28,12 @@ use mathlib.Core.Logic.{◌⊎◌, inl, inr}
 
 -- ---- tiles
 
--- the place lies in the tile
+-- the offset is in the tile
 pub record Lies (p : ℕ) (t : Tile) : Type 0 where
   pub from : t.offset ≤ p
   pub to : p < t.offset + t.len
 
--- a place lies in one tile
+-- an offset is in only one tile
 pub in-one : (at : ℕ) (ts : List Tile) (end : ℕ) (p : ℕ) (t u : Tile) → Row at ts end → Mem t ts → Mem u ts
     → Lies p t → Lies p u → t ≡ u
 in-one at [] end p t u a h k x y = absurd h
@@ -77,7 +77,7 @@ tile-aligned at (w ∷ ts) end t e a (inl f) =
     (omega arith, omega arith)
 tile-aligned at (w ∷ ts) end t e a (inr h) = let whole = a.2 in tile-aligned (at + w.len) ts end t (omega arith) a.3 h
 
--- ---- what is known of the objects
+-- ---- the facts about the objects
 
 -- an object's block, and its value in it
 pub record IsPlaced (m : Memory) (ts : List Tile) (o : Object) : Type 0 where
@@ -92,16 +92,16 @@ pub record IsPlaced (m : Memory) (ts : List Tile) (o : Object) : Type 0 where
   pub tree : IsTreeRead m ts o.value (place_of o)
   pub extents : AllByRecursion (λ x. Mem x (used ts)) (value_extents o.value)
 
--- the extents of objects and indexes stand among the tiles, and their links are the fields that count
+-- the extents of objects and indexes are among the tiles, and their links are the fields that count
 pub record ArePlaced (m : Memory) (ts : List Tile) (os : List Object) (named unique : BackingArray) : Type 0 where
   pub objects : (o : Object) → Mem o os → IsPlaced m ts o
   pub by_offset : IsTrue (rises_from 0 os)
   pub tables : (x : Extent) → Mem x (table_extents named ++ table_extents unique) → Mem x (used ts) × IsOther x
   pub unshared : Unshared (λ f. Mem f (all_claims m ts os named unique))
 
--- ---- claims stand at the value, or in its array
+-- ---- claims are at the value, or in its array
 
--- the field of a block, if there is one, stands at its place
+-- the field of a block, if there is one, is at its offset
 pub option-at : (e : Option Extent) (at : ℕ) (f : Field) → Mem f (option_claims at e) → f.at ≡ at
 option-at None at f h = absurd h
 option-at (Some x) at f (inl e) = ap (λ (g : Field). g.at) e
@@ -112,7 +112,7 @@ pub option-once : (e : Option Extent) (at : ℕ) → Distinct (map target_in (op
 option-once None at = tt
 option-once (Some x) at = ((λ y h g. absurd h), tt)
 
--- the field of storage stands in its value
+-- the field of storage is in its value
 pub storage-at : (v : Value) (at : ℕ) (f : Field) → Mem f (storage_claims v at) → (f.at ≡ at) × (value_len v ≡ 24)
 storage-at (Numbers k zs) at f h = absurd h
 storage-at (Elements k zs t) at f h = (option-at t.extent at f h, refl)
@@ -128,7 +128,7 @@ text-at at (p ∷ ps) f h = elim (mem_parts f (option_claims at p.extent) (text_
   | inr a ↦ (let l = text-at (at + 16) ps f a in (omega (arith, l.0), omega (arith, l.1)))
 ]
 
--- where a field stands
+-- the offset of a field
 abbrev pub at_of : Field → ℕ
 at_of f = f.at
 
@@ -144,12 +144,12 @@ ats-if at (Some x) ps d = (
   d,
 )
 
--- the fields of strings stand at different places
+-- the fields of strings are at different offsets
 pub text-ats : (at : ℕ) (ps : List OwnedText) → Distinct (map at_of (text_claims at ps))
 text-ats at [] = tt
 text-ats at (p ∷ ps) = ats-if at p.extent ps (text-ats (at + 16) ps)
 
--- of what value tree nodes are
+-- the value to which tree nodes belong
 pub nodes-len : (m : Memory) (ts : List Tile) (v : Value) (at : ℕ) (f : Field) → Mem f (node_claims m ts v at)
     → value_len v ≡ 24
 nodes-len m ts (Numbers k zs) at f h = absurd h
@@ -215,7 +215,7 @@ module _ (ts : List Tile) (end : ℕ) (a : Row 128 ts end) where
         claim = inl (ap (λ y. field at (y + 16)) o);
       }
 
-  -- the fields of strings stand in the array
+  -- the fields of strings are in the array
   pub element-array : (v : Value) (at : ℕ) → IsTrue (is_good_value v)
       → AllByRecursion (λ x. Mem x (used ts)) (value_extents v) → (f : Field) → Mem f (element_claims v at)
       → (t : Tile) × Mem t ts × IsTrue (is_use Storage t) × Lies f.at t
@@ -270,7 +270,7 @@ module _ (ts : List Tile) (end : ℕ) (a : Row 128 ts end) where
       }
   forest m (Texts ps t) at h mem r = record { tree = leaf; claims = refl; tiles = λ n l. absurd l }
 
-  -- a node stands at a multiple of 16
+  -- a node begins at a multiple of 16
   pub node-aligned : (n : ℕ) → ((t : Tile) × Mem t ts × IsTrue (is_use Node t) × (payload t ≡ n)) → n % 16 ≡ 0
   node-aligned n w =
       let g = (tile-aligned 128 ts end w.0 refl a w.1).0 in

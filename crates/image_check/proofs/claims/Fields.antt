@@ -23,13 +23,13 @@ use Rattle.image_check.proofs.read_off.Directory.{tree_at}
 use Rattle.image_check.proofs.claims.ReachedLinks.{field}
 use Rattle.image_check.proofs.read_off.Values.{AreStored, no-places, node_handle, node_of, nothing-left, text_extents}
 
--- the payload that a field leads to
+-- the payload behind a field
 abbrev pub target_in : Field → ℕ
 target_in f = f.target
 
 -- ---- the fields of one value
 
--- the field at a place that leads to an extent, where there is one
+-- the field at an offset that leads to an extent, if there is one
 abbrev pub option_claims : ℕ → Option Extent → List Field
 option_claims at None = []
 option_claims at (Some x) = field at (handle x) ∷ []
@@ -38,7 +38,7 @@ option_claims at (Some x) = field at (handle x) ∷ []
 abbrev pub table_claims : ℕ → BackingArray → List Field
 table_claims at t = option_claims at t.extent
 
--- the fields of texts that stand one after the other, 16 bytes each
+-- the fields of texts one after the other, 16 bytes each
 abbrev pub text_claims : ℕ → List OwnedText → List Field
 text_claims at [] = []
 text_claims at (p ∷ ps) = option_claims at p.extent ++ text_claims (at + 16) ps
@@ -53,7 +53,7 @@ abbrev pub tree_claims : ℕ → Tree → List Field
 tree_claims at leaf = []
 tree_claims at (fork red l n r) = tree_claims n l ++ field at n ∷ tree_claims (n + 8) r
 
--- the fields of a tree, where there is one
+-- the fields of a tree, if there is one
 abbrev pub option_tree_claims : ℕ → Option Tree → List Field
 option_tree_claims at None = []
 option_tree_claims at (Some t) = tree_claims at t
@@ -86,7 +86,7 @@ node_claims m ts (Texts ps t) at = []
 abbrev pub value_claims : Memory → List Tile → Value → ℕ → List Field
 value_claims m ts v at = storage_claims v at ++ (element_claims v at ++ node_claims m ts v at)
 
--- the tree of a map, where the value is one
+-- the tree of a map, if the value is a map
 abbrev pub IsTreeRead : Memory → List Tile → Value → ℕ → Type 0
 IsTreeRead m ts (Numbers k zs) at = Unit {0}
 IsTreeRead m ts (Elements k zs t) at = Unit {0}
@@ -94,7 +94,7 @@ IsTreeRead m ts (Bytes bs t) at = Unit {0}
 IsTreeRead m ts (Pairs k v ps) at = (t : Tree) × (tree_at m ts at ≡ Some t) × (nodes_of t ≡ map node_handle ps)
 IsTreeRead m ts (Texts ps t) at = Unit {0}
 
--- ---- they lead to the value's extents, one to each
+-- ---- the fields lead to the value's extents, one to each
 
 -- the field of a block, if there is one, leads to it
 pub option-targets : (at : ℕ) (e : Option Extent) → map target_in (option_claims at e) ≡ map handle (option_to_list e)
@@ -159,7 +159,7 @@ module _ (ts : List Tile) (end : ℕ) (a : Row 128 ts end) where
       ∙ ap (λ o. elim o [ None ↦ [] | Some t ↦ field at (payload t) ∷ [] ]) t.found
       ∙ ap (λ o. field at (o + 16) ∷ []) t.is.offset
 
-  -- the field of a table's link, where there are places
+  -- the field of a table's link, if its capacity is not 0
   places-if : (m : Memory) (role : Role) (each at capacity : ℕ) (e : Option Extent)
       → IsTrue (has_backing role each (record { capacity = capacity; extent = e }))
       → AllByRecursion (λ x. Mem x (used ts)) (option_to_list e) → link_at m at ≡ option_map handle e
@@ -279,7 +279,7 @@ module _ (ts : List Tile) (end : ℕ) (a : Row 128 ts end) where
       ∙ texts-range m (handle x) 0 ps v mem (subst (λ y. AreTextLinks m y ps) here links)
       ∙ ap (λ y. text_claims y ps) (sym here)
 
-  -- the fields of strings are those that count
+  -- the fields of strings are the fields that count
   pub element-same : (m : Memory) (v : Value) (at : ℕ) → IsTrue (is_good_value v) → IsValueAt m at v
       → AllByRecursion (λ x. Mem x (used ts)) (value_extents v)
       → element_fields m ts (kind_of v, at) ≡ element_claims v at

@@ -11,7 +11,7 @@ use mathlib.Core.Logic.{◌⊎◌, inl, inr}
 pub record Unshared (K : Field → Type 0) : Type 0 where
   pub one : (f g : Field) → K f → K g → f.target ≡ g.target → f.at ≡ g.at
 
--- one of the two links of a node
+-- the offset is one of the two links of a node of the list
 pub record IsBelow (ns : List ℕ) (x : ℕ) : Type 0 where
   pub node : ℕ
   pub mem : Mem node ns
@@ -26,7 +26,7 @@ below-right xs n ys x b = record { node = b.node; mem = mem_right b.node xs (n �
 middle : (xs : List ℕ) (n : ℕ) (ys : List ℕ) → Mem n (xs ++ n ∷ ys)
 middle xs n ys = mem_right n xs (n ∷ ys) (inl refl)
 
--- a link of a tree stands at its root link, or in one of its nodes
+-- a link of a tree is its root link, or is in one of its nodes
 pub tree-at : (a : ℕ) (t : Tree) (g : Field) → Mem g (tree_claims a t) → (g.at ≡ a) ⊎ IsBelow (nodes_of t) g.at
 tree-at a leaf g k = absurd k
 tree-at a (fork red l n r) g k = elim (mem_parts g (tree_claims n l) (field a n ∷ tree_claims (n + 8) r) k) [
@@ -45,7 +45,7 @@ tree-at a (fork red l n r) g k = elim (mem_parts g (tree_claims n l) (field a n 
 pub record AreAligned (ns : List ℕ) : Type 0 where
   pub at : (n : ℕ) → Mem n ns → n % 16 ≡ 0
 
--- a place that is no link of these nodes
+-- an offset that is no link of these nodes
 pub record NotBelow (a : ℕ) (ns : List ℕ) : Type 0 where
   pub first : (n : ℕ) → Mem n ns → a ≡ n → ⊥
   pub second : (n : ℕ) → Mem n ns → a ≡ n + 8 → ⊥
@@ -90,7 +90,7 @@ led a t n k =
     let i = mem_of_map target_in n (tree_claims a t) (subst (Mem n) (sym (tree-targets a t)) k) in
     (i.one, i.mem, i.is)
 
--- what leads to a node of a tree is one of its links
+-- only the links of a tree lead to its nodes
 root-apart : (K : Field → Type 0) → Unshared K → (a n b : ℕ) (t : Tree) → K (field a n)
     → ((f : Field) → Mem f (tree_claims b t) → K f) → (a ≡ b → ⊥) → NotBelow a (nodes_of t) → Mem n (nodes_of t) → ⊥
 root-apart K u a n b t k c d h l =
@@ -125,7 +125,7 @@ two-trees K u a (fork red lt n rt) b t c d p q ne h k x l w =
           (not_below-right b (nodes_of lt) n (nodes_of rt) k) x y w
     ]
 
--- no node stands twice in a tree
+-- no node is twice in a tree
 pub one-tree : (K : Field → Type 0) → Unshared K → (a : ℕ) (t : Tree)
     → ((f : Field) → Mem f (tree_claims a t) → K f) → AreAligned (nodes_of t) → NotBelow a (nodes_of t)
     → Distinct (nodes_of t)
@@ -156,9 +156,9 @@ one-tree K u a (fork red l n r) c p h =
           (behind-not_below n (nodes_of l) even pl nl) x k (subst (λ z. Mem z (nodes_of r)) (sym e) v)
     ])
 
--- ---- fields at different places lead to different targets
+-- ---- fields at different offsets lead to different targets
 
--- so the targets of fields at different places differ
+-- so the targets of fields at different offsets differ
 pub targets-distinct : (K : Field → Type 0) → Unshared K → (fs : List Field) → ((f : Field) → Mem f fs → K f)
     → Distinct (map (λ (f : Field). f.at) fs) → Distinct (map target_in fs)
 targets-distinct K u [] c d = tt

@@ -1,5 +1,5 @@
--- The links that are gone through from the roots of maps: each of them is one that can be reached, and none is left
--- out.
+-- The links that are followed from the roots of maps: each of them can be reached, and each that can be reached is
+-- followed.
 use Rattle.image_check.proofs.Common.{AllByRecursion, Field, Index, IsTrue, Kind, List, Map, Memory, Node, None, Option}
 use Rattle.image_check.proofs.Common.{Role, Scalar, Some, Storage, String, Tile, Vector, [], and_parts, ap, arith}
 use Rattle.image_check.proofs.Common.{cons_option, eq-eqb, eqb-true, false, flat_map, good_for, if◌then◌else◌, is_among}
@@ -19,7 +19,7 @@ field at n = record { at = at; target = n }
 
 -- ---- links that are good
 
--- what a link that is good for a role leads to
+-- the tile behind a link to a block of its role
 pub record IsGood (ts : List Tile) (role : Role) (link : Option ℕ) (t : Tile) : Type 0 where
   pub mem : Mem t ts
   pub use_of : IsTrue (is_use role t)
@@ -34,7 +34,7 @@ good_for-IsGood ts role (Some target) t e =
     let parts = and_parts (is_use role t) (t.offset + 16 == target) k.is in
     record { mem = k.mem; use_of = parts.0; leads = ap Some (sym (eqb-true (t.offset + 16) target parts.1)) }
 
--- ---- each link that is gone through can be reached
+-- ---- each link that is followed can be reached
 
 -- the places S of links, and the fields K: a link at a place is among the fields, and its node's links are such places
 pub record AreClosed (S : ℕ → Type 0) (K : Field → Type 0) (m : Memory) (ts : List Tile) : Type 0 where
@@ -67,7 +67,7 @@ sound-step S K m ts c more ih met at links s h (Some t) e =
           (ih met links h) (ih (payload t ∷ met) (payload t ∷ (payload t + 8) ∷ links) (k.1, (k.2, h))),
     )
 
--- each field that is gone through is one of a closed set
+-- each field that is followed is in a closed set
 pub reached-sound : (S : ℕ → Type 0) (K : Field → Type 0) (m : Memory) (ts : List Tile) → AreClosed S K m ts
     → (more : ℕ) (met links : List ℕ)
     → AllByRecursion S links → AllByRecursion K (node_fields more m ts met links)
@@ -77,7 +77,7 @@ reached-sound S K m ts c (suc more) met (at ∷ links) h =
     sound-step S K m ts c more (reached-sound S K m ts c more) met at links h.0 h.1
     (good_for ts Node (link_at m at)) refl
 
--- ---- how many nodes are not met yet
+-- ---- the number of nodes that are not met yet
 
 abbrev weigh : Bool → Bool → ℕ
 weigh true true = 0
@@ -109,7 +109,7 @@ weigh-drop true false false p q r = absurd (cc)
 weigh-drop true true e p q r = absurd (cc)
 weigh-drop false a e p q r = absurd (cc)
 
--- one node more is met
+-- one more node is met
 unmet-drop : (ts : List Tile) (met : List ℕ) (t : Tile) → Mem t ts → IsTrue (is_use Node t)
     → is_among met (payload t) ≡ false → unmet ts (payload t ∷ met) + 1 ≤ unmet ts met
 unmet-drop [] met t h u a = absurd h
@@ -126,12 +126,12 @@ unmet-drop (s ∷ ts) met t (inr h) u a =
 
 -- ---- no link is left out
 
--- both links of a node are among the fields, where they are good
+-- both links of a node are among the fields, if they lead to nodes
 abbrev pub IsFollowed : Memory → List Tile → ℕ → List Field → Type 0
 IsFollowed m ts n fields = (at : ℕ) (t : Tile) → (at ≡ n) ⊎ (at ≡ n + 8) → good_for ts Node (link_at m at) ≡ Some t
     → Mem (field at (payload t)) fields
 
--- these links are among the fields, and those of each node that was not met before
+-- these links are among the fields, and so are the links of each node that was not met before
 pub record Covers (m : Memory) (ts : List Tile) (met links : List ℕ) (fields : List Field) : Type 0 where
   pub starts : (at : ℕ) (t : Tile) → Mem at links → good_for ts Node (link_at m at) ≡ Some t
       → Mem (field at (payload t)) fields
@@ -144,7 +144,7 @@ more-fields : (m : Memory) (ts : List Tile) (n : ℕ) (f : Field) (fields : List
     → IsFollowed m ts n (f ∷ fields)
 more-fields m ts n f fields k = λ at t p e. inr (k at t p e)
 
--- a start at a link that leads nowhere
+-- the case of a link that is null
 start-none : (m : Memory) (ts : List Tile) (at : ℕ) (links : List ℕ) (fields : List Field)
     → good_for ts Node (link_at m at) ≡ None
     → ((x : ℕ) (t : Tile) → Mem x links → good_for ts Node (link_at m x) ≡ Some t → Mem (field x (payload t)) fields)
@@ -155,7 +155,7 @@ start-none m ts at links fields e k x t (inl f) g =
     absurd (cc)
 start-none m ts at links fields e k x t (inr h) g = k x t h g
 
--- at one that leads to a tile
+-- the case of a link that leads to a tile
 start-some : (m : Memory) (ts : List Tile) (at : ℕ) (links : List ℕ) (u : Tile) (fields : List Field)
     → good_for ts Node (link_at m at) ≡ Some u
     → ((x : ℕ) (t : Tile) → Mem x links → good_for ts Node (link_at m x) ≡ Some t → Mem (field x (payload t)) fields)
@@ -175,7 +175,7 @@ old-node m ts met f fields h k g (inl e) = inl (subst (λ n. Mem n met) (ap (λ 
 old-node m ts met f fields h k g (inr l) =
     elim (k g l) [ inl a ↦ inl a | inr a ↦ inr (more-fields m ts g.target f fields a) ]
 
--- one whose node is met now
+-- a link whose node is met now
 followed-at : (m : Memory) (ts : List Tile) (n x : ℕ) (fields : List Field) → x ≡ n → IsFollowed m ts n fields
     → IsFollowed m ts x fields
 followed-at m ts n x fields e k = subst (λ y. IsFollowed m ts y fields) (sym e) k
@@ -242,7 +242,7 @@ whole-step m ts more ih met at links l None e =
 whole-step m ts more ih met at links l (Some t) e =
     whole-some m ts more ih met at links l t e (is_among met (payload t)) refl
 
--- with enough of them no link is left out
+-- with a large enough bound no link is omitted
 pub reached-whole : (m : Memory) (ts : List Tile) (more : ℕ) (met links : List ℕ)
     → length links + 2 * unmet ts met ≤ more → Covers m ts met links (node_fields more m ts met links)
 reached-whole m ts zero met [] l = nothing m ts met
@@ -251,7 +251,7 @@ reached-whole m ts (suc more) met [] l = nothing m ts met
 reached-whole m ts (suc more) met (at ∷ links) l =
     whole-step m ts more (reached-whole m ts more) met at links l (good_for ts Node (link_at m at)) refl
 
--- ---- there are enough
+-- ---- the bound is large enough
 
 roots-more : (o : Option (Kind × ℕ)) (vs : List (Kind × ℕ))
     → length (flat_map root_link (cons_option o vs)) ≤ suc (length (flat_map root_link vs))
@@ -286,7 +286,7 @@ pub roots-count : (format : ℕ) (m : Memory) (ts : List Tile)
 roots-count format m [] = omega arith
 roots-count format m (t ∷ ts) = count-step format m t.offset t.len t.use_of t.red ts (roots-count format m ts)
 
--- all links of the nodes that can be reached from the roots are gone through
+-- all links of the nodes that can be reached from the roots are followed
 pub roots-covered : (format : ℕ) (m : Memory) (ts : List Tile)
     → Covers m ts [] (flat_map root_link (values format m ts))
     (node_fields (2 * length ts) m ts [] (flat_map root_link (values format m ts)))

@@ -1,4 +1,4 @@
--- The links of a tree whose fields count: they are closed, and all of them are gone through.
+-- The links of a tree whose fields count: they are closed, and all of them are followed.
 use Rattle.image_check.proofs.Common.{Cell, Field, IsTree, IsTrue, List, Memory, Node, None, Option, Some, Tile, Tree}
 use Rattle.image_check.proofs.Common.{[], and_from, and_parts, ap, cells_of, false≢true, fork, good_for, is_some, leaf}
 use Rattle.image_check.proofs.Common.{link_at, list_all, nodes_of, payload, refl, root_of, some_same, subst, sym}
@@ -11,7 +11,7 @@ use mathlib.Core.Logic.{◌⊎◌, inl, inr}
 
 -- ---- the links of a tree
 
--- the two trees of a node that a link leads to
+-- the two subtrees of the node behind a link
 record IsForked (m : Memory) (at : ℕ) (t : Tree) (n : ℕ) : Type 0 where
   red : Bool
   left : Tree
@@ -73,7 +73,7 @@ links-closed m ts K = record {
 abbrev pub AreNodes : List Tile → List ℕ → Type 0
 AreNodes ts ns = IsTrue (list_all (λ n. is_some (tile_of ts Node n)) ns)
 
--- a tile that is there as a test is there
+-- a tile that passes the test exists
 pub some-tile : (o : Option Tile) → IsTrue (is_some o) → (t : Tile) × (o ≡ Some t)
 some-tile None h = absurd (false≢true h)
 some-tile (Some t) h = (t, refl)
@@ -88,7 +88,7 @@ nodes-parts ts (x ∷ xs) n ys h =
     let r = nodes-parts ts xs n ys p.1 in
     (and_from (is_some (tile_of ts Node x)) (list_all (λ y. is_some (tile_of ts Node y)) xs) p.0 r.0, r.1, r.2)
 
--- the links of a tree are gone through where its root link is
+-- the links of a tree are followed if its root link is
 pub tree-covered : (m : Memory) (ts : List Tile) (links : List ℕ) (fields : List Field)
     → Covers m ts [] links fields → (at : ℕ) (t : Tree) → IsTree (cells_of m) (link_at m at) t
     → AreNodes ts (nodes_of t)

@@ -9,7 +9,7 @@ use Rattle.image_check.proofs.bytes.Members.{Mem, list_any_none, mem_map, list_a
 use Rattle.image_check.proofs.claims.Fields.{target_in}
 use Rattle.image_check.proofs.indexes.Entries.{Distinct}
 
--- ---- where the test says so
+-- ---- if the test passes
 
 share-not : (f g : Field) → share_target f g ≡ false → f.target ≡ g.target → f.at ≡ g.at
 share-not f g h e = elim (and_cases (not (f.at == g.at)) (f.target == g.target) h) [
@@ -17,7 +17,7 @@ share-not f g h e = elim (and_cases (not (f.at == g.at)) (f.target == g.target) 
   | inr b ↦ absurd (false≢true (sym b ∙ eq-eqb f.target g.target e))
 ]
 
--- where no target is shared, two fields with one target are one
+-- if no target is shared, two fields with one target are equal
 pub shared-not : (fs : List Field) (f g : Field) → share_some fs ≡ false → Mem f fs → Mem g fs → f.target ≡ g.target
     → f.at ≡ g.at
 shared-not [] f g h k l e = absurd k
@@ -33,7 +33,7 @@ shared-not (x ∷ fs) f g h (inr k) (inl q) e =
 shared-not (x ∷ fs) f g h (inr k) (inr l) e =
     shared-not fs f g (or_parts (list_any (share_target x) fs) (share_some fs) h).1 k l e
 
--- ---- what makes the test say so
+-- ---- conditions under which the test passes
 
 -- one field for each target
 pub one_field : (fs : List Field) (f g : Field) → Distinct (map target_in fs) → Mem f fs → Mem g fs
@@ -51,7 +51,7 @@ share-if f g true e k = and_left (not (f.at == g.at)) (f.target == g.target)
     (not_from_true (f.at == g.at) (eq-eqb f.at g.at (k (eqb-true f.target g.target e))))
 share-if f g false e k = and_right (not (f.at == g.at)) (f.target == g.target) e
 
--- where equal targets mean equal places, none is shared
+-- if equal targets mean equal offsets, no target is shared
 pub none-shared : (fs : List Field) → ((f g : Field) → Mem f fs → Mem g fs → f.target ≡ g.target → f.at ≡ g.at)
     → share_some fs ≡ false
 none-shared [] k = refl

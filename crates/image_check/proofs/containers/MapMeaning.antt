@@ -1,5 +1,5 @@
--- What the tests of containers mean: a map that passes has its tree, and one that has it is read off, since no node
--- stands in it twice.
+-- The meaning of the tests of containers: a map that passes has its tree, and a map with a tree passes, since each node
+-- is in it once.
 use Rattle.image_check.proofs.Common.{AllByRecursion, IsTrue, Kind, List, Map, Memory, Node, None, Option, Scalar}
 use Rattle.image_check.proofs.Common.{ScalarKind, Some, String, Tile, Tree, Vector, [], and_from, and_parts, ap}
 use Rattle.image_check.proofs.Common.{are_pairs, are_spellings, arith, cells_of, false, false≢true, int_lt}
@@ -44,7 +44,7 @@ out y (x ∷ ys) (inr h) =
       others = λ z k n. elim k [ inl f ↦ inl f | inr l ↦ inr (o.others z l n) ];
     }
 
--- different numbers that all stand in a list are no more than it has
+-- the number of different members of a list is at most its length
 pub no-more : (xs ys : List ℕ) → Distinct xs → ((x : ℕ) → Mem x xs → Mem x ys) → length xs ≤ length ys
 no-more [] ys d f = omega arith
 no-more (x ∷ xs) ys d f =
@@ -115,7 +115,7 @@ map-if m ts k v at (Some t) e h =
       pairs = p.1;
     }
 
--- and one that has it passes
+-- and a map with a tree passes
 pub map-from : (m : Memory) (ts : List Tile) (k v : ScalarKind) (at : ℕ) → IsMapIn m ts k v at
     → IsTrue (is_map_at m ts k v at)
 map-from m ts k v at i =
@@ -164,7 +164,7 @@ all-from m ts [] h = refl
 all-from m ts (p ∷ ps) h = and_from (is_container m ts p) (list_all (is_container m ts) ps)
     (container-from m ts p h.0) (all-from m ts ps h.1)
 
--- the law: where the tags are good, each test says what its relation says
+-- the law: if the tags are good, each test agrees with its relation
 pub tests_mean_relations : TestsMeanRelations
 tests_mean_relations format m size h =
     let ts : List Tile = tiles_of m size in

@@ -1,4 +1,4 @@
--- Where a pair of a map lies, and what its fields say.
+-- The bounds of a pair of a map, and its fields.
 use Rattle.image_check.proofs.Common.{Blocks, Option, ScalarKind, U8, WindowState, ap, arith, bytes_of, int_lt}
 use Rattle.image_check.proofs.Common.{is_pair-IsPairNode, is_place, is_place-PayloadBounds, kept_link, length, link_at}
 use Rattle.image_check.proofs.Common.{little_number, part, read, read-part, size_of, small_size, sym, true, value_of, ℕ}
@@ -22,7 +22,7 @@ size-least I32 = omega arith
 size-least I64 = omega arith
 size-least U64 = omega arith
 
--- elements take at least as many bytes as there are
+-- elements have at least one byte each
 pub size-times : (k : ScalarKind) (n : ℕ) → n ≤ size_of k * n
 size-times BoolKind n = omega arith
 size-times U8 n = omega arith

@@ -1,4 +1,4 @@
--- A map passes its test where the tree over its pairs is there and counted, and only there.
+-- A map passes its test exactly if there is a tree over its pairs, with as many nodes as its count.
 use Rattle.image_check.proofs.Common.{AreBlocks, AreCellsOf, AreFollowed, Block, Blocks, Cell, HasTiles, IsMarkedLink}
 use Rattle.image_check.proofs.Common.{Memory, Node, None, Option, Owner, ScalarKind, Some, Tile, Tree, WindowState}
 use Rattle.image_check.proofs.Common.{and_from, and_parts, ap, are_spellings, arith, block_at, bytes_of, cases_Bool}
@@ -58,9 +58,9 @@ rooted-here root at o e = ap (is_rooted root) e ∙ eq-eqb root root refl
 owner-of : (b : Block) (o : Owner) → b.role ≡ Node → owner_in (Some b) ≡ Some o → b.owner ≡ Some o
 owner-of b o r e = sym (cond-false (same_role b.role Object) None b.owner (ap (λ x. same_role x Object) r)) ∙ e
 
--- ---- pairs are nodes of the test, and the other way round
+-- ---- the pairs are exactly the nodes of the test
 
--- of a tile's test
+-- a test of the length of a tile
 tile-long : (n : ℕ) (o : Option Tile) (t : Tile) → o ≡ Some t → nat_le n t.len ≡ true
     → elim o [ None ↦ false | Some u ↦ nat_le n u.len ] ≡ true
 tile-long n o t e h = ap (λ x. elim x [ None ↦ false | Some u ↦ nat_le n u.len ]) e ∙ h
@@ -88,7 +88,7 @@ pair-node c es root k v n a h =
     (one-spelled m k (n + 16) ∙ p.key))
     (one-spelled m v (n + 16 + size_of k) ∙ p.value)
 
--- a node of the test to which links lead from the root link, and where it was met
+-- a node of the test, with its first link at the root link, and the place where it was met
 pub record OwnedPair (c : WindowState) (es : Blocks) (root : ℕ) (k v : ScalarKind) (n : ℕ) : Type 0 where
   pub pair : is_pair c es root k v n ≡ true
   pub left : IsMarkedLink (bytes_of c.bytes) (tiles_in c.bytes) es Node n root
@@ -139,7 +139,7 @@ node-pair c es root at k v n tiles a leads noted h =
       right = followed.1;
     }
 
--- all nodes of a tree that pass the test are pairs, where the link to it is noted
+-- all nodes of a tree that pass the test are pairs, if the link to it is entered
 pub tree-pairs : (c : WindowState) (es : Blocks) (root : ℕ) (k v : ScalarKind) → HasTiles c.bytes
     → AreFollowed (bytes_of c.bytes) (tiles_in c.bytes) es
     → (at : ℕ) (t : Tree) → link_at (bytes_of c.bytes) at ≡ root_of t → AreCellsOf (cells_of (bytes_of c.bytes)) t

@@ -1,4 +1,4 @@
--- The nodes of a map among all blocks: links from them lead to them, and what is counted for them covers the check.
+-- The nodes of a map among all blocks: their links lead to nodes of the map, and their rates cover the check.
 use Rattle.image_check.proofs.Common.{Block, Blocks, IsLinkClosed, List, Node, None, Option, ScalarKind, Some}
 use Rattle.image_check.proofs.Common.{WindowState, [], and_parts, ap, arith, block_at, block_weight, bytes_of}
 use Rattle.image_check.proofs.Common.{cases_Bool, cond-false, cond-true, container_block_rates, false≢true}
@@ -65,7 +65,7 @@ nodes-closed c es root k v = record {
   right = λ n i. kept-listed c es root k v n (link_at (bytes_of c.bytes) (n + 8)) i;
 }
 
--- ---- what is counted for them
+-- ---- the rates of the nodes
 
 node-weight : (root len : ℕ) (b : Block) → 34 ≤ len → is_node_block root len (Some b) ≡ true
     → 26 ≤ (if is_rooted root b.owner then block_weight b else 0)

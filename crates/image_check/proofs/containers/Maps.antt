@@ -1,5 +1,4 @@
--- The test of a map is passed where its pairs are an ordered red-black tree of as many nodes as it counts, and only
--- there.
+-- The test of a map passes exactly if its pairs are an ordered red-black tree of as many nodes as its count.
 use Rattle.image_check.proofs.Common.{AreBlocks, AreFollowed, Blocks, Cell, HasTiles, IsMarkedLink, IsSearchTree}
 use Rattle.image_check.proofs.Common.{IsTree, List, Node, None, Option, ScalarKind, Some, Tree, WindowState, all_at}
 use Rattle.image_check.proofs.Common.{all_from, and_from, and_parts, ap, bytes_of, cases_Bool, cells_of, cond-false}
@@ -27,7 +26,7 @@ pub record MapFound (c : WindowState) (es : Blocks) (k v : ScalarKind) (at : ℕ
   pub count : length (nodes_of tree) ≡ word_at (bytes_of c.bytes) (at + 8)
   pub zero : word_at (bytes_of c.bytes) (at + 16) ≡ 0
 
--- ---- links that lead to pairs are read as they are
+-- ---- links that lead to pairs are read unchanged
 
 kept-good : (good : ℕ → Bool) (n : ℕ) (o : Option ℕ) → leads good o ≡ true → kept_link good n o ≡ o
 kept-good good n None h = refl

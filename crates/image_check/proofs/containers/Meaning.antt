@@ -1,4 +1,4 @@
--- What the tests mean, of tiles that stand one after the other: the free tree, blocks that are shared, and orphans.
+-- The meaning of the tests, for contiguous tiles: the free tree, shared blocks, and orphans.
 use Rattle.image_check.proofs.Common.{Field, IsCountedLink, IsTrue, List, Memory, Row, Tile, [], and_from, and_parts}
 use Rattle.image_check.proofs.Common.{both_ways, cases_Bool, counted_fields, eq-eqb, eqb-true, false≢true}
 use Rattle.image_check.proofs.Common.{has_free_tree, is_orphaned, is_shared, leads_there, list_any, needs_owner, not}
@@ -17,7 +17,7 @@ use mathlib.Core.Logic.{inl, inr}
 
 -- ---- the free tree
 
--- the test of the free tree says that the tree is there
+-- if the test of the free tree passes, there is a tree
 pub free_tree-means : (format : ℕ) (m : Memory) (ts : List Tile)
     → IsTrue (has_free_tree format m ts) ↔ HasFreeTree format m ts
 free_tree-means zero m ts = (λ h. eqb-true (word_at m 24) 1 h, λ h. eq-eqb (word_at m 24) 1 h)

@@ -1,4 +1,4 @@
--- Where the containers of good objects stand, and what a look at a tile may take.
+-- The places of the containers of valid objects, and the bound on the visits of a tile.
 use Rattle.image_check.proofs.Common.{Index, Kind, Map, Memory, Node, None, Option, Role, Scalar, Some, Storage, String}
 use Rattle.image_check.proofs.Common.{Tile, Vector, and_parts, ap, arith, container_walk_rates, count_at, false}
 use Rattle.image_check.proofs.Common.{false≢true, has_name, has_padding, if◌then◌else◌, is_indexed, is_object_tile}
@@ -41,11 +41,11 @@ container-room format m t k h e s =
       | Some j ↦ is_value_in m j (count_at m at) (value_offset m at) (t.offset + t.len)
     ]) e) ∙ one.0) s
 
--- a value stands after the words of its head
+-- a value is after the words of its head
 pub value-behind : (m : Memory) (at : ℕ) → at + 16 ≤ value_offset m at
 value-behind m at = omega arith
 
--- ---- what the walk may take
+-- ---- the bound of the walk
 
 -- the walk counts at least one for each tile
 pub walk-least : (u : Option Role) (n : ℕ) → 1 ≤ n → 1 ≤ rate_of container_walk_rates u * n

@@ -1,4 +1,4 @@
--- The storage block of a container: where it lies, and what is counted for it.
+-- The storage block of a container: its bounds and its rate.
 use Rattle.image_check.proofs.Common.{AreBlocks, Block, Blocks, HasTiles, IsMarkedLink, List, None, Option, Some}
 use Rattle.image_check.proofs.Common.{Storage, Tile, [], ap, arith, block_at, block_weight, bytes_of, cases_Bool}
 use Rattle.image_check.proofs.Common.{cond-false, cond-true, container_block_rates, eq-eqb, false, false≢true}
@@ -14,7 +14,7 @@ use Rattle.image_check.specs.Passes.{tiles_in}
 use Rattle.image_check.proofs.walks.Places.{named}
 use Rattle.image_check.specs.Owners as owners
 
--- one block of those to which links lead from a place
+-- one of the blocks whose first link is at an offset
 pub one-weight : (root n : ℕ) (b : Block) (es : Blocks) → block_at es n ≡ Some b → is_rooted root b.owner ≡ true
     → block_weight b ≤ rooted_weight root es
 one-weight root n b [] e r = absurd (cc)
@@ -31,7 +31,7 @@ one-weight root n b (x ∷ es) e r = elim (cases_Bool (nat_eq n x.0)) [
       omega arith
 ]
 
--- a block with places, to which the link of a container leads
+-- a block with capacity behind the link of a container
 pub record StorageThere (b : List ℕ) (es : Blocks) (at each capacity block : ℕ) : Type 0 where
   pub whole : block % 16 ≡ 0
   pub inside : block + each * capacity ≤ length b
@@ -79,7 +79,7 @@ storage-there b es at each capacity block tiles a noted leads h = elim (cases_Bo
     positive : (n : ℕ) → (n == 0) ≡ false → 0 < n
     positive n h = grind arith
 
--- the same of the words of a container as they were read
+-- the same for the words of a container that were read
 pub storage-read : (b : List ℕ) (es : Blocks) (at each capacity block : ℕ) (link : Option ℕ) (is : Bool)
     → HasTiles b → AreBlocks (tiles_in b) es
     → (0 < word_at (bytes_of b) (at + 16) → IsMarkedLink (bytes_of b) (tiles_in b) es Storage at at)

@@ -59,7 +59,7 @@ same-cells lt irr f g (fork red l n y) w r same m i =
       | inr (inr a) ↦ same-cells lt irr f g y w.2 p.right same m a
     ]
 
--- all nodes of a tree are good where links from good nodes lead to good ones
+-- all nodes of a tree are good if its root is, and links of good nodes lead to good ones
 pub nodes-good : (good : ℕ → Bool) (f : ℕ → Cell) → ((n : ℕ) → good n ≡ true → leads good (f n).left ≡ true)
     → ((n : ℕ) → good n ≡ true → leads good (f n).right ≡ true)
     → (t : Tree) → AreCellsOf f t → leads good (root_of t) ≡ true → (m : ℕ) → is_in m (nodes_of t) ≡ true

@@ -1,4 +1,4 @@
--- The walk over the containers: what it keeps of the tiles that it has passed, and what its answer says.
+-- The walk over the containers: what it keeps for the tiles that it has passed, and the meaning of its result.
 use Rattle.image_check.proofs.Common.{AreFollowed, Blocks, Contains, HasTiles, IsWholeMarking, Kind, List, Memory, None}
 use Rattle.image_check.proofs.Common.{Option, Row, Some, Tile, WindowState, [], and_parts, ap, arith, bytes_of}
 use Rattle.image_check.proofs.Common.{cases_Bool, class_at, code_before, cond-false, cond-true, cons_option}
@@ -64,9 +64,9 @@ pub containers-same : (format : ℕ) (m : Memory) (ts : List Tile)
 unfolding values-of
 containers-same format m ts = each-same format m ts ts
 
--- ---- what the marking says
+-- ---- the meaning of the marking
 
--- once all links are noted each node is followed
+-- after all links are entered each owned node is followed
 pub marked-followed : (format : ℕ) (m : Memory) (ts : List Tile) (es : Blocks) (waiting : ℕ)
     → IsWholeMarking format m ts es waiting → AreFollowed m ts es
 marked-followed format m ts es waiting w =
@@ -80,7 +80,7 @@ value-among format m ts t k h u e =
     t (k, value_offset m (payload t)) (object_tiles ts)
     (mem_filter (is_use Object) t ts h u) (ap (option_map (λ j. (j, value_offset m (payload t)))) e))
 
--- once all links are noted each object's tile can be tested
+-- after all links are entered each object's tile can be tested
 pub marked-ready : (format : ℕ) (m : Memory) (ts : List Tile) (es : Blocks) (waiting : ℕ)
     → IsWholeMarking format m ts es waiting → has_objects format m ts ≡ true
     → (t : Tile) → Mem t ts → IsCheckedTile format m ts es t
@@ -109,12 +109,12 @@ marked-ready format m ts es waiting w h t k = record {
 
 -- ---- a tile of the walk
 
--- the walk stands at this tile of the window
+-- the walk is at this tile of the window
 pub record IsHere (c : WindowState) (here : Tile) : Type 0 where
   pub mem : Mem here (tiles_in c.bytes)
   pub lies : LiesInWindow (length c.bytes) here
 
--- a walk at a tile stands there
+-- a walk at a tile is at its offset
 pub is-here : (c : WindowState) (Kept : List Tile → Type 0) (here : Tile) → HasTiles c.bytes → WalksAt c Kept here
     → IsHere c here
 is-here c Kept here h a =
@@ -126,7 +126,7 @@ is-here c Kept here h a =
     let high = lies.high in
     record { mem = mem; lies = record { low = lies.low; whole = lies.whole; long = long; high = omega arith } }
 
--- ---- what was paid
+-- ---- the visits so far
 
 free-passes : (format : ℕ) (m : Memory) (ts : List Tile) (t : Tile) → t.use_of ≡ None
     → has_container format m ts t ≡ true
@@ -134,7 +134,7 @@ free-passes format m ts t e =
     cond-false (is_use Object t) (elim (kind_at format m (payload t))
     [ None ↦ true | Some k ↦ is_container m ts (k, value_offset m (payload t)) ]) true (free-object t e)
 
--- where tiles end that begin at an offset
+-- the end of tiles that begin at an offset
 abbrev end_of : ℕ → List Tile → ℕ
 end_of at [] = at
 end_of at (t ∷ ts) = end_of (t.offset + t.len) ts
@@ -178,7 +178,7 @@ module _ (format : ℕ) (c : WindowState) (es : Blocks) (old now new : ℕ) (her
       let paid = p.1 in
       omega arith
 
-  -- a tile that passed its test: what was spent
+  -- the visits after a tile that passed its test
   pub paid-more : has_container format (bytes_of c.bytes) (tiles_in c.bytes) here ≡ true
       → IsPaid format c es old new (a.front ++ here ∷ [])
   paid-more h =
@@ -195,7 +195,7 @@ module _ (format : ℕ) (c : WindowState) (es : Blocks) (old now new : ℕ) (her
         most = omega arith;
       }
 
-  -- a tile that failed its test: what was spent
+  -- the visits after a tile that failed its test
   pub paid-stop : (old ≤ new) × (new ≤ old + (weigh container_walk_rates (tiles_in c.bytes) + weigh_blocks es))
   paid-stop =
       let least = a.kept.least in
@@ -218,7 +218,7 @@ paid-gap format c es old now g u a =
 -- ---- a tile but for its colour
 
 module _ (t u : Tile) (e : t.offset ≡ u.offset) (f : t.len ≡ u.len) (g : t.use_of ≡ u.use_of) where
-  -- tiles that differ in colour lie in the same place
+  -- tiles that differ only in colour have the same bounds
   pub lies-same : (size : ℕ) → LiesInWindow size t → LiesInWindow size u
   lies-same size l =
       let low = l.low in
@@ -242,7 +242,7 @@ module _ (t u : Tile) (e : t.offset ≡ u.offset) (f : t.len ≡ u.len) (g : t.u
   pub pays-same : (es : Blocks) (before after : ℕ) → PaysFor es t before after → PaysFor es u before after
   pays-same es before after p = subst (λ (x : Tile). PaysFor es x before after) (recoloured t u e f g) p
 
--- after the last tile: what was spent
+-- the visits after the last tile
 pub paid-end : (format : ℕ) (c : WindowState) (es : Blocks) (old now : ℕ)
     → IsPaid format c es old now (tiles_in c.bytes)
     → (old ≤ now) × (now ≤ old + (weigh container_walk_rates (tiles_in c.bytes) + weigh_blocks es))

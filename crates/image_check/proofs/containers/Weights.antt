@@ -14,7 +14,7 @@ use Rattle.image_check.specs.Containers.{is_rooted_below, weigh_blocks, weight_b
 use Rattle.image_check.specs.Visits.{container_rates}
 use Rattle.image_check.proofs.walks.Places.{image-row}
 
--- ---- the blocks to which links lead from one tile
+-- ---- the blocks whose first link is in one tile
 
 one-step : (r a at b w : ℕ) → a ≤ at → at < b
     → (if nat_lt r a then w else 0) + (if r == at then w else 0) ≤ (if nat_lt r b then w else 0)
@@ -26,7 +26,7 @@ owner-step : (o : Option Owner) (a at b w : ℕ) → a ≤ at → at < b
 owner-step None a at b w l h = omega arith
 owner-step (Some o) a at b w l h = one-step o.root a at b w l h
 
--- one block more below a place weighs what it weighs
+-- one more block below an offset adds its weight
 pub below-step : (a at b : ℕ) (es : Blocks) → a ≤ at → at < b
     → weight_below a es + rooted_weight at es ≤ weight_below b es
 below-step a at b [] l h = omega arith
@@ -43,7 +43,7 @@ owner-more : (o : Option Owner) (a b w : ℕ) → a ≤ b
 owner-more None a b w l = omega arith
 owner-more (Some o) a b w l = one-more o.root a b w l
 
--- more blocks lie below a later place
+-- more blocks are below a later offset
 pub below-more : (a b : ℕ) (es : Blocks) → a ≤ b → weight_below a es ≤ weight_below b es
 below-more a b [] l = omega arith
 below-more a b (e ∷ es) l =
@@ -57,7 +57,7 @@ part-most : (t : Bool) (w : ℕ) → (if t then w else 0) ≤ w
 part-most true w = omega arith
 part-most false w = omega arith
 
--- what lies below a place weighs no more than all
+-- the weight below an offset is at most the weight of all
 pub below-all : (a : ℕ) (es : Blocks) → weight_below a es ≤ weigh_blocks es
 below-all a [] = omega arith
 below-all a (e ∷ es) =
@@ -73,7 +73,7 @@ rooted-all at (e ∷ es) =
     let rest = rooted-all at es in
     omega arith
 
--- ---- and those are the tiles in use
+-- ---- and these blocks are the tiles in use
 
 frame-weight : ℕ × Role × ℕ → ℕ
 frame-weight f = rate_of container_block_rates (Some f.1) * (f.2 / 16)
@@ -163,7 +163,7 @@ few-blocks b es h e =
     let least = (legal_size (length b) h.size).low in
     omega arith
 
--- walk and blocks weigh together what containers do
+-- the rates of walk and blocks together are the rates of containers
 pub both-weigh : (ts : List Tile)
     → weigh container_walk_rates ts + weigh container_block_rates ts ≤ weigh container_rates ts
 both-weigh [] = omega arith

@@ -1,5 +1,5 @@
--- The classes before the eighth: none of them holds of an image whose frame is right, and each wrong part of a frame
--- has its own.
+-- The classes before the eighth: an image with a valid frame shows none of them, and each wrong part of a frame has its
+-- own class.
 use Rattle.image_check.proofs.Common.{BadFreeTree, BadMagic, BadReserved, BadSize, BadTag, IsTrue, List, Truncated}
 use Rattle.image_check.proofs.Common.{UnsupportedVersion, and_from, false, has_early_class, has_front, has_magic}
 use Rattle.image_check.proofs.Common.{has_version, is_legal_size, is_tiled, length, lt-ltb, nat_lt, not, not_from_false}
@@ -35,7 +35,7 @@ pub short-Truncated : (format : ℕ) (b : List ℕ) → length b < 144 → IsTru
 short-Truncated format b l = or_left (nat_lt (length b) 144) (has_front format b && nat_lt (length b) (size_word b))
     (lt-ltb (length b) 144 l)
 
--- a right magic, version and legal size, and fewer bytes than the size says
+-- a right magic, version and legal size, and fewer bytes than the size
 pub cut-Truncated : (format : ℕ) (b : List ℕ) → IsTrue (has_magic b) → IsTrue (has_version format b)
     → IsTrue (is_legal_size (size_word b)) → length b < size_word b → IsTrue (holds format b Truncated)
 cut-Truncated format b m v s l =
@@ -45,7 +45,7 @@ cut-Truncated format b m v s l =
     (and_from (has_magic b) (has_version format b) m v) s)
     (lt-ltb (length b) (size_word b) l))
 
--- another tree than that of the free tiles, where the tags are whole
+-- the tree is not that of the free tiles, with whole tags
 pub tree-BadFreeTree : (format : ℕ) (b : List ℕ) → IsTrue (is_tiled format b) → has_tree format b ≡ false
     → IsTrue (holds format b BadFreeTree)
 tree-BadFreeTree format b t e =

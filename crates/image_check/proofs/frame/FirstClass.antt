@@ -21,7 +21,7 @@ use Rattle.image_check.proofs.frame.Formats.{IsEarlyClean}
 
 -- ---- the first four classes hold of no window whose first words are right
 
--- none of them holds
+-- none of these classes holds
 pub record IsFrontClean (format : ℕ) (b : List ℕ) : Type 0 where
   pub truncated : holds format b Truncated ≡ false
   pub magic : holds format b BadMagic ≡ false
@@ -48,7 +48,7 @@ front-clean format w h =
 
 -- ---- so one of the others is the first
 
--- the classes from the eighth on, and those from the fifth on
+-- the classes from the eighth on, and from the fifth on
 abbrev late : List ImageClass
 late = BadIndex ∷ BadObject ∷ SharedBlock ∷ BadContainer ∷ OrphanBlock ∷ []
 
@@ -92,7 +92,7 @@ first-tree format w h r t e =
 
 -- ---- after a right frame, the tests of the blocks
 
--- the eight classes before them do not hold
+-- the eight classes before do not hold
 past-frame : (format : ℕ) (b : List ℕ) → IsEarlyClean format b → class_of format b ≡ find (holds format b) late
 past-frame format b f =
     past-four format b (record { truncated = f.truncated; magic = f.magic; version = f.version; size = f.size })
@@ -118,7 +118,7 @@ found-late p i o s c r d e f g h =
     (cond (e k) (Some BadObject) (cond (f k) (Some SharedBlock)
     (cond (g k) (Some BadContainer) (cond (h k) (Some OrphanBlock) None))))) ∙ five i o s c r
 
--- a test of the tiles, where the tags are good and the size is the length
+-- a test of the tiles, for good tags and a size that is the length
 of-tiles : (t : Bool) (test : List Tile → Bool) (m : Memory) (n k : ℕ) → t ≡ true → n ≡ k
     → (t && test (tiles_of m n)) ≡ test (tiles_of m k)
 of-tiles t test m n k e f = (λ i. e i && test (tiles_of m (f i)))

@@ -1,4 +1,4 @@
--- Good tags in each format: those of format 0 are those of the others where no free tile is red.
+-- Good tags in each format: good tags of format 0 are good tags of the others without a red free tile.
 use Rattle.image_check.proofs.Common.{Index, List, Memory, Node, None, Option, Role, Some, Storage, Tile, [], and_parts}
 use Rattle.image_check.proofs.Common.{ap, arith, false, has_free_tree, has_tags, is_none, list_all, nat_le, not, refl}
 use Rattle.image_check.proofs.Common.{suc, sym, tiles_of, true, zero, ℕ, ◌%◌, ◌&&◌, ◌+◌, ◌-◌, ◌<◌, ◌==◌, ◌||◌, ◌∙◌, ◌∷◌}
@@ -11,7 +11,7 @@ use Rattle.block_tags.specs.Tiles.{are_tags, is_merged, is_tile, may_be_red, tag
 
 -- ---- a tile
 
--- a tile in use, or a free one that is not red
+-- a tile is in use, or is free and not red
 abbrev is_plain : Tile → Bool
 is_plain t = not (is_none t.use_of && t.red)
 
@@ -37,7 +37,7 @@ plain-tile f t =
     ap (λ x. nat_le 32 t.len && (t.len % 16 == 0) && x) (red-tile f t.use_of t.red)
     ∙ and-last (nat_le 32 t.len && (t.len % 16 == 0)) (not t.red || may_be_red (suc f) t.use_of) (is_plain t)
 
--- colours of tiles in use are those of each format
+-- tiles in use can have the same colours in each format
 later-red : (f g : ℕ) (u : Option Role) → may_be_red (suc f) u ≡ may_be_red (suc g) u
 later-red f g None = refl
 later-red f g (Some Object) = refl
@@ -95,7 +95,7 @@ plain-has_tags f m size =
     ∙ shuffle-merged (are_tags (suc f) m 128 0 (tiles_of m size) (size - 16)) (list_all is_plain (tiles_of m size))
     (is_merged (tiles_of m size))
 
--- from format 1 on there is no difference
+-- from format 1 on the tags are judged alike
 pub later-has_tags : (format : ℕ) (m : Memory) (size : ℕ) → 0 < format
     → has_tags format m size ≡ has_tags current m size
 unfolding current
@@ -111,7 +111,7 @@ good-has_tags zero m size e = (and_parts (has_tags 2 m size) (list_all is_plain 
     (sym (plain-has_tags 1 m size) ∙ e)).0
 good-has_tags (suc f) m size e = sym (later-has_tags (suc f) m size (omega arith)) ∙ e
 
--- from format 1 on a free tree is what it is by the current one
+-- from format 1 on the free tree is judged as in the current format
 pub later-free_tree : (format : ℕ) (m : Memory) (ts : List Tile) → 0 < format
     → has_free_tree format m ts ≡ has_free_tree current m ts
 unfolding current

@@ -1,5 +1,5 @@
--- Header, tags and free tree of an image, in each format: what the first seven classes leave, and what leaves none of
--- them.
+-- Header, tags and free tree of an image, in each format: they are valid exactly if none of the first seven classes
+-- holds.
 use Rattle.image_check.proofs.Common.{Apart, BadFreeTree, BadMagic, BadReserved, BadSize, BadTag, EncodesLiveSet}
 use Rattle.image_check.proofs.Common.{IsTreeOf, IsTrue, List, LiveSet, Memory, None, Option, Rising, Row, Some, Tile}
 use Rattle.image_check.proofs.Common.{Tree, Truncated, UnsupportedVersion, [], and_from, and_parts, and_right, ap}
@@ -31,7 +31,7 @@ use Rattle.image_check.proofs.bytes.Members.{Mem-is_among, list_all_from}
 use Rattle.image_check.proofs.read_off.Values.{height-nodes}
 use Rattle.image_check.proofs.law.Uniqueness.{tiles_in}
 
--- ---- rows of numbers that are one
+-- ---- equal rows of numbers
 
 -- equal rows are equal place by place
 pub same-pointwise : (xs ys : List ℕ) → xs ≡ ys → IsTrue (pointwise nat_eq xs ys)
@@ -67,11 +67,11 @@ free-gaps (t ∷ ts) =
           ∙ sym (gaps_of-used t ts role e)
     ]
 
--- so their payloads, in order, are those of the gaps in order
+-- so the payloads of the free tiles are the payloads of the gaps, both in order
 pub free-payloads : (ts : List Tile) → free_payloads ts ≡ payloads (sorted_gaps (gaps_of ts))
 free-payloads ts = ap (λ (gs : List Gap). payloads (sorted_gaps gs)) (free-gaps ts)
 
--- there are no more of them than tiles
+-- there are at most as many gaps as tiles
 pub few-free : (ts : List Tile) → length (gaps_of ts) ≤ length ts
 few-free [] = omega arith
 few-free (t ∷ ts) =
@@ -91,11 +91,11 @@ payloads-length ts = let same = ap length (free-payloads ts) ∙ length-sorted (
 abbrev row_live : ℕ → List Tile → LiveSet
 row_live n ts = record { size = n; extents = used ts }
 
--- what the test of the tree that is read off says
+-- the test of a tree that was read from links
 abbrev is_tree_of : List ℕ → Option Tree → Bool
 is_tree_of ns o = elim o [ None ↦ false | Some t ↦ is_red_black t && pointwise nat_eq (nodes_of t) ns ]
 
--- a tree that lists them in order and is red-black passes the test
+-- a red-black tree of the free tiles in order passes the test
 pub tree-passes : (format : ℕ) (m : Memory) (ts : List Tile) → IsTreeOf m 24 (free_payloads ts)
     → IsTrue (has_free_tree (suc format) m ts)
 tree-passes format m ts h =
@@ -124,26 +124,26 @@ tree-said-if m ts (Some t) e h =
       lists = pointwise-same (nodes_of t) (free_payloads ts) parts.1;
     }
 
--- the tree that passes the test is there
+-- if the test passes, there is a tree of the free tiles
 pub tree-said : (format : ℕ) (m : Memory) (ts : List Tile) → IsTrue (has_free_tree (suc format) m ts)
     → IsTreeOf m 24 (free_payloads ts)
 tree-said format m ts h = tree-said-if m ts
     (tree_from (length ts) (is_among (free_payloads ts)) (cells_of m) (link_at m 24)) refl h
 
--- the gaps of a row's live set are those among its tiles
+-- the gaps of a row's live set are its free tiles
 row-payloads : (n : ℕ) (ts : List Tile) → Row 128 ts (n - 16) → Apart false ts
     → free_payloads ts ≡ payloads (sorted_gaps (gaps (row_live n ts)))
 row-payloads n ts row apart = free-payloads ts
     ∙ ap (λ (gs : List Gap). payloads (sorted_gaps gs)) (sym (gaps-live_in n ts row apart))
 
--- the test of the free tree, and what the heap of a row asks of it
+-- a heap with a free tree passes the test of the free tree
 pub free_tree-passes : (format : ℕ) (m : Memory) (n : ℕ) (ts : List Tile) → Row 128 ts (n - 16) → Apart false ts
     → IsFreeTree format m (row_live n ts) → IsTrue (has_free_tree format m ts)
 free_tree-passes zero m n ts row apart h = eq-eqb (word_at m 24) 1 h
 free_tree-passes (suc format) m n ts row apart h =
     tree-passes format m ts (subst (IsTreeOf m 24) (sym (row-payloads n ts row apart)) h)
 
--- where the test holds, the heap has the free tree that it asks for
+-- if the test of the free tree passes, the heap has a free tree
 pub free_tree-said : (format : ℕ) (m : Memory) (n : ℕ) (ts : List Tile) → Row 128 ts (n - 16) → Apart false ts
     → IsTrue (has_free_tree format m ts) → IsFreeTree format m (row_live n ts)
 free_tree-said zero m n ts row apart h = eqb-true (word_at m 24) 1 h
@@ -152,7 +152,7 @@ free_tree-said (suc format) m n ts row apart h =
 
 -- ---- the frame
 
--- magic, version, size, reserved bytes, tags and free tree of an image are right
+-- magic, version, size, reserved bytes, tags and free tree of an image are valid
 pub record IsFramed (format : ℕ) (b : List ℕ) : Type 0 where
   pub legal : IsTrue (is_legal_size (length b))
   pub size : size_word b ≡ length b
@@ -203,12 +203,12 @@ framed-clean format b small s f =
           (not_from_true (has_free_tree format m (tiles_of m (size_word b))) tree);
     }
 
--- of a test that holds and one that does not
+-- if the first condition holds and not both do, the second does not hold
 pub second-fails : (p q : Bool) → IsTrue p → (p && q) ≡ false → q ≡ false
 second-fails true q e h = h
 second-fails false q e h = absurd (false≢true e)
 
--- where none of the first seven classes holds, the frame is right
+-- if none of the first seven classes holds, the frame is valid
 pub clean-framed : (format : ℕ) (b : List ℕ) → AreSmall (bytes_of b) → IsEarlyClean format b → IsFramed format b
 clean-framed format b s c =
     let m : Memory = bytes_of b in
@@ -251,7 +251,7 @@ clean-framed format b s c =
 abbrev pub live_in : List ℕ → LiveSet
 live_in b = record { size = length b; extents = used (tiles_in b) }
 
--- the tiles stand one after the other from 128 to the end tag
+-- the tiles are contiguous from 128 to the end tag
 pub framed-tiles : (format : ℕ) (b : List ℕ) → IsFramed format b → Row 128 (tiles_in b) (length b - 16)
 framed-tiles format b f = (has_tags-AreWholeTiles format (bytes_of b) (length b) f.tags).row
 
@@ -260,12 +260,12 @@ pub framed-proper : (format : ℕ) (b : List ℕ) → IsFramed format b → IsTr
 framed-proper format b f = let whole = has_tags-AreWholeTiles format (bytes_of b) (length b) f.tags
     in proper_live (length b) (tiles_in b) f.legal whole.row whole.apart
 
--- so they stand by offset
+-- so the tiles in use are in order of offset
 pub framed-rising : (format : ℕ) (b : List ℕ) → IsFramed format b → Rising 0 (used (tiles_in b))
 framed-rising format b f = rising-weak 0 128 (used (tiles_in b)) (omega arith)
     (live-rises (live_in b) (framed-proper format b f))
 
--- and the bytes lay it out
+-- and the bytes encode this live set
 pub framed-heap : (format : ℕ) (b : List ℕ) → IsFramed format b → EncodesLiveSet format b (live_in b)
 framed-heap format b f =
     let whole = has_tags-AreWholeTiles format (bytes_of b) (length b) f.tags in

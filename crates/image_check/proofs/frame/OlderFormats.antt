@@ -1,4 +1,4 @@
--- An image of an older format whose tags and free tree are made those of the current one, and then its version.
+-- An image of an older format: its tags and free tree are changed to the current format, and then its version.
 use Rattle.image_check.proofs.Common.{AllByRecursion, AreZero, Denotes, Directory, EncodesLiveSet, IsImage, IsTrue}
 use Rattle.image_check.proofs.Common.{List, LiveSet, Memory, RebuildsFreeTree, SameSurroundings, UpgradesFormat}
 use Rattle.image_check.proofs.Common.{WindowState, [], ap, arith, bytes_of, cases_eq, cases_lt, has_tags, inl, inr}
@@ -22,7 +22,7 @@ use Rattle.image_check.proofs.bytes.Words.{word_at-halves}
 
 -- ---- the heap
 
--- from format 1 on a heap is one by the current format
+-- from format 1 on a heap is a heap of the current format
 pub later-heap : (format : ℕ) (b : List ℕ) → 0 < format → IsHeap format b → IsHeap current b
 unfolding current
 later-heap zero b l h = absurd (omega arith)
@@ -36,7 +36,7 @@ later-heap (suc f) b l h = record {
   free = h.free;
 }
 
--- what a heap by format 0 has
+-- the properties of a heap in format 0
 pub heap-legal : (format : ℕ) (b : List ℕ) → IsHeap format b → IsTrue (is_legal_size (length b))
 unfolding live_of
 heap-legal format b h = (is_proper-IsProper (live_of b) h.proper).size
@@ -71,7 +71,7 @@ upper-zero m n e l =
 lower-half : (m : Memory) (n : ℕ) → word_at m 8 ≡ n → n < 256 → half_word_at m 8 ≡ n
 lower-half m n e l = let both = word_at-halves m 8 in omega arith
 
--- so where another small number is written there, the lower half changes alone
+-- so if another small number is written there, only the lower half changes
 version-alone : (m m' : Memory) (n k : ℕ) → word_at m 8 ≡ n → n < 256 → word_at m' 8 ≡ k → k < 256
     → SameBytesExcept m m' 8 8 → SameBytesExcept m m' 8 4
 version-alone m m' n k e l f g s =
@@ -177,7 +177,7 @@ module _ (format : ℕ) (old mid new : WindowState) (few : format ≤ 2) (image 
       rest-cases j inside (inr high) root (inl half) free was is = is.at j high half ∙ sym (was.at j high half)
       rest-cases j inside (inr high) root (inr half) free was is = c.rest.at j (inr half) ∙ r.rest j inside root free
 
-  -- where only the version is written
+  -- the case in which only the version is written
   versioned : mid ≡ old → UpgradesVersion old.bytes new.bytes
   unfolding current m m'
   versioned e = record {
@@ -197,7 +197,7 @@ module _ (format : ℕ) (old mid new : WindowState) (few : format ≤ 2) (image 
     replanted = λ none. replanted;
   }
 
--- what is of the current format is as it should be
+-- an image of the current format stays as it is
 pub renewed-same : (b : List ℕ) → IsImage current b → UpgradesFormat current b b
 unfolding current
 renewed-same b image = record {
@@ -258,11 +258,11 @@ version-word m m' n e l v s =
     let both = word_at-halves m' 8 in
     omega arith
 
--- law: directories of older formats stand in the current one
+-- law: directories of older formats are directories of the current one
 pub older_directories_stand : OlderDirectoriesStand
 older_directories_stand format d h = directory-later format d h
 
--- law: directories stand where the free tree is built anew
+-- law: directories stay when the free tree is rebuilt
 pub replanted_stand : ReplantedStand
 replanted_stand b b' d h r =
     let same = denotes-live 0 b d h in
@@ -280,7 +280,7 @@ replanted_stand b b' d h r =
           (subst (EncodesLiveSet current b') same r.heap);
     }
 
--- where the version alone changes, its word does
+-- if only the version changes, only its word does
 word-alone : (m m' : Memory) → SameBytesExcept m m' 8 4 → SameBytesExcept m m' 8 8
 word-alone m m' s = record { at = λ k beside. s.at k (weaker k beside) }
   where
@@ -288,7 +288,7 @@ word-alone m m' s = record { at = λ k beside. s.at k (weaker k beside) }
     weaker k (inl low) = inl low
     weaker k (inr high) = inr (omega arith)
 
--- law: directories stand where the version is the current one
+-- law: directories stay when the version becomes the current one
 pub new_versions_stand : NewVersionsStand
 unfolding current
 new_versions_stand b b' d h size v =
@@ -300,7 +300,7 @@ new_versions_stand b b' d h size v =
     let word = version-word (bytes_of b) (bytes_of b') 1 h.header.version (omega arith) v.version upper in
     renewed-denotes 1 (alone b) (alone b) (alone b') (omega arith) (d, h) (rebuilt-same (alone b) heap) changed word d h
 
--- a segment that stands for a directory by an older format stands for one
+-- a segment that denotes a directory in an older format denotes one
 pub renewed-segment : (format : ℕ) (old new : List ℕ) → IsImage format old → UpgradesFormat format old new
     → IsSegment new
 renewed-segment format old new image r = (image.0, r.denotes image.0 image.1)

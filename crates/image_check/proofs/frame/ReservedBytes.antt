@@ -1,4 +1,4 @@
--- The bytes of the header that are kept for later.
+-- The reserved bytes of the header.
 use Rattle.image_check.proofs.Common.{AreZero, List, bytes_of, false, has_reserved, inl, inr, true, ℕ, ◌≡◌, ◌⊎◌}
 use Rattle.std.proofs.lemmas.Bool.{false_from_ne_true}
 use Rattle.image_check.specs.HeaderPlaces.{IsFirstNonzero}

@@ -1,4 +1,4 @@
--- The tiles that good tags say: a row, of which no two free ones are neighbours.
+-- The tiles of good tags: a row, of which no two free tiles are neighbours.
 use Rattle.image_check.proofs.Common.{Apart, IsTrue, List, Memory, Row, Tile, false, has_tags, tiles_of, ℕ, ◌-◌}
 use Rattle.block_tags.proofs.Laws.{AreTags-AreContiguous, has_tags-AreTilesOf, has_tags-is_merged}
 use Rattle.best_fit.proofs.Laws.{AreContiguous-Row, is_merged-Apart}
@@ -8,7 +8,7 @@ pub record AreWholeTiles (ts : List Tile) (size : ℕ) : Type 0 where
   pub row : Row 128 ts (size - 16)
   pub apart : Apart false ts
 
--- good tags say such tiles, in each format
+-- good tags describe such tiles, in each format
 pub has_tags-AreWholeTiles : (format : ℕ) (m : Memory) (size : ℕ) → IsTrue (has_tags format m size)
     → AreWholeTiles (tiles_of m size) size
 has_tags-AreWholeTiles format m size h = record {

@@ -1,4 +1,4 @@
--- The frame of an image: header, tags and free tree. What its tests say, and what passes them.
+-- The frame of an image: header, tags and free tree. Its tests are exact.
 use Rattle.image_check.proofs.Common.{IsTrue, List, and_from, and_parts, and_right, arith, eq-eqb, eqb-true, has_front}
 use Rattle.image_check.proofs.Common.{has_magic, has_reserved, has_size, has_version, is_legal_size, is_tiled, le-leb}
 use Rattle.image_check.proofs.Common.{le-ltb, legal_size, length, nat_le, nat_lt, not, not_from_true, or_from}
@@ -42,7 +42,7 @@ has_frame-IsFrame format b h =
     (has_tree format b) h in
     record { magic = parts.0; version = parts.1; size = parts.2; reserved = parts.3; tiled = parts.4; tree = parts.5 }
 
--- what passes each is a frame
+-- an image that passes each test has a frame
 pub IsFrame-has_frame : (format : ℕ) (b : List ℕ) → IsFrame format b → IsTrue (has_frame format b)
 unfolding has_frame
 IsFrame-has_frame format b f =
@@ -56,18 +56,18 @@ pub record HasWholeSize (b : List ℕ) : Type 0 where
   pub legal : IsTrue (is_legal_size (size_word b))
   pub same : size_word b ≡ length b
 
--- what the test of the size says
+-- the test of the size is exact
 pub has_whole_size-HasWholeSize : (b : List ℕ) → IsTrue (has_whole_size b) → HasWholeSize b
 has_whole_size-HasWholeSize b h =
     let parts = and_parts (is_legal_size (size_word b)) (size_word b == length b) h in
     record { legal = parts.0; same = eqb-true (size_word b) (length b) parts.1 }
 
--- and what passes it
+-- and a size that meets this passes the test
 pub HasWholeSize-has_whole_size : (b : List ℕ) → HasWholeSize b → IsTrue (has_whole_size b)
 HasWholeSize-has_whole_size b s =
     and_from (is_legal_size (size_word b)) (size_word b == length b) s.legal (eq-eqb (size_word b) (length b) s.same)
 
--- ---- what it leaves of the classes
+-- ---- the classes that a frame excludes
 
 -- none of the first seven classes holds of a frame
 pub frame-clean : (format : ℕ) (b : List ℕ) → IsFrame format b → IsEarlyClean format b

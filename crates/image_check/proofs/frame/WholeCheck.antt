@@ -24,13 +24,13 @@ use Rattle.image_check.proofs.law.OneDirectory.{one_directory}
 
 -- ---- the frame
 
--- what the check knows once the tags are right
+-- the facts of the check after the tags have passed
 pub record IsChecked (format : ℕ) (w : WindowState) : Type 0 where
   pub front : HasFront format w
   pub reserved : has_reserved w.bytes ≡ true
   pub tags : has_tags format (bytes_of w.bytes) (length w.bytes) ≡ true
 
--- the tags are those of the size that the first words say
+-- the tags fit the size in the first words
 checked-tiled : (format : ℕ) (w : WindowState) → IsChecked format w → is_tiled format w.bytes ≡ true
 checked-tiled format w h = ap (has_tags format (bytes_of w.bytes)) h.front.says ∙ h.tags
 
@@ -124,12 +124,12 @@ module _ (format : ℕ) (b : List ℕ) where
   unfolding late_class
   late-object d e = λ k. late_by (d k) (e k) s c r
 
-  -- shared blocks are the class after those
+  -- shared blocks are the next class
   pub late-shared : i ≡ true → o ≡ true → not s ≡ false → class ≡ Some SharedBlock
   unfolding late_class
   late-shared d e f = λ k. late_by (d k) (e k) (shares s f k) c r
 
-  -- wrong containers are the class after those
+  -- wrong containers are the next class
   pub late-container : i ≡ true → o ≡ true → not s ≡ true → c ≡ false → class ≡ Some BadContainer
   unfolding late_class
   late-container d e f g = λ k. late_by (d k) (e k) (unshared s f k) (g k) r
@@ -146,7 +146,7 @@ module _ (format : ℕ) (b : List ℕ) where
 
 -- ---- the memory
 
--- tiles of which none is in use are no blocks
+-- tiles of which none is in use have no blocks
 one-more : (offset len : ℕ) (u : Option Role) (red : Bool) (ts : List Tile) (x : Bool) → (is_some u || x) ≡ false
     → (x ≡ false → entries_of ts ≡ [])
     → entries_of (record { offset = offset; len = len; use_of = u; red = red } ∷ ts) ≡ []
@@ -161,7 +161,7 @@ no-entries (t ∷ ts) e = one-more t.offset t.len t.use_of t.red ts (list_any (�
 no_answer : {A E : Type 0} (r : Result A E) (e : E) → IsOk r → r ≡ Err e → ⊥
 no_answer r e h n = absurd (cc)
 
--- so memory was refused only where one is
+-- so memory was refused only if a tile is in use
 pub no-memory-used : {A E : Type 0} (b : List ℕ) (r : Result A E) (e : E) → (entries_of (tiles_in b) ≡ [] → IsOk r)
     → r ≡ Err e → IsTrue (has_block b)
 no-memory-used b r e h n = elim (cases_Bool (has_block b)) [
@@ -177,13 +177,13 @@ module _ (format : ℕ) (b : List ℕ) (h : IsTrue (has_frame format b)) where
   pub blocks-class : (o : Option ImageClass) → late_class format (bytes_of b) (tiles_in b) ≡ o → class_of format b ≡ o
   blocks-class o e = late-class format b h ∙ e
 
-  -- and what is so of the tiles is so by the size that the header says
+  -- a property of the tiles holds by the size in the header
   pub of-tiles : (Is : List Tile → Type 0) → Is (tiles_in b) → Is (said_tiles b)
   of-tiles Is i =
       let s = has_whole_size-HasWholeSize b (has_frame-IsFrame format b h).size in
       subst (λ n. Is (tiles_of (bytes_of b) n)) (sym s.same) i
 
--- or no class holds of it, so it denotes a directory
+-- or no class holds, so the bytes denote a directory
 pub blocks-image : (format : ℕ) (b : List ℕ) → format ≤ 2 → IsTrue (are_bytes b) → class_of format b ≡ None
     → IsImage format b
 blocks-image format b few small e = let law : HasOneDirectory format b = one_directory format b (omega arith) small

@@ -63,7 +63,7 @@ at-len c Kept here a =
     (tile_is_read_off c (a.front ++ here ∷ a.back) here.offset here a.said
     (one_tile_at_an_offset c a.front here a.back a.said)) refl
 
--- ---- how many are free
+-- ---- the number of free tiles
 
 one-free : (front : List Tile) (here : Tile) → here.use_of ≡ None
     → length (gaps_of (front ++ here ∷ [])) ≡ length (gaps_of front) + 1
@@ -81,7 +81,7 @@ one-free (t ∷ front) here e =
           omega arith
     ]
 
--- a free tile is one gap more
+-- a free tile is one more gap
 pub free-more : (front : List Tile) (here : Tile) → is_none here.use_of ≡ true
     → length (gaps_of (front ++ here ∷ [])) ≡ length (gaps_of front) + 1
 free-more front here e = one-free front here (free-unused here e)
@@ -290,7 +290,7 @@ unplanted c t g s few all =
 wanted-is : (c : WindowState) → free_payloads (tiles_in c) ≡ wanted c
 wanted-is c = free-payloads (tiles_in c)
 
--- it holds where the tree is there, and only there
+-- the test passes exactly if the tree exists
 pub tree-true : (c : WindowState) → IsTreeOf (bytes_of c.bytes) 24 (wanted c)
     → has_free_tree current (bytes_of c.bytes) (tiles_in c) ≡ true
 unfolding current

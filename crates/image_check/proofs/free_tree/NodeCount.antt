@@ -1,4 +1,4 @@
--- A tree over the places of a window where a payload may begin has few nodes.
+-- A tree over the offsets of a window at which a payload can begin has few nodes.
 use Rattle.image_check.proofs.Common.{AreCellsOf, Cell, IsSearchTree, IsTrue, List, Option, Tree, WindowState, [], ap}
 use Rattle.image_check.proofs.Common.{arith, before_irreflexive, bytes_of, cases_lt, eq-eqb, false≢true, fork, in_parts}
 use Rattle.image_check.proofs.Common.{inl, inr, is_in, is_legal_size, is_place, is_place-PayloadBounds, leads, leaf}
@@ -30,7 +30,7 @@ in_places (suc k) i l = by_test (cases_lt i k) (in_places k i)
     by_test (inr h) rest = or_left (144 + 16 * i == 144 + 16 * k) (is_in (144 + 16 * i) (places k))
         (eq-eqb (144 + 16 * i) (144 + 16 * k) (omega arith))
 
--- those of a window
+-- the offsets of a window at which a payload can begin
 abbrev all_places : WindowState → List ℕ
 all_places c = places (length c.bytes / 16 - 10)
 

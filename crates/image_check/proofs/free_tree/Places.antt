@@ -1,4 +1,4 @@
--- Links that may be anything, and nodes that are looked for in an ordered list.
+-- Links of any value, and searches for nodes in an ordered list.
 use Rattle.image_check.proofs.Common.{IsTrue, List, None, Option, Some, WindowState, [], all_at, all_from, and_from}
 use Rattle.image_check.proofs.Common.{and_parts, ap, arith, both_ways, bytes_of, cases_Bool, cond-false, cond-true}
 use Rattle.image_check.proofs.Common.{eq-eqb, eqb-true, false, false≢true, inl, inr, is_bad, is_in, is_legal_size}
@@ -20,13 +20,13 @@ unfolding placed
 good-placed size None h = refl
 good-placed size (Some n) h = cond-true (is_handle_place size n) (Some n) None (not-false (is_handle_place size n) h)
 
--- a link to no place is read as none
+-- a link to no such offset is read as none
 pub bad-placed : (size : ℕ) (o : Option ℕ) → is_bad size o ≡ true → placed size o ≡ None
 unfolding placed
 bad-placed size None h = refl
 bad-placed size (Some n) h = cond-false (is_handle_place size n) (Some n) None (not-true (is_handle_place size n) h)
 
--- a link that is not bad leads to a place or nowhere
+-- a link that is not bad is null or leads to such an offset
 pub good-leads : (c : WindowState) (o : Option ℕ) → IsTrue (is_legal_size (length c.bytes))
     → is_bad (length c.bytes) o ≡ false → leads (is_place c) o ≡ true
 good-leads c None size h = refl
@@ -46,7 +46,7 @@ right-is c n o e = e
 
 -- ---- a search
 
--- a node that stands in an ordered list is the first that does not stand before it
+-- a node of an ordered list is the first that does not precede it
 pub found-in : (lt : ℕ → ℕ → Bool) (before : ℕ → Bool) (n : ℕ) (ns : List ℕ) → ((k : ℕ) → before k ≡ lt k n)
     → lt n n ≡ false → is_sorted lt ns ≡ true → is_in n ns ≡ true → first_not_before before ns ≡ Some n
 found-in lt before n [] b i r h = absurd (false≢true h)
@@ -66,7 +66,7 @@ found-in lt before n (m ∷ ms) b i r h =
       ]
     ]
 
--- what is found stands in the list
+-- the node that is found is in the list
 pub found-is : (before : ℕ → Bool) (n : ℕ) (ns : List ℕ) → first_not_before before ns ≡ Some n → is_in n ns ≡ true
 found-is before n [] e = absurd (none_some n e)
 found-is before n (m ∷ ms) e = elim (cases_Bool (not (before m))) [
@@ -77,7 +77,7 @@ found-is before n (m ∷ ms) e = elim (cases_Bool (not (before m))) [
       (found-is before n ms (sym (cond-false (not (before m)) (Some m) (find (λ k. not (before k)) ms) h) ∙ e))
 ]
 
--- so a search tells whether a node stands in the list
+-- so a search decides whether a node is in the list
 pub found-tells : (lt : ℕ → ℕ → Bool) (before : ℕ → Bool) (n found : ℕ) (ns : List ℕ)
     → ((k : ℕ) → before k ≡ lt k n) → lt n n ≡ false → is_sorted lt ns ≡ true
     → Some found ≡ first_not_before before ns → nat_eq found n ≡ is_in n ns
@@ -136,7 +136,7 @@ all-of lt trans irr (x ∷ xs) (y ∷ ys) r s sub l =
           (all_at (lt x) xs x rx.0 (subst (λ (zs : List ℕ). is_in x zs ≡ true) (sym tails) e)))
     ]
 
--- a list that rises by one order rises by another that says the same of its nodes
+-- a list that rises by one order rises by another that agrees on its nodes
 pub is_sorted-same : (lt lt' : ℕ → ℕ → Bool) (ns : List ℕ)
     → ((a b : ℕ) → is_in a ns ≡ true → is_in b ns ≡ true → lt' a b ≡ lt a b) → is_sorted lt ns ≡ true
     → is_sorted lt' ns ≡ true

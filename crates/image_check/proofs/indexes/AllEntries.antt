@@ -1,4 +1,4 @@
--- The entries of an index, one after another: whether each leads to an object without an entry before it.
+-- The entries of an index, one after another: whether each leads to an object without an earlier entry.
 use Rattle.image_check.proofs.Common.{Block, Blocks, EntersLink, IsTrue, List, None, NotesEntries, Option, Owner, Some}
 use Rattle.image_check.proofs.Common.{Tile, [], and_from, and_parts, ap, are_distinct, are_enterable, are_new}
 use Rattle.image_check.proofs.Common.{both_ways, can_enter, cases_Bool, cond-false, cond-true, entry_in, false}
@@ -31,7 +31,7 @@ passes-distinct (x ∷ xs) h =
       passes-distinct xs p.1,
     )
 
--- two lists in one without a number twice have none in common
+-- if a joined list has no number twice, its two parts have none in common
 pub distinct-parts : (xs ys : List ℕ) → Distinct (xs ++ ys)
     → Distinct xs × Distinct ys × ((x : ℕ) → Mem x xs → Mem x ys → ⊥)
 distinct-parts [] ys d = (tt, d, λ x k l. k)
@@ -48,7 +48,7 @@ none-is : (o : Option ℕ) → is_none o ≡ true → o ≡ None
 none-is None h = refl
 none-is (Some n) h = absurd (false≢true h)
 
--- none of these objects stands twice, and none has an entry
+-- no object is in the list twice, and none has an entry
 pub record AreNew (es : Blocks) (xs : List ℕ) : Type 0 where
   pub distinct : Distinct xs
   pub free : (x : ℕ) → Mem x xs → index_of es x ≡ None
@@ -70,7 +70,7 @@ new-parts es xs h =
 abbrev is_good : List Tile → Option ℕ → Bool
 is_good ts link = is_some (good_for ts Object link)
 
--- the targets of links that are there
+-- the targets of links that are not null
 abbrev pub targets_of : List (Option ℕ) → List ℕ
 targets_of links = flat_map option_to_list links
 
@@ -110,7 +110,7 @@ module _ (ts : List Tile) (old es : Blocks) (root place : ℕ) (front : List (Op
           ];
         }
 
-    -- one entry more is noted
+    -- one more entry is entered
     pub one-entered : (are_enterable ts old (front ++ link ∷ []) ≡ true)
         × NotesEntries ts old new root (targets_of (front ++ link ∷ []))
     one-entered =
@@ -135,7 +135,7 @@ free-block b o e = no-owner b.owner (sym (ap root_in (cond-true (same_role b.rol
 
 module _ (ts : List Tile) (old es : Blocks) (root : ℕ) (front : List (Option ℕ))
     (a : NotesEntries ts old es root (targets_of front)) where
-  -- an object that is none of those before and has no entry can be entered
+  -- an object that is not among the earlier ones and has no entry can be entered
   pub can : (n : ℕ) → is_some (tile_of ts Object n) ≡ true → is_among (targets_of front) n ≡ false
       → index_of old n ≡ None → can_enter es (Some n) ≡ true
   can n g d f = can-if (tile_of ts Object n) refl g
@@ -175,7 +175,7 @@ module _ (ts : List Tile) (old es : Blocks) (root : ℕ) (front : List (Option �
           ])
           (w.free n (mem_right n (targets_of front) (n ∷ targets_of back) (inl refl)))
 
-  -- an entry that cannot be noted fails the index
+  -- an entry that cannot be entered fails the index
   pub wrong-entry : (link : Option ℕ) (back : List (Option ℕ)) → can_enter es link ≡ false
       → are_enterable ts old (front ++ link ∷ back) ≡ false
   wrong-entry link back f = elim (cases_Bool (are_enterable ts old (front ++ link ∷ back))) [

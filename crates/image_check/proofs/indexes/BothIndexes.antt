@@ -1,4 +1,4 @@
--- Both indexes, one after the other: whether they pass their test, and what is noted then.
+-- Both indexes, one after the other: whether they pass their test, and the entries that are entered.
 use Rattle.image_check.proofs.Common.{Block, Blocks, HasTiles, HaveEntries, IsMarking, IsUnmarked, List, Memory, None}
 use Rattle.image_check.proofs.Common.{NotesEntries, Option, Owner, Role, Some, Tile, [], and_from, and_parts, ap}
 use Rattle.image_check.proofs.Common.{are_distinct, are_new, block_at, both_ways, bytes_of, cases_Bool, cond}
@@ -16,7 +16,7 @@ use Rattle.image_check.proofs.indexes.AllEntries.{distinct-parts, new-from, new-
 use Rattle.image_check.proofs.block_collection.Lookup.{gathered-unmarked, unmarked-marking}
 use mathlib.Core.Logic.{inl, inr}
 
--- ---- nothing is noted at first
+-- ---- nothing is entered at first
 
 free-if : (o : Option (ℕ × Block)) (es : Blocks) (n : ℕ) (b : Block)
     → ((e : ℕ × Block) → o ≡ Some e → e.1.owner ≡ None) → (block_at es n ≡ Some b → b.owner ≡ None)
@@ -56,7 +56,7 @@ module _ (ts : List Tile) where
       by-block None e = refl
       by-block (Some b) e = ap root_in (none-if-not (same_role b.role Object) b.owner (blocks-free ts n b e))
 
--- so none has an entry
+-- so no object has an entry
 pub none-entered : (ts : List Tile) (es : Blocks) → es ≡ entries_of ts → HaveEntries es []
 none-entered ts es gathered n = ap is_some (ap (λ (es : Blocks). index_of es n) gathered ∙ no-index ts n)
 
@@ -73,7 +73,7 @@ module _ (m : Memory) (ts : List Tile) (es0 es1 : Blocks) (gathered : es0
   index-none : (n : ℕ) → index_of es0 n ≡ None
   index-none n = ap (λ (es : Blocks). index_of es n) gathered ∙ no-index ts n
 
-  -- those of the first index have one
+  -- the targets of the first index have an entry
   pub first-entered : HaveEntries es1 (targets m 32)
   first-entered n = ap is_some (a.entered n) ∙ by (is_among xs n)
     where
@@ -81,7 +81,7 @@ module _ (m : Memory) (ts : List Tile) (es0 es1 : Blocks) (gathered : es0
       by true = refl
       by false = ap is_some (index-none n)
 
-  -- what has an entry in the first index has it noted
+  -- an object in the first index has its entry entered
   was-entered : (n : ℕ) → Mem n (targets m 32) → index_of es1 n ≡ None → ⊥
   was-entered n h e =
       none_some 32 (sym e ∙ a.entered n ∙ cond-true (is_among xs n) (Some 32) (index_of es0 n) (Mem-is_among xs n h))
@@ -131,7 +131,7 @@ module _ (m : Memory) (ts : List Tile) (es0 es1 : Blocks) (gathered : es0
         (distinct-passes (xs ++ ys) (distinct-append xs ys (new-parts es0 xs first.1).distinct
         (new-parts es1 ys second.1).distinct (λ x y h k e. apart x h (subst (λ z. Mem z ys) (sym e) k))))
 
-    -- both indexes are noted
+    -- both indexes are entered
     pub both-entered : (es2 : Blocks) → NotesEntries ts es1 es2 56 (targets m 56) → AreEntered m es2
     both-entered es2 b = record {
       apart = apart_tests;
@@ -174,7 +174,7 @@ first-wrong m ts es0 gathered f = elim (cases_Bool (has_indexes m ts)) [
 
 -- ---- the marking
 
--- where only entries of objects are noted no link of a block is
+-- if only entries of objects are entered, no link of another block is
 pub entries-unmarked : (ts : List Tile) (es0 es1 es2 : Blocks) (xs ys : List ℕ) → es0 ≡ entries_of ts
     → NotesEntries ts es0 es1 32 xs → NotesEntries ts es1 es2 56 ys → IsUnmarked ts es2
 entries-unmarked ts es0 es1 es2 xs ys g a b = record {
@@ -182,7 +182,7 @@ entries-unmarked ts es0 es1 es2 xs ys g a b = record {
   none = λ n. b.owners n ∙ a.owners n ∙ ap (λ (es : Blocks). owner_at es n) g ∙ (gathered-unmarked ts).none n;
 }
 
--- so all is as before the first link is met
+-- so all is ready for the first link
 pub entries-mark : (format : ℕ) (b : List ℕ) (es : Blocks) (pending : Option ℕ) (waiting : ℕ) → HasTiles b
     → IsUnmarked (tiles_in b) es → pending ≡ None → waiting ≡ 0
     → IsMarking format (bytes_of b) (tiles_in b) None es pending waiting

@@ -27,7 +27,7 @@ links-range m at j (x ∷ hs) h =
     let rest = links-range m at (j + 1) hs (subst (λ a. AreLinksTo m a hs) place h.1) in
     λ i. first i ∷ rest i
 
--- the links of an index in a block, or in none
+-- the links of an index in its block, or none without a block
 abbrev pub entries_in : Memory → ℕ → Option ℕ → List (Option ℕ)
 entries_in m n link = elim link [ None ↦ [] | Some block ↦ map (λ i. link_at m (block + 8 * i)) (range_with_len 0 n) ]
 
@@ -54,19 +54,19 @@ all-targets : (hs : List ℕ) → flat_map option_to_list (map Some hs) ≡ hs
 all-targets [] = refl
 all-targets (x ∷ hs) = ap (λ ys. x ∷ ys) (all-targets hs)
 
--- and lead to them
+-- and these are their targets
 pub targets-are : (m : Memory) (at : ℕ) (t : BackingArray) (hs : List ℕ) → IsTrue (has_backing Index 8 t)
     → length hs ≤ t.capacity → IsIndexAt m at t hs → targets m at ≡ hs
 targets-are m at t hs h l i = ap (flat_map option_to_list) (entries-are m at t hs h l i) ∙ all-targets hs
 
 -- ---- numbers that differ, each two
 
--- no number stands twice
+-- no number is in the list twice
 abbrev pub Distinct : List ℕ → Type 0
 Distinct [] = Unit {0}
 Distinct (x ∷ xs) = ((y : ℕ) → Mem y xs → x ≡ y → ⊥) × Distinct xs
 
--- two lists without a number twice, and with none in common, make one without a number twice
+-- two lists without a number twice, and with none in common, form a list without a number twice
 pub distinct-append : (xs ys : List ℕ) → Distinct xs → Distinct ys → ((x y : ℕ) → Mem x xs → Mem y ys → x ≡ y → ⊥)
     → Distinct (xs ++ ys)
 distinct-append [] ys d e f = e
@@ -93,7 +93,7 @@ all_of-fold P lt acc (o ∷ os) h =
     let q = all_of-insert_by P lt o acc r.0 in
     (q.1, (q.0, r.1))
 
--- an object of the class is among those in order
+-- an object of the class is in the ordered list
 pub mem-ordered : (c : Class) (lt : Object → Object → Bool) (os : List Object) (o : Object) → Mem o os
     → IsTrue (is_class c o) → Mem o (ordered c lt os)
 mem-ordered c lt os o h e =
@@ -102,7 +102,7 @@ mem-ordered c lt os o h e =
     (all_of-fold P lt [] (filter (is_class c) os) (all_mem P (ordered c lt os) (λ p k. k))).1
     (mem_filter (is_class c) o os h e)
 
--- and each of those is an object of the class
+-- and each element of the ordered list is an object of the class
 pub mem-of-ordered : (c : Class) (lt : Object → Object → Bool) (os : List Object) (o : Object)
     → Mem o (ordered c lt os) → Kept (is_class c) os o
 mem-of-ordered c lt os o h =
@@ -112,7 +112,7 @@ mem-of-ordered c lt os o h =
 
 -- ---- objects by offset
 
--- an object of a list that rises stands after its begin
+-- an object of a rising list is at or after its beginning
 pub object-from : (n : ℕ) (os : List Object) (o : Object) → IsTrue (rises_from n os) → Mem o os → n ≤ o.extent.offset
 object-from n [] o r h = absurd h
 object-from n (p ∷ ps) o r (inl e) =
@@ -126,7 +126,7 @@ object-from n (p ∷ ps) o r (inr h) =
     let k = object-from (p.extent.offset + 1) ps o parts.1 h in
     omega arith
 
--- one object at each place
+-- only one object is at an offset
 pub one_object : (n : ℕ) (os : List Object) (o p : Object) → IsTrue (rises_from n os) → Mem o os → Mem p os
     → o.extent.offset ≡ p.extent.offset → o ≡ p
 one_object n [] o p r h k e = absurd h
@@ -145,7 +145,7 @@ one_object n (q ∷ qs) o p r (inr h) (inr k) e =
     one_object (q.extent.offset + 1) qs o p
     (and_parts (nat_le n q.extent.offset) (rises_from (q.extent.offset + 1) qs) r).1 h k e
 
--- an object does not stand before itself
+-- an object does not precede itself
 pub not-itself : (lt : Object → Object → Bool) (o p : Object) → IsRanked lt o p → o ≡ p → ⊥
 not-itself lt o p (before e f) g = let h : lt o o ≡ true = ap (lt o) g ∙ e in let k : lt o o ≡ false =
     ap (λ q. lt q o) g ∙ f in false≢true (sym k ∙ h)

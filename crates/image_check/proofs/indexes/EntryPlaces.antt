@@ -29,7 +29,7 @@ module _ (ts : List Tile) (old es : Blocks) (root : ℕ) (front : List (Option �
       ≡ (is_among earlier n || is_among (targets_of front) n)
   among-both n = list_any-append (λ y. n == y) earlier (targets_of front)
 
-  -- one that cannot be noted leads to no object of its own
+  -- an entry that cannot be entered leads to no object of its own
   pub not-new : (link : Option ℕ) → can_enter es link ≡ false → is_new ts (earlier ++ targets_of front) link ≡ false
   not-new None f = refl
   not-new (Some n) f = false_from_ne_true (is_new ts (earlier ++ targets_of front) (Some n)) (λ h.
@@ -38,7 +38,7 @@ module _ (ts : List Tile) (old es : Blocks) (root : ℕ) (front : List (Option �
       ∙ not-true (is_among (earlier ++ targets_of front) n) p.1) in
       true≢false (sym (can ts old es root front a n p.0 q.1 (none-noted (index_of old n) (have n ∙ q.0))) ∙ f))
 
-  -- one that is noted does
+  -- an entry that is entered leads to an object of its own
   pub entered-new : (new : Blocks) (place : ℕ) (link : Option ℕ) → EntersLink es new link place root
       → is_new ts (earlier ++ targets_of front) link ≡ true
   entered-new new place link e =
@@ -53,7 +53,7 @@ module _ (ts : List Tile) (old es : Blocks) (root : ℕ) (front : List (Option �
 
 -- ---- an index
 
--- where its entries lead
+-- the targets of its entries
 some-targets : (m : Memory) (at block : ℕ) → link_at m at ≡ Some block
     → targets m at ≡ first_targets m block (word_at m (at + 8))
 some-targets m at block link = ap (λ o. targets_of (entries_in m (word_at m (at + 8)) o)) link
@@ -71,13 +71,13 @@ order-found m class at block n (Err place) link e h = (
 )
 
 module _ (m : Memory) (ts : List Tile) (es : Blocks) (at : ℕ) where
-  -- no entry can be noted where its words are wrong
+  -- no entry can be entered if the index's words are wrong
   pub wrong-head : is_head m ts at ≡ false → is_enterable m ts es at ≡ false
   wrong-head e =
       ap (λ (h : Bool). cond h (list_all (λ link. is_some (good_for ts Object link)) (entries m at)) false
       && are_new es (targets m at)) e
 
-  -- where they are right it is about the entries in its block
+  -- if the words are valid, the test is about the entries in the block
   some-entries : (block : ℕ) → is_head m ts at ≡ true → link_at m at ≡ Some block
       → is_enterable m ts es at ≡ are_enterable ts es (links_in m block (word_at m (at + 8)))
   some-entries block head link =
@@ -85,7 +85,7 @@ module _ (m : Memory) (ts : List Tile) (es : Blocks) (at : ℕ) where
       && are_new es (targets m at)) head
       ∙ ap (λ o. are_enterable ts es (entries_in m (word_at m (at + 8)) o)) link
 
-  -- all of them were noted, or one is the first that is wrong
+  -- all entries were entered, or one is the first wrong one
   pub index-entered : {A : Type 0} (new : Blocks) (block n : ℕ) (k : Result A ℕ) → is_head m ts at ≡ true
       → link_at m at ≡ Some block → n ≡ word_at m (at + 8) → HaveEntries es (earlier_targets m at)
       → MatchResult k (λ done. (are_enterable ts es (links_in m block n) ≡ true)
@@ -111,7 +111,7 @@ module _ (m : Memory) (ts : List Tile) (es : Blocks) (at : ℕ) where
     ),
   )
 
-  -- an index whose entries were noted is right
+  -- an index whose entries were entered is valid
   pub entered-right : is_enterable m ts es at ≡ true → (has_index m ts at && are_distinct (targets m at)) ≡ true
   entered-right h =
       let p = and_parts (has_index m ts at) (are_new es (targets m at)) h in

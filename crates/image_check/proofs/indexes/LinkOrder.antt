@@ -40,7 +40,7 @@ module _ (m : Memory) (ts : List Tile) (at block : ℕ) (h : has_index m ts at �
   entries-there : entries m at ≡ links_in m block (word_at m (at + 8))
   entries-there = ap (entries_in m (word_at m (at + 8))) e
 
-  -- none is null
+  -- no entry is null
   pub entry-some : (i : ℕ) → i < word_at m (at + 8) → IsSome (link_at m (block + 8 * i))
   entry-some i l =
       let good : Option ℕ → Bool = λ link. is_some (good_for ts Object link) in
@@ -51,7 +51,7 @@ module _ (m : Memory) (ts : List Tile) (at block : ℕ) (h : has_index m ts at �
       (sym (list_all-append good (links_in m block i) (link i ∷ s.back)) ∙ all) in
       good-some ts (link i) (and_parts (good (link i)) (list_all good s.back) p.1).0
 
-  -- and each leads to one of its targets
+  -- and each entry leads to one of the targets
   pub entry-among : (i n : ℕ) → i < word_at m (at + 8) → link_at m (block + 8 * i) ≡ Some n
       → is_among (targets m at) n ≡ true
   entry-among i n l f =

@@ -83,7 +83,7 @@ entered-if m ts (Some x) n (Some b) f z h =
       good = a.good;
     }
 
--- what an index that passes its test says
+-- the properties of an index that passes its test
 pub record IsIndexSaid (m : Memory) (ts : List Tile) (at : ℕ) : Type 0 where
   pub linked : IsLinked ts Index 8 (word_at m (at + 16)) (link_at m at)
   pub few : word_at m (at + 8) ≤ word_at m (at + 16)
@@ -207,7 +207,7 @@ pub record AreAt (os : List Object) (xs : List ℕ) : Type 0 where
   pub at : handles list ≡ xs
   pub mem : (o : Object) → Mem o list → Mem o os
 
--- each of these handles is that of an object, and they are listed
+-- each of these handles is the handle of an object, and they are listed
 pub objects-at : (os : List Object) (xs : List ℕ)
     → ((x : ℕ) → Mem x xs → (o : Object) × Mem o os × (handle o.extent ≡ x)) → AreAt os xs
 objects-at os [] f = record { list = []; at = refl; mem = λ o h. absurd h }
@@ -233,7 +233,7 @@ handles-rises lt less (o ∷ p ∷ qs) f h =
     and_from (lt o p) (rises lt (p ∷ qs)) (sym (f o p (inl refl) (inr (inl refl)))
     ∙ parts.0) (handles-rises lt less (p ∷ qs) (λ x y k l. f x y (inr k) (inr l)) parts.1)
 
--- what an index lists, of a class and an order
+-- the objects that an index lists, of a class and in an order
 pub record IsListed (c : Class) (lt : Object → Object → Bool) (os : List Object) (xs : List ℕ) : Type 0 where
   pub is : handles (ordered c lt os) ≡ xs
   pub rising : IsTrue (rises lt (ordered c lt os))

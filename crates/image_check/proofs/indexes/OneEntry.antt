@@ -1,4 +1,4 @@
--- Noting one entry more at the object that it leads to.
+-- One more entry is entered at its object.
 use Rattle.image_check.proofs.Common.{Block, Blocks, EntersLink, IsBlockAt, IsTileAt, List, None, NotesEntries, Option}
 use Rattle.image_check.proofs.Common.{Owner, Role, Some, Tile, [], and_parts, ap, block_at, cases_Bool, cases_eq, cond}
 use Rattle.image_check.proofs.Common.{cond-false, cond-true, entry_in, false, false≢true, frame_of, frames, good_for}
@@ -80,7 +80,7 @@ module _ (ts : List Tile) (old es new : Blocks) (root place : ℕ) (xs : List �
   index-there : (q : ℕ) → q ≢ n → index_of new q ≡ index_of es q
   index-there q d = ap (λ o. root_in (entry_in o)) (there q d)
 
-  -- it had no entry
+  -- the object had no entry
   index-before : index_of es n ≡ None
   index-before = ap (λ o. root_in (entry_in o)) e.is
       ∙ ap root_in (entry-of-object e.block object ∙ (new-object e.block e.new_block).1)
@@ -131,7 +131,7 @@ module _ (ts : List Tile) (old es new : Blocks) (root place : ℕ) (xs : List �
       only-one true y h = refl
       only-one false y h = ap (λ z. z || false) h
 
-  -- the object is noted, and all that was noted stays
+  -- the object is entered, and all others stay
   pub added-more : NotesEntries ts old new root (xs ++ n ∷ [])
   added-more = record {
     blocks = record { tiles = tiles-after; blocks = blocks-after };
@@ -140,7 +140,7 @@ module _ (ts : List Tile) (old es new : Blocks) (root place : ℕ) (xs : List �
     entered = entered-after;
   }
 
-  -- it is none of those before
+  -- the object is not among the earlier ones
   pub not-before : is_among xs n ≡ false
   not-before = elim (cases_Bool (is_among xs n)) [
     | inl h ↦ (let k : Some root ≡ None = sym (cond-true (is_among xs n) (Some root) (index_of old n) h)

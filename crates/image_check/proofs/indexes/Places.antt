@@ -1,4 +1,4 @@
--- Where tiles lie in a row, how long the block of an index is, and how much a tile weighs.
+-- The bounds of the tiles of a row, the length of an index's block, and the weight of a tile.
 use Rattle.image_check.proofs.Common.{HasTiles, Index, IsTrue, List, Memory, None, Option, Rates, Role, Row, Some, Tile}
 use Rattle.image_check.proofs.Common.{WindowState, [], and_parts, ap, arith, cases_Bool, cond-false, cond-true}
 use Rattle.image_check.proofs.Common.{eqb-true, false, false≢true, index_capacity, is_table_link, is_use, leads_to}
@@ -21,7 +21,7 @@ rows c h =
     subst (λ ts. Row 128 ts (length c.bytes - 16)) (sym (tiles_are_read_off c t.tiles t.said))
     (said_row c t.tiles t.said)
 
--- where a tile of a row lies
+-- the bounds of a tile of a row
 pub record InRow (at end : ℕ) (t : Tile) : Type 0 where
   pub low : at ≤ t.offset
   pub long : 32 ≤ t.len
@@ -33,7 +33,7 @@ row-long : (at : ℕ) (ts : List Tile) (end : ℕ) → Row at ts end → at ≤ 
 row-long at [] end r = let e : at ≡ end = r in omega arith
 row-long at (t ∷ ts) end r = let l = row-long (at + t.len) ts end r.3 in omega arith
 
--- a tile of a row stands in it
+-- a tile of a row is in it
 pub in-row : (at : ℕ) (ts : List Tile) (end : ℕ) (t : Tile) → Row at ts end → Mem t ts → InRow at end t
 in-row at [] end t r h = absurd h
 in-row at (u ∷ ts) end t r (inl e) =

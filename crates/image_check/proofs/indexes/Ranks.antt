@@ -12,14 +12,14 @@ last_of [] = None
 last_of (x ∷ []) = Some x
 last_of (x ∷ y ∷ xs) = last_of (y ∷ xs)
 
--- the handle put after a list is its last
+-- a handle appended to a list is its last
 pub last-of-more : (xs : List ℕ) (h : ℕ) → last_of (xs ++ h ∷ []) ≡ Some h
 last-of-more [] h = refl
 last-of-more (x ∷ []) h = refl
 last-of-more (x ∷ y ∷ xs) h = last-of-more (y ∷ xs) h
 
 module _ (lt : ℕ → ℕ → Bool) where
-  -- a number stands after the last one, if there is one
+  -- a number follows the last one, if there is one
   abbrev behind : Option ℕ → ℕ → Bool
   behind last h = elim last [ None ↦ true | Some g ↦ lt g h ]
 
@@ -42,7 +42,7 @@ module _ (class : ℕ) (m : Memory) where
   abbrev is_of : ℕ → Bool
   is_of at = class_at m at == class
 
-  -- one object more
+  -- one more object
   pub ranked-more : (xs : List ℕ) (h : ℕ) → are_ranked class m xs ≡ true → follows class m (last_of xs) h ≡ true
       → are_ranked class m (xs ++ h ∷ []) ≡ true
   ranked-more xs h r f =
@@ -62,7 +62,7 @@ module _ (class : ℕ) (m : Memory) where
       and_from (is_of h) (behind (key_before class m) (last_of xs) h)
       (and_parts (is_of h) (list_all is_of back) q.1).0 (rise-behind (key_before class m) xs h back p.1)
 
-  -- one that does not follow
+  -- a handle that does not follow
   pub ranked-broken : (xs : List ℕ) (h : ℕ) (back : List ℕ) → follows class m (last_of xs) h ≡ false
       → are_ranked class m (xs ++ h ∷ back) ≡ false
   ranked-broken xs h back f = elim (cases_Bool (are_ranked class m (xs ++ h ∷ back))) [

@@ -95,7 +95,7 @@ module _ (format : ℕ) (b : List ℕ) (s : AreSmall (bytes_of b)) (fr : IsFrame
   of-extents o k x h = mem_left x (flat_map extents_of os) (table_extents named ++ table_extents unique)
       (mem_flat_map extents_of o x os k h)
 
-  -- an extent that a field leads to is named
+  -- an extent behind a field is named by an object
   led-value : (x : Extent) → Mem x (used ts) → (o : Object) → Mem o os → (f : Field) → Mem f (claims_of m ts o)
       → f.target ≡ handle x → Mem x extents
   led-value x h o k f l e =

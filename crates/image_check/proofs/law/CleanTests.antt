@@ -1,4 +1,4 @@
--- What each test says where no class holds.
+-- The result of each test if no class holds.
 use Rattle.image_check.proofs.Common.{AllByRecursion, ImageClass, IsTrue, List, Memory, None, Option, Some, Tile, []}
 use Rattle.image_check.proofs.Common.{ap, bytes_of, class_of, classes, cond, false, has_containers, has_indexes}
 use Rattle.image_check.proofs.Common.{has_objects, is_orphaned, is_shared, is_tiled, not, not-false, refl, size_word}
@@ -27,7 +27,7 @@ not-found : (p : ImageClass → Bool) (cs : List ImageClass) → find p cs ≡ N
 not-found p [] e = tt
 not-found p (c ∷ cs) e = let w = not-found-if p c (find p cs) (p c) refl e in (w.0, not-found p cs w.1)
 
--- what each test says where no class holds
+-- the result of each test if no class holds
 pub classes-clean : (format : ℕ) (b : List ℕ) → AreSmall (bytes_of b) → class_of format b ≡ None
     → IsFramed format b × IsLateClean format (bytes_of b) (tiles_in b)
 classes-clean format b s h =

@@ -41,7 +41,7 @@ use Rattle.image_check.proofs.claims.CountedClaims.{IsClaimed, all_claims, claim
 use Rattle.image_check.proofs.claims.CountedClaims.{place_of, tables_claims}
 use mathlib.Core.Logic.{◌⊎◌, inl, inr}
 
--- ---- extents that stand apart have different handles
+-- ---- extents that are apart have different handles
 
 -- extents that rise have different handles
 pub distinct-extents : (n : ℕ) (xs : List Extent) → Rising n (sorted xs) → Distinct (map handle xs)
@@ -88,7 +88,7 @@ objects-targets m ts (o ∷ os) g r =
     ∙ (λ i. first i ++ rest i)
     ∙ sym (map-append handle (extents_of o) (flat_map extents_of os))
 
--- all of them
+-- all claims of a directory
 pub whole_claims : Memory → List Tile → List Object → BackingArray → BackingArray → List Field
 whole_claims m ts os named unique = flat_map (object_claims m ts) os ++ tables_claims named unique
 
@@ -112,7 +112,7 @@ objects-whole m ts (o ∷ os) f k = elim (mem_parts f (claims_of m ts o) (flat_m
   | inr a ↦ inr (mem_right f (claims_of m ts o) (flat_map (object_claims m ts) os) (objects-whole m ts os f a))
 ]
 
--- a field of an object or an index is one of them
+-- a field of an object or an index is among all claims
 pub in-whole : (m : Memory) (ts : List Tile) (os : List Object) (named unique : BackingArray) (f : Field)
     → Mem f (all_claims m ts os named unique) → Mem f (whole_claims m ts os named unique)
 unfolding whole_claims
@@ -135,7 +135,7 @@ tree-of m ts end a (Pairs k v ps) at h s mem l =
     (s.tree.tree, tree-read ts end a m at k v ps parts.1 mem (omega arith) s.tree, s.tree.lists)
 tree-of m ts end a (Texts ps t) at h s mem l = tt
 
--- of what use a tile is that needs a link
+-- the use of a tile that needs a link
 needs-other : (offset len : ℕ) (use_of : Option Role) (red : Bool)
     → IsTrue (needs_owner (record { offset = offset; len = len; use_of = use_of; red = red }))
     → (x : Extent) × (as_extent (record { offset = offset; len = len; use_of = use_of; red = red }) ≡ Some x)
@@ -196,7 +196,7 @@ module _ (format : ℕ) (b : List ℕ) (d : Directory) (s : AreSmall (bytes_of b
 
   -- ---- class 12
 
-  -- a field that leads to an extent
+  -- a field leads to the extent
   record IsLed (x : Extent) : Type 0 where
     by : Field
     counts : Mem by (counted_fields format (bytes_of b) (tiles_in b))

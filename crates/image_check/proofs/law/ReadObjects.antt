@@ -1,5 +1,5 @@
--- The objects and indexes that are read off clean bytes pass their tests, their fields are those that count, and no
--- block is named twice.
+-- The objects and indexes read from clean bytes pass their tests, their fields are the fields that count, and no block
+-- is named twice.
 use Rattle.image_check.proofs.Common.{BackingArray, Class, Extent, Index, IsTrue, Kind, List, Memory, Named, Node, None}
 use Rattle.image_check.proofs.Common.{Option, Rising, Role, Row, Some, Storage, Tile, Unique, [], and_parts, ap}
 use Rattle.image_check.proofs.Common.{are_distinct, as_extent, by_kind, by_name, bytes_of, class_at, class_code}
@@ -126,7 +126,7 @@ module _ (format : ℕ) (b : List ℕ) (s : AreSmall (bytes_of b)) (fr : IsFrame
       let j = mem_of_map object_block i.one (object_tiles ts) i.mem in
       record { tile = j.one; mem = j.mem; is = i.is ∙ ap (object_from format m ts) j.is }
 
-  -- the object in a tile is one of those read off
+  -- the object in a tile is among the objects that are read
   pub of-object : (t : Tile) → Mem t (object_tiles ts) → Mem (object_from format m ts (object_block t)) os
   of-object t k = mem_map (object_from format m ts) (object_block t) (map object_block (object_tiles ts))
       (mem_map object_block t (object_tiles ts) k)
@@ -135,11 +135,11 @@ module _ (format : ℕ) (b : List ℕ) (s : AreSmall (bytes_of b)) (fr : IsFrame
   said-tile t k = tile-said format m ts s t k
       (list_all_mem (is_object_tile format m) (object_tiles ts) t tests.each k) c.containers
 
-  -- each object is said by the bytes
+  -- the bytes encode each object
   pub said : (o : Object) → Mem o os → IsSaid format m ts o
   said o k = let w = of-tile o k in subst (IsSaid format m ts) (sym w.is) (said-tile w.tile w.mem)
 
-  -- the objects stand by offset
+  -- the objects are in order of offset
   pub by_offset : IsTrue (rises_from 0 os)
   by_offset =
       let blocks : map extent_of os ≡ filter is_object_extent (used ts) =
@@ -155,11 +155,11 @@ module _ (format : ℕ) (b : List ℕ) (s : AreSmall (bytes_of b)) (fr : IsFrame
       c.indexes in
       and_parts (has_index m ts 32) (has_index m ts 56) two.0
 
-  -- the index of names is said by the bytes
+  -- the bytes encode the index of names
   pub first_index : IsIndexSaid m ts 32
   first_index = index-said m ts 32 index_parts.0
 
-  -- the index of kinds is said by the bytes
+  -- the bytes encode the index of kinds
   pub second_index : IsIndexSaid m ts 56
   second_index = index-said m ts 56 index_parts.1
 

@@ -1,4 +1,4 @@
--- Bytes denote one directory at most: the one that is read off.
+-- Bytes denote at most one directory: the one that is read from them.
 use Rattle.image_check.proofs.Common.{AllByRecursion, BackingArray, Denotes, Directory, Extent, Index, IsObjectAt}
 use Rattle.image_check.proofs.Common.{IsTrue, List, Memory, Rising, Row, Tile, [], and_parts, ap, arith, by_kind}
 use Rattle.image_check.proofs.Common.{by_name, bytes_of, class_at, count_at, count_of, false≢true, filter, flat_map}
@@ -29,24 +29,24 @@ use Rattle.image_check.proofs.read_off.OwnBlocks.{IsOther, is_object_extent, mem
 use Rattle.image_check.proofs.read_off.OwnBlocks.{sorted-length, table-other, used-length, value-other}
 use mathlib.Core.Logic.{◌⊎◌, inl, inr}
 
--- ---- what denoting says of the tiles
+-- ---- the tiles of bytes that denote a directory
 
 -- all blocks that a directory names
 abbrev pub all_extents : Directory → List Extent
 all_extents d = flat_map extents_of d.objects ++ tables_of d
 
--- the tiles that bytes say
+-- the tiles of the bytes
 abbrev pub tiles_in : List ℕ → List Tile
 tiles_in b = tiles_of (bytes_of b) (length b)
 
--- what reading off needs to know of the tiles and the directory
+-- the facts about the tiles and the directory that reading needs
 pub record IsRead (b : List ℕ) (d : Directory) : Type 0 where
   pub size : length b ≡ d.size
   pub extents : used (tiles_in b) ≡ sorted (all_extents d)
   pub tiles : Row 128 (tiles_in b) (length b - 16)
   pub rising : Rising 0 (used (tiles_in b))
 
--- bytes that denote the directory say it
+-- bytes that denote the directory meet these facts
 pub denotes-IsRead : (format : ℕ) (b : List ℕ) (d : Directory) → Denotes format b d → IsRead b d
 unfolding live_of
 denotes-IsRead format b d h =
@@ -66,7 +66,7 @@ module _ (format : ℕ) (b : List ℕ) (d : Directory) (s : AreSmall (bytes_of b
   pub in-use : (x : Extent) → Mem x (all_extents d) → Mem x (used (tiles_in b))
   in-use x k = subst (Mem x) (sym (denotes-IsRead format b d h).extents) (mem-sorted x (all_extents d) k)
 
-  -- a block in use is one of the directory
+  -- a block in use is a block of the directory
   pub from-use : (x : Extent) → Mem x (used (tiles_in b)) → Mem x (all_extents d)
   from-use x k = mem-of-sorted x (all_extents d) (subst (Mem x) (denotes-IsRead format b d h).extents k)
 
@@ -79,11 +79,11 @@ module _ (format : ℕ) (b : List ℕ) (d : Directory) (s : AreSmall (bytes_of b
   pub good-object : (o : Object) → Mem o d.objects → IsGoodObject format o
   good-object o k = is_object-parts format o (list_all_mem (is_object format) d.objects o h.directory.objects k)
 
-  -- an object of the directory stands in memory
+  -- memory has an object of the directory
   pub stands : (o : Object) → Mem o d.objects → IsObjectAt (bytes_of b) o
   stands o k = mem_all (IsObjectAt (bytes_of b)) d.objects o h.objects k
 
-  -- the words of an object stand in memory
+  -- memory has the words of an object
   pub words : (o : Object) → Mem o d.objects → AreWords format (bytes_of b) o
   words o k = object-words format (bytes_of b) o s (good-object o k) (stands o k)
 

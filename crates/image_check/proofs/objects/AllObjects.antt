@@ -1,4 +1,4 @@
--- All tests of the objects together, and what is spent on them.
+-- All tests of the objects together, and their visits.
 use Rattle.image_check.proofs.Common.{HasTiles, Index, Kind, List, Memory, Node, None, Option, Role, Some, Storage}
 use Rattle.image_check.proofs.Common.{Tile, WindowState, [], and_from, and_parts, ap, are_distinct, are_ranked, arith}
 use Rattle.image_check.proofs.Common.{both_ways, bytes_of, cases_Bool, class_at, code_before, cond, cond-true, count_at}
@@ -34,7 +34,7 @@ pub all-right : (format : ℕ) (m : Memory) (ts : List Tile)
 all-right format m [] = refl
 all-right format m (t ∷ ts) = right-if (is_use Object t) format m t ts (object_tiles ts) (all-right format m ts)
 
--- ---- where an object that is right lies
+-- ---- the bounds of a valid object
 
 some-value : (m : Memory) (o : Option Kind) (count start end : ℕ)
     → elim o [ None ↦ false | Some k ↦ is_value_in m k count start end ] ≡ true → start ≤ end
@@ -43,7 +43,7 @@ some-value m (Some k) count start end h =
     (room-said k count start end (and_parts (is_value_room k count start end) (is_spelled m k count start)
     (sym (value-parts m k count start end) ∙ h)).0).behind
 
--- its name lies in its tile
+-- the object's name lies in its tile
 name-within : (format : ℕ) (m : Memory) (t : Tile) → is_object_tile format m t ≡ true
     → t.offset + 16 + 16 + name_len_at m (t.offset + 16) ≤ t.offset + t.len
 name-within format m t h =
@@ -56,7 +56,7 @@ name-within format m t h =
     some-value m (kind_at format m at) (count_at m at) (value_offset m at) (t.offset + t.len) v in
     omega arith
 
--- so do those of the targets of an index
+-- so do the heads of the targets of an index
 pub heads-of : (format : ℕ) (w : WindowState) (at : ℕ) → HasTiles w.bytes
     → has_index (bytes_of w.bytes) (tiles_in w.bytes) at ≡ true
     → list_all (is_right_tile format (bytes_of w.bytes)) (tiles_in w.bytes) ≡ true

@@ -1,4 +1,4 @@
--- Bytes of the head of an object that are lent by a window, and what is tested of them.
+-- Bytes of an object's head that are lent by a window, and the tests of them.
 use Rattle.image_check.proofs.Common.{List, Memory, ScalarKind, ap, arith, bytes_of, class_at, cond-true, eq-eqb, false}
 use Rattle.image_check.proofs.Common.{has_name, if◌then◌else◌, is_name, is_spelling, le-leb, length, name_at}
 use Rattle.image_check.proofs.Common.{name_len_at, nat_le, part, read, read-part, size_of, sym, value_offset, ℕ, ◌&&◌}

@@ -27,7 +27,7 @@ value-parts m (Vector k) count at end = sym (and-true ((count == 1) && nat_le (a
 value-parts m (Map k v) count at end = sym (and-true ((count == 1) && nat_le (at + 24) end))
 value-parts m Strings count at end = sym (and-true ((count == 1) && nat_le (at + 24) end))
 
--- a value that has room lies after its start
+-- the end of a value is at or after its start
 pub record HasRoom (start end : ℕ) : Type 0 where
   pub behind : start ≤ end
 
@@ -70,7 +70,7 @@ room-wider Strings count start end later h l = room-later count start end later 
 
 -- ---- an object
 
--- the test of an object, by those of its parts
+-- the test of an object, by the tests of its parts
 abbrev four : Bool → Bool → Bool → Bool → Bool
 four name value padding indexed = cond name (value && padding && indexed) false
 

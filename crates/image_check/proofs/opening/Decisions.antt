@@ -20,7 +20,7 @@ class-any b c l d = λ rest h. ap (λ (f : ℕ). class_of f (b ++ rest)) (format
 any-class : (b : List ℕ) (c : ImageClass) → 12 ≤ length b → DecidesAny b c → DecidesClass (format_of b) b c
 any-class b c l d = λ rest h. sym (ap (λ (f : ℕ). class_of f (b ++ rest)) (format_of-front b rest l)) ∙ d rest h
 
--- what is decided stays so with more bytes
+-- a decided class stays decided with more bytes
 more-any : (b more : List ℕ) (c : ImageClass) → IsTrue (are_bytes more) → DecidesAny b c → DecidesAny (b ++ more) c
 more-any b more c h d = λ rest k.
     ap class_of_any (append_assoc b more rest)
@@ -32,7 +32,7 @@ more-any b more c h d = λ rest k.
 few-said : (b : List ℕ) (c : ImageClass) → 12 ≤ length b → length b < 144 → DecidesAny b c → ⊥
 few-said b c l s d = decided-none (format_of b) b (short-undecided (format_of b) b s) c (any-class b c l d)
 
--- or without: zeros may follow
+-- or without them: zeros can follow
 few-unsaid : (b : List ℕ) (n : ℕ) (c : ImageClass) → n ≡ 12 → length b < 12 → DecidesAny b c → ⊥
 few-unsaid b n c e l d =
     let both = length-append b (zeros n) in
@@ -65,9 +65,9 @@ all_decided_any front = record {
   none = λ e c d. none-cases front c (cases_lt (length front) 144) e d;
 }
 
--- ---- the class of what is refused
+-- ---- the class of a refused image
 
--- it is the class of the bytes: what they decide holds if nothing follows
+-- the decided class is the class of the bytes, as if nothing followed
 pub refused-class : (format : ℕ) (image : ReadDelta) (c : ImageClass) → IsRefusedAs format image c
     → class_of format image.bytes ≡ Some c
 refused-class format image c r = elim r.right [

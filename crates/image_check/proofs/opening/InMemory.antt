@@ -1,4 +1,4 @@
--- An image that lies in memory: why no segment is opened of it.
+-- An image in memory: the reasons why no segment is opened.
 use Rattle.image_check.proofs.Common.{AcceptedVersions, IfErr, inl, inr, BadMagic, BadSize, Err}
 use Rattle.image_check.proofs.Common.{ImageClass, IsHandedBack, IsImageRead}
 use Rattle.image_check.proofs.Common.{IsTooSmallFor, List, MatchResult, Mode, Ok}
@@ -27,9 +27,9 @@ use Rattle.image_check.proofs.reading.Formats.{format_of-few}
 use Rattle.image_check.proofs.reading.Stops.{front-early, more-decided}
 use Rattle.image_check.proofs.reading.Places.{front-shown}
 
--- ---- why it is not put there
+-- ---- the reasons why it is not copied
 
--- first words that say no size are too small for none
+-- first words without a legal size are too small for no region
 wrong-room : (format : ℕ) (b : List ℕ) (base capacity : ℕ) (c : ImageClass) → front_of format b ≡ Err c
     → IsTooSmallFor format (as_given b) base capacity → ⊥
 wrong-room format b base capacity c e t = both_ways (has_front format b) (front-wrong format b c e) t.front
@@ -43,7 +43,7 @@ misfit-front format b base capacity v e l = record {
   early = front-early format b v.class e;
 }
 
--- first words that say a size
+-- first words with a legal size
 right-by : (m v l : Bool) (n size : ℕ)
     → (if m then (if v then (if l then Ok n else Err BadSize) else Err UnsupportedVersion) else Err BadMagic) ≡ Ok size
     → ((m && v && l) ≡ true) × (n ≡ size)
@@ -52,7 +52,7 @@ right-by true true false n size e = absurd (cc)
 right-by true false l n size e = absurd (cc)
 right-by false v l n size e = absurd (cc)
 
--- a front that says a size is right
+-- a front with a legal size is valid
 pub says-right : (format : ℕ) (b : List ℕ) (size : ℕ) → 24 ≤ length b → front_of format b ≡ Ok size
     → IsRight format b size
 says-right format b size l e =
@@ -99,12 +99,12 @@ pub front-place : (format : ℕ) (b : List ℕ) (c : ImageClass) (at : ℕ) → 
 front-place format b c at l p =
     subst (λ (x : List ℕ). Shows format x c at) (append-nil b) (front-shown format b [] l c at p)
 
--- more bytes than the size: the place that is told
+-- more bytes than the size: the offset that shows it
 pub more-place : (format : ℕ) (b : List ℕ) (size : ℕ) → IsRight format b size → Shows format b BadSize size
 more-place format b size r =
     sym r.says ∙ sym (cond-true (is_legal_size (size_word b)) (size_word b) 16 (ap is_legal_size r.says ∙ r.legal))
 
--- the region comes back as it was
+-- the region is returned unchanged
 pub back-as-was : (format : ℕ) (b region : List ℕ) (base : ℕ) (back : List ℕ) → back ≡ region
     → IsHandedBack format (as_given b) region base back
 back-as-was format b region base back e = record {
@@ -125,7 +125,7 @@ not-placed format b region base mode refused n = record {
   too_small = n.misfit.too_small;
 }
 
--- ---- the format that it says
+-- ---- the format in the bytes
 
 -- The format by which bytes are read is at most 2.
 pub format_in-few : (versions : AcceptedVersions) (b : List ℕ) → format_in versions b ≤ 2
@@ -135,7 +135,7 @@ format_in-few All b = format_of-few b
 
 -- ---- the region
 
--- where the check refuses the bytes, they are as many as they say
+-- if the check refuses the bytes, their number is the size in them
 pub unwritten : (format : ℕ) (b region : List ℕ) (base : ℕ) (w : WindowState)
     → IsImageRead format (as_given b) region base w → (r : Result SegmentState OpenRefused)
     → IfErr r (λ refused. (length b ≡ size_word b → ⊥) → refused.region ≡ region)

@@ -1,4 +1,4 @@
--- A whole image in its place in a region: its first 24 bytes are written, and the others are read after them.
+-- A whole image at its place in a region: its first 24 bytes are written, and the others are read after them.
 use Rattle.image_check.proofs.Common.{HasFront, IsHandedBack, IsImageRead, IsNotRead, List, OpenError, SameSurroundings}
 use Rattle.image_check.proofs.Common.{Stops, WindowState, added, ap, arith, both_added, drop, false, le-ltb, legal_size}
 use Rattle.image_check.proofs.Common.{length, length-drop, length-take, nat_lt, part, patched, subst, sym, take, true}
@@ -14,7 +14,7 @@ use Rattle.image_check.proofs.reading.Fronts.{IsRight, IsRight-append, IsRight-h
 use Rattle.image_check.proofs.opening.Region.{written-back}
 use Rattle.image_check.proofs.reading.Stops.{read_since}
 
--- the window of a region that the first 24 bytes say, with these in front
+-- the window of a region for the size in the first 24 bytes, which are at its front
 pub record IsBegun (format : ℕ) (old mid front region : List ℕ) (base size : ℕ) (w : WindowState) : Type 0 where
   pub front_read : ReadsFrontOk format old mid front base (length region) size
   pub is : w ≡ with_bytes (cut_at region base size) (patched (part region base size) 0 front)
@@ -38,8 +38,7 @@ module _ (format : ℕ) (old mid front region : List ℕ) (base size : ℕ) (w :
   bytes_right : IsRight format w.bytes size
   bytes_right = subst (λ x. IsRight format x size) (sym bytes_are) (IsRight-append format front rest size front_right)
 
-  -- there are as many bytes as the first ones say
-  -- the reader gave the first 24 bytes of the window
+  -- the reader returned the first 24 bytes of the window
   pub begun-start : mid ≡ old ++ take 24 w.bytes
   begun-start = b.front_read.read ∙ ap (λ x. old ++ x) (sym begun-take)
 
@@ -78,7 +77,7 @@ module _ (format : ℕ) (old mid front region : List ℕ) (base size : ℕ) (w :
       let d = length-append w.before w.bytes in
       omega arith
 
-  -- the region comes back where the window alone was written
+  -- the region is returned after only the window was written
   begun-back : (new : List ℕ) (ended : Bool) (f h : ℕ) (v : WindowState) (back : List ℕ) → AppendsBytes mid new
       → SameSurroundings w v
       → length v.bytes ≡ length w.bytes → back ≡ whole v

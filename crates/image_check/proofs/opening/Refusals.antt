@@ -15,7 +15,7 @@ use Rattle.image_check.proofs.opening.Region.{written-back}
 
 module _ (format : ℕ) (image : ReadDelta) (region : List ℕ) (base : ℕ) (w : WindowState)
     (h : IsImageRead format image region base w) where
-  -- there was room for it
+  -- the region had room for the image
   no-room : IsTooSmallFor format image base (length region) → ⊥
   no-room t =
       let small = t.small in
@@ -68,7 +68,7 @@ module _ (format : ℕ) (image : ReadDelta) (region : List ℕ) (base : ℕ) (w 
     too_small = λ t. absurd (no-room t);
   }
 
-  -- What an opening answers, from what that of its window does.
+  -- The result of an opening, from the result for its window.
   pub opens : (mode : Mode) (r : Result SegmentState OpenRefused) → OpensWindow format w mode r
       → Opens format image region base mode r
   opens mode (Ok s) o = record {
@@ -83,20 +83,20 @@ module _ (format : ℕ) (image : ReadDelta) (region : List ℕ) (base : ℕ) (w 
   }
   opens mode (Err e) o = refused mode e o
 
-  -- a place that shows the class of the window shows that of what was read
+  -- an offset that shows the class of the window shows the class of the bytes read
   shown-why : (why : OpenError) → IsWhyRefused format w.bytes why → IsShown format image.bytes why
   shown-why (Image v) x = subst (λ (b : List ℕ). Shows format b v.class v.place) h.bytes x.1
   shown-why (OutOfMemory refusal) x = tt
   shown-why RegionTooSmall x = tt
   shown-why ReadFault x = tt
 
-  -- so it is for whatever the opening of the window answers
+  -- this holds for each result of the opening of the window
   pub shown : (mode : Mode) (r : Result SegmentState OpenRefused) → OpensWindow format w mode r
       → IfErr r (λ e. IsShown format image.bytes e.cause)
   shown mode (Ok s) o = tt
   shown mode (Err e) o = shown-why e.cause o.why
 
--- one that was not read
+-- an image that was not read
 pub unread-opens : (format : ℕ) (image : ReadDelta) (region : List ℕ) (base : ℕ) (mode : Mode)
     (refused : OpenRefused) → IsNotRead format image region base refused
     → Opens format image region base mode (Err refused)

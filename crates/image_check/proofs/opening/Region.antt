@@ -1,4 +1,4 @@
--- A region that comes back when its window was written alone.
+-- A region that is returned after only its window was written.
 use Rattle.image_check.proofs.Common.{IsHandedBack, List, ReadDelta, SameSurroundings, WindowState, ap, arith, drop}
 use Rattle.image_check.proofs.Common.{length, length-drop, length-take-le, size_word, sym, take, ℕ, ◌++◌, ◌+◌, ◌∙◌, ◌≡◌}
 use Rattle.image_check.proofs.Common.{◌≤◌}
@@ -6,11 +6,11 @@ use Rattle.std.proofs.lemmas.List.{append_assoc, drop_at, length-append, take_at
 use Rattle.raw_region.specs.Memory.{cut_at, whole}
 use Rattle.image_check.specs.Opening.{HasRoomForImage}
 
--- where a window stays and its bytes do, the region does
+-- if a window's place and bytes stay, the region stays
 pub whole-kept : (old new : WindowState) → SameSurroundings old new → new.bytes ≡ old.bytes → whole new ≡ whole old
 whole-kept old new place bytes = let before = place.before in let after = place.after in cc
 
--- a window of the region whose bytes alone may be others
+-- a window of the region of which only the bytes can differ
 pub record IsWritten (region : List ℕ) (base size : ℕ) (w : WindowState) : Type 0 where
   pub room : base + size ≤ length region
   pub place : SameSurroundings (cut_at region base size) w
@@ -38,7 +38,7 @@ module _ (region : List ℕ) (base size : ℕ) (w : WindowState) (h : IsWritten 
   written-behind : drop (base + size) (whole w) ≡ drop (base + size) region
   written-behind = drop_at (w.before ++ w.bytes) w.after (base + size) front-long ∙ h.place.after
 
-  -- the region that comes back holds what was read
+  -- the region that is returned contains the bytes that were read
   pub written-back : (format : ℕ) (image : ReadDelta) (back : List ℕ)
       → HasRoomForImage format image base (length region)
       → size_word image.bytes ≡ size → back ≡ whole w → IsHandedBack format image region base back

@@ -351,7 +351,7 @@ module _ (format : ℕ) (b : List ℕ) (d : Directory) (s : AreSmall (bytes_of b
 
   -- ---- the values
 
-  -- where the value of an object stands
+  -- the offset of an object's value
   pub value_place : Object → ℕ
   value_place o = handle o.extent + 16 + padded (length o.name)
 
@@ -396,7 +396,7 @@ module _ (format : ℕ) (b : List ℕ) (d : Directory) (s : AreSmall (bytes_of b
       (object_tiles (tiles_in b)) k in
       value-of c.one c.mem p c.is
 
-  -- and that of each object is one
+  -- and the value of each object is one of the values
   pub values-has : (o : Object) → Mem o d.objects
       → Mem (kind_of o.value, handle o.extent + 16 + padded (length o.name)) (values format (bytes_of b) (tiles_in b))
   values-has o k =

@@ -1,4 +1,4 @@
--- A good value that stands at an offset passes the tests of values and containers.
+-- A good value at an offset passes the tests of values and containers.
 use Rattle.image_check.proofs.Common.{AllByRecursion, AllByRecursion-behind, AllByRecursion-front, AreTextLinks}
 use Rattle.image_check.proofs.Common.{BackingArray, Bytes, Elements, Extent, HasBytesAt, IsNumberPairAt, IsTrue}
 use Rattle.image_check.proofs.Common.{IsValueAt, List, Memory, Node, None, NumberPair, Numbers, Option, OwnedText}
@@ -32,7 +32,7 @@ use Rattle.image_check.proofs.read_off.Values.{HasBytesAt-behind, IsStored, node
 use Rattle.image_check.proofs.read_off.Values.{text_extents, tree-read}
 use native.Mathlib.Nat.{mul-suc}
 
--- one more time n
+-- n times one more
 pub mul-next : (n j : ℕ) → n * (j + 1) ≡ n * j + n
 mul-next n j = ap (λ x. n * x) (add-one j) ∙ mul-suc n j
 
@@ -59,7 +59,7 @@ spelled-range m k at j (z ∷ zs) v h =
 pub mul-none : (n : ℕ) → n * 0 ≡ 0
 mul-none n = omega arith
 
--- numbers that are spelled there pass the test of spellings
+-- numbers whose encodings are there pass the test of encodings
 pub spelled-passes : (m : Memory) (k : ScalarKind) (at : ℕ) (zs : List ℤ) → IsTrue (list_all (is_value k) zs)
     → HasBytesAt m at (spelled k zs) → IsTrue (are_spellings m k at (length zs))
 spelled-passes m k at zs v h =
@@ -92,14 +92,14 @@ bytes-pass m at n s = bytes-range m at 0 n s
 
 -- ---- the value in its object
 
--- what two tests say, the second asked only where the first holds
+-- two tests pass together, the second made only if the first passes
 pub guarded : (p q : Bool) → IsTrue p → IsTrue q → IsTrue (if p then q else false)
 guarded p q h k = cond-true p q false h ∙ k
 
 container-in : (m : Memory) (at end : ℕ) → at + 24 ≤ end → IsTrue ((1 == 1) && nat_le (at + 24) end)
 container-in m at end l = and_from (1 == 1) (nat_le (at + 24) end) refl (le-leb (at + 24) end l)
 
--- a value that stands there and fits passes its test
+-- a value that is in memory and fits passes its test
 pub value_in-passes : (m : Memory) (at end : ℕ) (v : Value) → IsTrue (is_good_value v) → IsValueAt m at v
     → at + value_len v ≤ end → IsTrue (is_value_in m (kind_of v) (count_of v) at end)
 value_in-passes m at end (Numbers k zs) h s l =
@@ -114,7 +114,7 @@ value_in-passes m at end (Bytes bs t) h s l = container-in m at end l
 value_in-passes m at end (Pairs k v ps) h s l = container-in m at end l
 value_in-passes m at end (Texts ps t) h s l = container-in m at end l
 
--- stored bytes stand in their block
+-- stored bytes are in their block
 pub stored-at : (m : Memory) (bytes : List ℕ) (e : Option Extent) (x : Extent) → e ≡ Some x → IsStored m bytes e
     → HasBytesAt m (handle x) bytes
 stored-at m bytes None x e s = absurd (cc)
@@ -155,7 +155,7 @@ module _ (ts : List Tile) (end : ℕ) (a : Row 128 ts end) where
 
   -- ---- vectors and texts
 
-  -- the elements, where there is a block
+  -- the elements, if there is a block
   stored-if : (m : Memory) (k : ScalarKind) (n : ℕ) (e : Option Extent)
       → ((x : Extent) → e ≡ Some x → IsTrue (are_spellings m k (handle x) n))
       → IsTrue (elim (option_map handle e) [ None ↦ true | Some block ↦ are_spellings m k block n ])
@@ -321,7 +321,7 @@ module _ (ts : List Tile) (end : ℕ) (a : Row 128 ts end) where
 
   -- ---- all kinds
 
-  -- a good container that stands passes its test
+  -- a good container at an offset passes its test
   pub container-passes : (m : Memory) (at : ℕ) (v : Value) → AreSmall m → IsTrue (is_good_value v)
       → IsValueAt m at v → AllByRecursion (λ x. Mem x (used ts)) (value_extents v)
       → length (value_extents v) ≤ length ts → IsTrue (is_container m ts (kind_of v, at))

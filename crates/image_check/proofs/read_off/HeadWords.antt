@@ -1,4 +1,4 @@
--- The words in front of an object: its codes, the parts of its test, and what its four half words say.
+-- The words before an object: its codes, the parts of its test, and its four half words.
 use Rattle.image_check.proofs.Common.{Anonymous, Class, IsObjectAt, IsTrue, Kind, Memory, Named, None, Option, Some}
 use Rattle.image_check.proofs.Common.{Unique, and_parts, ap, class_at, class_code, code_at, count_at, count_of, handle}
 use Rattle.image_check.proofs.Common.{if◌then◌else◌, is_good_value, is_object, kind_at, kind_of, kind_of_code, length}
@@ -21,14 +21,14 @@ class-read Unique = refl
 
 -- ---- the parts of an object
 
--- what makes an object one of the format
+-- the properties of an object of the format
 pub record IsGoodObject (format : ℕ) (o : Object) : Type 0 where
   pub name : IsTrue (has_good_name format o)
   pub kind : IsTrue (is_kind_of format (kind_of o.value))
   pub value : IsTrue (is_good_value o.value)
   pub serves : IsTrue (serves o.extent ObjectRole (object_len o.name o.value))
 
--- the test of an object says so
+-- an object that passes the test has these properties
 pub is_object-parts : (format : ℕ) (o : Object) → IsTrue (is_object format o) → IsGoodObject format o
 is_object-parts format o h =
     let three = and_parts (has_good_name format o && is_kind_of format (kind_of o.value)
@@ -57,7 +57,7 @@ kind-said format m at k e h =
     (ap kind_of_code e ∙ code-read k)
     ∙ ap (λ b. if b then Some k else None) h
 
--- an object that stands there has them
+-- the words of an object in memory
 pub object-words : (format : ℕ) (m : Memory) (o : Object) → AreSmall m → IsGoodObject format o → IsObjectAt m o
     → AreWords format m o
 object-words format m o s g a =

@@ -92,7 +92,7 @@ keys-back ts m k v (n ∷ o ∷ ns) h =
     and_from (int_lt (key_at m k n) (key_at m k o)) (is_rising int_lt (map (pair_from m ts k v) (o ∷ ns))) p.0
     (keys-back ts m k v (o ∷ ns) p.1)
 
--- the parts of a map that is there
+-- the parts of a map at an offset
 record IsMapRead (ts : List Tile) (m : Memory) (k v : ScalarKind) (at : ℕ) (t : Tree) : Type 0 where
   found : tree_at m ts at ≡ Some t
   red_black : IsRedBlack t
@@ -144,7 +144,7 @@ map-back ts m k v count at end s h c =
 
 -- ---- all kinds
 
--- what passes its tests is a good value that stands there
+-- bytes that pass their tests encode a good value
 pub value-back : (ts : List Tile) (m : Memory) (k : Kind) (count at end : ℕ) → AreSmall m
     → IsTrue (is_value_in m k count at end) → IsTrue (is_container m ts (k, at))
     → IsBack ts m at end k count (value_from m ts k count at)

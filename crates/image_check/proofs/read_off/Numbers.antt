@@ -1,4 +1,4 @@
--- Bytes and numbers that are read off stand there, and links that pass their tests lead to blocks.
+-- Bytes and numbers that are read are in memory, and links that pass their tests lead to blocks.
 use Rattle.image_check.proofs.Common.{AllByRecursion, AreTextLinks, Extent, HasBytesAt, IsTrue, List, Memory, None}
 use Rattle.image_check.proofs.Common.{Option, OwnedText, Role, ScalarKind, Some, Storage, Tile, [], and_from, and_parts}
 use Rattle.image_check.proofs.Common.{ap, are_spellings, arith, as_extent, false, false≢true, good_for, handle}
@@ -25,11 +25,11 @@ use Rattle.image_check.proofs.read_off.GoodValues.{mul-next, mul-none}
 
 -- ---- bytes that are read
 
--- what is read stands there
+-- memory has the bytes that are read
 pub HasBytesAt-read : (m : Memory) (at n : ℕ) → HasBytesAt m at (read m at n)
 HasBytesAt-read m at n = ap (read m at) (read-length m at n)
 
--- two lists that stand one after the other stand as one
+-- two lists that follow each other in memory are there as one
 pub HasBytesAt-append : (m : Memory) (at : ℕ) (xs ys : List ℕ) → HasBytesAt m at xs
     → HasBytesAt m (at + length xs) ys → HasBytesAt m at (xs ++ ys)
 HasBytesAt-append m at [] ys h k = let here : at + 0 ≡ at = omega arith in subst (λ a. HasBytesAt m a ys) here k
@@ -44,7 +44,7 @@ HasBytesAt-append m at (x ∷ xs) ys h k =
 
 -- ---- numbers
 
--- the spelling of the number that is read off is what was read
+-- the encoding of the number that is read is the bytes that were read
 pub spelling-back : (m : Memory) (k : ScalarKind) (at : ℕ) → AreSmall m
     → spelling k (number_from m k at) ≡ read m at (size_of k)
 spelling-back m k at s =
@@ -52,17 +52,17 @@ spelling-back m k at s =
     (number-back k (number_at m at (size_of k)) (number_at-small m at (size_of k) s))
     ∙ bytes_low_first-number_at m at (size_of k) s
 
--- so the number that is read off stands there
+-- so memory has the number that is read
 pub number-stands : (m : Memory) (k : ScalarKind) (at : ℕ) → AreSmall m
     → HasBytesAt m at (spelling k (number_from m k at))
 number-stands m k at s = subst (HasBytesAt m at) (sym (spelling-back m k at s)) (HasBytesAt-read m at (size_of k))
 
--- as many numbers are read off as were asked for
+-- as many numbers are read as requested
 pub numbers-length : (m : Memory) (k : ScalarKind) (at n : ℕ) → length (numbers_from m k at n) ≡ n
 numbers-length m k at zero = refl
 numbers-length m k at (suc n) = ap suc (numbers-length m k (at + size_of k) n)
 
--- and they stand there
+-- and memory has them
 pub numbers-stand : (m : Memory) (k : ScalarKind) (at n : ℕ) → AreSmall m
     → HasBytesAt m at (spelled k (numbers_from m k at n))
 numbers-stand m k at zero s = refl
@@ -95,7 +95,7 @@ numbers-good m k at n h =
     let place : at + size_of k * 0 ≡ at = omega arith in
     subst (λ a. IsTrue (list_all (is_value k) (numbers_from m k a n))) place (numbers-range m k at 0 n h)
 
--- so is a single one
+-- and so is a single number
 pub one-good : (m : Memory) (k : ScalarKind) (at : ℕ) → IsTrue (are_spellings m k at 1)
     → IsTrue (is_value k (number_from m k at))
 one-good m k at h = (and_parts (is_value k (number_from m k at)) true (numbers-good m k at 1 h)).0
@@ -127,7 +127,7 @@ pub tile-extent : (t : Tile) (role : Role) → IsTrue (is_use role t) → as_ext
 unfolding extent_of_tile
 tile-extent t role h = used-parts t.offset t.len t.use_of t.red role h
 
--- what a link that leads to a block gives
+-- the block behind a link
 pub record IsLed (ts : List Tile) (role : Role) (link : Option ℕ) (n : ℕ) : Type 0 where
   pub extent : Extent
   pub mem : Mem extent (used ts)
@@ -151,12 +151,12 @@ led-if ts role link n (Some t) e h =
       block = ap (λ (o : Option Tile). elim o [ None ↦ None | Some t ↦ as_extent t ]) e ∙ is;
     }
 
--- a link that leads to a tile long enough leads to its extent
+-- a link to a tile that is long enough leads to its extent
 pub leads-back : (ts : List Tile) (role : Role) (link : Option ℕ) (n : ℕ) → IsTrue (leads_to ts role link n)
     → IsLed ts role link n
 leads-back ts role link n h = led-if ts role link n (good_for ts role link) refl h
 
--- what a link of a table gives
+-- the block behind the link of a table
 pub record IsLinked (ts : List Tile) (role : Role) (each capacity : ℕ) (link : Option ℕ) : Type 0 where
   pub table : IsTrue (has_backing role each (record { capacity = capacity; extent = block_for ts role link }))
   pub leads : link ≡ option_map handle (block_for ts role link)
@@ -190,16 +190,16 @@ linked-if ts role each capacity link false e h =
     not-none zero e = absurd (false≢true (sym e))
     not-none (suc n) e = omega arith
 
--- a link of a block that has this many places is null where there are none, and else leads to its extent
+-- a link to a block with this capacity is null if the capacity is 0, and otherwise leads to its extent
 pub linked : (ts : List Tile) (role : Role) (each capacity : ℕ) (link : Option ℕ)
     → IsTrue (is_table_link ts role link each capacity) → IsLinked ts role each capacity link
 linked ts role each capacity link h =
     let s = linked-if ts role each capacity link (capacity == 0) refl h in
     record { table = s.0; leads = s.1; mem = s.2 }
 
--- ---- what stands in the block of a link
+-- ---- the contents of the block of a link
 
--- the content after a link that is there
+-- the contents behind a link that is not null
 pub content-some : {A : Type 0} (f : ℕ → ℕ → List A) (m : Memory) (at : ℕ) (x : Extent)
     → link_at m at ≡ Some (handle x) → content f m at ≡ f (handle x) (word_at m (at + 8))
 content-some f m at x e = ap (λ l. elim l [ None ↦ [] | Some block ↦ f block (word_at m (at + 8)) ]) e
@@ -216,7 +216,7 @@ pub length-if : {A : Type 0} (f : ℕ → ℕ → List A) → ((a n : ℕ) → l
 length-if f g m at None e none = ap length (content-none f m at e) ∙ sym (none refl)
 length-if f g m at (Some x) e none = ap length (content-some f m at x e) ∙ g (handle x) (word_at m (at + 8))
 
--- a container's words, as the tests leave them
+-- a container's words, after the tests have passed
 pub record IsHeld (ts : List Tile) (m : Memory) (each at : ℕ) : Type 0 where
   pub few : word_at m (at + 8) ≤ word_at m (at + 16)
   pub link : IsLinked ts Storage each (word_at m (at + 16)) (link_at m at)
@@ -241,13 +241,13 @@ held ts m each at h =
       link = linked ts Storage each (word_at m (at + 16)) (link_at m at) p.1;
     }
 
--- bytes made from what stands in a block are there
+-- bytes that are read from a block are there
 pub stored-if : (m : Memory) (bytes : List ℕ) (e : Option Extent) → (e ≡ None → bytes ≡ [])
     → ((x : Extent) → e ≡ Some x → HasBytesAt m (handle x) bytes) → IsStored m bytes e
 stored-if m bytes None n f = n refl
 stored-if m bytes (Some x) n f = f x refl
 
--- an array that is there holds the links of its strings
+-- an array holds the links of its strings
 pub arrays-if : (m : Memory) (ps : List OwnedText) (e : Option Extent) → (e ≡ None → ps ≡ [])
     → ((x : Extent) → e ≡ Some x → AreTextLinks m (handle x) ps) → AreStored m ps e
 arrays-if m ps None n f = n refl
@@ -258,7 +258,7 @@ pub link-to : (ts : List Tile) (role : Role) (each capacity : ℕ) (link : Optio
     → IsLinked ts role each capacity link → block_for ts role link ≡ Some x → link ≡ Some (handle x)
 link-to ts role each capacity link x l e = l.leads ∙ ap (option_map handle) e
 
--- and where there is none
+-- and without a block
 pub link-to_none : (ts : List Tile) (role : Role) (each capacity : ℕ) (link : Option ℕ)
     → IsLinked ts role each capacity link → block_for ts role link ≡ None → link ≡ None
 link-to_none ts role each capacity link l e = l.leads ∙ ap (option_map handle) e

@@ -1,4 +1,4 @@
--- Objects that stand by offset, and the blocks that they are in.
+-- Objects in order of offset, and their blocks.
 use Rattle.image_check.proofs.Common.{Extent, IsTrue, List, Rising, [], and_from, and_parts, le-leb, leb-true, map}
 use Rattle.image_check.proofs.Common.{nat_le, refl, rises_from, ℕ, ◌+◌, ◌∷◌}
 use Rattle.segment_manager.specs.Directory.{Object}
@@ -7,7 +7,7 @@ use Rattle.segment_manager.specs.Directory.{Object}
 abbrev pub extent_of : Object → Extent
 extent_of o = o.extent
 
--- the blocks of objects that stand by offset
+-- the blocks of objects in order of offset
 pub rises_from-Rising : (n : ℕ) (os : List Object) → IsTrue (rises_from n os) → Rising n (map extent_of os)
 rises_from-Rising n [] h = tt
 rises_from-Rising n (o ∷ os) h =

@@ -1,4 +1,4 @@
--- The object in a tile that passes its tests: it is one of the format, and it stands there.
+-- The object in a tile that passes its tests: it is an object of the format, and memory has it.
 use Rattle.image_check.proofs.Common.{HasBytesAt, Index, IsObjectAt, IsTrue, Kind, List, Memory, Named, Node, None}
 use Rattle.image_check.proofs.Common.{Option, Role, Some, Storage, Tile, Value, and_from, and_parts, ap, arith}
 use Rattle.image_check.proofs.Common.{as_extent, class_at, class_code, code_at, count_at, eqb-true, false, false≢true}
@@ -40,12 +40,12 @@ kind-if format k (Some q) e = kind-some format k q (is_kind_of format q) refl e
         some-kind q k e = cc
     kind-some format k q false h e = absurd (cc)
 
--- the kind that is said has its code
+-- the kind has the code in memory
 pub record IsKindAt (format : ℕ) (m : Memory) (at : ℕ) (k : Kind) : Type 0 where
   pub code : code_of k ≡ code_at m at
   pub of : IsTrue (is_kind_of format k)
 
--- a kind that is read off is one of the format, and its code stands there
+-- a kind that is read is a kind of the format, with the code in memory
 pub kind-back : (format : ℕ) (m : Memory) (at : ℕ) (k : Kind) → kind_at format m at ≡ Some k → IsKindAt format m at k
 kind-back format m at k e =
     let p = kind-if format k (kind_of_code (code_at m at)) e in
@@ -129,7 +129,7 @@ tested format m t h =
     let v = value-if format m at end (kind_at format m at) refl one.0 in
     record { kind = v.0; said = v.1; value = v.2; name = u.0; padding = one.1; indexed = two.1 }
 
--- what is said of an object in a tile
+-- the properties of an object in a tile
 pub record IsSaid (format : ℕ) (m : Memory) (ts : List Tile) (o : Object) : Type 0 where
   pub placed : IsPlaced m ts o
   pub is_object : IsTrue (is_object format o)
@@ -154,7 +154,7 @@ object-use t h = object-parts t.offset t.len t.use_of t.red h
     object-parts offset len (Some Storage) red h = absurd (false≢true h)
     object-parts offset len (Some Node) red h = absurd (false≢true h)
 
--- the object that is read off a tile that passes its tests is said there
+-- the object that is read from a tile that passes its tests has these properties
 pub tile-said : (format : ℕ) (m : Memory) (ts : List Tile) → AreSmall m → (t : Tile) → Mem t (object_tiles ts)
     → IsTrue (is_object_tile format m t) → IsTrue (list_all (is_container m ts) (values format m ts))
     → IsSaid format m ts (object_from format m ts (object_block t))

@@ -1,4 +1,4 @@
--- Which extents are objects' own blocks, and how many extents there are.
+-- Which extents are objects' own blocks, and the number of extents.
 use Rattle.image_check.proofs.Common.{AllByRecursion, BackingArray, Bytes, Elements, Extent, Index, IsTrue, List, Node}
 use Rattle.image_check.proofs.Common.{None, NumberPair, Numbers, Option, OwnedText, Pairs, Role, ScalarKind, Some}
 use Rattle.image_check.proofs.Common.{Storage, Texts, Tile, Value, [], and_parts, ap, arith, as_extent, cons_option}
@@ -19,17 +19,17 @@ use Rattle.image_check.proofs.block_collection.UsedTile.{same_role-is}
 use Rattle.image_check.proofs.read_off.Directory.{object_block}
 use mathlib.Core.Logic.{inl, inr}
 
--- ---- the roles of what is not an object's own block
+-- ---- the roles of extents that are no object's own block
 
 -- an extent that is an object's own block
 abbrev pub is_object_extent : Extent → Bool
 is_object_extent x = same_role ObjectRole x.role
 
--- and one that is not
+-- an extent that is not an object's own block
 abbrev pub IsOther : Extent → Type 0
 IsOther x = is_object_extent x ≡ false
 
--- a block that serves another role is none
+-- a block of another role is no object's own block
 pub serves-other : (role : Role) (x : Extent) (n : ℕ) → same_role ObjectRole role ≡ false → IsTrue (serves x role n)
     → IsOther x
 serves-other role x n e h =
@@ -117,7 +117,7 @@ pub object_blocks : (ts : List Tile) → map object_block (object_tiles ts) ≡ 
 object_blocks [] = refl
 object_blocks (t ∷ ts) = blocks-step t.offset t.len t.use_of t.red ts (object_blocks ts)
 
--- ---- how many extents there are
+-- ---- the number of extents
 
 insert-length-if : (b : Bool) (x y : Extent) (ys zs : List Extent) → length zs ≡ suc (length ys)
     → length (if b then x ∷ y ∷ ys else y ∷ zs) ≡ suc (length (y ∷ ys))
@@ -128,7 +128,7 @@ insert-length : (x : Extent) (ys : List Extent) → length (insert x ys) ≡ suc
 insert-length x [] = refl
 insert-length x (y ∷ ys) = insert-length-if (nat_lt x.offset y.offset) x y ys (insert x ys) (insert-length x ys)
 
--- sorting keeps how many there are
+-- sorting keeps the number of elements
 pub sorted-length : (xs : List Extent) → length (sorted xs) ≡ length xs
 sorted-length [] = refl
 sorted-length (x ∷ xs) = insert-length x (sorted xs) ∙ ap suc (sorted-length xs)
@@ -137,7 +137,7 @@ option-length : (e : Option Extent) (xs : List Extent) → length (cons_option e
 option-length None xs = omega arith
 option-length (Some x) xs = omega arith
 
--- there are no more extents in use than tiles
+-- there are at most as many extents in use as tiles
 pub used-length : (ts : List Tile) → length (used ts) ≤ length ts
 used-length [] = omega arith
 used-length (t ∷ ts) = let l = used-length ts in let k = option-length (as_extent t) (used ts) in omega arith

@@ -1,4 +1,4 @@
--- What a value's bytes say is read off: numbers, tables, elements, texts and pairs.
+-- The values in bytes can be read: numbers, tables, elements, texts and pairs.
 use Rattle.image_check.proofs.Common.{AllByRecursion, AllByRecursion-behind, AllByRecursion-front, AreTextLinks}
 use Rattle.image_check.proofs.Common.{BackingArray, Bytes, Elements, Extent, HasBytesAt, IsNumberPairAt, IsTreeOf}
 use Rattle.image_check.proofs.Common.{IsTrue, IsValueAt, List, Memory, Node, None, NumberPair, Numbers, Option}
@@ -29,7 +29,7 @@ use Rattle.image_check.proofs.read_off.Directory.{tree_at, value_from}
 
 -- ---- bytes one after the other
 
--- and what is after it stands after it
+-- and the bytes after it follow it
 pub HasBytesAt-behind : (m : Memory) (at : ℕ) (xs ys : List ℕ) → HasBytesAt m at (xs ++ ys)
     → HasBytesAt m (at + length xs) ys
 HasBytesAt-behind m at [] ys h =
@@ -43,7 +43,7 @@ HasBytesAt-behind m at (x ∷ xs) ys h =
 
 -- ---- numbers
 
--- a number that is spelled there is read off
+-- a number whose encoding is there is read
 pub number-read : (m : Memory) (k : ScalarKind) (at : ℕ) (z : ℤ) → IsTrue (is_value k z)
     → HasBytesAt m at (spelling k z) → number_from m k at ≡ z
 number-read m k at z v h =
@@ -51,7 +51,7 @@ number-read m k at z v h =
     let bytes : read m at (size_of k) ≡ spelling k z = ap (read m at) (sym s.len) ∙ h in
     ap (λ x. value_of k (little_number (size_of k) x)) bytes ∙ s.reads
 
--- so are several
+-- and so are several numbers
 pub numbers-read : (m : Memory) (k : ScalarKind) (at : ℕ) (zs : List ℤ) → IsTrue (list_all (is_value k) zs)
     → HasBytesAt m at (spelled k zs) → numbers_from m k at (length zs) ≡ zs
 numbers-read m k at [] v h = refl
@@ -63,18 +63,18 @@ numbers-read m k at (z ∷ zs) v h =
     (subst (λ a. HasBytesAt m a (spelled k zs)) place (HasBytesAt-behind m at (spelling k z) (spelled k zs) h)) in
     λ i. first i ∷ rest i
 
--- ---- what a link and a length name
+-- ---- the blocks of a link and a length
 
 -- a list without a length is empty
 pub nothing-left : {A : Type 0} (xs : List A) → length xs ≤ 0 → xs ≡ []
 nothing-left [] l = refl
 nothing-left (x ∷ xs) l = absurd (omega arith)
 
--- what stands in the block of a link, this many
+-- this many elements of the block of a link
 abbrev pub content : {A : Type 0} → (ℕ → ℕ → List A) → Memory → ℕ → List A
 content f m at = elim (link_at m at) [ None ↦ [] | Some block ↦ f block (word_at m (at + 8)) ]
 
--- what stands in a block is read off, and nothing where there is no block
+-- the elements in a block are read; without a block there are none
 pub content-read : {A : Type 0} (f : ℕ → ℕ → List A) (m : Memory) (at : ℕ) (items : List A) (e : Option Extent)
     → link_at m at ≡ option_map handle e → word_at m (at + 8) ≡ length items
     → (e ≡ None → items ≡ []) → ((x : Extent) → e ≡ Some x → f (handle x) (length items) ≡ items)
@@ -85,11 +85,11 @@ content-read f m at items (Some x) link len none some =
     ap (λ l. elim l [ None ↦ [] | Some block ↦ f block (word_at m (at + 8)) ]) link ∙ ap (f (handle x)) len
     ∙ some x refl
 
--- the bytes, and the elements of a vector of texts, stand in the block where there is one
+-- the bytes, and the elements of a vector of texts, are in the block if there is one
 abbrev pub IsStored : Memory → List ℕ → Option Extent → Type 0
 IsStored m bytes e = elim e [ None ↦ bytes ≡ [] | Some x ↦ HasBytesAt m (handle x) bytes ]
 
--- texts stand one after the other in a block
+-- texts follow each other in a block
 abbrev pub AreStored : Memory → List OwnedText → Option Extent → Type 0
 AreStored m ps e = elim e [ None ↦ ps ≡ [] | Some x ↦ AreTextLinks m (handle x) ps ]
 
@@ -105,7 +105,7 @@ height-nodes leaf = omega arith
 height-nodes (fork red l n r) =
     omega (arith, height-nodes l, height-nodes r, length-append (nodes_of l) (n ∷ nodes_of r))
 
--- the block of a text, where it has one
+-- the block of a text, if it has one
 abbrev pub text_extents : OwnedText → List Extent
 text_extents p = option_to_list p.extent
 
@@ -274,7 +274,7 @@ module _ (ts : List Tile) (end : ℕ) (a : Row 128 ts end) where
 
   -- ---- all kinds
 
-  -- a value that stands at an offset is read off there
+  -- a value at an offset is read there
   pub value-read : (m : Memory) (at : ℕ) (v : Value) → IsTrue (is_good_value v) → IsValueAt m at v
       → AllByRecursion (λ x. Mem x (used ts)) (value_extents v)
       → length (value_extents v) ≤ length ts → value_from m ts (kind_of v) (count_of v) at ≡ v

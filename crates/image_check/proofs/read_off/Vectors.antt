@@ -1,4 +1,4 @@
--- What the tests of scalars, vectors and texts let through is a good value: it is read off, and it stands there.
+-- Scalars, vectors and texts that pass their tests are good values: they are read, and memory has them.
 use Rattle.image_check.proofs.Common.{AllByRecursion, AreTextLinks, Bytes, Elements, Extent, HasBytesAt, IsTrue}
 use Rattle.image_check.proofs.Common.{IsValueAt, Kind, List, Memory, None, Numbers, Option, OwnedText, Scalar}
 use Rattle.image_check.proofs.Common.{ScalarKind, Some, Storage, String, Texts, Tile, U8, Value, Vector, [], and_from}
@@ -27,7 +27,7 @@ use Rattle.image_check.proofs.read_off.Numbers.{numbers-length, numbers-stand, s
 
 -- ---- a good value
 
--- what is owed of a value that is read off
+-- the properties of a value that is read
 pub record IsBack (ts : List Tile) (m : Memory) (at end : ℕ) (k : Kind) (count : ℕ) (v : Value) : Type 0 where
   pub kind : kind_of v ≡ k
   pub count_is : count_of v ≡ count
@@ -66,7 +66,7 @@ scalar-back ts m k count at end s h =
       room = subst (λ l. at + size_of k * l ≤ end) (sym n) room;
     }
 
--- of all elements, where there is a block
+-- the property of all elements, if there is a block
 elements-good : (m : Memory) (k : ScalarKind) (at : ℕ) (link : Option ℕ) (n : ℕ)
     → IsTrue (elim link [ None ↦ true | Some block ↦ are_spellings m k block n ])
     → IsTrue (list_all (is_value k) (elim link [ None ↦ [] | Some block ↦ numbers_from m k block n ]))
@@ -200,7 +200,7 @@ element-back ts m at s h =
       mem = l.mem;
     }
 
--- as many texts are read off as were asked for
+-- as many texts are read as requested
 pub texts-length : (m : Memory) (ts : List Tile) (at n : ℕ) → length (texts_from m ts at n) ≡ n
 texts-length m ts at zero = refl
 texts-length m ts at (suc n) = ap suc (texts-length m ts (at + 16) n)

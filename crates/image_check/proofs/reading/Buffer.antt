@@ -1,4 +1,4 @@
--- A window whose first 24 bytes stand, and whose others are read after them.
+-- A window whose first 24 bytes are read, and whose others are read after them.
 use Rattle.image_check.proofs.Common.{Err, HasFront, IfErr, IsShort, List, Ok, OpenError, ReadsPastEnd, Result, Stops}
 use Rattle.image_check.proofs.Common.{WindowState, [], and_parts, ap, arith, both_added, drop, eqb-true, failed_reads}
 use Rattle.image_check.proofs.Common.{has_magic, has_version, is_legal_size, legal_size, length, length-take, part}
@@ -13,7 +13,7 @@ use Rattle.image_check.specs.Formats.{version_word}
 use Rattle.image_check.proofs.reading.Fronts.{IsRight, IsRight-append, IsRight-take, has_front-IsRight}
 use Rattle.image_check.proofs.reading.Stops.{read_since, rest_stops, rise, whole_stops}
 
--- the first words of a window, and how long it is
+-- the first words of a window, and its length
 pub HasFront-IsRight : (format : ℕ) (w : WindowState) → HasFront format w → IsRight format w.bytes (length w.bytes)
 HasFront-IsRight format w h =
     let legal = (and_parts (has_magic w.bytes && has_version format w.bytes) (is_legal_size (size_word w.bytes))
@@ -22,7 +22,7 @@ HasFront-IsRight format w h =
     let says = h.says in
     has_front-IsRight format w.bytes (length w.bytes) (omega arith) h.right says
 
--- they say the format
+-- the first bytes have the format
 pub HasFront-version : (format : ℕ) (w : WindowState) (v : ℕ) → HasFront format w → v ≡ version_word w.bytes
     → v ≡ format
 HasFront-version format w v h said = said ∙ eqb-true (version_word w.bytes) format (HasFront-IsRight format w h).version
@@ -44,14 +44,14 @@ pub front-length : (b ws : List ℕ) (n : ℕ) → 24 ≤ length b → n ≡ len
     → length (take 24 b ++ ws) ≡ length b
 front-length b ws n l e f = let both = length-append (take 24 b) ws in let cut = length-take 24 b in omega arith
 
--- there is room in a region for its window
+-- a region has room for its window
 pub whole-room : (w : WindowState) → length w.before + length w.bytes ≤ length (whole w)
 whole-room w =
     let c = length-append (w.before ++ w.bytes) w.after in
     let d = length-append w.before w.bytes in
     omega arith
 
--- too few bytes came
+-- too few bytes were read
 pub filled_short : (format : ℕ) (w : WindowState) (start mid new ws : List ℕ) (n : ℕ) (ended : Bool) (f f' : ℕ)
     (cause : OpenError) → HasFront format w → n ≡ length w.bytes → length ws ≡ n - 24 → mid ≡ start ++ take 24 w.bytes
     → AppendsProperPrefix mid new ws → IsShort ended cause → f' ≡ f + rise cause
@@ -63,7 +63,7 @@ filled_short format w start mid new ws n ended f f' cause h e l s a i g =
     (length (whole w)) cause (IsRight-take format w.bytes (length w.bytes) (HasFront-IsRight format w h)) (omega arith)
     (whole-room w) s a i g
 
--- all came, and the reader does not end
+-- all bytes were read, and the reader did not end
 pub filled_whole : (w : WindowState) (old mid new ws : List ℕ) (n : ℕ) (ended : Bool) (f g f' : ℕ)
     (r : Result (Unit {0}) OpenError) → 144 ≤ length w.bytes → n ≡ length w.bytes → length ws ≡ n - 24
     → mid ≡ old ++ ws → g ≡ f + 0

@@ -1,4 +1,4 @@
--- Bytes read so far, and what may follow them: which class they decide.
+-- The bytes read so far, and the bytes that can follow: which class they decide.
 use Rattle.image_check.proofs.Common.{BadContainer, BadFreeTree, BadIndex, BadMagic, BadObject, BadReserved, BadSize}
 use Rattle.image_check.proofs.Common.{BadTag, ImageClass, IsTrue, List, None, OrphanBlock, SharedBlock, Some, Truncated}
 use Rattle.image_check.proofs.Common.{UnsupportedVersion, [], and_from, and_left, and_parts, and_right, ap, are_bytes}
@@ -29,13 +29,13 @@ pub find-past : (p : ImageClass → Bool) (c : ImageClass) (cs : List ImageClass
     → find p (c ∷ cs) ≡ find p cs
 find-past p c cs e = cond-false (p c) (Some c) (find p cs) e
 
--- what is found by the first test or after it
+-- the first class whose test passes
 found_if : (p : ImageClass → Bool) (b : Bool) (d c : ImageClass) (cs : List ImageClass) → p d ≡ b
     → find p (d ∷ cs) ≡ Some c → (find p cs ≡ Some c → p c ≡ true) → p c ≡ true
 found_if p true d c cs e f k = let same : d ≡ c = cc (find-here p d cs e) in subst (λ x. p x ≡ true) same e
 found_if p false d c cs e f k = k (sym (find-past p d cs e) ∙ f)
 
--- what is found holds
+-- the class that is found holds
 find-holds : (p : ImageClass → Bool) (c : ImageClass) (cs : List ImageClass) → find p cs ≡ Some c → p c ≡ true
 find-holds p c [] f = absurd (cc)
 find-holds p c (d ∷ cs) f = found_if p (p d) d c cs refl f (find-holds p c cs)
@@ -61,7 +61,7 @@ third_class p a b c =
     ∙ find-past p BadMagic (UnsupportedVersion ∷ BadSize ∷ later) b
     ∙ find-here p UnsupportedVersion (BadSize ∷ later) c
 
--- the fourth where none of the three before does
+-- the fourth class, if none of the three before holds
 fourth_class : (p : ImageClass → Bool) → p Truncated ≡ false → p BadMagic ≡ false → p UnsupportedVersion ≡ false
     → p BadSize ≡ true → find p classes ≡ Some BadSize
 fourth_class p a b c d =
@@ -114,7 +114,7 @@ not_truncated-front format b l e =
     or_from (nat_lt (length b) 144) (has_front format b && nat_lt (length b) (size_word b))
     (le-ltb (length b) 144 l) (and_left (has_front format b) (nat_lt (length b) (size_word b)) e)
 
--- with as many bytes as the size says
+-- a length of at least the size
 not_truncated-size : (format : ℕ) (b : List ℕ) → 144 ≤ length b → size_word b ≤ length b
     → holds format b Truncated ≡ false
 not_truncated-size format b l m =
@@ -135,9 +135,9 @@ front-version format b e = and_left (has_magic b && has_version format b) (is_le
 front-size : (format : ℕ) (b : List ℕ) → is_legal_size (size_word b) ≡ false → has_front format b ≡ false
 front-size format b e = and_right (has_magic b && has_version format b) (is_legal_size (size_word b)) e
 
--- ---- what is decided stays
+-- ---- a decided class stays decided
 
--- it is as long as its front, or longer
+-- a list is at least as long as its front
 longer : (b rest : List ℕ) (n : ℕ) → n ≤ length b → n ≤ length (b ++ rest)
 longer b rest n l = let e = length-append b rest in omega arith
 
@@ -189,7 +189,7 @@ size-decides format b l e f (inr g) rest h =
 
 -- ---- where nothing is decided
 
--- there are n zeros
+-- the length of n zeros is n
 pub zeros-length : (n : ℕ) → length (zeros n) ≡ n
 unfolding zeros
 zeros-length n = length-replicate n 0
@@ -206,7 +206,7 @@ largest : (n : ℕ) → ((n == 144) ≡ true) ⊎ (((n % 16 == 0) && nat_le 176 
 largest n (inl e) = let same = eqb-true n 144 e in omega arith
 largest n (inr e) = leb-true n 1073741824 (and_parts ((n % 16 == 0) && nat_le 176 n) (nat_le n 1073741824) e).1
 
--- the same of the test
+-- the bound of a legal size
 is_legal_size-most : (n : ℕ) → IsTrue (is_legal_size n) → n ≤ 1073741824
 is_legal_size-most n h = largest n (or_cases (n == 144) ((n % 16 == 0) && nat_le 176 n && nat_le n 1073741824) h)
 
@@ -230,7 +230,7 @@ not_both format b rest c t h n d =
     find-holds (holds format (b ++ rest)) Truncated classes (d rest h ∙ first) in
     both_ways (holds format (b ++ rest) Truncated) n found
 
--- fewer than 144 bytes decide nothing: zeros may follow
+-- fewer than 144 bytes decide nothing: zeros can follow
 short_undecided : (format : ℕ) (b : List ℕ) (n : ℕ) (c : ImageClass) → 1073741824 ≤ n → length b < 144
     → DecidesClass format b c → ⊥
 short_undecided format b n c m l d =
@@ -247,7 +247,7 @@ record IsOpen (format : ℕ) (b : List ℕ) : Type 0 where
   version : has_version format b ≡ true
   legal : is_legal_size (size_word b) ≡ true
 
--- nor do fewer bytes than the size says: zeros may fill it up
+-- fewer bytes than the size decide no class: zeros can follow
 cut_undecided : (format : ℕ) (b : List ℕ) (c : ImageClass) → IsOpen format b → length b < size_word b
     → DecidesClass format b c → ⊥
 cut_undecided format b c o l d =
@@ -265,7 +265,7 @@ cut_undecided format b c o l d =
     (zeros-are_bytes n)
     (not_truncated-size format (b ++ zeros n) (omega arith) (omega arith)) d
 
--- nor do as many bytes as the size says: one more may follow
+-- as many bytes as the size decide no class: one more can follow
 whole_undecided : (format : ℕ) (b : List ℕ) (c : ImageClass) → IsOpen format b → length b ≡ size_word b
     → DecidesClass format b c → ⊥
 whole_undecided format b c o l d =
@@ -293,7 +293,7 @@ open_cases format b c o m (inr l) d = whole_undecided format b c o (omega arith)
 
 -- ---- the test
 
--- what is decided, by the four tests
+-- the decided class, by the four tests
 some_cases : (format : ℕ) (b : List ℕ) (c : ImageClass) (p q r s : Bool) → nat_lt (length b) 144 ≡ p
     → has_magic b ≡ q → has_version format b ≡ r → has_size b ≡ s
     → decided_by p q r s ≡ Some c → DecidesClass format b c
@@ -311,7 +311,7 @@ some_cases format b c false true true false e f g h k =
     (size-decides format b (ltb-false (length b) 144 e) f g
     (and_cases (is_legal_size (size_word b)) (nat_le (length b) (size_word b)) h))
 
--- what is not, by the four tests
+-- no decided class, by the four tests
 none_cases : (format : ℕ) (b : List ℕ) (n : ℕ) (c : ImageClass) (p q r s : Bool) → 1073741824 ≤ n
     → nat_lt (length b) 144 ≡ p → has_magic b ≡ q → has_version format b ≡ r → has_size b ≡ s
     → decided_by p q r s ≡ None → DecidesClass format b c → ⊥
@@ -324,7 +324,7 @@ none_cases format b n c false true true true m e f g h k d =
     let o : IsOpen format b = record { long = ltb-false (length b) 144 e; magic = f; version = g; legal = parts.0 } in
     open_cases format b c o (leb-true (length b) (size_word b) parts.1) (cases_lt (length b) (size_word b)) d
 
--- what the test finds is decided
+-- the class that the test finds is decided
 pub decided-some : (format : ℕ) (front : List ℕ) (c : ImageClass) → decided format front ≡ Some c
     → DecidesClass format front c
 unfolding decided
@@ -332,7 +332,7 @@ decided-some format front c e =
     some_cases format front c (nat_lt (length front) 144) (has_magic front) (has_version format front)
     (has_size front) refl refl refl refl e
 
--- where it finds nothing, no class is decided
+-- if the test finds no class, none is decided
 pub decided-none : (format : ℕ) (front : List ℕ) → decided format front ≡ None → (c : ImageClass)
     → DecidesClass format front c → ⊥
 unfolding decided

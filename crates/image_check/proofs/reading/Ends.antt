@@ -1,4 +1,5 @@
--- How many ends a reader answered in a call that asks no more after its end, or in two of which the first met none.
+-- The number of ends that a reader met in a call that makes no read after the end, or in two calls of which the first
+-- met none.
 use Rattle.image_check.proofs.Common.{arith, false, if◌then◌else◌, true, ℕ, ◌+◌, ◌≡◌, ◌≤◌}
 use Rattle.std.proofs.Common.{Bool}
 use Rattle.raw_region.specs.Device.{EndsAtMostOnce, ReaderHistory}

@@ -1,4 +1,4 @@
--- The format that bytes say, and that of bytes which begin with them.
+-- The format in bytes, and the format in bytes that begin with them.
 use Rattle.image_check.proofs.Common.{AcceptedVersions, List, added, ap, arith, both_added, both_ways, cases_Bool, drop}
 use Rattle.image_check.proofs.Common.{eq-eqb, eqb-true, false, format_in, format_of, if◌then◌else◌, inl, inr, le-leb}
 use Rattle.image_check.proofs.Common.{leb-true, length, nat_le, part, refl, sym, take, true, ℕ, ◌++◌, ◌==◌, ◌∙◌, ◌≡◌}
@@ -23,7 +23,7 @@ version-part b xs v e p l =
     e ∙ ap version_word p ∙ sym (version-front (take 24 b) (drop 24 b) (omega arith))
     ∙ ap version_word (take-append-drop 24 b)
 
--- the format stands in the first 12 bytes
+-- the format is in the first 12 bytes
 pub format_of-front : (b rest : List ℕ) → 12 ≤ length b → format_of (b ++ rest) ≡ format_of b
 format_of-front b rest l = ap (λ v. if nat_le v 2 then v else current) (version-front b rest l)
 
@@ -32,7 +32,7 @@ pub format_in-front : (versions : AcceptedVersions) (b rest : List ℕ) → 12 �
 format_in-front Current b rest l = refl
 format_in-front All b rest l = format_of-front b rest l
 
--- of what was given since, where it begins with a front
+-- the format of the bytes read since, if they begin with a front
 pub since-format : (versions : AcceptedVersions) (old mid new front more : List ℕ) → 12 ≤ length front
     → mid ≡ old ++ front → new ≡ mid ++ more
     → format_in versions (drop (length old) new) ≡ format_in versions front
@@ -40,7 +40,7 @@ since-format versions old mid new front more l e f =
     ap (format_in versions) (added old new (front ++ more) (both_added old mid new front more e f))
     ∙ format_in-front versions front more l
 
--- ---- what is read by a format
+-- ---- reading by a format
 
 else-current : (v : ℕ) (p : Bool) → p ≡ false → (if p then v else current) ≡ current
 else-current v p e = ap (λ x. if x then v else current) e
@@ -48,7 +48,7 @@ else-current v p e = ap (λ x. if x then v else current) e
 then-said : (v : ℕ) (p : Bool) → p ≡ true → (if p then v else current) ≡ v
 then-said v p e = ap (λ x. if x then v else current) e
 
--- a version that is taken is the format
+-- an accepted version is the format
 pub taken-format : (versions : AcceptedVersions) (b : List ℕ) (v : ℕ) → v ≡ version_word b
     → is_taken versions v ≡ true → v ≡ format_in versions b
 taken-format Current b v e t = eqb-true v current t

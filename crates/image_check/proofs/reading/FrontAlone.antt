@@ -15,7 +15,7 @@ short-roomy ended RegionTooSmall e t = absurd e
 short-roomy ended (OutOfMemory refusal) e t = cc
 short-roomy ended ReadFault e t = cc
 
--- or goes on after the image
+-- or the image is longer
 goes-roomy : (old new : List ℕ) (cause : OpenError) → ReadsPastEnd old new cause → cause ≡ RegionTooSmall → ⊥
 goes-roomy old new (Image v) e t = cc
 goes-roomy old new RegionTooSmall e t = absurd e
@@ -28,7 +28,7 @@ pub end-roomy : (old new : List ℕ) (r : Result (Unit {0}) OpenError) → IfErr
 end-roomy old new (Ok u) h = tt
 end-roomy old new (Err cause) h = goes-roomy old new cause h
 
--- and the check of what was read
+-- and so is the check of the bytes read
 pub check-roomy : (format : ℕ) (b : List ℕ) (why : OpenError) → IsWhyRefused format b why → why ≡ RegionTooSmall → ⊥
 check-roomy format b (Image v) x t = cc
 check-roomy format b RegionTooSmall x t = absurd x

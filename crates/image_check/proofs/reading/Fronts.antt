@@ -1,4 +1,4 @@
--- The first 24 bytes of an image: what they say of its size, and what the code reads of them.
+-- The first 24 bytes of an image: the size in them, and the words that the code reads.
 use Rattle.image_check.proofs.Common.{BadMagic, BadSize, Err, ImageClass, IsTrue, List, Ok, Result, Some}
 use Rattle.image_check.proofs.Common.{UnsupportedVersion, and_from, and_left, and_parts, ap, arith, bytes_of}
 use Rattle.image_check.proofs.Common.{decided_by, drop, eq-eqb, false, front_of, has_front, has_magic, has_size}
@@ -12,7 +12,7 @@ use Rattle.raw_region.specs.Memory.{half_word_at, word_at}
 use Rattle.image_check.specs.Deciding.{decided}
 use Rattle.image_check.proofs.reading.Deciding.{has_magic-front, has_version-front, size_word-front}
 
--- ---- what the code reads
+-- ---- the words that the code reads
 
 -- a half word is the number in four bytes
 pub half_word-part : (b : List ℕ) (at : ℕ) → at + 4 ≤ length b
@@ -67,9 +67,9 @@ front-right format b m v n r e d l =
     let h : is_legal_size (size_word b) ≡ true = sym (ap is_legal_size r.size_is) ∙ l in
     sym (λ i. front_by (g i) (f i) (h i) (size i))
 
--- ---- what follows it
+-- ---- the bytes that follow
 
--- bytes that follow change nothing of what the front says
+-- bytes that follow do not change the meaning of the front
 pub front_of-append : (format : ℕ) (b rest : List ℕ) → 24 ≤ length b → front_of format (b ++ rest) ≡ front_of format b
 front_of-append format b rest l =
     let m = has_magic-front b rest l in
@@ -77,7 +77,7 @@ front_of-append format b rest l =
     let s = size_word-front b rest l in
     λ i. front_by (m i) (v i) (is_legal_size (s i)) (s i)
 
--- a front that says no size is wrong
+-- a front without a legal size is wrong
 wrong_by : (m v l : Bool) (n : ℕ) (c : ImageClass) → front_by m v l n ≡ Err c → (m && v && l) ≡ false
 wrong_by true true true n c e = absurd (cc)
 wrong_by true true false n c e = refl
@@ -88,7 +88,7 @@ wrong_by false v l n c e = refl
 pub front-wrong : (format : ℕ) (b : List ℕ) (c : ImageClass) → front_of format b ≡ Err c → has_front format b ≡ false
 front-wrong format b c e = wrong_by (has_magic b) (has_version format b) (is_legal_size (size_word b)) (size_word b) c e
 
--- what is wrong with it is the class that it decides
+-- the class of a wrong front is the class that it decides
 decided_wrong : (m v l s : Bool) (n : ℕ) (c : ImageClass) → (l ≡ false → s ≡ false) → front_by m v l n ≡ Err c
     → decided_by false m v s ≡ Some c
 decided_wrong true true true s n c f e = absurd (cc)
@@ -108,7 +108,7 @@ front-decided format b c l e =
 
 -- ---- a right front
 
--- magic, version and a legal size stand in front
+-- the bytes begin with the magic, the version and a legal size
 pub record IsRight (format : ℕ) (b : List ℕ) (size : ℕ) : Type 0 where
   pub long : 24 ≤ length b
   pub magic : has_magic b ≡ true

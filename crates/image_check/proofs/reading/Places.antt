@@ -15,7 +15,7 @@ use Rattle.image_check.proofs.reading.Deciding.{size_word-front}
 use Rattle.image_check.proofs.reading.Buffer.{HasFront-IsRight}
 use Rattle.image_check.proofs.reading.Fronts.{IsRight-append, IsRight-take}
 
--- the end of what came
+-- the end of the bytes
 pub end-shown : (format : ℕ) (b : List ℕ) (n : ℕ) (cause : OpenError) → n ≡ length b → IsEnd n cause
     → IsShown format b cause
 end-shown format b n (Image v) e h = subst (λ c. Shows format b c v.place) (sym h.0) (h.1 ∙ e)
@@ -23,7 +23,7 @@ end-shown format b n RegionTooSmall e h = tt
 end-shown format b n (OutOfMemory refusal) e h = tt
 end-shown format b n ReadFault e h = tt
 
--- the size that was said
+-- the size in the bytes
 behind-shown : (format : ℕ) (b : List ℕ) (n : ℕ) (v : Verdict) → n ≡ size_word b → is_legal_size (size_word b) ≡ true
     → IsExcess n (Image v) → Shows format b v.class v.place
 behind-shown format b n v e legal h = subst (λ c. Shows format b c v.place) (sym h.0)
@@ -44,7 +44,7 @@ module _ (format : ℕ) (front more : List ℕ) (long : 24 ≤ length front) whe
         same = λ i l. same-there i (omega arith) ∙ p.same i l;
       }
 
-  -- the place in a wrong front is told
+  -- the reported offset in a wrong front shows the class
   pub front-shown : (c : ImageClass) (at : ℕ) → IsFrontPlace front c at → Shows format (front ++ more) c at
   front-shown Truncated at p = absurd p
   front-shown BadMagic at p = magic-shown at p
@@ -79,7 +79,7 @@ module _ (w : WindowState) (old mid new ws : List ℕ) (n : ℕ) (is : n ≡ len
       subst (λ b. Shows format b v.class v.place) (sym said)
       (behind-shown format all n v (is ∙ sym right.says) (ap is_legal_size right.says ∙ right.legal) s)
 
-  -- the place of the first byte after it is told
+  -- the reported offset of the first byte after the image shows the class
   pub whole-shown : (r : Result (Unit {0}) OpenError) → IfErr r (ReadsPastEnd mid new)
       → IfErr r (IsExcess n)
       → IfErr r (λ cause. (format : ℕ) → HasFront format w → (start : List ℕ) → old ≡ start ++ take 24 w.bytes

@@ -1,4 +1,4 @@
--- Why the reading of an image stops: too few bytes came, the first ones are wrong, or more follow.
+-- The reasons why the reading of an image stops: too few bytes, wrong first words, or more bytes.
 use Rattle.image_check.proofs.Common.{BadMagic, BadSize, Err, ImageClass, IsShort, IsTooSmallFor, IsTrue, List, None}
 use Rattle.image_check.proofs.Common.{Ok, OpenError, ReadDelta, ReadsPastEnd, Some, Stops, Truncated}
 use Rattle.image_check.proofs.Common.{UnsupportedVersion, [], added, and_from, and_right, ap, arith, both_added}
@@ -18,19 +18,19 @@ use Rattle.image_check.proofs.reading.Deciding.{decided-none, decided-some, firs
 use Rattle.image_check.proofs.frame.EarlyClasses.{cut-Truncated, short-Truncated}
 use Rattle.image_check.proofs.reading.Fronts.{IsRight, IsRight-append, front-decided, front-wrong, front_of-append}
 
--- ---- what a reader gave
+-- ---- the bytes of a reader
 
 -- bytes that were read, and the counts of failed reads before and after
 abbrev pub given : List ℕ → Bool → ℕ → ℕ → ReadDelta
 given b ended f f' = record { bytes = b; ended = ended; failed = nat_lt f f' }
 
--- what was given in a call, from the bytes given before and after it, and the counts
+-- the work of a reader in a call, from the bytes before and after it, and the counts
 abbrev pub read_since : List ℕ → List ℕ → Bool → ℕ → ℕ → ReadDelta
 read_since old new ended f f' =
     read_delta (record { bytes = old; ended = ended; ends = 0; failures = f })
     (record { bytes = new; ended = ended; ends = 0; failures = f' })
 
--- by how much a cause raises the count of failed reads
+-- the number of failed reads for a reason
 abbrev pub rise : OpenError → ℕ
 rise cause = failed_reads {T = Unit {0}} (Err cause)
 
@@ -78,7 +78,7 @@ fault_stops format b ended f f' base capacity d n g = record {
   early = refl;
 }
 
--- too few bytes came, and what came decides nothing
+-- there are too few bytes, and they decide nothing
 short_stops : (format : ℕ) (b : List ℕ) (ended : Bool) (f f' base capacity : ℕ) (cause : OpenError)
     → IsTrue (holds format b Truncated) → decided format b ≡ None
     → (IsTooSmallFor format (given b ended f f') base capacity → ⊥) → IsShort ended cause → f' ≡ f + rise cause
@@ -97,7 +97,7 @@ short_stops format b ended f f' base capacity ReadFault t d n h g = fault_stops 
 
 -- ---- in the first 24 bytes, and in the others where these are wrong
 
--- as many bytes as are taken
+-- the length of a front
 some_taken : (n count : ℕ) (xs : List ℕ) → length xs ≡ n → count < length xs → length (take count xs) < n
 some_taken n count xs e l = let cut = length-take count xs in omega arith
 
@@ -112,7 +112,7 @@ front_stops format old new xs ended f f' base capacity cause l a s g =
     (short_stops format b ended f f' base capacity cause (short-Truncated format b (omega arith))
     (short-undecided format b (omega arith)) (λ t. let many = t.read in omega arith) s g)
 
--- no size is too small where none is said
+-- without a legal size no region is too small
 none_too_small : (format : ℕ) (b : List ℕ) (ended : Bool) (f f' base capacity : ℕ) (c : ImageClass)
     → front_of format b ≡ Err c → IsTooSmallFor format (given b ended f f') base capacity → ⊥
 none_too_small format b ended f f' base capacity c e t =
@@ -134,7 +134,7 @@ wrong_front_stops format old mid new front xs ended f f' base capacity c cause l
     (none_too_small format b ended f f' base capacity c
     (front_of-append format front (take a.count xs) (omega arith) ∙ w)) s g)
 
--- what is wrong with the first words is no class from the eighth on
+-- the class of wrong first words is none from the eighth on
 early-by : (m v l : Bool) (n : ℕ) (c : ImageClass)
     → (if m then (if v then (if l then Ok n else Err BadSize) else Err UnsupportedVersion) else Err BadMagic) ≡ Err c
     → nat_lt 7 (number_of c) ≡ false
@@ -170,7 +170,7 @@ wrong_front_decides format old mid new front xs ended f f' base capacity v l k e
 
 -- ---- after a right front
 
--- there is room for the size that is said
+-- the region has room for the size in the bytes
 room_for : (format : ℕ) (b : List ℕ) (size : ℕ) (ended : Bool) (f f' base capacity : ℕ) → IsRight format b size
     → base + size ≤ capacity → IsTooSmallFor format (given b ended f f') base capacity → ⊥
 room_for format b size ended f f' base capacity r l t = let says = r.says in let small = t.small in omega arith
@@ -194,7 +194,7 @@ rest_stops format old mid new front xs size ended f f' base capacity cause r l r
     (right-undecided format b size right (omega arith))
     (room_for format b size ended f f' base capacity right room) s g)
 
--- more bytes than the size says are a wrong size
+-- more bytes than the size are a wrong size
 pub more-decided : (format : ℕ) (b : List ℕ) (size : ℕ) → IsRight format b size → size < length b
     → decided format b ≡ Some BadSize
 unfolding decided

@@ -1,4 +1,4 @@
--- All links that count are noted, pass after pass.
+-- All links that count are entered, pass after pass.
 use Rattle.image_check.proofs.Common.{AreIndexesNoted, Blocks, ChecksClass, Err, HasTiles, IsIndexNoted, IsMarkingOf}
 use Rattle.image_check.proofs.Common.{IsSharedIn, IsUnmarked, IsWholeMarkingOf, List, Map, MatchResult, None}
 use Rattle.image_check.proofs.Common.{NotesValues, Ok, Option, Result, arith, bytes_of, is_shared, not, refl, subst}
@@ -18,7 +18,7 @@ start-marking format b es pending waiting h u p w =
     subst (λ n. IsMarkingOf format b None es pending n) (sym w)
     (subst (λ x. IsMarkingOf format b None es x 0) (sym p) (unmarked-marking format b es h u))
 
--- both indexes are noted
+-- both indexes are entered
 pub indexes-noted : (format : ℕ) (b : List ℕ) (old : Blocks) (waited : ℕ) (es : Blocks) (pending : Option ℕ)
     (waiting : ℕ) (fs : Blocks) (p2 : Option ℕ) (w2 : ℕ) → IsUnmarked (tiles_in b) old
     → IsIndexNoted format b 32 old waited es pending waiting → IsIndexNoted format b 56 es waiting fs p2 w2
@@ -33,7 +33,7 @@ indexes-noted format b old waited es pending waiting fs p2 w2 u x y = record {
   ];
 }
 
--- all links are noted
+-- all links are entered
 pub whole : (format : ℕ) (b : List ℕ) (es : Blocks) (p1 : Option ℕ) (w1 : ℕ) (fs : Blocks) (p2 : Option ℕ) (w2 : ℕ)
     (gs : Blocks) (p3 : Option ℕ) (w3 : ℕ) → AreIndexesNoted format b es p1 w1 → NotesValues format b es fs p2 w2
     → FollowsAll format b fs gs p3 w3 → IsWholeMarkingOf format b gs w3
@@ -46,14 +46,14 @@ whole format b es p1 w1 fs p2 w2 gs p3 w3 x y z = record {
   root = λ k v at c n l. z.keeps n _ ((y.noted (Map k v) at c).root k v refl n l);
 }
 
--- what was found is what the test says
+-- the result of the pass is the result of the test
 pub finds-from : {A : Type 0} (format : ℕ) (b : List ℕ) (P : A → Type 0) (r : Result A ℕ) → HasTiles b
     → MatchResult r P (IsSharedIn format b) → ((x : A) → P x → not (is_shared format (bytes_of b) (tiles_in b)) ≡ true)
     → ChecksClass (not (is_shared format (bytes_of b) (tiles_in b))) (IsSharedIn format b) r
 finds-from format b P (Ok x) h m f = f x m
 finds-from format b P (Err x) h m f = (some-shared-in format b x h m, m)
 
--- what follows of a success
+-- the consequence of a success
 pub on-ok : {A E : Type 0} (P : A → Type 0) (Q : E → Type 0) (R : Type 0) (r : Result A E) → MatchResult r P Q
     → ((x : A) → P x → R) → OnOk r R
 on-ok P Q R (Ok x) m f = f x m

@@ -1,4 +1,4 @@
--- Links of indexes, of storage and of elements, noted one by one.
+-- Links of indexes, of storage and of elements, entered one by one.
 use Rattle.image_check.proofs.Common.{AreElementsNoted, Blocks, HasTiles, Index, IsCountedLink, IsIndexNoted}
 use Rattle.image_check.proofs.Common.{IsMarkedLink, IsMarkingOf, IsRooted, IsSharedIn, IsStorageNoted, List, MarksLink}
 use Rattle.image_check.proofs.Common.{MatchResult, MayCount, Memory, Node, None, Option, Owner, Result, Role, Storage}
@@ -13,7 +13,7 @@ use Rattle.image_check.proofs.shared_blocks.Worklist.{debts-small}
 use Rattle.image_check.proofs.block_collection.Places.{payload-inside}
 use mathlib.Core.Logic.{inl, inr}
 
--- what noting a link at a place does, where no other link leads to it
+-- the effect of entering a link at an offset, if no other link leads to its block
 abbrev pub Marks : ℕ → List ℕ → Role → Option ℕ → Blocks → ℕ → Blocks → Option ℕ → ℕ → Result (Unit {0}) ℕ → ℕ → Type 0
 Marks format b role target old waited es pending waiting r at =
     target ≡ link_at (bytes_of b) at → MayCount format (bytes_of b) (tiles_in b) role at
@@ -29,7 +29,7 @@ few-wait format b now es pending waiting h k =
     let small = debts-small b h in
     omega arith
 
--- the links of the indexes stand before all tiles
+-- the links of the indexes are before all tiles
 pub index-start : (b : List ℕ) (at : ℕ) → HasTiles b → IsIndexPlace at → IsStart (tiles_in b) at
 index-start b at h p n t e =
     let low = (payload-inside current (bytes_of b) (length b) Node n t h.tags e).low in
@@ -40,7 +40,7 @@ index-start b at h p n t e =
     below (inl e) = omega arith
     below (inr e) = omega arith
 
--- the link of an index with places may count
+-- the link of an index with capacity can count
 pub index-may : (format : ℕ) (m : Memory) (ts : List Tile) (at : ℕ) → IsIndexPlace at → 0 < index_capacity m at
     → MayCount format m ts Index at
 index-may format m ts at (inl e) =
@@ -50,15 +50,15 @@ index-may format m ts at (inr e) =
     subst (λ (x : ℕ). 0 < index_capacity m x
     → MayCount format m ts Index x) (sym e) (λ p target l. IsCountedLink.unique p l)
 
--- ---- what grows
+-- ---- the set of entered links grows
 
--- no link more is noted
+-- no more links are entered
 pub grown-none : (format : ℕ) (b : List ℕ) (At : ℕ → Type 0) (es : Blocks) (pending : Option ℕ) (waiting : ℕ)
     → IsMarkingOf format b None es pending waiting → MarksLinks format b At es waiting es pending waiting
 grown-none format b At es pending waiting k =
     record { marking = k; keeps = λ n o e. e; only = λ n o e. inl e; less = omega arith }
 
--- links noted in two steps are noted in both together
+-- links entered in two steps are entered in both together
 pub grown-on : (format : ℕ) (b : List ℕ) (At Be In : ℕ
     → Type 0) (old : Blocks) (waited : ℕ) (es : Blocks) (pending : Option ℕ) (waiting : ℕ) (fs : Blocks)
     (p2 : Option ℕ) (w2 : ℕ)
@@ -77,7 +77,7 @@ grown-on format b At Be In old waited es pending waiting fs p2 w2 f g x y =
       less = omega arith;
     }
 
--- links that were noted are among wider ones
+-- links that were entered are among more
 pub grown-in : (format : ℕ) (b : List ℕ) (At In : ℕ
     → Type 0) (old : Blocks) (waited : ℕ) (es : Blocks) (pending : Option ℕ) (waiting : ℕ)
     → ((p : ℕ) → At p → In p) → MarksLinks format b At old waited es pending waiting
@@ -90,7 +90,7 @@ grown-in format b At In old waited es pending waiting f x = record {
 }
 
 module _ (format : ℕ) (b : List ℕ) (old : Blocks) (waited : ℕ) (es : Blocks) (pending : Option ℕ) (waiting : ℕ) where
-  -- a link that was noted is one more
+  -- one more link is entered
   pub marked-grown : (role : Role) (at : ℕ)
       → MarksLink format (bytes_of b) (tiles_in b) None role (owner at at) old waited es pending waiting
       → MarksLinks format b (λ p. p ≡ at) old waited es pending waiting
@@ -101,19 +101,19 @@ module _ (format : ℕ) (b : List ℕ) (old : Blocks) (waited : ℕ) (es : Block
     less = d.less;
   }
 
-  -- the link of an index is noted
+  -- the link of an index is entered
   pub marked-index : (at : ℕ) → MarksLink format (bytes_of b) (tiles_in b) None Index (owner at at) old waited es
       pending waiting → IsIndexNoted format b at old waited es pending waiting
   marked-index at d = record { grown = marked-grown Index at d; noted = λ p. d.noted }
 
-  -- the link of storage is noted
+  -- the link of storage is entered
   pub marked-storage : (at : ℕ) → MarksLink format (bytes_of b) (tiles_in b) None Storage (owner at at) old waited
       es pending waiting → IsStorageNoted format b at old waited es pending waiting
   marked-storage at d = record { grown = marked-grown Storage at d; noted = λ p. d.noted; paid = λ p. d.paid refl }
 
 -- ---- elements
 
--- the elements before the i-th are noted
+-- the elements before the i-th are entered
 pub record NotedElements (format : ℕ) (b : List ℕ) (array : ℕ) (old : Blocks) (waited seen i count : ℕ)
     (es : Blocks) (pending : Option ℕ) (waiting visits : ℕ) : Type 0 where
   pub done : AreElementsNoted format b array i old waited es pending waiting
@@ -134,7 +134,7 @@ elements-start format b array count seen es pending waiting k = record {
   most = omega arith;
 }
 
--- the links of elements, noted in two steps
+-- the links of elements, entered in two steps
 pub elements-on : (format : ℕ) (b : List ℕ) (array : ℕ) (old : Blocks) (waited seen i count : ℕ) (es : Blocks)
     (pending : Option ℕ) (waiting visits : ℕ) (fs : Blocks) (p2 : Option ℕ) (w2 v2 : ℕ)
     → NotedElements format b array old waited seen i count es pending waiting visits → i < count

@@ -1,4 +1,4 @@
--- What is noted in the end decides which blocks are shared and which have no owner.
+-- The links entered in the end decide which blocks are shared and which have no owner.
 use Rattle.image_check.proofs.Common.{Blocks, ChecksClass, Err, Field, HasTiles, IsCountedLink, IsFirstWrongTile}
 use Rattle.image_check.proofs.Common.{IsSharedAt, IsTrue, IsWholeMarking, IsWholeMarkingOf, List, Memory, None, Ok}
 use Rattle.image_check.proofs.Common.{Option, Owner, Result, Row, Some, Tile, [], ap, bytes_of, counted_fields, eq-eqb}
@@ -29,7 +29,7 @@ module _ (format : ℕ) (m : Memory) (ts : List Tile) (es : Blocks) (waiting : �
   noted-all : (at n : ℕ) → IsCountedLink format m ts at n → IsLed es at n
   noted-all at n c = covers format m ts es waiting w at n c
 
-  -- no two lead to one block
+  -- no two links lead to one block
   pub none-shared : IsShared format m ts → ⊥
   none-shared s =
       let a = (noted-all s.first s.target s.from_first).1 in
@@ -80,7 +80,7 @@ module _ (format : ℕ) (m : Memory) (ts : List Tile) (es : Blocks) (waiting : �
     not-and true b = refl
     not-and false b = refl
 
-    -- a tile to which no field leads is one without an owner
+    -- a tile to which no field leads has no owner
     pub left-owner : (t : Tile) → is_left (counted_fields format m ts) t ≡ not (has_owner es t)
     left-owner t = flipped (needs_owner t) (list_any (leads_there t) (counted_fields format m ts))
         (is_some (owner_at es (payload t))) (same-owner (payload t))
@@ -91,13 +91,13 @@ module _ (format : ℕ) (m : Memory) (ts : List Tile) (es : Blocks) (waiting : �
         (λ i. left-owner t i || left-some us i)
         ∙ not-and (has_owner es t) (list_all (has_owner es) us)
 
-    -- the test of orphans goes through the tiles and looks each up
+    -- the test of orphans looks each tile up
     pub orphaned : is_orphaned format m ts ≡ not (list_all (has_owner es) ts)
     orphaned = left-some ts
 
 -- ---- of an image with good tags
 
--- all links noted: no block is shared
+-- all links are entered: no block is shared
 pub none-shared-in : (format : ℕ) (b : List ℕ) (es : Blocks) (waiting : ℕ) → HasTiles b
     → IsWholeMarkingOf format b es waiting → not (is_shared format (bytes_of b) (tiles_in b)) ≡ true
 none-shared-in format b es waiting h w =

@@ -1,4 +1,4 @@
--- Noting that a link leads to a block: one owner more, and nothing else.
+-- Entering a link at its block: one more owner, and nothing else.
 use Rattle.image_check.proofs.Common.{Block, Blocks, IsBlockAt, IsCountedLink, IsFollowed, IsMarkedLink, IsMarking}
 use Rattle.image_check.proofs.Common.{IsRooted, IsSharedAt, IsSome, IsTileAt, LeadsTo, List, MarksLink, MayCount}
 use Rattle.image_check.proofs.Common.{Memory, Node, None, Option, Owner, Role, Some, Storage, Tile, [], ap, arith}
@@ -84,7 +84,7 @@ frames-put n b w (e ∷ es) h r l =
 pub owner-is : (b : Block) → same_role b.role Object ≡ false → owner_in (Some b) ≡ b.owner
 owner-is b e = cond-false (same_role b.role Object) None b.owner e
 
--- ---- nothing is noted
+-- ---- nothing is entered
 
 module _ (format : ℕ) (m : Memory) (ts : List Tile) (now : Option ℕ) (es : Blocks) (pending : Option ℕ)
     (waiting : ℕ) (role : Role) (link : Owner)
@@ -120,7 +120,7 @@ module _ (format : ℕ) (m : Memory) (ts : List Tile) (now : Option ℕ) (es : B
         (λ n l. absurd (h role (l.1.0) refl (block-there role n (l.1.0) l.0 (l.1.1))))
         (λ s n t l f e. h Storage t s (block-there Storage n t l f))
 
-    -- a link to no block: what noting it answers
+    -- the result of entering a link to no block
     pub no-block : block_at es target ≡ None → Answer es pending waiting
     no-block e = nothing-there (λ r t s w. let f = w.is in absurd (cc))
 
@@ -138,7 +138,7 @@ module _ (format : ℕ) (m : Memory) (ts : List Tile) (now : Option ℕ) (es : B
         was-owned : owner_at es target ≡ b.owner
         was-owned = ap owner_in is ∙ owner-is b plain-here
 
-        -- ---- it leads to the block
+        -- ---- the link leads to the block
 
         module _ (may : MayCount format m ts role link.at) where
           leads : LeadsTo m ts role link.at target
@@ -249,7 +249,7 @@ module _ (format : ℕ) (m : Memory) (ts : List Tile) (now : Option ℕ) (es : B
               | inr same ↦ subst (IsRooted ts after) (sym same) (still-rooted link start)
             ]
 
-            -- those that wait are owned, so this one was none of them
+            -- waiting nodes are owned, so this node is not waiting
             waits-elsewhere : (n : ℕ) (next : Option ℕ) → IsWaiting es n next → n ≢ target
             waits-elsewhere n next w f =
                 let g : block_at es n ≡ Some b = ap (block_at es) f ∙ is in
@@ -331,7 +331,7 @@ module _ (format : ℕ) (m : Memory) (ts : List Tile) (now : Option ℕ) (es : B
                     paid = λ s n t l f e. let p = paid-after s n t l f in let c = still s in omega arith;
                   }
 
-            -- a node is to be followed
+            -- the links of a node will be followed
             pub node-owned : role ≡ Node → Answer after (Some target) (waiting + 1)
             node-owned isnode =
                 let w : IsWaiting after target pending =

@@ -1,16 +1,16 @@
--- Where the links begin that lead to a block, once all that count are noted.
+-- The first links of blocks, after all links that count are entered.
 use Rattle.image_check.proofs.Common.{Blocks, IsCountedLink, IsFollowed, IsWholeMarking, LeadsTo, List, Memory, Node}
 use Rattle.image_check.proofs.Common.{Owner, Some, Tile, owner, owner_at, tile_of, ℕ, ◌+◌, ◌≡◌}
 use Rattle.image_check.proofs.shared_blocks.Worklist.{none-waits}
 use mathlib.Core.Logic.{inl, inr}
 
--- a field that is noted, with the place where the links begin that lead to it
+-- an entered field, with the first link on its way
 abbrev pub IsLed : Blocks → ℕ → ℕ → Type 0
 IsLed es at n = (root : ℕ) × (owner_at es n ≡ Some (owner at root))
 
 module _ (format : ℕ) (m : Memory) (ts : List Tile) (es : Blocks) (waiting : ℕ)
     (w : IsWholeMarking format m ts es waiting) where
-  -- the links of a node that has an owner are noted
+  -- the links of a node that has an owner are entered
   pub node-followed : (n : ℕ) (o : Owner) (t : Tile) → tile_of ts Node n ≡ Some t → owner_at es n ≡ Some o
       → IsFollowed m ts es n o.root
   node-followed n o t f e = elim (w.marking.followed n o t f e) [
@@ -19,7 +19,7 @@ module _ (format : ℕ) (m : Memory) (ts : List Tile) (es : Blocks) (waiting : �
     | inr (inr g) ↦ g
   ]
 
-  -- what a node leads to has its root
+  -- the blocks behind a node's links have the node's root
   pub left-root : (n child : ℕ) (o : Owner) (t : Tile) → tile_of ts Node n ≡ Some t → owner_at es n ≡ Some o
       → LeadsTo m ts Node n child → owner_at es child ≡ Some (owner n o.root)
   left-root n child o t f e l = (node-followed n o t f e).0 child l
@@ -28,7 +28,7 @@ module _ (format : ℕ) (m : Memory) (ts : List Tile) (es : Blocks) (waiting : �
       → LeadsTo m ts Node (n + 8) child → owner_at es child ≡ Some (owner (n + 8) o.root)
   right-root n child o t f e l = (node-followed n o t f e).1 child l
 
-  -- each field that counts is noted
+  -- each field that counts is entered
   pub covers : (at n : ℕ) → IsCountedLink format m ts at n → IsLed es at n
   covers at n (IsCountedLink.named c l) = (32, w.named c n l)
   covers at n (IsCountedLink.unique c l) = (56, w.unique c n l)

@@ -1,4 +1,4 @@
--- The links after all values, noted in a walk over the tiles.
+-- The links behind all values, entered in a walk over the tiles.
 use Rattle.image_check.proofs.Common.{Blocks, Contains, HasTiles, Index, IsCountedLink, IsMarkingOf, IsTileGrown}
 use Rattle.image_check.proofs.Common.{IsTrue, IsValueGrown, IsValueReady, Kind, List, Map, Memory, Node, None}
 use Rattle.image_check.proofs.Common.{NotesValues, Option, Owner, Rates, Role, Row, Scalar, Some, Storage, String, Tile}
@@ -62,7 +62,7 @@ tile-before at (f ∷ front) here back end t a (inl e) =
     omega arith
 tile-before at (f ∷ front) here back end t a (inr h) = tile-before (at + f.len) front here back end t a.3 h
 
--- ---- what good objects have
+-- ---- the properties of valid objects
 
 room-in : (m : Memory) (kind : Kind) (count at end : ℕ) → IsTrue (has_link kind)
     → IsTrue (is_value_in m kind count at end) → at + 24 ≤ end
@@ -152,13 +152,13 @@ row-dues at (t ∷ ts) end a =
     let d = each-visit_budget t.use_of t.len a.1 in
     omega arith
 
--- values and debts weigh together what sharing does
+-- the rates of values and of due visits together are the rates of sharing
 pub sharing-weigh : (b : List ℕ) → HasTiles b
     → weigh value_rates (tiles_in b) + debts (tiles_in b) ≤ weigh sharing_rates (tiles_in b)
 sharing-weigh b h = row-dues 128 (tiles_in b) (length b - 16)
     (has_tags-AreWholeTiles current (bytes_of b) (length b) h.tags).row
 
--- what is noted of a value stays
+-- the entered links of a value stay entered
 pub value-keeps : (m : Memory) (ts : List Tile) (kind : Kind) (at : ℕ) (es fs : Blocks) → KeepsMarks es fs
     → IsValueNoted m ts kind at es → IsValueNoted m ts kind at fs
 value-keeps m ts kind at es fs k d = record {
@@ -178,7 +178,7 @@ module _ (t u : Tile) (e : t.offset ≡ u.offset) (f : t.len ≡ u.len) (g : t.u
   pub cost-same : object_cost t ≡ object_cost u
   cost-same = ap object_cost (recoloured t u e f g)
 
-  -- tiles that differ in colour are noted alike
+  -- tiles that differ only in colour have the same links
   pub grown-same : (format : ℕ) (b : List ℕ) (old : Blocks) (waited : ℕ) (es : Blocks) (pending : Option ℕ)
       (waiting : ℕ) → IsTileGrown format b t old waited es pending waiting
       → IsTileGrown format b u old waited es pending waiting
@@ -199,7 +199,7 @@ module _ (t u : Tile) (e : t.offset ≡ u.offset) (f : t.len ≡ u.len) (g : t.u
 
 -- ---- the walk
 
--- a place before all tiles, in one that was passed, or in storage
+-- the offset is before all tiles, in a tile that was passed, or in storage
 abbrev pub IsPassed : List Tile → List Tile → ℕ → Type 0
 IsPassed ts front p = (p < 128) ⊎ (((t : Tile) × Mem t front × Lies p t) ⊎ IsInStorage ts p)
 
@@ -208,7 +208,7 @@ still-passed ts front here p (inl l) = inl l
 still-passed ts front here p (inr (inl w)) = inr (inl (w.0, mem_left w.0 front (here ∷ []) w.1, w.2))
 still-passed ts front here p (inr (inr w)) = inr (inr w)
 
--- the values in the tiles passed are noted
+-- the values in the passed tiles are entered
 pub record Noting (format : ℕ) (b : List ℕ) (old : Blocks) (owed seen : ℕ) (es : Blocks) (pending : Option ℕ)
     (waiting visits : ℕ) (front : List Tile) : Type 0 where
   pub marking : IsMarkingOf format b None es pending waiting
@@ -219,7 +219,7 @@ pub record Noting (format : ℕ) (b : List ℕ) (old : Blocks) (owed seen : ℕ)
   pub more : seen ≤ visits
   pub most : visits + (6 * waiting + unspent_budget es) ≤ seen + (owed + weigh value_rates front)
 
--- before the first tile nothing is noted
+-- before the first tile nothing is entered
 pub noting-start : (format : ℕ) (b : List ℕ) (es : Blocks) (pending : Option ℕ) (waiting seen : ℕ)
     → IsMarkingOf format b None es pending waiting → ((n : ℕ) (o : Owner) → owner_at es n ≡ Some o → o.at < 128)
     → Noting format b es (6 * waiting + unspent_budget es) seen es pending waiting seen []
@@ -366,7 +366,7 @@ module _ (format : ℕ) (c : WindowState) (here : Tile) (h : HasTiles c.bytes)
       | inr (inr x) ↦ absurd x
     ]
 
-    -- one tile more is noted
+    -- one more tile is entered
     pub noting-on : Noting format b old owed seen fs p2 w2 v2 (a.front ++ here ∷ [])
     noting-on =
         let push = weigh-push value_rates a.front here in
@@ -411,7 +411,7 @@ value-if m t kind at (Some k) e =
     let f : (k, value_offset m (payload t)) ≡ (kind, at) = cc in
     (ap (λ (p : Kind × ℕ). Some p.0) f, ap (λ (p : Kind × ℕ). p.1) f)
 
--- after the last tile all values are noted
+-- after the last tile all values are entered
 pub noting-end : (format : ℕ) (b : List ℕ) (old : Blocks) (owed seen : ℕ) (es : Blocks) (pending : Option ℕ)
     (waiting visits : ℕ) → Noting format b old owed seen es pending waiting visits (tiles_in b)
     → NotesValues format b old es pending waiting
@@ -431,7 +431,7 @@ noting-end format b old owed seen es pending waiting visits n = record {
 
 -- ---- one object
 
--- a tile with an object: its value is noted
+-- a tile with an object: its value is entered
 pub tile-grown : (format : ℕ) (b : List ℕ) (t : Tile) (kind : Kind) (at : ℕ) → IsTrue (is_use Object t)
     → kind_at format (bytes_of b) (payload t) ≡ Some kind → at ≡ value_offset (bytes_of b) (payload t)
     → (old : Blocks) (waited : ℕ) (es : Blocks) (pending : Option ℕ) (waiting : ℕ)

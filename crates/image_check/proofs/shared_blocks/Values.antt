@@ -1,4 +1,4 @@
--- The links after a value, noted one after another.
+-- The links behind a value, entered one after another.
 use Rattle.image_check.proofs.Common.{AreElementsNoted, AreTextsNoted, Blocks, Err, HasTiles, IsCountedLink}
 use Rattle.image_check.proofs.Common.{IsMarkedLink, IsMarkingOf, IsStorageNoted, IsTrue, IsValueGrown, IsValueReady}
 use Rattle.image_check.proofs.Common.{Kind, List, Map, MarksLink, MatchResult, MayCount, Node, None, Ok, Option, Result}
@@ -18,7 +18,7 @@ use mathlib.Core.Logic.{inl, inr}
 
 -- ---- the array of a vector of texts
 
--- what is found where the link leads to storage
+-- the array behind a link to storage
 pub record IsArrayAt (b : List ℕ) (at array len : ℕ) : Type 0 where
   pub tile : Tile
   pub good : good_for (tiles_in b) Storage (link_at (bytes_of b) at) ≡ Some tile
@@ -44,7 +44,7 @@ array-if b at array len (Some t) e l k =
     some-is : {x y : ℕ} → Some x ≡ Some y → x ≡ y
     some-is {x} {y} e = cc
 
--- an array that a link leads to
+-- an array behind a link
 pub array-at : (b : List ℕ) (at array len : ℕ)
     → Some len ≡ option_map (λ (t : Tile). t.len) (good_for (tiles_in b) Storage (Some array))
     → Some array ≡ link_at (bytes_of b) at → IsArrayAt b at array len
@@ -60,7 +60,7 @@ module _ (b : List ℕ) (at array len : ℕ) (h : HasTiles b) (w : IsArrayAt b a
   pub array-long : 32 ≤ len
   array-long = let l = place.lies.long in let e = w.long in omega arith
 
-  -- an array stands at a multiple of 16
+  -- an array begins at a multiple of 16
   pub array-aligned : array % 16 ≡ 0
   array-aligned = let a = place.lies.whole refl in let t = place.there in omega arith
 
@@ -80,7 +80,7 @@ module _ (b : List ℕ) (at array len : ℕ) (h : HasTiles b) (w : IsArrayAt b a
   same-tile : (t : Tile) → good_for (tiles_in b) Storage (link_at (bytes_of b) at) ≡ Some t → t ≡ w.tile
   same-tile t e = let g = w.good in cc
 
-  -- before the first string nothing is noted
+  -- before the first string nothing is entered
   pub texts-starts : (format length count : ℕ) → count ≤ length → length ≡ word_at (bytes_of b) (at + 8)
       → 16 * count + 16 ≤ len → 0 < word_at (bytes_of b) (at + 16)
       → AllElements (bytes_of b) (tiles_in b) at (IsStorageStart format b) → (i : ℕ) → i < count
@@ -89,7 +89,7 @@ module _ (b : List ℕ) (at array len : ℕ) (h : HasTiles b) (w : IsArrayAt b a
       let long = w.long in
       subst (λ x. IsStorageStart format b (x + 16 * i)) w.there (all w.tile i p w.good (omega arith) (omega arith))
 
-  -- all strings of the array are noted
+  -- all strings of the array are entered
   pub texts-noted : (format n count : ℕ) → n ≡ word_at (bytes_of b) (at + 8) → 16 * count + 16 ≤ len
       → ((i : ℕ) → i < n → 16 * i + 32 ≤ len → i < count)
       → (old : Blocks) (waited : ℕ) (es : Blocks) (pending : Option ℕ) (waiting : ℕ)
@@ -118,7 +118,7 @@ module _ (format : ℕ) (b : List ℕ) (at : ℕ) (old : Blocks) (waited : ℕ) 
     noted = record { storage = λ h. absurd (false≢true h); element = λ e. absurd (cc); root = λ x v e. absurd (cc) };
   }
 
-  -- the root of a map is noted
+  -- the root of a map is entered
   pub map-value : (k v : ScalarKind)
       → MarksLink format (bytes_of b) (tiles_in b) None Node (owner at at) old waited es pending waiting
       → IsValueGrown format b (Map k v) at old waited es pending waiting
@@ -129,7 +129,7 @@ module _ (format : ℕ) (b : List ℕ) (at : ℕ) (old : Blocks) (waited : ℕ) 
     noted = record { storage = λ h. absurd (false≢true h); element = λ e. absurd (cc); root = λ x y e. d.noted };
   }
 
-  -- the storage of a string is noted
+  -- the storage of a string is entered
   pub text-value : IsStorageNoted format b at old waited es pending waiting
       → IsValueGrown format b String at old waited es pending waiting
   text-value d = record {
@@ -138,7 +138,7 @@ module _ (format : ℕ) (b : List ℕ) (at : ℕ) (old : Blocks) (waited : ℕ) 
     noted = record { storage = λ h. d.noted; element = λ e. absurd (cc); root = λ x y e. absurd (cc) };
   }
 
-  -- the storage of a vector is noted
+  -- the storage of a vector is entered
   pub vector-value : (k : ScalarKind) → IsStorageNoted format b at old waited es pending waiting
       → IsValueGrown format b (Vector k) at old waited es pending waiting
   vector-value k d = record {
@@ -149,7 +149,7 @@ module _ (format : ℕ) (b : List ℕ) (at : ℕ) (old : Blocks) (waited : ℕ) 
 
   module _ (d : IsStorageNoted format b at old waited es pending waiting) (fs : Blocks) (p2 : Option ℕ) (w2 : ℕ)
       (t : AreTextsNoted format b at es waiting fs p2 w2) where
-    -- the array of a vector of strings is noted
+    -- the array of a vector of strings is entered
     pub array-value : IsValueGrown format b Strings at old waited fs p2 w2
     array-value = record {
       grown = grown-on format b (λ p. p ≡ at) (IsInStorage (tiles_in b)) (λ p.
@@ -164,18 +164,18 @@ module _ (format : ℕ) (b : List ℕ) (at : ℕ) (old : Blocks) (waited : ℕ) 
 
 -- ---- links of values count
 
--- the link of storage may count
+-- the link of storage can count
 pub storage-may : (format : ℕ) (b : List ℕ) (kind : Kind) (at : ℕ) (es : Blocks) → IsValueReady format b kind at es
     → IsTrue (has_storage kind) → IsTrue (has_link kind) → 0 < word_at (bytes_of b) (at + 16)
     → IsStorageStart format b at
 storage-may format b kind at es r s l p = (r.start l, λ target k. IsCountedLink.storage r.value s p k)
 
--- the root of a map may count
+-- the root of a map can count
 pub root-may : (format : ℕ) (b : List ℕ) (k v : ScalarKind) (at : ℕ) (es : Blocks)
     → IsValueReady format b (Map k v) at es → MayCount format (bytes_of b) (tiles_in b) Node at
 root-may format b k v at es r = λ target l. IsCountedLink.root r.value l
 
--- a call that adds few visits, and nothing to what is due
+-- a call that adds few visits, and nothing to the due ones
 pub pays-from : {A E : Type 0} (P : A → Type 0) (Q : E → Type 0) (n : ℕ) (r : Result A E) (old owed new owes : ℕ)
     → MatchResult r P Q → old ≤ new → new ≤ old + n → ((x : A) → P x → owes ≤ owed) → Pays n r old owed new owes
 pays-from P Q n (Ok x) old owed new owes h lo hi f = let l = f x h in (lo, omega arith)

@@ -1,4 +1,4 @@
--- Going through the nodes that wait: one turn notes the links of the first of them.
+-- Following the waiting nodes: one turn enters the links of the first of them.
 use Rattle.image_check.proofs.Common.{Block, Blocks, Err, HasTiles, Index, IsCountedLink, IsFollowed, IsMarking}
 use Rattle.image_check.proofs.Common.{IsMarkingOf, IsRooted, IsSome, IsTileAt, LeadsTo, List, MarksLink, MatchResult}
 use Rattle.image_check.proofs.Common.{MayCount, Memory, Node, None, Ok, Option, Owner, Result, Role, Row, Some, Storage}
@@ -14,7 +14,7 @@ use Rattle.image_check.proofs.block_collection.Places.{legal-small}
 use Rattle.image_check.proofs.shared_blocks.OneLink.{owner-is}
 use mathlib.Core.Logic.{inl, inr}
 
--- a field that counts leads where it is said to
+-- a field that counts is a link to its target
 pub counts-link : (format : ℕ) (m : Memory) (ts : List Tile) (at n : ℕ) → IsCountedLink format m ts at n
     → link_at m at ≡ Some n
 counts-link format m ts at n (IsCountedLink.named c l) = l.0
@@ -25,7 +25,7 @@ counts-link format m ts at n (IsCountedLink.root v l) = l.0
 counts-link format m ts at n (IsCountedLink.left c k l) = l.0
 counts-link format m ts at n (IsCountedLink.right c k l) = l.0
 
--- what is due is not much
+-- the visits that are due are few
 use-visit_budget : (o : Option Role) (len : ℕ) → 32 ≤ len
     → elim o [ None ↦ 0 | Some role ↦ visit_budget role len ] ≤ 3 * (len / 16)
 use-visit_budget None len h = omega arith
@@ -75,7 +75,7 @@ first-of es head (x ∷ xs) n h e =
       parts = λ y s. elim s [ inl g ↦ inl (g ∙ same) | inr g ↦ inr g ];
     }
 
--- none waits
+-- no node waits
 pub none-waits : (es : Blocks) (chain : List ℕ) (x : ℕ) → IsChain es None chain → IsMember x chain → ⊥
 none-waits es [] x h s = s
 none-waits es (y ∷ ys) x h s = let f = h.1 in absurd (cc)
@@ -91,7 +91,7 @@ module _ (format : ℕ) (m : Memory) (ts : List Tile) (es : Blocks) (pending : O
   the-next : next_at es n ≡ the-first.next
   the-next = let w = the-first.waits in ap next_in w.is ∙ w.next_is
 
-  -- the node that waits stands in a tile
+  -- the waiting node is in a tile
   pub node-tile : IsTileAt ts n (the-first.waits.block)
   node-tile = k.blocks.tiles n (the-first.waits.block) (the-first.waits.is)
 
@@ -110,7 +110,7 @@ module _ (format : ℕ) (m : Memory) (ts : List Tile) (es : Blocks) (pending : O
         ∙ owner-is the-block (ap (λ r. same_role r Object) the-first.waits.node) ∙ f,
   )
 
-  -- the link that leads to it
+  -- the link to the node
   pub leader : (w : Owner) × (owner_at es n ≡ Some w)
   leader = owner-there the-block.owner refl the-first.waits.owned
 
@@ -168,7 +168,7 @@ module _ (format : ℕ) (m : Memory) (ts : List Tile) (es : Blocks) (pending : O
   turn-of x root (inr (inl f)) = absurd (cc)
   turn-of x root (inr (inr f)) = inr (inr f)
 
-  -- it waits no more, and it is its turn
+  -- the node no longer waits, and is the current one
   pub taken : IsMarking format m ts (Some n) es (next_at es n) (waiting - 1)
   taken =
       let l = the-first.long in
@@ -223,29 +223,29 @@ module _ (format : ℕ) (m : Memory) (ts : List Tile) (es : Blocks) (pending : O
       followed = λ x o t g f. ends-turn x o f (b.marking.followed x o t g f);
     }
 
-    -- one turn keeps the marks
+    -- one turn keeps the entered links
     pub turn-keeps : KeepsMarks es es2
     turn-keeps x place f = b.keeps x place (a.keeps x place f)
 
-    -- one turn makes what is left less
+    -- one turn reduces the visits that remain
     pub turn-less : 6 * w2 + unspent_budget es2 + 6 ≤ 6 * waiting + unspent_budget es
     turn-less = let x = a.less in let y = b.less in let s = some-waits in omega arith
 
 -- ---- answers of calls
 
--- a result that is an error meets what is said of errors
+-- a result that is an error has the property of errors
 pub of-err : {A E : Type 0} (P : A → Type 0) (Q : E → Type 0) (r : Result A E) (x : E) → r ≡ Err x
     → MatchResult r P Q → Q x
 of-err P Q (Ok y) x e h = absurd (cc)
 of-err P Q (Err y) x e h = let same : y ≡ x = cc in subst Q same h
 
--- a result that is a success meets what is said of successes
+-- a result that is a success has the property of successes
 pub of-ok : {A E : Type 0} (P : A → Type 0) (Q : E → Type 0) (r : Result A E) (x : A) → r ≡ Ok x → MatchResult r P Q
     → P x
 of-ok P Q (Ok y) x e h = let same : y ≡ x = cc in subst P same h
 of-ok P Q (Err y) x e h = absurd (cc)
 
--- what is said of successes, if more follows
+-- the property of successes implies another
 pub map-ok : {A E : Type 0} (P P2 : A → Type 0) (Q : E → Type 0) (r : Result A E) → ((x : A) → P x → P2 x)
     → MatchResult r P Q → MatchResult r P2 Q
 map-ok P P2 Q (Ok y) f h = f y h

@@ -1,4 +1,4 @@
--- What is counted of tiles, with one more after them.
+-- The counts of tiles, with one more tile.
 use Rattle.image_check.proofs.Common.{AreCounted, IsTrue, List, None, Option, Role, Some, Tile, WindowState, [], ap}
 use Rattle.image_check.proofs.Common.{arith, false, is_legal_size, is_none, is_some, length, refl, small_size, sym, ℕ}
 use Rattle.image_check.proofs.Common.{◌++◌, ◌+◌, ◌<◌, ◌^◌, ◌∙◌, ◌∷◌, ◌≡◌}
@@ -23,7 +23,7 @@ module _ (ts : List Tile) (old new : Counts) (here : Tile) (k : AreCounted ts ol
         used = omega arith;
       }
 
-  -- one in use
+  -- one tile in use
   pub counted-used : (role : Role) → here.use_of ≡ Some role → new.free ≡ old.free → new.used ≡ old.used + 1
       → AreCounted (ts ++ here ∷ []) new
   counted-used role e f u =
@@ -50,7 +50,7 @@ counted-few c Kept here counts legal a k =
     let u = k.used in
     (omega arith, omega arith)
 
--- what was not given is none
+-- an option that is never some is none
 pub not-given : {X : Type 0} (o : Option X) → ((x : X) → o ≡ Some x → ⊥) → is_some o ≡ false
 not-given None h = refl
 not-given (Some x) h = absurd (h x refl)

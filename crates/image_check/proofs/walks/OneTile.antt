@@ -1,4 +1,4 @@
--- What was read of the tile that a walk over the tiles of a window stands at.
+-- The tile that was read at the position of a walk over the tiles of a window.
 use Rattle.image_check.proofs.Common.{EncodesTiles, List, Option, Some, Tile, WindowState, ◌<◌, ◌≡◌}
 use Rattle.block_tags.specs.Lists.{next_in}
 use Rattle.best_fit.proofs.Laws.{Meets}
@@ -6,11 +6,11 @@ use Rattle.image_check.proofs.walks.Tiles.{Walks, WalksAt, at-meets, left_from, 
 
 module _ (c : WindowState) (Kept : List Tile → Type 0) (tile : Option Tile) (unread here : Tile) (w : Walks c Kept tile)
     (is : tile ≡ Some unread) (same : here ≡ unread) where
-  -- the walk stands at the tile that was read
+  -- the walk is at the tile that was read
   pub read-at : WalksAt c Kept here
   read-at = walk-at c Kept tile here w (walk-read tile unread here is same)
 
-  -- the tile that was read is the one there
+  -- the tile that was read is the one at the walk's position
   pub read-met : Meets c here
   read-met = at-meets c Kept here read-at
 

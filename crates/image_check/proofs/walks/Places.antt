@@ -1,4 +1,4 @@
--- Where the tiles of an image lie.
+-- The bounds of the tiles of an image.
 use Rattle.image_check.proofs.Common.{HasTiles, List, Role, Row, Some, Tile, WindowState, [], arith, bytes_of, inl, inr}
 use Rattle.image_check.proofs.Common.{is_place, is_place-from, legal_size, length, some_same, subst, sym, tile_of, true}
 use Rattle.image_check.proofs.Common.{ℕ, ◌%◌, ◌+◌, ◌-◌, ◌∷◌, ◌≡◌, ◌≤◌}

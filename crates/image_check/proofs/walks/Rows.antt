@@ -11,7 +11,7 @@ use Rattle.image_check.specs.Passes.{tiles_in}
 use Rattle.image_check.proofs.block_collection.Lookup.{count-free, count-push, count-used}
 use Rattle.image_check.proofs.walks.Tiles.{WalksAt}
 
--- this many tiles in use are passed, and what is kept of all tiles before the next
+-- this many tiles in use are passed, and the property holds for all tiles before the next
 pub record RowWalks (c : WindowState) (Kept : List Tile → Type 0) (number : ℕ) : Type 0 where
   pub front : List Tile
   pub rest : List Tile
@@ -19,7 +19,7 @@ pub record RowWalks (c : WindowState) (Kept : List Tile → Type 0) (number : �
   pub count : length (entries_of front) ≡ number
   pub kept : Kept front
 
--- it is kept over a free tile
+-- the property is kept over a free tile
 abbrev pub PassesGaps : WindowState → (List Tile → Type 0) → Type 0
 PassesGaps c Kept = (g : Tile) → g.use_of ≡ None → (a : WalksAt c Kept g) → Kept (a.front ++ g ∷ [])
 
@@ -170,7 +170,7 @@ module _ (c : WindowState) (Kept : List Tile → Type 0) (gaps : PassesGaps c Ke
         let count = w.count in
         pass-all w.front w.rest w.said w.kept (omega arith)
 
--- the walk goes on, with what is kept of these very tiles
+-- the walk continues, with the property of exactly these tiles
 pub rows-on : (c : WindowState) (Kept Kept' : List Tile → Type 0) (number : ℕ) (frame : ℕ × Role × ℕ)
     → (r : RowAt c Kept number frame) → Kept' (r.at.front ++ r.here ∷ []) → RowWalks c Kept' (number + 1)
 rows-on c Kept Kept' number frame r kept = record {

@@ -13,9 +13,9 @@ use Rattle.block_tags.specs.Windows.{IsTiledWindow}
 use Rattle.block_tags.proofs.Laws.{good_tags_say_tiles}
 use Rattle.best_fit.proofs.Laws.{Meets, first_here, meets, next_here, next_nearer, none_left, passed_on, to_go}
 
--- ---- where a tile stands in a row
+-- ---- the place of a tile in a row
 
--- there are few tiles before it, and it begins at a multiple of 16 where the row does
+-- few tiles precede it, and it begins at a multiple of 16 if the row does
 pub record LiesIn (from : ℕ) (front : List Tile) (t : Tile) : Type 0 where
   pub low : from + 32 * length front ≤ t.offset
   pub whole : from % 16 ≡ 0 → t.offset % 16 ≡ 0
@@ -32,7 +32,7 @@ row-lies from (f ∷ front) t back to row =
 
 -- ---- the walk
 
--- the tile that comes next, and what is kept of those that the walk has passed
+-- the next tile, and the property of the tiles that the walk has passed
 pub record Walks (c : WindowState) (Kept : List Tile → Type 0) (tile : Option Tile) : Type 0 where
   pub front : List Tile
   pub rest : List Tile
@@ -40,11 +40,11 @@ pub record Walks (c : WindowState) (Kept : List Tile → Type 0) (tile : Option 
   pub is : tile ≡ first_in rest
   pub kept : Kept front
 
--- how many bytes are left from a tile on
+-- the number of bytes from a tile on
 abbrev pub left_from : WindowState → Option Tile → ℕ
 left_from c tile = to_go (length c.bytes) tile
 
--- good tags say tiles
+-- good tags describe tiles
 pub tags-IsTiledWindow : (c : WindowState) → IsTrue (is_legal_size (length c.bytes))
     → IsTrue (has_tags current (bytes_of c.bytes) (length c.bytes)) → IsTiledWindow c
 tags-IsTiledWindow c legal tags = let said = (good_tags_say_tiles c legal).0 tags
@@ -56,14 +56,14 @@ pub walk-start : (c : WindowState) (Kept : List Tile → Type 0) (tile : Option 
 walk-start c Kept tile tiled first kept =
     record { front = []; rest = tiled.tiles; said = tiled.said; is = first tiled.tiles tiled.said; kept = kept }
 
--- a tile that is looked at, with those after it
+-- the current tile, with the tiles after it
 pub record WalksAt (c : WindowState) (Kept : List Tile → Type 0) (here : Tile) : Type 0 where
   pub front : List Tile
   pub back : List Tile
   pub said : EncodesTiles c (front ++ here ∷ back)
   pub kept : Kept front
 
--- the walk stands at the tile ahead
+-- the walk is at the tile ahead
 pub walk-at : (c : WindowState) (Kept : List Tile → Type 0) (tile : Option Tile) (here : Tile) → Walks c Kept tile
     → tile ≡ Some here → WalksAt c Kept here
 walk-at c Kept tile here w e =
@@ -75,22 +75,22 @@ walk-at c Kept tile here w e =
       kept = w.kept;
     }
 
--- the tile lies after those passed
+-- the tile comes after the passed ones
 pub at-lies : (c : WindowState) (Kept : List Tile → Type 0) (here : Tile) → (a : WalksAt c Kept here)
     → LiesIn 128 a.front here
 at-lies c Kept here a = row-lies 128 a.front here a.back (length c.bytes - 16)
     (said_row c (a.front ++ here ∷ a.back) a.said)
 
--- the tile is the one that the tags say
+-- the tile is the one of the tags
 pub at-meets : (c : WindowState) (Kept : List Tile → Type 0) (here : Tile) → WalksAt c Kept here → Meets c here
 at-meets c Kept here a = meets c a.front here a.back a.said
 
--- it lies in the window
+-- the tile lies in the window
 pub at-within : (c : WindowState) (Kept : List Tile → Type 0) (here : Tile) → WalksAt c Kept here
     → here.offset + here.len ≤ length c.bytes
 at-within c Kept here a = let high = (at-meets c Kept here a).within in omega arith
 
--- the walk goes on to the next, with this one among those that it has passed
+-- the walk goes on to the next tile, and has passed this one
 pub walk-on : (c : WindowState) (Kept Kept' : List Tile → Type 0) (here : Tile) (next : Option Tile)
     → WalksAt c Kept here
     → ((ts : List Tile) → EncodesTiles c ts → next ≡ next_in ts here.offset)
@@ -115,7 +115,7 @@ no_tile : (tile : Option Tile) → ((t : Tile) → tile ≡ Some t → ⊥) → 
 no_tile None h = refl
 no_tile (Some t) h = absurd (h t refl)
 
--- it ends with what is kept of all tiles
+-- the walk ends with the property of all tiles
 pub walk-end : (c : WindowState) (Kept : List Tile → Type 0) (tile : Option Tile) → Walks c Kept tile
     → ((t : Tile) → tile ≡ Some t → ⊥) → Kept (tiles_of (bytes_of c.bytes) (length c.bytes))
 walk-end c Kept tile w h =
@@ -152,7 +152,7 @@ all-fails test (t ∷ front) here back h = elim (cases_Bool (test t)) [
   | inr e ↦ ap (λ b. b && list_all test (front ++ here ∷ back)) e
 ]
 
--- the first that fails it, after those that pass it
+-- the first tile that fails the test, after tiles that pass it
 pub first-fails : (test : Tile → Bool) (front : List Tile) (here : Tile) (back : List Tile)
     → list_all test front ≡ true → test here ≡ false
     → find (λ t. not (test t)) (front ++ here ∷ back) ≡ Some here
@@ -162,7 +162,7 @@ first-fails test (t ∷ front) here back p h =
     cond-false (not (test t)) (Some t) (find (λ t. not (test t)) (front ++ here ∷ back)) (ap not q.0)
     ∙ first-fails test front here back q.1 h
 
--- where a walk stands at it
+-- a walk is at a tile that fails the test
 pub fails-there : (c : WindowState) (Kept : List Tile → Type 0) (test : Tile → Bool) (here : Tile) (place : ℕ)
     → (a : WalksAt c Kept here) → list_all test a.front ≡ true → test here ≡ false
     → here.offset + 16 ≡ place → (list_all test (tiles_of (bytes_of c.bytes) (length c.bytes)) ≡ false)
@@ -177,6 +177,6 @@ fails-there c Kept test here place a p h e =
       },
     )
 
--- where a walk stands at a tile, it stands at what was read of it
+-- a walk at a tile is at the tile that was read
 pub walk-read : (o : Option Tile) (unread here : Tile) → o ≡ Some unread → here ≡ unread → o ≡ Some here
 walk-read o unread here is same = is ∙ ap (λ (t : Tile). Some t) (sym same)

@@ -1,4 +1,4 @@
-//! The map of the blocks in use, in which each look-up is counted.
+//! The map of the blocks in use. It counts each look-up.
 ghost use Rattle.std.specs.Prelude.{◌≡◌, ◌+◌, ◌^◌, ◌++◌, ◌∷◌, ◌<◌, ◌≤◌, [], nat_eq, length, IfSome, IfNone, None, Some};
 ghost use Rattle.std.specs.Prelude.{slice_get};
 ghost use Rattle.std.specs.Map.{set_value};
@@ -12,7 +12,7 @@ use crate::rows::Row;
 use indexmap::IndexMap;
 use std::marker::Model;
 
-/// The blocks in use by payload, in the order of their places.
+/// The blocks in use by payload, in the order of their offsets.
 #[derive(Drop)]
 pub(crate) struct BlockTable {
     map: IndexMap<u32, Row>,
@@ -31,7 +31,7 @@ impl Model for BlockTable {
 }
 
 impl BlockTable {
-    /// Makes a table of no blocks over a map with its room.
+    /// Makes an empty table over a map with its room.
     pub(crate) fn new(map: IndexMap<u32, Row>) -> BlockTable
         requires { IsEmpty map }
         ensures entries { result.entries ≡ [] }
@@ -51,14 +51,14 @@ impl BlockTable {
         }
     }
 
-    /// Returns how many they are.
+    /// Returns the number of blocks.
     pub(crate) fn len(&self) -> usize
         ensures { result ≡ length self.now.entries }
     {
         self.map.len()
     }
 
-    /// Returns the block of number `nth`, after its payload. The caller counts it.
+    /// Returns the payload and the block with the number `nth`. The caller counts the visit.
     fn entry(&self, nth: usize) -> (u32, Block)
         requires { nth < length self.now.entries }
         ensures row { slice_get self.now.entries nth ≡ Some result }
@@ -68,7 +68,7 @@ impl BlockTable {
         (*payload, row.block())
     }
 
-    /// Returns the block of number `nth`, in the order of the places, after its payload. One visit.
+    /// Returns the payload and the block with the number `nth`, in the order of the offsets. It takes one visit.
     pub(crate) fn row(&self, nth: usize, visits: &mut VisitCounter) -> (u32, Block)
         requires { nth < length self.now.entries }
         ensures row { slice_get self.now.entries nth ≡ Some result }
@@ -79,7 +79,7 @@ impl BlockTable {
         self.entry(nth)
     }
 
-    /// Returns the block whose payload begins at `target`. The caller counts it.
+    /// Returns the block whose payload begins at `target`. The caller counts the visit.
     pub(super) fn get(&self, target: u64) -> Option<Block>
         ensures { result ≡ block_at self.now.entries target }
     {
@@ -89,7 +89,8 @@ impl BlockTable {
         }
     }
 
-    /// Returns the block whose payload begins at `target`, after its number and `target` in four bytes. One visit.
+    /// Returns the block whose payload begins at `target`, after its number and `target` in four bytes. It takes one
+    /// visit.
     pub(crate) fn find(&self, target: u64, visits: &mut VisitCounter) -> Option<(usize, u32, Block)>
         ensures number { IfSome result (λ found. IsRow self.now.entries target found.0) }
         ensures payload { IfSome result (λ found. found.1 ≡ target) }
@@ -107,7 +108,7 @@ impl BlockTable {
         }
     }
 
-    /// Returns the block whose payload begins at `target`. One visit.
+    /// Returns the block whose payload begins at `target`. It takes one visit.
     pub(crate) fn block_of(&self, target: u64, visits: &mut VisitCounter) -> Option<Block>
         ensures value { result ≡ block_at self.now.entries target }
         ensures visits { visits.new ≡ visits.old + 1 }
@@ -116,8 +117,8 @@ impl BlockTable {
         self.get(target)
     }
 
-    /// Returns the block whose payload begins at `target`. It is quick if the block has the number `guess` in the order
-    /// of the blocks, and right whatever the guess is. One visit.
+    /// Returns the block whose payload begins at `target`. It is fast if the block has the number `guess`, and correct
+    /// for any guess. It takes one visit.
     pub(crate) fn block_near(
         &self,
         guess: usize,
@@ -137,7 +138,7 @@ impl BlockTable {
         self.get(target)
     }
 
-    /// Puts another block in the place of the one of this number, at `target`. One visit.
+    /// Replaces the block with this number, at `target`. It takes one visit.
     pub(crate) fn put(
         &mut self,
         number: usize,
@@ -153,7 +154,7 @@ impl BlockTable {
         self.map[number] = Row::new(block);
     }
 
-    /// Adds a block at `target`, after all others, to those of which there is room for one more. One visit.
+    /// Adds a block at `target`, after all others, to a table with room for it. It takes one visit.
     pub(crate) fn add(&mut self, target: u64, block: Block, visits: &mut VisitCounter)
         requires max_size { target < 2 ^ 32 }
         requires order { AreBelow self.old.entries target }
@@ -163,7 +164,7 @@ impl BlockTable {
         ensures visits { visits.new ≡ visits.old + 1 }
     {
         visits.visit();
-        // There is room, so that no memory is asked for.
+        // There is room, so it allocates no memory.
         let _ = self.map.insert(target as u32, Row::new(block));
     }
 }

@@ -1,4 +1,4 @@
-//! Objects that were visited, each with its head, its name, the padding after it and the three words of its value.
+//! Visited objects, each with its head, its name, the padding after it and the three words of its value.
 ghost use Rattle.std.specs.Prelude.{◌≡◌, ◌+◌, ◌%◌, ◌^◌, ◌<◌, ◌≤◌, length};
 ghost use Rattle.raw_region.specs.Memory.{bytes_of, word_at};
 ghost use Rattle.offset_link.specs.Link.{link_at};
@@ -9,20 +9,20 @@ use super::ImageWindow;
 use crate::checking::VisitCounter;
 use segment_manager::layout::{HALF, HEAD_LEN, NAME_CLASS_AT};
 
-/// The place of an object that was visited.
+/// The place of a visited object.
 #[derive(Clone, Copy)]
 pub(crate) struct Object {
     at: u64,
 }
 
-/// The place of the value of an object that was visited. Of it the three words are read that those but scalars have.
+/// The place of the value of a visited object. The three words of a container can be read.
 #[derive(Clone, Copy)]
 pub(crate) struct Value {
     pub(super) at: u64,
 }
 
 impl Object {
-    /// Returns the object at `at`. One visit.
+    /// Returns the object at `at`. It takes one visit.
     pub(crate) fn visit(at: u64, visits: &mut VisitCounter) -> Object
         ensures position { result.at ≡ at }
         ensures visits { visits.new ≡ visits.old + 1 }
@@ -31,7 +31,7 @@ impl Object {
         Object { at }
     }
 
-    /// Returns where it stands.
+    /// Returns its offset.
     pub(crate) fn at(self) -> u64
         ensures { result ≡ self.at }
     {
@@ -47,7 +47,7 @@ impl Object {
         window.read_u64(self.at) % HALF
     }
 
-    /// Returns how many values it has.
+    /// Returns the number of its elements.
     pub(crate) fn count(self, window: &ImageWindow) -> u64
         requires { self.at + 8 ≤ length window.now.bytes }
         ensures count { result ≡ count_at (bytes_of window.now.bytes) self.at }
@@ -65,7 +65,7 @@ impl Object {
         window.read_u64(self.at + NAME_CLASS_AT) / HALF
     }
 
-    /// Returns how many bytes its name has.
+    /// Returns the length of its name in bytes.
     pub(crate) fn name_len(self, window: &ImageWindow) -> u64
         requires max_size { self.at < 2 ^ 63 }
         requires in_bounds { self.at + 16 ≤ length window.now.bytes }
@@ -107,14 +107,14 @@ impl Object {
 }
 
 impl Value {
-    /// Returns where it stands.
+    /// Returns its offset.
     pub(crate) fn at(self) -> u64
         ensures { result ≡ self.at }
     {
         self.at
     }
 
-    /// Returns where its link leads.
+    /// Returns the target of its link.
     pub(crate) fn link(self, window: &ImageWindow) -> Option<u64>
         requires aligned { self.at % 8 ≡ 0 }
         requires in_bounds { self.at + 8 ≤ length window.now.bytes }
@@ -123,7 +123,7 @@ impl Value {
         window.load(self.at)
     }
 
-    /// Returns the second word: how many elements or pairs it has.
+    /// Returns the second word: the number of elements or pairs.
     pub(crate) fn len(self, window: &ImageWindow) -> u64
         requires max_size { self.at < 2 ^ 63 }
         requires in_bounds { self.at + 16 ≤ length window.now.bytes }
@@ -132,7 +132,7 @@ impl Value {
         window.read_u64(self.at + 8)
     }
 
-    /// Returns the third word: how many places it has.
+    /// Returns the third word: the capacity.
     pub(crate) fn capacity(self, window: &ImageWindow) -> u64
         requires max_size { self.at < 2 ^ 63 }
         requires in_bounds { self.at + 24 ≤ length window.now.bytes }

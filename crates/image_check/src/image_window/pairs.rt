@@ -1,4 +1,4 @@
-//! The pairs of a map, as the nodes of a tree: the call that goes over them, which counts the steps that it took.
+//! The pairs of a map as the nodes of a tree, and the call that checks them and counts its steps.
 ghost use Rattle.std.specs.Prelude.{◌≡◌, ◌↔◌, ◌+◌, ◌*◌, ◌≤◌, ◌<◌, ◌%◌, ◌^◌, true, false, ℕ, Some, IsTrue, length};
 ghost use Rattle.raw_region.specs.Memory.{bytes_of, read};
 ghost use Rattle.offset_link.specs.Link.{link_at};
@@ -24,10 +24,10 @@ use seg_types::ScalarKind;
 /// The two links of a pair, before its key.
 const LINKS: u64 = 16;
 
-/// The pairs of the map whose root link stands at `root`, as the nodes of a tree, ordered by key.
+/// The pairs of the map whose root link is at `root`, as the nodes of a tree, ordered by key.
 ///
-/// A pair is a node of the map with room for a key and a value, both of them spelled. A link that leads to no pair is
-/// read as one to its own node, which no ordered tree has.
+/// A pair is a node of the map with room for a key and a value, both of them valid. A link that leads to no pair is
+/// read as a link to its own node, which no ordered tree has.
 #[derive(Clone, Copy)]
 struct CheckedPairTree<'a> {
     window: &'a ImageWindow,
@@ -37,7 +37,7 @@ struct CheckedPairTree<'a> {
     value: ScalarKind,
 }
 
-/// Tells whether the bytes at `at` spell a value of the kind.
+/// Returns true if the bytes at `at` are a value of the kind.
 fn is_spelled(window: &ImageWindow, kind: ScalarKind, at: u64) -> bool
     requires { at + size_of kind ≤ length window.now.bytes }
     ensures { result ≡ is_spelling_of kind (read (bytes_of window.now.bytes) at (size_of kind)) }
@@ -45,7 +45,7 @@ fn is_spelled(window: &ImageWindow, kind: ScalarKind, at: u64) -> bool
     kind.is_spelling(window.bytes(at, kind.size()))
 }
 
-/// Tells whether a payload may begin there.
+/// Returns true if a payload can begin there.
 #[tactic(auto, unfolding(crate::specs::FreeNodes::is_place))]
 fn is_place_in(window: &ImageWindow, node: u64) -> bool
     requires { IsTrue (is_legal_size (length window.now.bytes)) }
@@ -58,7 +58,7 @@ fn is_place_in(window: &ImageWindow, node: u64) -> bool
 }
 
 impl CheckedPairTree<'_> {
-    /// Tells whether the payload is that of a node of this map, with room for a key and a value.
+    /// Returns true if the payload is a node of this map, with room for a key and a value.
     fn has_node(&self, node: u64) -> bool
         ensures { result ≡ is_node_block self.now.root (pair_len self.now.key self.now.value)
             (block_at self.now.blocks.now.entries node) }
@@ -92,7 +92,7 @@ impl CheckedPairTree<'_> {
             && is_spelled(self.window, self.value, node + LINKS + self.key.size())
     }
 
-    /// Returns where the link of a node at `at` leads.
+    /// Returns the target of the link at `at` of a node.
     fn child(&self, node: u64, at: u64) -> Option<u64>
         requires size { IsTrue (is_legal_size (length self.now.window.now.bytes)) }
         requires aligned { at % 8 ≡ 0 }
@@ -107,7 +107,7 @@ impl CheckedPairTree<'_> {
         }
     }
 
-    /// Tells whether the link leads to a pair or nowhere.
+    /// Returns true if the link is null or leads to a pair.
     fn has_at(&self, link: Option<u64>) -> bool
         requires { IsTrue (is_legal_size (length self.now.window.now.bytes)) }
         ensures { result ≡ leads (is_pair self.now.window.now self.now.blocks.now.entries self.now.root self.now.key
@@ -170,9 +170,9 @@ impl Nodes for CheckedPairTree<'_> {
     ghost agrees = { λ s sought a b x y. y };
 }
 
-/// Returns the check of the links of the map at `map`, as those of an ordered tree of its pairs. Two visits for the
-/// root, a look-up and reading it, and five for each step, which reads a node, and looks up and reads the nodes of its
-/// two links.
+/// Returns the result of the check of the map at `map` as an ordered tree of its pairs. It takes two visits for the
+/// root, a look-up and a read. It takes five for each step, which reads a node, and looks up and reads the nodes behind
+/// its two links.
 pub(crate) fn check_pairs(
     window: &ImageWindow,
     blocks: &BlockTable,

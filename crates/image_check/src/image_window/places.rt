@@ -1,5 +1,5 @@
-//! The places of an image where a payload may begin, as the nodes of the free tree: the calls that go over them, each
-//! of which counts the steps that it took.
+//! The offsets of an image at which a payload can begin, as the nodes of the free tree, and calls that visit them and
+//! count their steps.
 ghost use Rattle.std.specs.Prelude.{◌≡◌, ◌↔◌, ◌+◌, ◌-◌, ◌*◌, ◌%◌, ◌≤◌, true, ℕ, List, Some, length};
 ghost use Rattle.raw_region.specs.Memory.{bytes_of};
 ghost use Rattle.offset_link.specs.Link.{link_at};
@@ -16,14 +16,15 @@ use crate::checking::VisitCounter;
 use best_fit::RIGHT_LINK;
 use link_tree::{CheckedTree, Nodes, SearchResult, check, find_first_not_before};
 
-/// The places of a window where a payload may begin, as the nodes of a tree. A link that leads to no such place is read
-/// as null. A node precedes longer ones, and those as long that stand after it, by the lengths in front of them.
+/// The offsets of a window at which a payload can begin, as the nodes of a tree. A link that leads to no such offset is
+/// read as null. A node precedes longer ones, and nodes of its length at greater offsets, by the lengths in the tags
+/// before them.
 #[derive(Clone, Copy)]
 struct PayloadTree<'a> {
     window: &'a ImageWindow,
 }
 
-/// A node that is looked for in the tree: its length and its place.
+/// The target of a search in the tree: its length and its offset.
 #[derive(Clone, Copy)]
 pub(crate) struct TileProbe {
     pub(crate) len: u64,
@@ -31,7 +32,7 @@ pub(crate) struct TileProbe {
 }
 
 impl PayloadTree<'_> {
-    /// Returns the length that the tag of a node says.
+    /// Returns the length in the tag of a node.
     fn len_at(&self, node: u64) -> u64
         requires { is_place self.now.window.now node ≡ true }
         ensures { result ≡ len_there (bytes_of self.now.window.now.bytes) node }
@@ -40,7 +41,7 @@ impl PayloadTree<'_> {
     }
 }
 
-/// Returns where the link at `at` leads, or nowhere if that is no place of a payload.
+/// Returns the target of the link at `at`, or `None` if no payload can begin there.
 fn placed_link(window: &ImageWindow, at: u64) -> Option<u64>
     requires aligned { at % 8 ≡ 0 }
     requires in_bounds { at + 8 ≤ length window.now.bytes }
@@ -101,7 +102,7 @@ impl Nodes for PayloadTree<'_> {
     ghost agrees = { λ s sought. before_agrees (bytes_of s.window.now.bytes) sought.len sought.node };
 }
 
-/// Returns the check of the links below `root`, as those of a tree. One visit for each step.
+/// Returns the result of the check of the links below `root` as a tree. It takes one visit for each step.
 pub(crate) fn check_places(
     window: &ImageWindow,
     root: Option<u64>,
@@ -120,7 +121,7 @@ pub(crate) fn check_places(
     checked
 }
 
-/// Returns the first node of the tree that does not stand before the one that is sought. One visit for each step.
+/// Returns the first node of the tree that does not precede `sought`. It takes one visit for each step.
 pub(crate) fn find_tile(
     window: &ImageWindow,
     root: Option<u64>,
@@ -143,7 +144,8 @@ pub(crate) fn find_tile(
     found
 }
 
-/// Tells whether both links of a node are null or lead to places of payloads. One visit.
+/// Returns true if each of a node's two links is null or leads to an offset at which a payload can begin. It takes one
+/// visit.
 pub(crate) fn has_good_links(window: &ImageWindow, node: u64, visits: &mut VisitCounter) -> bool
     requires { is_place window.now node ≡ true }
     ensures value { result ≡ has_good_links window.now node }

@@ -1,4 +1,4 @@
-//! The segment of an image that was checked: the one way from its window to a heap.
+//! Makes the segment of a checked image: the only way from its window to a heap.
 ghost use Rattle.std.specs.Prelude.{◌≡◌, ◌≢◌, ◌+◌, ◌<◌, ◌≤◌, length};
 ghost use Rattle.raw_region.specs.Format.{current};
 ghost use Rattle.raw_region.specs.Memory.{SameSurroundings, bytes_of, word_at};
@@ -19,9 +19,9 @@ use segment_manager::unchecked::segment_of;
 use segment_manager::{Mode, Segment};
 
 impl ImageWindow {
-    /// Returns the segment of the image of a directory by a format from 0 to 2, whose blocks these are. The bytes are
-    /// those of the same directory by the current format: with the current version and, from format 0, with a free
-    /// tree. Those of an image of the current format stay. One visit for each block; no tile is read, but from format
+    /// Returns the segment of a checked image of a format from 0 to 2 with these blocks. Its bytes become an image of
+    /// the same directory in the current format: they get the current version and, from format 0, a free tree. An image
+    /// of the current format stays byte for byte. It takes one visit for each block, and reads tiles only from format
     /// 0.
     pub fn into_segment(
         self,
@@ -56,7 +56,7 @@ fn set_version(format: u64, heap: &mut Heap)
     }
 }
 
-/// Returns the heap of a window that is one by a format, without block hints. From format 0 the gaps get a tree;
+/// Returns the heap of a window that contains one in a format, without block hints. From format 0 the gaps get a tree;
 /// otherwise no byte changes.
 fn as_heap(format: u64, window: Window) -> Heap
     requires { IsHeap format window.bytes }

@@ -93,7 +93,7 @@ module _ {lt : ℕ → ℕ → Bool} (strict : IsStrict lt) (h : ℕ → Cell) (
             ∙ sym (colour_joined side red near n far);
       }
 
-  -- what is made of the whole tree
+  -- the whole tree after a change at a node
   pub begun : (lt' : ℕ → ℕ → Bool) (h1 h' : ℕ → Cell) (root link to : Option ℕ) (t : Tree) (b : ℕ) (ns : List ℕ)
       → IsSearchTree lt h root t → (g : Begins lt h xs change link t)
       → BecomesTree h h1 (xs ++ nodes_of g.below) to (change g.below) → IsEven (change t) b → nodes_of (change t) ≡ ns

@@ -91,7 +91,7 @@ enters : (red : Bool) (n : ℕ) (next : Tree) (below : Option ℕ) (q : ℕ) →
 enters red n next None q e = enters_here red n next q e
 enters red n next (Some m) q e = deeper e
 
--- what an insertion does that begins at a node of the tree
+-- the effect of an insertion that begins at a node of the tree
 pub record IsBegun (lt : ℕ → ℕ → Bool) (h : ℕ → Cell) (x : ℕ) (t : Tree) (p : ℕ) : Type 0 where
   pub begins : Begins lt h (x ∷ []) (after_insert lt x) (Some p) t
   pub even : has_no_red_pair (after_insert lt x t) ≡ true

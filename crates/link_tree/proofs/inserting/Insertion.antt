@@ -165,7 +165,7 @@ module _ {lt : ℕ → ℕ → Bool} (strict : IsStrict lt) where
       ∙ nodes_of-rebalanced Right red (after_insert lt x r) n l
       ∙ ap (λ zs. nodes_of l ++ n ∷ zs) more ∙ sym (put_in_right lt x (nodes_of l) n (nodes_of r) e behind)
 
-  -- the nodes after an insertion are those before with the node put in
+  -- the nodes after an insertion are the old nodes with the new one inserted
   pub nodes_of-after_insert : (x : ℕ) (t : Tree) → is_sorted lt (nodes_of t) ≡ true
       → nodes_of (after_insert lt x t) ≡ insert_in_order lt x (nodes_of t)
   nodes_of-after_insert x leaf o = refl
@@ -178,7 +178,7 @@ module _ {lt : ℕ → ℕ → Bool} (strict : IsStrict lt) where
 
 -- ---- colours
 
--- what an insertion makes of a tree with no red pair
+-- the result of an insertion into a tree with no red pair
 pub record IsGrownEven (t t' : Tree) (b : ℕ) : Type 0 where
   pub nearly : IsNearlyEven t' b
   pub even : has_black_root t ≡ true → has_no_red_pair t' ≡ true
@@ -354,7 +354,7 @@ grows_below {lt = lt} strict side h x at t w =
       apart = placed_apart strict x (nodes_of old) at placed (in_root side (h at).red o.near at o.far);
     }
 
--- no cell of another node changed, and none of the node that is put in
+-- only the cells of the tree's nodes and of the inserted node change
 pub frame_beside : {lt : ℕ → ℕ → Bool} {h h' : ℕ → Cell} {root : Option ℕ} {x : ℕ} {ns ms : List ℕ}
     → IsChanged lt h h' root (x ∷ ns) ms → (m : ℕ) → (m ≡ x → ⊥) → is_in m ns ≡ false → h' m ≡ h m
 frame_beside {x = x} {ns = ns} c m d o = c.frame m (or_from (nat_eq m x) (is_in m ns) (ne_eqb m x d) o)

@@ -1,4 +1,4 @@
--- Rotations and recolourings of cells do to trees what their names say.
+-- Rotations and recolourings of cells have the effect on trees that their names say.
 use Rattle.std.proofs.Common.{◌≡◌, ℕ, Bool, true, false, Option, Some, List, refl, sym, ap, ◌∙◌, subst, not}
 use Rattle.std.proofs.lemmas.Bool.{true≢false, false≢true, not-false}
 use Rattle.link_tree.specs.Tree.{has_black_root, Cell, Tree, leaf, fork, root_of, nodes_of, AreCellsOf, IsTree}
@@ -105,7 +105,7 @@ module _ {lt : ℕ → ℕ → Bool} (strict : IsStrict lt) where
             rest x p.root_out q.root_out;
       }
 
-  -- what `lift` does
+  -- the effect of `lift`
   pub lift_step : (side : Side) (h h' : ℕ → Cell) (top child : ℕ) (middle : Option ℕ) (t : Tree)
       → IsTree h (Some top) t → is_sorted lt (nodes_of t) ≡ true
       → child_of side (h top) ≡ Some child → child_of (opposite side) (h child) ≡ middle
@@ -124,7 +124,7 @@ module _ {lt : ℕ → ℕ → Bool} (strict : IsStrict lt) where
       let turned = lift_turns side h h' (h top).red (h child).red q.near child q.far top p.far holds order e4 in
       rw (is, rotated-joined side (h top).red (h child).red q.near child q.far top p.far) turned
 
-  -- what `paint` does
+  -- the effect of `paint`
   pub paint_turns : (h h' : ℕ → Cell) (n : ℕ) (red : Bool) (t : Tree) → IsTree h (Some n) t
       → is_sorted lt (nodes_of t) ≡ true → h' ≡ with_red h n red
       → BecomesTree h h' (nodes_of t) (Some n) (painted red t)
@@ -148,7 +148,7 @@ rebalanced-inner : (side : Side) (a : Tree) (m : ℕ) (p : Tree) (k : ℕ) (q : 
 rebalanced-inner Left a m p k q n far e = rw e refl
 rebalanced-inner Right a m p k q n far e = rw e refl
 
--- where there is no red pair nothing is turned
+-- without a red pair nothing is rotated
 inner_same : (side : Side) (a : Tree) (m : ℕ) (b : Tree) (n : ℕ) (far : Tree) → has_black_root b ≡ true
     → balanced_inner side a m b n far ≡ joined_at side false (joined_at side true a m b) n far
 inner_same side a m leaf n far k = refl

@@ -62,17 +62,17 @@ turns n next None q e =
     ]
 turns n next (Some m) q e = deeper e
 
--- what is left of a tree without the node
+-- the tree without the node
 abbrev pub left_of : (ℕ → ℕ → Bool) → ℕ → Tree → Tree
 left_of lt x t = (after_remove lt x t).tree
 
--- what a removal does that begins at a node of the tree
+-- the effect of a removal that begins at a node of the tree
 pub record IsTurned (lt : ℕ → ℕ → Bool) (h : ℕ → Cell) (x : ℕ) (t : Tree) (p : ℕ) : Type 0 where
   pub begins : Begins lt h [] (left_of lt x) (Some p) t
   pub still : (after_remove lt x t).fell ≡ false
 
 module _ {lt : ℕ → ℕ → Bool} (strict : IsStrict lt) (h : ℕ → Cell) (x : ℕ) where
-  -- what has not fallen on one side
+  -- a subtree that lost no black node, on one side
   over_still : (side : Side) (red : Bool) (near : Tree) (n : ℕ) (far : Tree) → nat_eq n x ≡ false
       → side_of (lt x n) ≡ side → (after_remove lt x near).fell ≡ false
       → after_remove lt x (joined_at side red near n far)

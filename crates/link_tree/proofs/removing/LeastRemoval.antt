@@ -38,7 +38,7 @@ widen h h' xs ys link fell rest sub u = record {
 pub right_left : Right ≡ Left → ⊥
 right_left e = cc
 
--- what `settle` makes of each tree that the link leads to, hung under its parent
+-- the effect of `settle` on each tree of the link, hung under its parent
 abbrev pub Settles : (ℕ → ℕ → Bool) → (h h' : ℕ → Cell) → Side → ℕ → (link root : Option ℕ) → (fell_below fell : Bool)
     → Type 0
 Settles lt h h' side at link root fell_below fell =
@@ -90,7 +90,7 @@ module _ {lt : ℕ → ℕ → Bool} (strict : IsStrict lt) where
   pub apart_head : (n : ℕ) (ns : List ℕ) → is_sorted lt (n ∷ ns) ≡ true → is_in n ns ≡ false
   apart_head n ns o = not_right strict [] n ns (rises_split lt [] n ns o)
 
-  -- what is left of a tree without its first node has its other nodes
+  -- a tree without its first node has all its other nodes
   pub has_least : (h : ℕ → Cell) (n : ℕ) (t : Tree) → IsTree h (Some n) t
       → nodes_of t ≡ least_of n t ∷ nodes_of (without_least t).tree
   has_least h n leaf w = absurd (none_some n (sym w.root))

@@ -180,7 +180,7 @@ module _ {lt : ℕ → ℕ → Bool} (strict : IsStrict lt) where
 
 -- ---- colours
 
--- what is left of a tree with a black or a red root and this many black nodes on each path
+-- a tree after a removal, with a black or red root and this many black nodes on each path
 pub record IsRestEven (black : Bool) (rest : RemovedSubtree) (b : ℕ) : Type 0 where
   pub level : ℕ
   pub even : IsEven rest.tree level
@@ -319,7 +319,7 @@ shrunk_even lt x (fork red l n r) b e =
       ]
     ]
 
--- with its root made black, what is left is red-black again
+-- a tree after a removal is red-black again if its root is made black
 pub shrunk_red_black : (lt : ℕ → ℕ → Bool) (x : ℕ) (t : Tree) → IsRedBlack t
     → IsRedBlack (blackened (after_remove lt x t).tree)
 shrunk_red_black lt x t k =

@@ -180,7 +180,7 @@ module _ {lt : ℕ → ℕ → Bool} (strict : IsStrict lt) where
         fallen = ap (λ (r : RemovedSubtree). r.fell) (sym is_mended);
       }
 
-  -- what is left is hung under its parent: no more is to be done
+  -- the changed subtree is hung under its parent, and no repair is needed
   pub settle_done : (side : Side) (h h1 : ℕ → Cell) (n : ℕ) (near far : Tree) (link : Option ℕ) → IsTree h link near
       → IsTree h (child_of (opposite side) (h n)) far
       → is_sorted lt (nodes_of (joined_at side (h n).red near n far)) ≡ true → h1 ≡ with_child side h n link

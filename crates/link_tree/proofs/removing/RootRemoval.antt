@@ -1,4 +1,4 @@
--- How a removal takes the root of a tree, or a node below it, and makes the root of what is left black.
+-- A removal of the root, or of a node below it, and the blackening of the new root.
 use Rattle.std.proofs.Common.{◌≡◌, ℕ, ◌+◌, Bool, true, false, Option, Some, [], ◌∷◌, ◌++◌, nat_eq, refl, sym, ap, ◌∙◌}
 use Rattle.std.proofs.Common.{inl, inr, subst}
 use Rattle.std.proofs.lemmas.Bool.{eqb-false, ne_eqb, or_parts, cases_Bool}

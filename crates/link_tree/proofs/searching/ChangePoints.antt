@@ -1,4 +1,4 @@
--- What a search notes on its way down says where an insertion or a removal would begin.
+-- The state of a search at the end of its path tells where an insertion or a removal begins.
 use Rattle.std.proofs.Common.{◌≡◌, ℕ, Bool, true, false, not, Option, Some, None, nat_eq, refl, sym, ap, ◌∙◌, inl, inr}
 use Rattle.std.specs.Prelude.{IfSome, if◌then◌else◌}
 use Rattle.std.specs.Option.{option_or}
@@ -46,7 +46,7 @@ entry_noted before notes (fork red l n r) =
           ∙ entry_step notes red l n r l (insert_point_of before l) false)
     ]
 
--- what a search notes of an insertion is where it would begin
+-- the state of a search for an insertion is the point at which it begins
 pub way_in : {lt : ℕ → ℕ → Bool} {before : ℕ → Bool} → ((a b : ℕ) → lt a b ≡ true → before b ≡ true → before a ≡ true)
     → (notes : Passed) (t : Tree) → is_sorted lt (nodes_of t) ≡ true
     → notes ≡ noted passed before (record { node = None; above = None; entry = None }) t
@@ -61,7 +61,7 @@ way_in {before = before} agrees notes t o e =
 
 -- ---- where a removal begins
 
--- of the node that is found in a tree, or else of the last one that was found above it
+-- the exit of the node that was found in a tree, or of the last one that was found above it
 abbrev exit_with : (ℕ → ℕ → Bool) → Followed → Tree → Option ℕ → Option ℕ
 exit_with lt notes t None = notes.of_node
 exit_with lt notes t (Some x) =
@@ -121,14 +121,14 @@ module _ {lt : ℕ → ℕ → Bool} (strict : IsStrict lt) (before : ℕ → Bo
     exit_found t exit None e = tt
     exit_found t exit (Some x) e = e ∙ either_none (has_black_root t) (remove_point_of lt x t)
 
-    -- where none is found
+    -- the exit if no node is found
     exit_none : (t : Tree) (exit found : Option ℕ)
         → exit ≡ exit_with lt (record { node = None; above = None; exit = None; of_node = None }) t found
         → found ≡ None → exit ≡ None
     exit_none t exit None e none = e
     exit_none t exit (Some x) e none = absurd (none-some x (sym none))
 
-    -- what a search notes of a removal is where it would begin
+    -- the state of a search for a removal is the point at which it begins
     pub way_out : (notes : Followed) (t : Tree) → is_sorted lt (nodes_of t) ≡ true
         → notes ≡ noted followed before (record { node = None; above = None; exit = None; of_node = None }) t
         → (notes.node ≡ first_not_before before (nodes_of t))
@@ -144,7 +144,7 @@ module _ {lt : ℕ → ℕ → Bool} (strict : IsStrict lt) (before : ℕ → Bo
 
 -- ---- searches that are the same
 
--- what is asked of the nodes of the tree alone says where an insertion begins
+-- the entry of an insertion depends only on the nodes of the tree
 pub entry_same : (f g : ℕ → Bool) (t : Tree) → ((m : ℕ) → is_in m (nodes_of t) ≡ true → f m ≡ g m)
     → insert_point_of f t ≡ insert_point_of g t
 entry_same f g leaf same = refl

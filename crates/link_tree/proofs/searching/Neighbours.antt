@@ -15,7 +15,7 @@ use Rattle.link_tree.specs.Searching.{noted}
 use Rattle.link_tree.proofs.trees.OrderedLists.{all_at, all_from, rises_split}
 use Rattle.link_tree.proofs.trees.Linked.{none_some, some_same}
 
--- where all stand before the probe, none is found
+-- if all nodes precede the probe, none is found
 find_none : (before : ℕ → Bool) (ns : List ℕ) → list_all before ns ≡ true → first_not_before before ns ≡ None
 find_none before [] a = refl
 find_none before (n ∷ ns) a =
@@ -84,7 +84,7 @@ last_parts before xs n ys =
     ap (find before) (reverse-append xs (n ∷ ys) ∙ ap (λ zs. zs ++ reverse xs) (reverse-cons n ys)
     ∙ append_assoc (reverse ys) (n ∷ []) (reverse xs)) ∙ find-append before (reverse ys) (n ∷ reverse xs)
 
--- where none stands before the probe, none is found
+-- if no node precedes the probe, none is found
 last_none : (before : ℕ → Bool) (ns : List ℕ) → list_all (λ n. not (before n)) ns ≡ true → last_before before ns ≡ None
 last_none before [] a = refl
 last_none before (n ∷ ns) a =

@@ -15,7 +15,7 @@ abbrev pub onward : Bool → Side
 onward true = Right
 onward false = Left
 
--- what is left of the path, and what was noted so far, give what the whole tree gives
+-- the rest of the path, with the value folded so far, gives the value of the whole path
 pub record Seeking {K : Type 0} (pass : K → ℕ → Bool → Bool → K) (start : K) (lt : ℕ → ℕ → Bool) (h : ℕ → Cell)
     (before : ℕ → Bool) (whole : Tree) (link at : Option ℕ) (notes : K) (steps : ℕ) : Type 0 where
   pub tree : Tree
@@ -52,7 +52,7 @@ module _ {K : Type 0} {pass : K → ℕ → Bool → Bool → K} {start : K} {lt
     away = λ m e f. cc;
   }
 
-  -- what a search that has ended noted and took
+  -- the value and the steps of a search that has ended
   pub seek_end : (link at : Option ℕ) (notes : K) (steps : ℕ) → link ≡ None
       → Seeking pass start lt h before whole link at notes steps
       → (notes ≡ noted pass before start whole) × (steps ≡ path_length before whole)

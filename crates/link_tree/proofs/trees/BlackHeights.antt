@@ -16,7 +16,7 @@ pub record IsEven (t : Tree) (b : ℕ) : Type 0 where
 pub even_tree : (t : Tree) (k : IsRedBlack t) → IsEven t k.black.0
 even_tree t k = record { no_red_pair = k.no_red_pair; black = k.black.1 }
 
--- the same, but the root may be red over red children
+-- the same property for a tree whose root can be red over red children
 abbrev pub has_even_children : Tree → Bool
 has_even_children leaf = true
 has_even_children (fork red l n r) = has_no_red_pair l && has_no_red_pair r

@@ -72,7 +72,7 @@ bits_more (suc b) m h =
     let half : 2 ^ b ≤ m / 2 = omega arith in
     omega (arith, bits_more b (m / 2) half, length-digits_of_step 2 m (omega arith) (omega arith))
 
--- the height, two less than the law says
+-- the height is at most the law's bound less two
 pub height_bits : (t : Tree) → IsRedBlack t → height t + 2 ≤ 2 * bits (length (nodes_of t) + 1)
 height_bits t k =
     let b = k.black.0 in

@@ -1,14 +1,14 @@
--- Trees that links lead to: what one says of its root, and when it stays where it is.
+-- Trees behind links: a tree with a root has a cell and two subtrees, and a tree stays if the cells of its nodes stay.
 use Rattle.std.proofs.Common.{◌≡◌, ℕ, Bool, true, false, List, Option, Some, None, refl, sym, ap, ◌∙◌, subst}
 use Rattle.link_tree.specs.Tree.{Cell, Tree, leaf, fork, root_of, nodes_of, AreCellsOf, IsTree, IsSearchTree}
 use Rattle.link_tree.specs.Nodes.{is_in}
 use Rattle.link_tree.proofs.trees.OrderedLists.{in_left, in_right, in_middle}
 
--- two values that are there and equal are one
+-- the values of two equal options are equal
 pub some_same : (m n : ℕ) → Some m ≡ Some n → m ≡ n
 some_same m n e = cc
 
--- nothing is not something
+-- an option without a value differs from one with a value
 pub none_some : (n : ℕ) → None ≡ Some n → ⊥
 none_some n e = cc
 
@@ -42,7 +42,7 @@ pub close_tree : (h : ℕ → Cell) (n : ℕ) (red : Bool) (l r : Tree) (left ri
 close_tree h n red l r left right e wl wr =
     record { root = refl; holds = (e ∙ (rw (wl.root, wr.root) refl), wl.holds, wr.holds) }
 
--- no link leads to the empty tree
+-- the tree behind a null link is empty
 pub no_tree : (h : ℕ → Cell) (t : Tree) → IsTree h None t → t ≡ leaf
 no_tree h leaf w = refl
 no_tree h (fork red l m r) w = absurd (none_some m w.root)
@@ -53,7 +53,7 @@ root_in h n t w =
     let o = open_tree h n t w in
     subst (λ (u : Tree). is_in n (nodes_of u) ≡ true) (sym o.is) (in_middle (nodes_of o.left) n (nodes_of o.right))
 
--- a tree stays where no cell of its nodes changes
+-- a tree stays if no cell of its nodes changes
 pub holds_same : (h h' : ℕ → Cell) (t : Tree) → ((m : ℕ) → is_in m (nodes_of t) ≡ true → h' m ≡ h m) → AreCellsOf h t
     → AreCellsOf h' t
 holds_same h h' leaf same w = tt
@@ -63,12 +63,12 @@ holds_same h h' (fork red l n r) same w = (
   holds_same h h' r (λ m i. same m (in_right m (nodes_of l) n (nodes_of r) i)) w.2,
 )
 
--- a tree stays where the cells of its nodes do
+-- a link keeps its tree if no cell of the tree's nodes changes
 pub tree_same : (h h' : ℕ → Cell) (link : Option ℕ) (t : Tree) → ((m : ℕ) → is_in m (nodes_of t) ≡ true → h' m ≡ h m)
     → IsTree h link t → IsTree h' link t
 tree_same h h' link t same w = record { root = w.root; holds = holds_same h h' t same w.holds }
 
--- what a change made of a tree: an ordered red-black one of these nodes, where the cells of no others changed
+-- a change leaves an ordered red-black tree with the nodes `ns`, and changes only cells of the nodes `changed`
 pub record IsChanged (lt : ℕ → ℕ → Bool) (h h' : ℕ → Cell) (root : Option ℕ) (changed ns : List ℕ) : Type 0 where
   pub tree : (t : Tree) × IsSearchTree lt h' root t × (nodes_of t ≡ ns)
   pub frame : (m : ℕ) → is_in m changed ≡ false → h' m ≡ h m

@@ -1,4 +1,4 @@
--- What the laws of `Nodes` say of nodes at one moment.
+-- The laws of `Nodes` for one state of the nodes.
 use seplogic.Ra.Ura.{Ura}
 use mir.Syntax.{Dict}
 use prog.Model.{Model}

@@ -257,7 +257,7 @@ module _ {lt : ℕ → ℕ → Bool} (strict : IsStrict lt) where
         lower = subst (λ u. height p.near + 1 ≤ height u) (sym p.is) low;
       }
 
--- what a call makes of each ordered tree that the link leads to
+-- the effect of a call on each ordered tree of a link
 abbrev pub Makes : (ℕ → ℕ → Bool) → (h h' : ℕ → Cell) (link link' : Option ℕ) → (Tree → Tree) → Type 0
 Makes lt h h' link link' f =
     (t : Tree) → IsTree h link t → is_sorted lt (nodes_of t) ≡ true → BecomesTree h h' (nodes_of t) link' (f t)
@@ -290,7 +290,7 @@ pub nodes_of-turn : (side : Side) (c d c' d' : Bool) (a : Tree) (m : ℕ) (b : T
 nodes_of-turn Left c d c' d' a m b n far = sym (append_assoc (nodes_of a) (m ∷ nodes_of b) (n ∷ nodes_of far))
 nodes_of-turn Right c d c' d' a m b n far = append_assoc (nodes_of far) (n ∷ nodes_of b) (m ∷ nodes_of a)
 
--- what a rotation does to a tree seen from a side
+-- the effect of a rotation on a tree, seen from a side
 pub rotated-joined : (side : Side) (c d : Bool) (a : Tree) (m : ℕ) (b : Tree) (n : ℕ) (far : Tree)
     → rotated side (joined_at side c (joined_at side d a m b) n far) ≡ joined_at side d a m (joined_at side c b n far)
 rotated-joined Left c d a m b n far = refl

@@ -13,7 +13,7 @@ pub record IsStrict (lt : ℕ → ℕ → Bool) : Type 0 where
   pub transitive : (a b c : ℕ) → lt a b ≡ true → lt b c ≡ true → lt a c ≡ true
   pub irreflexive : (n : ℕ) → lt n n ≡ false
 
--- what holds of all holds of each
+-- a property of all nodes of a list holds for each
 pub all_at : (p : ℕ → Bool) (ns : List ℕ) (m : ℕ) → list_all p ns ≡ true → is_in m ns ≡ true → p m ≡ true
 all_at p [] m a i = absurd (false≢true i)
 all_at p (n ∷ ns) m a i =
@@ -23,7 +23,7 @@ all_at p (n ∷ ns) m a i =
       | inr j ↦ all_at p ns m parts.1 j
     ]
 
--- what holds of each node of a list passes its test
+-- a test that passes for each node of a list passes for the list
 pub all_from : (p : ℕ → Bool) (ns : List ℕ) → ((m : ℕ) → is_in m ns ≡ true → p m ≡ true) → list_all p ns ≡ true
 all_from p [] h = refl
 all_from p (n ∷ ns) h =
@@ -105,7 +105,7 @@ rises_split lt (x ∷ xs) n ys h =
     }
 
 module _ (lt : ℕ → ℕ → Bool) (transitive : (a b c : ℕ) → lt a b ≡ true → lt b c ≡ true → lt a c ≡ true) where
-  -- what is above a node is above each node before it
+  -- a node after another is after each node before the other
   pub above_more : (x n : ℕ) (ys : List ℕ) → lt x n ≡ true → list_all (lt n) ys ≡ true → list_all (lt x) ys ≡ true
   above_more x n ys xn a = all_from (lt x) ys (λ m i. transitive x n m xn (all_at (lt n) ys m a i))
 

@@ -22,7 +22,7 @@ pub record AreAhead (lt : ℕ → ℕ → Bool) (h : ℕ → Cell) (n levels : �
       → ((m : ℕ) → is_in m (nodes_of left) ≡ false → at_node ≢ Some m → later ≢ Some m)
       → IsAhead lt h (h n).right (levels - 1) later right
 
--- what is ahead of a walk at a node are the nodes from it on
+-- the nodes ahead of a walk at a node are the nodes from this one on
 pub ahead_at : {lt : ℕ → ℕ → Bool} → IsStrict lt → (h : ℕ → Cell) (n levels : ℕ) (link here : Option ℕ) (t : Tree)
     → link ≡ Some n → IsAhead lt h link levels here t → AreAhead lt h n levels here (nodes_of t)
 ahead_at {lt = lt} strict h n levels link here t e a =

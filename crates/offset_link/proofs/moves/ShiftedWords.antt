@@ -20,7 +20,7 @@ use Rattle.offset_link.specs.Relinked.{word_by_distance, word_by_target, relinke
 use Rattle.offset_link.specs.Relinked.{AllLinksLead, BothEven, AreValidLinks, KeepTargets, HasNoNullLink}
 use Rattle.offset_link.proofs.link.Targets.{link_word-fits, null_word, target_of-link_word}
 
--- ---- words of which each becomes what f says
+-- ---- words that f computes from the old words
 module _ (f : ℕ → ℕ → ℕ → ℕ) where
   abbrev one : Memory → ℕ → ℕ → List ℕ
   one m at to = word_bytes (f at to (word_at m at))
@@ -57,7 +57,7 @@ module _ (f : ℕ → ℕ → ℕ → ℕ) where
       ∙ ap₂ (λ (a u : ℕ). L ++ (R ++ reworded f m a u n)) e t
       ∙ ap (λ (l : List ℕ). L ++ l) (reworded-append m (at + 8) (to + 8) r n) ∙ ap (λ (k : ℕ). reworded f m at to k) g
 
-  -- the same words become the same
+  -- equal words give equal results
   pub reworded-same : (m m' : Memory) (at to n : ℕ)
       → ((a : ℕ) → at ≤ a → a + 8 ≤ at + 8 * n → word_at m' a ≡ word_at m a)
       → reworded f m' at to n ≡ reworded f m at to n
@@ -84,7 +84,7 @@ module _ (f : ℕ → ℕ → ℕ → ℕ) where
     abbrev T : List ℕ
     T = reworded f (bytes_of b) source to n
 
-    -- words before those that moved towards the end are as they were
+    -- the words before the words that moved towards the end are unchanged
     pub words-before : (from r : ℕ) → from + 8 * r ≤ to → (a : ℕ) → from ≤ a → a + 8 ≤ from + 8 * r
         → word_at (bytes_of cur) a ≡ word_at (bytes_of b) a
     words-before from r below a low high =
@@ -103,7 +103,7 @@ module _ (f : ℕ → ℕ → ℕ → ℕ) where
     abbrev m : Memory
     m = bytes_of b
 
-    -- the word before those that moved towards the end
+    -- the word before the words that moved towards the end
     pub one_before : (from to n : ℕ) → to + 8 + 8 * n ≤ length b → from ≤ to
         → cur ≡ patched b (to + 8) (reworded f m (from + 8) (to + 8) n)
         → new ≡ patched cur to (one (bytes_of cur) from to) → new ≡ patched b to (reworded f m from to (suc n))
@@ -117,7 +117,7 @@ module _ (f : ℕ → ℕ → ℕ → ℕ) where
         ∙ ap (λ (k : ℕ). patched (patched b k T) to L) start
         ∙ patched-prepend b to L T (omega (arith, within, long, eight))
 
-    -- the word after those that moved towards the start
+    -- the word after the words that moved towards the start
     pub one_after : (from to n : ℕ) → from + 8 * n + 8 ≤ length b → to ≤ from
         → cur ≡ patched b to (reworded f m from to n)
         → new ≡ patched cur (to + 8 * n) (one (bytes_of cur) (from + 8 * n) (to + 8 * n))
@@ -135,7 +135,7 @@ module _ (f : ℕ → ℕ → ℕ → ℕ) where
         ∙ patched-append b to T L (omega (arith, within, above, long, eight))
         ∙ ap (λ (l : List ℕ). patched b to l) (reworded-last m from to n)
 
-    -- a run of words before those that moved towards the end
+    -- a run of words before the words that moved towards the end
     pub run_before : (from to r n : ℕ) → to + 8 * r + 8 * n ≤ length b → from ≤ to
         → cur ≡ patched b (to + 8 * r) (reworded f m (from + 8 * r) (to + 8 * r) n)
         → new ≡ patched cur to (reworded f (bytes_of cur) from to r) → new ≡ patched b to (reworded f m from to (r + n))
@@ -151,7 +151,7 @@ module _ (f : ℕ → ℕ → ℕ → ℕ) where
         ∙ patched-prepend b to L T (omega (arith, within, long, front))
         ∙ ap (λ (l : List ℕ). patched b to l) (reworded-append m from to r n)
 
-    -- a run of words after those that moved towards the start
+    -- a run of words after the words that moved towards the start
     pub run_after : (from to n r : ℕ) → from + 8 * n + 8 * r ≤ length b → to ≤ from
         → cur ≡ patched b to (reworded f m from to n)
         → new ≡ patched cur (to + 8 * n) (reworded f (bytes_of cur) (from + 8 * n) (to + 8 * n) r)
@@ -235,7 +235,7 @@ even_leads at w even null = by_word (w == 1) refl
 plain_even : (at to w : ℕ) → at < 2 ^ 64 → to < 2 ^ 64 → at % 8 ≡ to % 8 → word_by_distance at to w % 2 ≡ 0 → w % 2 ≡ 0
 plain_even at to w small here places even = omega (arith, small, here, places, even)
 
--- the bits of four words joined to those of one before
+-- the bits of four words, joined to the bits of one before
 five_even : (s a c e g : ℕ) → bit_or (bit_or (bit_or (bit_or s a) c) e) g % 2 ≡ 0
     → (s % 2 ≡ 0) × ((a % 2 ≡ 0) × ((c % 2 ≡ 0) × ((e % 2 ≡ 0) × (g % 2 ≡ 0))))
 five_even s a c e g even =
@@ -314,7 +314,7 @@ non_null-join m at r n front back = record { each = λ k h. by_place k h (cases_
         let e : at + 8 * k ≡ at + 8 * r + 8 * (k - r) = omega arith in
         λ null. back.each (k - r) (omega arith) (subst (λ (a : ℕ). link_at m a ≡ None) e null)
 
--- ---- links that move by the distance, and those of them that lead nowhere put right
+-- ---- links that move by the distance, and the repair of null links
 word_fits : (m : Memory) (at : ℕ) → ((k : ℕ) → m k < 256) → word_at m at < 2 ^ 64
 unfolding word_at
 word_fits m at small =
@@ -396,7 +396,7 @@ right_words gone m m' at to (suc n) small here e fits moved =
     (λ k h. ap (λ (i : ℕ). word_at m' i) (sym (further to k)) ∙ moved (suc k) (omega (arith, h))
     ∙ ap₂ (λ (i j : ℕ). word_by_distance i j (word_at m i)) (further at k) (further to k)))
 
--- what is written over what was written before
+-- a write over a former write
 patched-again : (b ws ts : List ℕ) (from : ℕ) → from + length ts ≤ length b → length ws ≡ length ts
     → patched (patched b from ws) from ts ≡ patched b from ts
 patched-again b ws ts from within long =

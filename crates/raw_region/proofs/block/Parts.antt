@@ -1,4 +1,4 @@
--- A part of bytes that lie in memory: it is seen, taken out, and put back with other bytes in it. Assumes `Logic`.
+-- A part of bytes in memory: it is read, split off, and joined again with other bytes in it. Assumes `Logic`.
 use Rattle.std.proofs.Common.{◌≡◌, ℕ, zero, suc, ◌+◌, ◌-◌, ◌≤◌, inl, inr, List, [], ◌∷◌, ◌++◌, length, take, refl, sym}
 use Rattle.std.proofs.Common.{ap, subst, ◌∙◌, arith, take-append-drop, length-take, length-drop, append_assoc}
 use lib.ListN.{drop}
@@ -64,7 +64,7 @@ module _ {M : Type 1} {𝓤 : Ura M} (𝓛 : Logic 𝓤) (b : ℕ) where
         ∙ ap (λ (l : List ℕ). take from xs ++ l) (sym (take-append-drop len (drop from xs))
         ∙ ap (λ (l : List ℕ). part xs from len ++ l) (drop-drop len from xs))
 
-    -- a part of the bytes is taken out, and what is around it stays
+    -- a part of the bytes is split off, and the bytes around it stay
     pub part_out : ent 𝓤 (sem 𝓛 (Bytes xs o))
         (sep 𝓤 (sem 𝓛 (Bytes (part xs from len) (from + o))) (sem 𝓛 (Around xs o from len)))
     part_out =
@@ -101,9 +101,9 @@ module _ {M : Type 1} {𝓤 : Ura M} (𝓛 : Logic 𝓤) (b : ℕ) where
         (bytes_glue 𝓛 full_share (take from xs) (ws ++ drop (from + len) xs) b o) $
         rewrite ! 0 (λ (l : List ℕ). ‵ (Bytes l o)) whole refl $ done !
 
--- two parts that have no byte in common are taken out together, and put back
+-- two disjoint parts are split off together, and joined again
 module _ {M : Type 1} {𝓤 : Ura M} (𝓛 : Logic 𝓤) (b o : ℕ) (xs : List ℕ) (from len from' len' : ℕ) where
-  -- two parts of the bytes, taken out together: what is left, and how both are put back
+  -- two parts of the bytes, split off together: the remaining bytes, and the way to join all again
   pub record Parted : Type 1 where
     pub rest : Fml
     pub out : ent 𝓤 (sem 𝓛 (Bytes 𝓛 b xs o))
@@ -161,7 +161,7 @@ module _ {M : Type 1} {𝓤 : Ura M} (𝓛 : Logic 𝓤) (b o : ℕ) (xs : List 
         move ! (1 ∷ 0 ∷ []) $ by ! (part_in 𝓛 b one o from' len' one_fits ws' e');
   }
 
--- an empty part is nothing, and the other is taken out alone
+-- an empty part owns nothing, and the other part is split off alone
 module _ {M : Type 1} {𝓤 : Ura M} (𝓛 : Logic 𝓤) (b o : ℕ) (xs : List ℕ) (from from' len' : ℕ) (within : from
     ≤ length xs) (within' : from' + len' ≤ length xs) where
   same : (ws : List ℕ) → length ws ≡ 0 → patched xs from ws ≡ xs
@@ -182,7 +182,7 @@ module _ {M : Type 1} {𝓤 : Ura M} (𝓛 : Logic 𝓤) (b o : ℕ) (xs : List 
         rewrite ! 0 (λ (l : List ℕ). ‵ (Bytes 𝓛 b (patched l from' ws') o)) (sym (same ws e)) refl $ done !;
   }
 
--- the same two parts in the other order
+-- the two parts in the other order
 module _ {M : Type 1} {𝓤 : Ura M} (𝓛 : Logic 𝓤) (b o : ℕ) (xs : List ℕ) (from len from' len' : ℕ)
     (within : from + len ≤ length xs) (within' : from' + len' ≤ length xs) where
   pub turned : AreDisjoint from len from' len' → Parted 𝓛 b o xs from' len' from len
@@ -205,7 +205,7 @@ module _ {M : Type 1} {𝓤 : Ura M} (𝓛 : Logic 𝓤) (b o : ℕ) (xs : List 
         (λ (l : List ℕ). ‵ (Bytes 𝓛 b l o)) same refl $ done !;
   }
 
-  -- two disjoint parts can be taken out together
+  -- two disjoint parts can be split off together
   pub parted : AreDisjoint from len from' len' → Parted 𝓛 b o xs from len from' len'
   parted (inl h) = subst (λ (n : ℕ).
       Parted 𝓛 b o xs from n from' len') (sym h) (beside_none 𝓛 b o xs from from' len' (omega arith) within')

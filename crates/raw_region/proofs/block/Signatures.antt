@@ -17,7 +17,7 @@ slot_at (suc k) (s ∷ ss) = slot_at k ss
 module _ {M : Type 1} {𝓤 : Ura M} (𝓛 : Logic 𝓤) where
   open 𝓛 use {H}
 
-  -- what follows an arm, and what follows a block
+  -- the continuation of an arm, and of a block
   abbrev pub then_runs : Calls 𝓤 H → Loops 𝓤 H → Env 𝓤 H → Body → Post 𝓤 H → Post 𝓤 H
   then_runs C Λ En rest q = any_q (after_seq 𝓤 H (Wp 𝓤 H C Λ En rest (post 𝓤 H q)) (post 𝓤 H q))
 

@@ -14,7 +14,7 @@ use Rattle.byteorder.specs.Numbers.{length-bytes_low_first}
 use Rattle.raw_region.specs.Memory.{part, patched, read, bytes_of, word_at, word_bytes, whole, cut_at}
 use Rattle.raw_region.specs.Regions.{with_bytes, AreDisjoint}
 
--- a part is as long as was asked for
+-- a part has the requested length
 pub length-part : (b : List ℕ) (from len : ℕ) → from + len ≤ length b → length (part b from len) ≡ len
 length-part b from len within = omega (arith, length-take len (drop from b), length-drop from b)
 
@@ -64,7 +64,7 @@ pub same_bytes : (xs ys : List ℕ) → length xs ≡ length ys
     → ((k : ℕ) → k < length xs → slice_index xs k ≡ slice_index ys k) → xs ≡ ys
 same_bytes xs ys e h = ext_get_or 0 xs ys e h
 
--- what a loan of a part leaves, where as many bytes are written as were lent
+-- after a loan of a part, if as many bytes are written as were lent
 pub refill-all : (n : ℕ) (xs ws : List ℕ) → length ws ≡ n → refill n xs ws ≡ ws
 refill-all n xs ws e = take_front ws (drop (length ws) xs) n e
 
@@ -114,7 +114,7 @@ module _ (b : List ℕ) (from : ℕ) (ws : List ℕ) (within : from + length ws 
       take-append-le m (take from b ++ ws) (drop (from + length ws) b) (omega (arith, long_rewritten))
       ∙ take-append-le m (take from b) ws (omega (arith, length-take from b)) ∙ take-take m from b h
 
-  -- what is after a patch stays
+  -- the bytes after a patch stay
   pub drop-patched : (m : ℕ) → from + length ws ≤ m → drop m (patched b from ws) ≡ drop m b
   drop-patched m h =
       let n = from + length ws in let e : m ≡ n + (m - n) = omega arith in
@@ -131,7 +131,7 @@ module _ (b : List ℕ) (from : ℕ) (ws : List ℕ) (within : from + length ws 
       ∙ ap (λ (l : List ℕ). P ++ l) (sym (drop-take n j b) ∙ ap (λ (k : ℕ). drop n (take k b)) e')
       ∙ ap (λ (l : List ℕ). (l ++ ws) ++ drop n (take m b)) (sym (take-take from m b (omega arith)))
 
--- the same bytes after the first ones
+-- the same bytes, at a distance from the base
 pub behind-patched : (b : List ℕ) (base from : ℕ) (ws : List ℕ) → base + from + length ws ≤ length b
     → drop base (patched b (base + from) ws) ≡ patched (drop base b) from ws
 behind-patched b base from ws within =
@@ -253,7 +253,7 @@ module _ (b : List ℕ) (from : ℕ) (ws : List ℕ) (within : from + length ws 
   commutes-at apart k (before h) = not_first k (inl h) (place_of k from' (length ws'))
   commutes-at apart k (after h) = not_first k (inr h) (place_of k from' (length ws'))
 
-  -- it is the same which of the two is written first
+  -- two disjoint patches can be written in either order
   pub patched-commutes : AreDisjoint from (length ws) from' (length ws')
       → patched (patched b from ws) from' ws' ≡ patched (patched b from' ws') from ws
   patched-commutes apart =

@@ -29,7 +29,7 @@ module _ (region : List ℕ) (base size : ℕ) (w : WindowState) (view_is : cut_
   pub is_whole : region ≡ whole w
   is_whole = sym (whole-cut_at region base size) ∙ ap whole view_is
 
-  -- the same from its base on, up to another end
+  -- the window with its old base and another end
   base_is : length w.before ≡ base
   base_is = let inside = window.inside
       in ap (λ (c : WindowState). length c.before) (sym view_is) ∙ omega (arith, length-take base region)

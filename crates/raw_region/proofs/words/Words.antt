@@ -148,7 +148,7 @@ module _ (b : List ℕ) (from : ℕ) (ws : List ℕ) (within : from + length ws 
       (drop_at (take from b) (ws ++ D) from (omega (arith, length-take from b)))
       ∙ take_front ws D (length ws) refl
 
-  -- the bytes that were written stand there
+  -- memory has the bytes that were written
   pub patched-HasBytesAt : HasBytesAt (bytes_of (patched b from ws)) from ws
   patched-HasBytesAt = read-part (patched b from ws) from (length ws) (omega (
     arith,

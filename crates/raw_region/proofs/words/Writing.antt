@@ -1,4 +1,4 @@
--- Texts that are written piece by piece: all of what was written, or a front of it, is the same of the whole text.
+-- Texts written piece by piece: if all pieces are written, the whole text is; otherwise a front of it is.
 use Rattle.std.proofs.Common.{◌≡◌, ℕ, ◌+◌, ◌≤◌, ◌<◌, List, [], ◌∷◌, ◌++◌, length, take, drop, get_or, zero, suc, refl}
 use Rattle.std.proofs.Common.{arith, sym, ap, subst, ◌∙◌, append_assoc, length-append}
 use Rattle.std.specs.Prelude.{Result, Ok, Err}
@@ -21,7 +21,7 @@ front_of_longer old new a b h =
       added = h.added ∙ ap (λ l. old ++ l) (sym (take-append-le n a b fits));
     }
 
--- a front of a text that is written after another is a front of both
+-- a front of a text that is written after another text is a front of the two together
 front_behind : (old mid new a b : List ℕ) → mid ≡ old ++ a → AppendsProperPrefix mid new b
     → AppendsProperPrefix old new (a ++ b)
 front_behind old mid new a b e h =
@@ -32,7 +32,7 @@ front_behind old mid new a b e h =
           ∙ ap (λ l. old ++ l) (sym (take-append-add a b h.count));
     }
 
--- a text that is written after another
+-- if a text is written whole, a write after it is a write of both texts
 pub writes-behind : {A E : Type 0} (old mid new : WriterHistory) (result : Result A E) (a b : List ℕ)
     → mid.bytes ≡ old.bytes ++ a → mid.failures ≡ old.failures
     → Writes mid new result b → Writes old new result (a ++ b)
@@ -54,7 +54,7 @@ pub writes-then : {A B E F : Type 0} (old mid new : WriterHistory) (x : A) (resu
 writes-then old mid new x result a b first more =
     writes-behind old mid new result a b first.ok (omega (arith, first.counted)) more
 
--- a text that is cut is so whatever was to be written after it
+-- a text that was cut is also cut if more was to follow
 pub writes-cut : {A B E F : Type 0} (old new : WriterHistory) (x : E) (result : Result B F) (a b : List ℕ)
     → IsErr result → Writes {A = A} old new (Err x) a → Writes old new result (a ++ b)
 writes-cut old new x (Ok y) a b h w = absurd (cc h)
@@ -78,7 +78,7 @@ element_at f xs i x h k =
     sym (ap (flat_map f) (take-append-drop i xs)) ∙ flat_map-append f (take i xs) (drop i xs)
     ∙ ap (λ l. flat_map f (take i xs) ++ flat_map f l) here
 
--- the text of an element is cut, after those of the elements before it
+-- the text of an element was cut, after the texts of all elements before it were written
 pub writes-element : {A B E F X : Type 0} (f : X
     → List ℕ) (xs : List X) (i : ℕ) (d : X) (old mid new : WriterHistory) (x : E) (result : Result B F) → i < length xs
     → mid.bytes ≡ old.bytes ++ flat_map f (take i xs) → mid.failures ≡ old.failures → IsErr result

@@ -93,7 +93,7 @@ removed {a} {b} {block = block} {here} {count = count} {hs = hs} p w long within
     counted (remove hs here) p w one (omega arith) links (omega arith)
     (remove_all (λ k. k % 16 ≡ 0) hs here (omega arith) p.index.whole) e two word (omega arith)
 
--- what stays beside the block and the words
+-- all but the block and the words stays
 pub block_and_count : {a b c : WindowState} {at block n place : ℕ} {t : BackingArray} {hs : List ℕ}
     → Placed a at t hs block
     → InHeader at → (k : ℕ) → ChangesBytes current a b (block + k) n → k + n ≤ 8 * t.capacity → place ≡ at
@@ -123,7 +123,7 @@ block_room c h places f =
     let n = 8 * places in let x = f.extent in let two = and_parts (same_role x.role IndexRole) (holds x n) f.fits in
     found-room (live_of c.bytes) h n x f.found (leb-true (n + 16) x.len two.1)
 
--- the block of an index stands at a multiple of 16
+-- the block of an index begins at a multiple of 16
 pub block_whole : {c : WindowState} {h places : ℕ} → IsHeap current c.bytes → IsBlockFor c h places → h % 16 ≡ 0
 block_whole {c} {h} {places} heap f =
     block_aligned c h (room_block c h (8 * places) heap (block_room c h places f)).block
@@ -164,7 +164,7 @@ headed {a} {b} {c} {d} {place} {at} {count} {capacity} {to} e one leads two is t
     } in
     subst (λ k. Headed a d k to count capacity) e all
 
--- the words lead to a block whose first links are set
+-- the words link to a block whose first links are set
 pub settled : {a d : WindowState} {at block count capacity : ℕ} (hs : List ℕ)
     → Headed a d at (Some block) count capacity → InHeader at → IsHeap current a.bytes
     → (f : IsBlockFor a block capacity) → count ≤ capacity → 0 < capacity → AreLinksTo (bytes_of a.bytes) block hs
@@ -197,21 +197,21 @@ pub index_in : (b d e : WindowState) (h : ℕ) {at k places : ℕ} {hs : List �
 index_in b d e h {at} {places = places} {hs} same is i = subst (λ (l : LiveSet). IsIndexOf e at
     (record { capacity = places; extent = extent_at l h }) hs) same (subst (λ n. InstallsBlock d e at h n hs) is i)
 
--- what is known of the block that they led to before
+-- the block to which the link led before
 pub gone : (c : WindowState) {link : Option ℕ} {block : ℕ} (old : ℕ) → link ≡ Some old
     → IfSome link (λ h. IsTrue (is_live_in (live_of c.bytes) h) × (h ≡ block → ⊥))
     → IsTrue (is_live_in (live_of c.bytes) old) × (old ≡ block → ⊥)
 gone c {block = block} old e known = subst (λ (o : Option ℕ).
     IfSome o (λ h. IsTrue (is_live_in (live_of c.bytes) h) × (h ≡ block → ⊥))) e known
 
--- it is released
+-- the old block is freed
 pub settled_released : {a d e : WindowState} {at block old count capacity : ℕ} {t : BackingArray} {hs : List ℕ}
     → Headed a d at (Some block) count capacity → InHeader at → Deallocates current d e old → (old ≡ block → ⊥)
     → IsIndexOf d at t hs → IsIndexOf e at t hs
 settled_released {block = block} {old = old} h w r other i =
     still_released w r (λ q. other (same_Some old block (sym q ∙ h.link))) i
 
--- ---- what stays
+-- ---- the parts that stay
 
 -- the words written and the old block deallocated: the others stay
 pub headed_released_keeps : {a d e : WindowState} {at count capacity : ℕ} {to : Option ℕ} (h : ℕ)
@@ -222,9 +222,9 @@ headed_released_keeps {a} {d} {e} {at} h w r in_header =
     (subst (λ (l : LiveSet). KeepsOutsideIndex d e at (others h l.extents)) (same_live w.change)
     (rest_of r.keeps in_header))
 
--- ---- an index and a block to which it may go, which is not its own
+-- ---- an index and a new block for it, which is not its own
 
--- its links stand from a place on, in its block; without a block there are none, and they stand anywhere
+-- the index's links are in its block, from a place on; without a block there are none, at any place
 pub record Move : Type 0 where
   pub at : ℕ
   pub block : ℕ
@@ -264,7 +264,7 @@ offer {c} w e f begins block apart i =
       apart = λ q. apart (leads ∙ q);
     }
 
--- such is a block that was taken
+-- a block that was allocated is such a block
 pub taken_offer : {a b : WindowState} {at n k h from place : ℕ} {link : Option ℕ} {t : BackingArray} {hs : List ℕ}
     → InHeader at → AllocatesOk current a b k IndexRole h → k ≡ min (n * 8) (2 ^ 64 - 1)
     → place ≡ at → link ≡ link_at (bytes_of b.bytes) place → from ≡ unwrap_or link h → IsIndexOf a at t hs
@@ -274,7 +274,7 @@ taken_offer {a} {b} {at} {n} {k} {h} {t = t} {hs} w al much e f begins i =
     offer w e f begins (taken_block a b k n h al (meant n i.heap al much))
     (λ q. not_its_own a b at k IndexRole h t hs i al (same ∙ q)) j
 
--- what is known of the place from which the links are moved, and of the block that is left
+-- the place from which the links are moved, and the old block
 pub record Source (c : WindowState) (m : Move) (link : Option ℕ) : Type 0 where
   pub links : AreLinksTo (bytes_of c.bytes) m.from m.handles
   pub room : (n : ℕ) → n ≤ 8 * length m.handles → IsTrue (has_room (live_of c.bytes) m.from n)
@@ -300,7 +300,7 @@ source {c} {m} o = subst (λ (p : Option ℕ). Source c m p) (sym o.leads) (by_c
           left = (found_live b (live_of c.bytes).extents p.extent p.found, λ q. apart (ap (λ k. Some k) q));
         }
 
--- where the block is written it is still offered
+-- after the block is written it is still offered
 pub written : {a b : WindowState} {m : Move} {n : ℕ}
     → Offer a m → ChangesBytes current a b (m.block + 0) n → n ≤ 8 * m.places → Offer b m
 written {m = m} {n} o c few =
@@ -314,14 +314,14 @@ written {m = m} {n} o c few =
       apart = o.apart;
     }
 
--- where links are moved to the block, they lead to the same handles
+-- links that are moved to the block lead to the same handles
 pub moved : {m m' : Memory} {n : ℕ} (from to : ℕ) (hs : List ℕ) → AreLinksTo m from hs → n ≡ length hs
     → KeepTargets m m' (from + 0) (to + 0) n → AreLinksTo m' to hs
 moved {m} {m'} from to hs a long lead = links_moved m m' from to hs a (λ k l.
     let p : to + 8 * k ≡ to + 0 + 8 * k = omega arith in let q : from + 0 + 8 * k ≡ from + 8 * k = omega arith in
     ap (λ j. link_at m' j) p ∙ lead.each k (omega arith) ∙ ap (λ j. link_at m j) q)
 
--- and where they are moved round a new one
+-- and the links are moved around a new one
 pub filled : {A : Memory} {b d : WindowState} {place count n h : ℕ} (from to : ℕ) (hs : List ℕ) → AreLinksTo A from hs
     → AreLinksTo (bytes_of b.bytes) from hs → count ≡ length hs → place ≤ count
     → KeepTargets A (bytes_of b.bytes) (from + 0) (to + 0) place → ChangesBytes current b d (to + 8 * place) n
@@ -343,7 +343,7 @@ pub written_both : {a b d : WindowState} {place count : ℕ} (h : ℕ) → Chang
 written_both {count = count} h one two l =
     changed_trans (h + 0) (8 * count + 8) one two (omega arith) (omega arith) (omega arith) (omega arith)
 
--- ---- what stays then
+-- ---- the parts that stay after that
 
 -- the blocks but two: one is written, and then the index leaves the other
 pub written_keeps : {a d e : WindowState} {m : Move} {n : ℕ} → Offer a m → ChangesBytes current a d (m.block + 0) n
@@ -359,7 +359,7 @@ written_keeps {a} {d} {e} {m} {n} o c few k =
     (rest_without less to (keeps_written m.block 0 c (target (0 + n) o (omega arith)) o.header)) in
     rest_trans first (rest_others m.block (subst (λ (s : LiveSet). KeepsOutsideIndex d e m.at s.extents) alike k))
 
--- the one that is written was taken before
+-- the block that is written was allocated before
 pub taken_keeps : {a b e : WindowState} {at n h : ℕ} {role : Role} → InHeader at → AllocatesOk current a b n role h
     → link_at (bytes_of b.bytes) at ≡ link_at (bytes_of a.bytes) at
     → KeepsOutsideIndex b e at (others h (without_index_block b at).extents)
@@ -370,7 +370,7 @@ taken_keeps {a} {b} {e} {at} {h = h} w i same k =
     (others_without h (live_of b.bytes) l (link_at (bytes_of b.bytes) at) (taken_others i)
     ∙ ap (λ (o : Option ℕ). (without_link l o).extents) same) k)
 
--- ---- what a table is cut to
+-- ---- the table after a cut
 
 cut_none : (l : LiveSet) (n : ℕ) (t : BackingArray) → n ≡ 0 → shrunk_backing l 8 n t ≡ no_backing
 unfolding shrunk_backing
@@ -423,7 +423,7 @@ empty_index hs w zero whole = record {
   whole = whole;
 }
 
--- the words of an index are made those of an empty one
+-- the words of an index are set to an empty one
 pub emptied : {a b c : WindowState} {place at n : ℕ} → place ≡ at → ChangesBytes current a b (place + 16) 8
     → word_at (bytes_of b.bytes) (place + 16) ≡ n → ChangesBytes current b c place 8
     → link_at (bytes_of c.bytes) place ≡ None → n ≡ word_at (bytes_of a.bytes) (at + 8) → n ≡ 0 → Headed a c at None 0 0
@@ -478,7 +478,7 @@ resized_here {b} {e} {l} {x} {block} {n} live found s =
     subst (λ (k : LiveSet). ResizesBlock current b e x (shorter k x n)) live
     (subst (λ (y : Extent). ResizesBlock current b e y (shorter (live_of b.bytes) y n)) same s.shortened)
 
--- what the shorter block is
+-- the shorter block
 record Short (x y : Extent) (n : ℕ) : Type 0 where
   pub begins : handle y ≡ handle x
   pub less : y.len ≤ x.len
@@ -499,7 +499,7 @@ short l x cap n few fits =
           IsTrue (same_role r IndexRole)) (sym (ap (λ (z : Extent). z.role) is.same)) two.0) held;
     }
 
--- it is found where the longer one was
+-- the shorter block is found where the longer one was
 found_cut : (l : LiveSet) (x y : Extent) → Rising 128 l.extents → extent_at l (handle x) ≡ Some x → handle y ≡ handle x
     → extent_at (resized l y) (handle y) ≡ Some y
 found_cut l x y rises found begins =

@@ -25,7 +25,7 @@ use Rattle.best_fit.proofs.Laws.{changed-room}
 abbrev pub first : ℕ → List Extent → Option Extent
 first h xs = find (λ (y : Extent). handle y == h) xs
 
--- what holds of all extents holds of the one that is found
+-- a property of all extents holds for the one that is found
 pub all_found : (P : Extent → Type 0) (h : ℕ) (xs : List Extent) (x : Extent) → AllByRecursion P xs
     → first h xs ≡ Some x → P x
 all_found P h [] x a e = absurd (none-some x e)
@@ -48,7 +48,7 @@ pub found_handle : (c : WindowState) (h : ℕ) (x : Extent)
     → IsHeap current c.bytes → extent_at (live_of c.bytes) h ≡ Some x → handle x ≡ h
 found_handle c h x heap e = let l = live_of c.bytes in (among 128 h x l.extents (live-rises l heap.proper) e).at
 
--- a block lies after the header, and after it are 16 bytes more
+-- a block is after the header, and at least 16 bytes follow it
 pub record Inside (c : WindowState) (h n : ℕ) : Type 0 where
   pub low : 144 ≤ h
   pub ends : h + n + 16 ≤ length c.bytes
@@ -129,7 +129,7 @@ links_lead {m} block i n hs a whole within = record {
 
 -- ---- one more, and one less
 
--- what holds of each element at its place, where one more is put in
+-- a property of each element at its place, after one is inserted
 insert_each : (P : ℕ → ℕ → Type 0) (hs : List ℕ) (i h : ℕ) → i ≤ length hs → ((k : ℕ) → k < i → P k (get_or hs k 0))
     → P i h → ((k : ℕ) → i ≤ k → k < length hs → P (k + 1) (get_or hs k 0))
     → (k : ℕ) → k < length (insert hs i h) → P k (get_or (insert hs i h) k 0)
@@ -146,7 +146,7 @@ insert_each P hs i h within low here high k l = elim (cases_lt k i) [
   ]
 ]
 
--- what holds of all entries and of one more holds with it put in
+-- a property of all entries and of a new one holds after it is inserted
 pub insert_all : (P : ℕ → Type 0) (hs : List ℕ) (i h : ℕ) → i ≤ length hs → AllByRecursion P hs → P h
     → AllByRecursion P (insert hs i h)
 insert_all P hs i h within a p =
@@ -165,7 +165,7 @@ insert_links {m} {m'} from to i h hs a within low here tail =
     let q : from + 8 * i + 8 * (k - i) ≡ from + 8 * k = omega arith in
     ap (λ j. link_at m' j) p ∙ tail.each (k - i) (omega arith) ∙ ap (λ j. link_at m j) q ∙ entry_here m from hs k a l))
 
--- what holds of each element at its place, where one is taken out
+-- a property of each element at its place, after one is removed
 remove_each : (P : ℕ → ℕ → Type 0) (hs : List ℕ) (i : ℕ) → i < length hs → ((k : ℕ) → k < i → P k (get_or hs k 0))
     → ((k : ℕ) → i ≤ k → k + 1 < length hs → P k (get_or hs (k + 1) 0))
     → (k : ℕ) → k < length (remove hs i) → P k (get_or (remove hs i) k 0)
@@ -176,7 +176,7 @@ remove_each P hs i within low high k l = elim (cases_lt k i) [
       subst (P k) (sym (get_or-remove_above hs i 0 k behind within)) (high k behind (omega arith))
 ]
 
--- what holds of all entries holds without one
+-- a property of all entries holds after one is removed
 pub remove_all : (P : ℕ → Type 0) (hs : List ℕ) (i : ℕ) → i < length hs → AllByRecursion P hs
     → AllByRecursion P (remove hs i)
 remove_all P hs i within a =
@@ -202,7 +202,7 @@ pub place_small : (i : Index) → place_of i + 24 ≤ 128
 place_small Named = omega arith
 place_small Unique = omega arith
 
--- the words of an index lie after those of the heap
+-- the words of an index lie after the heap's word
 pub place_behind : (i : Index) → 32 ≤ place_of i
 place_behind Named = omega arith
 place_behind Unique = omega arith
@@ -213,7 +213,7 @@ in_header i = record { behind = place_behind i; small = place_small i }
 
 -- ---- its block
 
--- what holds of each table without a block, and of each with one, holds of all
+-- a property of each table without a block, and of each with one, holds for all
 pub table_cases : (P : BackingArray → Type 0) → ((cap : ℕ) → P (record { capacity = cap; extent = None }))
     → ((cap : ℕ) (x : Extent) → P (record { capacity = cap; extent = Some x })) → (t : BackingArray) → P t
 table_cases P none some t = elim t.extent as (λ o. P (record { capacity = t.capacity; extent = o })) [
@@ -221,7 +221,7 @@ table_cases P none some t = elim t.extent as (λ o. P (record { capacity = t.cap
   | Some x ↦ some t.capacity x
 ]
 
--- an index with a block: where it stands, and its entries
+-- an index with a block: its place, and its entries
 pub record Placed (c : WindowState) (at : ℕ) (t : BackingArray) (hs : List ℕ) (block : ℕ) : Type 0 where
   pub index : IsIndexOf c at t hs
   pub extent : Extent
@@ -239,7 +239,7 @@ long_enough {cap = cap} {x} i =
     let two = and_parts (nat_lt 0 cap) (serves x IndexRole (8 * cap)) i.places in
     leb-true (8 * cap + 16) x.len (and_parts (same_role x.role IndexRole) (holds x (8 * cap)) two.1).1
 
--- an index that links to a block stands in it
+-- the block behind an index's link is the index's
 pub placed : {c : WindowState} {at : ℕ} {t : BackingArray} {hs : List ℕ} (block : ℕ) → IsIndexOf c at t hs
     → link_at (bytes_of c.bytes) at ≡ Some block → Placed c at t hs block
 placed {c} {at} {t} {hs} block i leads = table_cases (λ u. IsIndexOf c at u hs → Placed c at u hs block)
@@ -259,13 +259,13 @@ placed {c} {at} {t} {hs} block i leads = table_cases (λ u. IsIndexOf c at u hs 
       links = subst (λ k. AreLinksTo (bytes_of c.bytes) k hs) same j.stands.entries;
     }) t i
 
--- the blocks beside that of the index
+-- the blocks other than the index's
 pub beside : {c : WindowState} {at : ℕ} {t : BackingArray} {hs : List ℕ} {block : ℕ}
     → Placed c at t hs block → (xs : List Extent) → others block xs ≡ beside_table t xs
 beside {t = t} p xs = ap (λ k. others k xs) (sym p.begins) ∙ ap (λ (o : Option Extent).
     elim o [ None ↦ xs | Some x ↦ others (handle x) xs ]) (sym p.is)
 
--- without a block there is no place
+-- without a block the capacity is 0
 pub bare : {c : WindowState} {at : ℕ} {t : BackingArray} {hs : List ℕ}
     → IsIndexOf c at t hs → link_at (bytes_of c.bytes) at ≡ None → t.capacity ≡ 0
 bare {c} {at} {t} {hs} i leads = table_cases (λ u. IsIndexOf c at u hs → u.capacity ≡ 0) (λ cap j. let p = j.places
@@ -289,7 +289,7 @@ pub leads_from : (c : WindowState) {at place : ℕ} {o p : Option ℕ} → place
     → o ≡ p → link_at (bytes_of c.bytes) at ≡ p
 leads_from c e f g = ap (λ k. link_at (bytes_of c.bytes) k) (sym e) ∙ sym f ∙ g
 
--- where there are places there is a block, to which the link leads
+-- if the capacity is not 0 there is a block, and the link leads to it
 pub has_places : {c : WindowState} {at : ℕ} {t : BackingArray} {hs : List ℕ} {block place : ℕ} {o : Option ℕ}
     → IsIndexOf c at t hs → 0 < t.capacity
     → place ≡ at → o ≡ link_at (bytes_of c.bytes) place → block ≡ unwrap_or o 0 → Placed c at t hs block
@@ -313,7 +313,7 @@ pub link_used : {c : WindowState} {at : ℕ} {t : BackingArray} {hs : List ℕ} 
 link_used {c} block place i e f is =
     let p = placed block i (leads_from c e f is) in found_live block (live_of c.bytes).extents p.extent p.found
 
--- what shows that there is room in a block, also once something changed, and that a sum within one fits
+-- rules that show that a block has room, also after a change, and that a sum within one fits
 pub ruleset sizes = (
   block_small,
   block_ends,
@@ -326,7 +326,7 @@ pub ruleset sizes = (
   changed_touches,
 )
 
--- ---- what a search is given, and what its answer says
+-- ---- the arguments of a search, and the meaning of its result
 
 -- of two entries in order the first is less
 pub less_at : (o : ℕ → ℕ → Ordering) (hs : List ℕ) (i j g h : ℕ) → IsStrictlySortedBy o hs → i < j
@@ -377,7 +377,7 @@ place_found m key hs block count (Absent j) a long p = (
   λ k h e. p.1 k h (let w = slice_get_within hs k h e in omega arith) (links_at m block hs k h a e),
 )
 
--- the comparisons over the links of the block are those over the handles
+-- the comparisons over the links of the block are the comparisons over the handles
 pub comparisons_found : (m : Memory) (key : Entry) (hs : List ℕ) (block count : ℕ) → AreLinksTo m block hs
     → count ≡ length hs → comparisons_in m key block count ≡ comparisons m key hs
 comparisons_found m key hs block count a long = ap (λ n. comparisons_in m key block n) long

@@ -1,4 +1,4 @@
--- An index stays where its words and its block do, and a growth may still be used; the block that a request took.
+-- An index stays if its words and its block do, and a growth stays usable; the block that an allocation got.
 use Rattle.seg_index.proofs.Common as common
 use common.{◌≡◌, refl, ap, subst, ◌∙◌, ℕ, ◌+◌, ◌*◌, ◌≤◌, List, [], ◌∷◌, arith, IsTrue, Option, Some, None, IfSome}
 use common.{AllByRecursion, none-some, same_Some, current, WindowState, SameBytes, bytes_of, SameBytes-part}
@@ -45,7 +45,7 @@ stays a b at t hs i r =
       whole = i.whole;
     }
 
--- the block of an index is among those that stay, and in use
+-- the block of an index is among the blocks that stay, and in use
 pub Around-kept : (a b : WindowState) (at : ℕ) (t : BackingArray) (xs : List Extent) → IsHeap current b.bytes
     → SameBytes (bytes_of a.bytes) (bytes_of b.bytes) at (at + 24)
     → AllByRecursion (SameBlock (bytes_of a.bytes) (bytes_of b.bytes)) xs → ((x : Extent) → t.extent ≡ Some x
@@ -59,7 +59,7 @@ Around-kept a b at t xs heap words same found = record { heap = heap; words = wo
         let f = found x e in
         (f.1, (all_found (SameBlock (bytes_of a.bytes) (bytes_of b.bytes)) (handle x) xs x same f.0).payload)
 
--- where an index has a block, its link leads there, and the block is found
+-- the link of an index with a block leads to it, and the block is found
 pub record HasBlock (c : WindowState) (at : ℕ) (x : Extent) : Type 0 where
   pub leads : link_at (bytes_of c.bytes) at ≡ Some (handle x)
   pub found : extent_at (live_of c.bytes) (handle x) ≡ Some x
@@ -70,7 +70,7 @@ block_of {c} {at} {t} {hs} x i e = table_cases (λ u. IsIndexOf c at u hs → u.
     (λ cap j f. absurd (none-some x f)) (λ cap y j f.
     subst (λ z. HasBlock c at z) (same_Some y x f) (record { leads = j.stands.link; found = j.held })) t i e
 
--- where these blocks stay, and that of the index is one of them and in use
+-- these blocks stay, the index's block is one of them, and it is in use
 still_kept : {a b : WindowState} {at : ℕ} {t : BackingArray} {hs : List ℕ} {l : LiveSet} (xs : List Extent)
     → InHeader at
     → IsIndexOf a at t hs → EncodesLiveSet current b.bytes l → KeepsBlocks a b xs → ((x : Extent) → HasBlock a at x
@@ -79,9 +79,9 @@ still_kept {a} {b} {at} {t} {hs} {l} xs w i laid keeps found = stays a b at t hs
     (laid-heap b.bytes l laid) (SameBytes-part (bytes_of a.bytes) (bytes_of b.bytes) 32 128 at (at + 24) keeps.behind
     w.behind w.small) keeps.blocks (λ x e. found x (block_of x i e)))
 
--- ---- where a block is taken
+-- ---- after a block is allocated
 
--- a block that was in use is found where another is taken
+-- a block that was in use is found after another is allocated
 pub found_still : {a b : WindowState} {n h : ℕ} {role : Role} (g : ℕ) (x : Extent) → AllocatesOk current a b n role h
     → extent_at (live_of a.bytes) g ≡ Some x → extent_at (live_of b.bytes) g ≡ Some x
 found_still {a} {b} {n} {h} {role} g x i e =
@@ -95,7 +95,7 @@ still_taken {a} w d i = still_kept (live_of a.bytes).extents w i d.live d.keeps
 
 -- ---- where another block is released, or written
 
--- what leads to another block leads not to this one
+-- a link to another block does not lead to this one
 pub other_block : {g h : ℕ} (o : Option ℕ) → o ≡ Some h → (o ≡ Some g → ⊥) → h ≡ g → ⊥
 other_block o e n q = n (e ∙ ap (λ k. Some k) q)
 
@@ -128,7 +128,7 @@ fresh : {a b : WindowState} {n h : ℕ} {role : Role} → (i : AllocatesOk curre
 fresh {a} i =
     let l = live_of a.bytes in rising-insert 128 i.extent l.extents (live-rises (added l i.extent) i.live.proper)
 
--- it is not the block of an index: nothing of its handle was in use before
+-- the new block is not the index's: its handle was not in use before
 pub not_its_own : (a b : WindowState) (at n : ℕ) (role : Role) (h : ℕ) (t : BackingArray) (hs : List ℕ)
     → IsIndexOf a at t hs → AllocatesOk current a b n role h → link_at (bytes_of a.bytes) at ≡ Some h → ⊥
 not_its_own a b at n role h t hs i al leads =
@@ -144,7 +144,7 @@ is_found {a} {b} {n} {h} {role} i =
     ap (λ (l : LiveSet). extent_at l h) (allocated-live current a b n role h i) ∙ ap (λ k. first k (insert y xs)) i.at
     ∙ found-new y xs (fresh i).differs
 
--- an allocated block is one for an index
+-- an allocated block suits an index
 pub taken_block : (a b : WindowState) (n places h : ℕ) → AllocatesOk current a b n IndexRole h → n ≡ 8 * places
     → IsBlockFor b h places
 taken_block a b n places h i e = record {
@@ -154,9 +154,9 @@ taken_block a b n places h i e = record {
       (place-serves (live_of a.bytes) n IndexRole i.extent i.placed);
 }
 
--- ---- how much is asked for
+-- ---- the number of requested bytes
 
--- a number of bytes beyond all words has no fit, as the greatest word has none
+-- a number of bytes beyond all words has no fit, since the greatest word has none
 pub asked : (c : WindowState) (n k : ℕ) (role : Role) → IsHeap current c.bytes → k ≡ min (n * 8) (2 ^ 64 - 1)
     → place (live_of c.bytes) (8 * n) role ≡ place (live_of c.bytes) k role
 asked c n k role heap e = elim (cases_lt 1073741824 k) [
@@ -164,7 +164,7 @@ asked c n k role heap e = elim (cases_lt 1073741824 k) [
   | inr l ↦ let same : 8 * n ≡ k = omega arith in ap (λ j. place (live_of c.bytes) j role) same
 ]
 
--- what has a fit is as much as was meant
+-- a request with a fit is for the intended number of bytes
 pub meant : {a b : WindowState} {k h : ℕ} {role : Role} (n : ℕ)
     → IsHeap current a.bytes → AllocatesOk current a b k role h → k ≡ min (n * 8) (2 ^ 64 - 1) → k ≡ 8 * n
 meant {a} {k = k} {role = role} n heap i e = elim (cases_lt 1073741824 k) [
@@ -172,7 +172,7 @@ meant {a} {k = k} {role = role} n heap i e = elim (cases_lt 1073741824 k) [
   | inr l ↦ omega arith
 ]
 
--- ---- a growth may still be used where the words of its index and its block stay
+-- ---- a growth stays usable if the words of its index and its block stay
 
 -- the words of an index
 record Words (a b : WindowState) (at : ℕ) : Type 0 where

@@ -1,4 +1,4 @@
--- Changes of a heap, one after another, and what stays beside the words of an index.
+-- Changes of a heap, one after another, and the words outside an index, which stay.
 use Rattle.seg_index.proofs.Common.{IsTrue, has_room, heap_touches, is_live_in, ◌≡◌, ap, subst, ◌∙◌, ℕ, ◌+◌, ◌-◌, ◌≤◌}
 use Rattle.seg_index.proofs.Common.{current, WindowState, bytes_of, SameSurroundings-trans, Role, LiveSet, added}
 use Rattle.seg_index.proofs.Common.{others, AllocatesOk, ChangesBytes, IsHeap, EncodesLiveSet, live_of, allocated-live}
@@ -10,7 +10,7 @@ use Rattle.best_fit.specs.Fit.{insert}
 use Rattle.best_fit.proofs.Laws.{changed-live, is_proper-IsProper, others-insert_same, AllByRecursion-others}
 use Rattle.best_fit.proofs.Laws.{blocks-trans, changed-header_blocks, others-comm}
 
--- what a change leaves is the same live set
+-- after a change of bytes the live set is the same
 pub same_live : {a b : WindowState} {from n : ℕ} → ChangesBytes current a b from n → live_of b.bytes ≡ live_of a.bytes
 same_live c = changed-live current _ _ _ _ c
 
@@ -19,7 +19,7 @@ pub changed_used : (a b : WindowState) (from n h : ℕ) → ChangesBytes current
     → IsTrue (is_live_in (live_of a.bytes) h) → IsTrue (is_live_in (live_of b.bytes) h)
 changed_used a b from n h c used = rw (same_live c) used
 
--- changed bytes leave what a free tree may cost
+-- a change of bytes keeps the bound of a call's touches
 pub changed_touches : (a b : WindowState) (from n : ℕ) → ChangesBytes current a b from n
     → heap_touches (live_of b.bytes) ≡ heap_touches (live_of a.bytes)
 changed_touches a b from n c = ap heap_touches (same_live c)
@@ -41,7 +41,7 @@ changed_trans {a} {b} {c} {f} {n} {g} {k} from m i j low high low2 high2 =
           (SameBytesExcept-wider B C g k from m j.rest low2 high2);
     }
 
--- without the block that was taken the blocks are those before
+-- without the block that was allocated the blocks are the old ones
 pub taken_others : {a b : WindowState} {n h : ℕ} {role : Role} → AllocatesOk current a b n role h
     → others h (live_of b.bytes).extents ≡ (live_of a.bytes).extents
 taken_others {a} {b} {n} {h} {role} i =
@@ -50,14 +50,14 @@ taken_others {a} {b} {n} {h} {role} i =
     ∙ ap (λ k. others k (insert i.extent l.extents)) i.at ∙ others-insert_same 128 i.extent l.extents (l.size - 16)
     proper
 
--- ---- what stays beside the words of an index
+-- ---- the parts outside the words of an index
 
 -- the three words of an index lie in the header
 pub record InHeader (at : ℕ) : Type 0 where
   pub behind : 32 ≤ at
   pub small : at + 24 ≤ 128
 
--- what keeps the header keeps the words beside those of an index
+-- if the header stays, the words outside an index stay
 pub rest_of : {a b : WindowState} {at : ℕ} {xs : List Extent} → KeepsBlocks a b xs → InHeader at
     → KeepsOutsideIndex a b at xs
 rest_of {a} {b} {at} k h =
@@ -70,7 +70,7 @@ rest_of {a} {b} {at} k h =
       blocks = k.blocks;
     }
 
--- what stays in two changes stays in both together
+-- two steps that keep all outside an index keep it together
 pub rest_trans : {a b c : WindowState} {at : ℕ} {xs : List Extent}
     → KeepsOutsideIndex a b at xs → KeepsOutsideIndex b c at xs → KeepsOutsideIndex a c at xs
 rest_trans {a} {b} {c} {at} {xs} p q =
@@ -83,7 +83,7 @@ rest_trans {a} {b} {c} {at} {xs} p q =
       blocks = blocks-trans A B C xs p.blocks q.blocks;
     }
 
--- what stays beside an index stays without one block
+-- if all outside an index stays, it stays without one block
 pub rest_others : {a b : WindowState} {at : ℕ} {xs : List Extent} (h : ℕ) → KeepsOutsideIndex a b at xs
     → KeepsOutsideIndex a b at (others h xs)
 rest_others {a} {b} {xs = xs} h k = record {
@@ -94,7 +94,7 @@ rest_others {a} {b} {xs = xs} h k = record {
   blocks = AllByRecursion-others (SameBlock (bytes_of a.bytes) (bytes_of b.bytes)) h xs k.blocks;
 }
 
--- what stays beside an index stays without the index's own block
+-- if all outside an index stays, it stays without the index's own block
 pub rest_without : {a b : WindowState} {at : ℕ} (l : LiveSet) (o : Option ℕ) → KeepsOutsideIndex a b at l.extents
     → KeepsOutsideIndex a b at (without_link l o).extents
 rest_without l None k = k
@@ -129,7 +129,7 @@ keeps_both {a} {b} {c} {at = at} block k one room two h low high = rest_trans (k
 
 -- ---- two blocks less
 
--- the other blocks, without the one that a link leads to
+-- the other blocks, without the block of a link
 pub others_without : (h : ℕ) (l less : LiveSet) (o : Option ℕ) → others h l.extents ≡ less.extents
     → others h (without_link l o).extents ≡ (without_link less o).extents
 others_without h l less None e = e

@@ -1,4 +1,4 @@
--- Entries stay sorted where the blocks of their objects stay, and where one is put in or taken out.
+-- Entries stay sorted if the blocks of their objects stay, and if an entry is inserted or removed.
 use Rattle.seg_index.proofs.Common as common
 use common.{◌≡◌, refl, sym, ap, ap₂, subst, ◌∙◌, ℕ, zero, suc, ◌+◌, ◌<◌, ◌≤◌, ◌==◌, List, [], ◌∷◌, length, get_or}
 use common.{arith, IsTrue, Option, Some, None, inl, inr, insert, remove, slice_get, AllByRecursion, none-some}
@@ -139,7 +139,7 @@ unchanged-sorted e i hs s = subst (λ (c : WindowState). AreSortedHandles c i hs
 
 -- ---- which objects stay
 
--- a block of an object is none of an index
+-- a block of an object is no block of an index
 roles-apart : (l : LiveSet) (h g : ℕ) (x y : Extent) → extent_at l h ≡ Some x → extent_at l g ≡ Some y
     → IsTrue (same_role x.role ObjectRole) → IsTrue (same_role y.role IndexRole) → h ≡ g → ⊥
 roles-apart l h g x y e f object index same =
@@ -160,20 +160,20 @@ module _ {a : WindowState} {at : ℕ} {t : BackingArray} {hs : List ℕ} (i : Is
   abbrev xs : List Extent
   xs = (live_of a.bytes).extents
 
-  -- it is found beside the block of an index
+  -- the block is found outside the block of an index
   pub beside-found : first h (beside_table t xs) ≡ Some x
   beside-found = table_cases (λ u. IsIndexOf a at u hs → first h (beside_table u xs) ≡ Some x) (λ cap j. e)
       (λ cap y j. found-less h (handle y) x xs
       (roles-apart (live_of a.bytes) h (handle y) x y e j.held role (index-role j)) e) t i
 
-  -- it is not the block to which the link of an index leads
+  -- the block is not the one behind the link of an index
   pub link-apart : (k : ℕ) → link_at (bytes_of a.bytes) at ≡ Some k → h ≡ k → ⊥
   link-apart k leads = table_cases (λ u. IsIndexOf a at u hs → h ≡ k → ⊥)
       (λ cap j. absurd (none-some k (sym j.stands.link ∙ leads))) (λ cap y j same.
       roles-apart (live_of a.bytes) h (handle y) x y e j.held role (index-role j)
       (same ∙ sym (same_Some (handle y) k (sym j.stands.link ∙ leads)))) t i
 
-  -- and it is found where that is gone
+  -- and it is found after the index's block is freed
   pub unlinked-found : (ys : LiveSet) → first h ys.extents ≡ Some x
       → first h (without_link ys (link_at (bytes_of a.bytes) at)).extents ≡ Some x
   unlinked-found ys f = by_case (link_at (bytes_of a.bytes) at) refl
@@ -182,12 +182,12 @@ module _ {a : WindowState} {at : ℕ} {t : BackingArray} {hs : List ℕ} (i : Is
       by_case None leads = f
       by_case (Some k) leads = found-less h k x ys.extents (link-apart k leads) f
 
--- what is found in other blocks that stay is there with its bytes
+-- a block that is found among blocks that stay has its bytes
 pub in-kept : {a b : WindowState} {at : ℕ} (zs : List Extent) (h : ℕ) (x : Extent)
     → KeepsOutsideIndex a b at zs → first h zs ≡ Some x → SameBlock (bytes_of a.bytes) (bytes_of b.bytes) x
 in-kept {a} {b} zs h x k f = all_found (SameBlock (bytes_of a.bytes) (bytes_of b.bytes)) h zs x k.blocks f
 
--- where a block is taken
+-- after a block is allocated
 pub taken-stays : {a b : WindowState} {n k : ℕ} {role : Role} → AllocatesOk current a b n role k → (h : ℕ)
     → ObjectStays a b h
 taken-stays {a} {b} al h = record {
@@ -197,7 +197,7 @@ taken-stays {a} {b} al h = record {
   );
 }
 
--- where another is released
+-- after another block is freed
 pub released-stays : {a b : WindowState} {k : ℕ} → Deallocates current a b k → (h : ℕ) → (h ≡ k → ⊥) → ObjectStays a b h
 released-stays {a} {b} {k} r h apart = record {
   each = λ x e role.
@@ -208,7 +208,7 @@ released-stays {a} {b} {k} r h apart = record {
       );
 }
 
--- where another is written
+-- after another block is written
 pub written-stays : {a b : WindowState} {n : ℕ} (k at : ℕ) → ChangesBytes current a b (k + at) n
     → IsTrue (has_room (live_of a.bytes) k (at + n)) → (h : ℕ) → (h ≡ k → ⊥) → ObjectStays a b h
 written-stays {a} {b} {n} k at change room h apart = record {
@@ -219,7 +219,7 @@ written-stays {a} {b} {n} k at change room h apart = record {
   );
 }
 
--- the entries are none of the block
+-- no entry leads to the block
 pub sorted-beside : {a b : WindowState} {i : Index} (k : ℕ) (hs : List ℕ) → AreSortedHandles a i hs
     → AllByRecursion (λ g. g ≡ k → ⊥) hs → ((h : ℕ) → (h ≡ k → ⊥) → ObjectStays a b h) → AreSortedHandles b i hs
 sorted-beside {a} {b} {i} k hs s other f = sorted-stays a b i hs (each hs other) s
@@ -228,7 +228,7 @@ sorted-beside {a} {b} {i} k hs s other f = sorted-stays a b i hs (each hs other)
     each [] o = tt
     each (g ∷ gs) o = (f g o.0, each gs o.1)
 
--- one after the other
+-- two steps, one after the other
 pub stays-trans : {a b c : WindowState} → ((h : ℕ) → ObjectStays a b h) → ((h : ℕ) → ObjectStays b c h) → (h : ℕ)
     → ObjectStays a c h
 stays-trans {a} {b} {c} f g h = record {
@@ -244,7 +244,7 @@ stays-itself {a} h = record {
       (e, record { payload = record { at = λ k f g. refl }; colour = refl });
 }
 
--- where blocks stay and the live set too
+-- if blocks and the live set stay
 pub kept-stays : {a b : WindowState} → EncodesLiveSet current b.bytes (live_of a.bytes)
     → KeepsBlocks a b (live_of a.bytes).extents → (h : ℕ) → ObjectStays a b h
 kept-stays {a} {b} laid k h = record {
@@ -254,7 +254,7 @@ kept-stays {a} {b} laid k h = record {
   );
 }
 
--- where all but the block of an index and its words stays
+-- if all stays except the block of an index and its words
 pub beside-stays : {a b : WindowState} {at : ℕ} {t : BackingArray} {hs : List ℕ} → IsIndexOf a at t hs
     → KeepsOutsideIndex a b at (beside_table t (live_of a.bytes).extents) → ((h : ℕ) (x : Extent) → first h
     (live_of a.bytes).extents ≡ Some x → (link_at (bytes_of a.bytes) at ≡ Some h → ⊥) → extent_at (live_of b.bytes) h
@@ -266,7 +266,7 @@ beside-stays {a} {t = t} i k found h = record {
   );
 }
 
--- where an index moves into a block that was in use
+-- after an index moves into a block that was in use
 pub moved-stays : {a b : WindowState} {at : ℕ} {t : BackingArray} {hs : List ℕ} {g places : ℕ}
     → IsIndexOf a at t hs → IsBlockFor a g places → live_of b.bytes ≡ without_index_block a at
     → KeepsOutsideIndex a b at (others g (without_index_block a at).extents) → (h : ℕ) → ObjectStays a b h
@@ -365,7 +365,7 @@ both-equal : (m : Memory) (key : Entry) (g h : ℕ) → sort_order (index_of key
 both-equal m (Name s) g h = clash nat_list_cmp_total (name_at m g) (name_at m h) s.now
 both-equal m (Code n) g h = clash nat_cmp_total (code_at m g) (code_at m h) n
 
--- it is not found at an earlier entry, and not missed there
+-- the key is not found at an earlier entry, and not missed there
 module _ (m : Memory) (key : Entry) (hs : List ℕ) (rises : IsStrictlySortedBy (sort_order (index_of key) m) hs) where
   found-once : (i j : ℕ) → i < j → FindsPosition m key hs (Found i) → FindsPosition m key hs (Found j) → ⊥
   found-once i j l p q = both-equal m key p.0 q.0
@@ -425,14 +425,14 @@ one-list {c} {at} {hs = hs} {gs} i j = by_case (link_at (bytes_of c.bytes) at) r
 
 -- ---- the handle of a new entry
 
--- it is one of a block in use
+-- the handle is that of a block in use
 pub aligned : {c : WindowState} {i : Index} {place h : ℕ} → CanAdd c i place h → h % 16 ≡ 0
 aligned {c} {i} {place} {h} k =
     let key = k.belongs.key in let f = key-fits i key in let n = sort_key_end i (bytes_of c.bytes) h in
     block_aligned c h (room_block c h n k.index.index.heap (found-room (live_of c.bytes) h n key.extent key.found
     f.long)).block
 
--- with it the entries are sorted, whatever the table
+-- with the new entry the entries are sorted, for each table
 pub added-sorted : {c : WindowState} {i : Index} {place h : ℕ} {t : BackingArray} {hs : List ℕ} → CanAdd c i place h
     → IsIndexOf c (place_of i) t hs → AreSortedHandles c i (insert hs place h)
 added-sorted {c} {i} {place} {h} k index =

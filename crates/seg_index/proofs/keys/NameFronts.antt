@@ -1,4 +1,4 @@
--- Fronts of names: where two differ, they stand as the names do; and how the front of a name in a block is read.
+-- Fronts of names: if two differ, the names have their order; and reading the front of a name in a block.
 use Rattle.seg_index.proofs.Common.{◌≡◌, ◌≢◌, refl, sym, ap, subst, ◌∙◌, ℕ, zero, suc, ◌+◌, ◌-◌, ◌*◌, ◌/◌, ◌%◌, ◌^◌}
 use Rattle.seg_index.proofs.Common.{◌<◌, ◌≤◌, inl, inr, List, [], ◌∷◌, length, bit_and, arith, slice_cmp, slice_range}
 use Rattle.seg_index.proofs.Common.{nat_cmp, ordering_reverse, Ordering, Less, Equal, Greater, cases_lt}
@@ -95,7 +95,7 @@ front_equal (suc n) (x ∷ xs) (y ∷ ys) bx by e few l = elim (cases_lt x y) [
   ]
 ]
 
--- fronts that differ stand as the names do
+-- fronts that differ have the order of the names
 pub front_order : (xs ys : List ℕ) → AreBytes xs → AreBytes ys → front xs ≢ front ys
     → nat_cmp (front xs) (front ys) ≡ slice_cmp nat_cmp xs ys
 front_order xs ys bx by apart = elim (cases_lt (front xs) (front ys)) [

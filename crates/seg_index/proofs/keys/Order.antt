@@ -1,4 +1,4 @@
--- Keys in order, how many of them a search compares, and what it knows of those that are left.
+-- Keys in order, the number of comparisons of a search, and the facts that it knows about the remaining keys.
 use Rattle.seg_index.proofs.Common.{◌≡◌, ap, ◌∙◌, ℕ, ◌+◌, ◌/◌, ◌<◌, ◌≤◌, ◌^◌, arith, ordering_reverse, Ordering, Less}
 use Rattle.seg_index.proofs.Common.{Greater, nat_list_cmp_total, bits, Memory, Entry, order, name_at, refl, sym, zero}
 use Rattle.seg_index.proofs.Common.{suc, ◌-◌, inl, inr, Bool, true, false, cases_lt, Equal, comparisons_among, middle}
@@ -17,7 +17,7 @@ greater_on {K} {R} o x y z a b =
     let c : R z x ≡ Less = o.antisymm z x ∙ ap ordering_reverse b in
     o.antisymm y z ∙ ap ordering_reverse (o.trans z x y c a)
 
--- what stands before a key that stands before another
+-- a key before a key that precedes the wanted one precedes it too
 pub less_before : (m : Memory) (key : Entry) (g h : ℕ) → sort_order (index_of key) m g h ≡ Less → order m key h ≡ Less
     → order m key g ≡ Less
 less_before m (Name s) g h a b = nat_list_cmp_total.trans (name_at m g) (name_at m h) s.now a b
@@ -38,7 +38,7 @@ bits_few n l = omega (arith, bits-le n (n + 1) (omega arith), bits_most n (omega
 
 -- ---- one turn of a search
 
--- by how the middle key stands
+-- the cases of the order of the middle key
 abbrev turn : ℕ → (ℕ → Ordering) → ℕ → ℕ → Ordering → ℕ
 turn most stands low high o = suc (elim o [
   | Less ↦ comparisons_among most stands (middle low high + 1) high
@@ -61,14 +61,14 @@ none_left zero stands low high l = refl
 none_left (suc most) stands low high l = ap (λ (b : Bool). elim b
     [ false ↦ 0 | true ↦ turn most stands low high (stands (middle low high)) ]) (le-ltb low high l)
 
--- ---- the comparisons that were made, with those among the keys that are left, are those among all
+-- ---- the comparisons made so far and those among the remaining keys are all comparisons
 
 pub record Counting (stands : ℕ → Ordering) (count low high made : ℕ) : Type 0 where
   pub most : ℕ
   pub enough : high - low ≤ most
   pub all : made + comparisons_among most stands low high ≡ comparisons_among count stands 0 count
 
--- where keys are left one more is compared
+-- if keys remain, one more is compared
 record More (stands : ℕ → Ordering) (count low high made : ℕ) (o : Ordering) : Type 0 where
   most : ℕ
   enough : high - low ≤ suc most
@@ -104,7 +104,7 @@ pub counts_none : {stands : ℕ → Ordering} {count low high made : ℕ} → Co
     → made ≡ comparisons_among count stands 0 count
 counts_none {stands} {low = low} {high} k l = let a = k.all in omega (arith, a, none_left k.most stands low high l)
 
--- ---- what is said of the places alone decides
+-- ---- the order of the places alone decides
 
 none_at_all : (p : ℕ → Ordering) (low high : ℕ) → comparisons_among 0 p low high ≡ 0
 unfolding comparisons_among
@@ -117,7 +117,7 @@ same_turns most p q low high Less up down = ap suc up
 same_turns most p q low high Equal up down = refl
 same_turns most p q low high Greater up down = ap suc down
 
--- the same order of each entry: the same comparisons
+-- the same order of each entry gives the same comparisons
 pub same_comparisons : (most : ℕ) (p q : ℕ → Ordering) (low high : ℕ) → ((i : ℕ) → i < high → p i ≡ q i)
     → comparisons_among most p low high ≡ comparisons_among most q low high
 same_comparisons zero p q low high same = none_at_all p low high ∙ sym (none_at_all q low high)
@@ -130,7 +130,7 @@ same_comparisons (suc most) p q low high same = elim (cases_lt low high) [
   | inr l ↦ none_left (suc most) p low high l ∙ sym (none_left (suc most) q low high l)
 ]
 
--- ---- each comparison halves what is left
+-- ---- each comparison halves the number of remaining keys
 
 -- at most as many comparisons as the bits of the number of entries
 pub few_comparisons : (most : ℕ) (stands : ℕ → Ordering) (low high : ℕ)
@@ -155,17 +155,17 @@ few_comparisons (suc most) stands low high = elim (cases_lt low high) [
     by_order l up down Greater e =
         omega (arith, half l (middle low high - low) (omega arith), one_turn most stands low high Greater l e)
 
--- ---- what a search knows of the keys before and after those that are left, and of its comparisons
+-- ---- the facts about the keys before and after the remaining ones, and about the comparisons
 
--- a link leads to one handle, of which it is known how its key stands
+-- a link leads to one handle, and the order of its key is known
 one_order : (m : Memory) (key : Entry) (block i j h : ℕ) (x : Ordering) → j ≡ i → IsEntryLinkTo m block j h
     → order_at m key block i ≡ x → order m key h ≡ x
 one_order m key block i j h x q e is =
     sym (ap (λ k. order_at m key block k) (sym q) ∙ ap (λ (o : Option ℕ). order m key (unwrap_or o 0)) e) ∙ is
 
--- ---- what is left of a search: the keys from `low` on and below `high`
+-- ---- the remaining keys of a search: from `low` on and below `high`
 
--- what a search knows of the entries that are left
+-- the facts about the remaining entries of a search
 pub record IsLeft (c : WindowState) (key : Entry) (block count low high made : ℕ) : Type 0 where
   pub rises : low ≤ high
   pub within : high ≤ count
@@ -175,7 +175,7 @@ pub record IsLeft (c : WindowState) (key : Entry) (block count low high made : �
   pub few : made + bits (high - low) ≤ bits count
   pub counting : Counting (order_at (bytes_of c.bytes) key block) count low high made
 
--- a key that stands before the one that is looked up, and so all before it do
+-- if a key precedes the wanted one, all keys before it do
 pub left_up : {c : WindowState} {key : Entry} {block count low high made : ℕ} → AreKeys c block count key
     → IsLeft c key block count low high made → low < high → order_at (bytes_of c.bytes) key block
     (middle low high) ≡ Less → IsLeft c key block count (middle low high + 1) high (made + 1)
@@ -217,7 +217,7 @@ left_down {c} {key} {block} {low = low} {high} keys i l is =
       counting = counts_down i.counting l is;
     }
 
--- what a search answers
+-- the result of a search
 pub record Answers (c : WindowState) (key : Entry) (block count made : ℕ) (r : Lookup) : Type 0 where
   -- the place of the key
   pub place : FindsPositionIn (bytes_of c.bytes) key block count r
@@ -262,7 +262,7 @@ entry_of {c} {block = block} {count} i keys l =
       keyed = keys.keyed i t.0 l t.1;
     }
 
--- what holds of a heap, a key and a block holds of those that are equal to them
+-- a property of a heap, a key and a block holds for equal ones
 pub same_search : {c v : WindowState} {key k : Entry} {block b : ℕ} (P : WindowState → Entry → ℕ → Type 0)
     → c ≡ v → key ≡ k → block ≡ b → P c key block → P v k b
 same_search {c} {key = key} {k} {b = b} P e f g h =

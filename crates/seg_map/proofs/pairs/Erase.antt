@@ -1,4 +1,4 @@
--- A pair leaves the map, and all of them.
+-- Removing one pair of the map, and all of them.
 use Rattle.seg_map.proofs.Common as common
 use common.{◌≡◌, both_ways, is_live_in, found-less, found-room, laid-heap, pair_node, own_nodes, cases_Bool, live-rises}
 use common.{refl, bytes_of, nodes_of, released, HoldsMap, IsPairIn, Relinked, ErasesPair, is_proper, extent_at}
@@ -20,7 +20,7 @@ use Rattle.link_tree.specs.Ways.{remove_point_of}
 use Rattle.best_fit.proofs.Laws.{released-live, others-comm, rising-weak}
 use Rattle.best_fit.specs.{Exchange.exchanged, Exchange.without_all, Heap.Deallocates}
 
--- a node of the tree that can be taken out, from the root on or from where its removal begins
+-- a node of the tree that can be removed, beginning at the root or at its exit
 pub record CanUnlink {K : Type 0} (k : Plain K) (ns : List ℕ) (c : WindowState) (root start : Option ℕ) (node : ℕ) :
     Type 0
   where
@@ -56,7 +56,7 @@ module _ {K V : Type 0} {kp : Plain K} {vp : Plain V} (kl : Laws kp) (c : Window
       (λ P a. removed_all kp.order P ps key a) (removed_rising kp.order kl.transitive ps key s.rising)
       (let gone = removed_length kp.order ps key p has in omega (arith, gone, count))
 
--- the block of a pair that is gone is given back
+-- the block of a removed pair is freed
 module _ {K V : Type 0} {kp : Plain K} {vp : Plain V} (kl : Laws kp) (vl : Laws vp) {c e f : WindowState} {h at : ℕ}
     {ps : List (Pair K V)} (s : HoldsMap kp vp c.bytes h at ps) (key : K) {p : Pair K V}
     (has : pair_at kp.order ps key ≡ Some p) {node : ℕ} (here : pair_node p
@@ -104,13 +104,13 @@ gone_live {kp = kp} {vp = vp} {b = b} {h = h} {ps = ps} s key {p} has {node} her
     rw same (any_at (λ (x : Extent). handle x == node) xs p.node
     (found_in xs (handle p.node) p.node i.listed) (eq-eqb _ _ here))
 
--- ---- extents taken out one after another
+-- ---- extents removed one after another
 
 abbrev blocks_of : {K V : Type 0} → List (Pair K V) → List Extent
 blocks_of {K} {V} ps = map (λ (p : Pair K V). p.node) ps
 
 module _ {K V : Type 0} (less : K → K → Bool) where
-  -- one block and then those of the other pairs
+  -- the block of one pair and then the blocks of the others
   without_removed : (qs : List (Pair K V)) (key : K) (p : Pair K V) (zs : List Extent) → pair_at less qs key ≡ Some p
       → without_all (map (λ (q : Pair K V). q.node) (remove_pair less qs key)) (others (handle p.node) zs)
       ≡ without_all (map (λ (q : Pair K V). q.node) qs) zs
@@ -148,7 +148,7 @@ rises_others n h (z ∷ zs) r =
       | inr o ↦ rw (ne_eqb _ _ o) (r.0, rises_others (z.offset + 1) h zs r.1)
     ]
 
--- what is left beside one is another
+-- an extent that remains after one is removed is another one
 beside_one : (n h : ℕ) (zs : List Extent) (x : Extent) → Rising n zs → In x (others h zs) → In x zs × (handle x ≢ h)
 beside_one n h [] x r i = absurd i
 beside_one n h (z ∷ zs) x r i =
@@ -164,7 +164,7 @@ beside_one n h (z ∷ zs) x r i =
           ]
     ]
 
--- and beside all that are gone it is none of them
+-- and a block apart from all removed ones differs from each
 beside_all : {K V : Type 0} (n : ℕ) (ps : List (Pair K V)) (zs : List Extent) (x : Extent) → Rising n zs
     → In x (without_all (map (λ (p : Pair K V). p.node) ps) zs)
     → In x zs × (is_in (handle x) (nodes_of_pairs ps) ≡ false)
@@ -179,7 +179,7 @@ all_each P (x ∷ xs) f = (f x (inl refl), all_each P xs (λ y i. f y (inr i)))
 
 -- ---- the map on its way
 
--- the pairs that are left, and what is beside them
+-- the remaining pairs, and the blocks outside them
 pub record IsGoing {K V : Type 0} (k : Plain K) (v : Plain V) (old now : WindowState) (h at : ℕ)
     (ps : List (Pair K V)) : Type 0 where
   pub pairs : List (Pair K V)
@@ -236,7 +236,7 @@ module _ {K V : Type 0} {k : Plain K} {v : Plain V} (kl : Laws k) {old now : Win
         (removed_all k.order (λ q. is_in (pair_node q) (nodes_of_pairs g.pairs) ≡ true) g.pairs key
         (nodes_in (nodes_of_pairs g.pairs) g.pairs (λ m i. i)))
 
-    -- one pair more goes
+    -- one more pair is removed
     pub going_on : IsGoing k v old new h at ps
     going_on = record {
       pairs = remove_pair k.order g.pairs key;
@@ -251,7 +251,7 @@ module _ {K V : Type 0} {k : Plain K} {v : Plain V} (kl : Laws k) {old now : Win
       same = λ none. absurd (false≢true (rw none at (g.among (handle p.node) (in_nodes k.order g.pairs key p has))));
     }
 
-    -- there is a pair less
+    -- there is one pair fewer
     pub one_less : word_at (bytes_of new.bytes) (h + at + 8) < word_at (bytes_of now.bytes) (h + at + 8)
     one_less =
         let a = e.map.map.count in let b = g.holds.map.count in let l = removed_length k.order g.pairs key p has in

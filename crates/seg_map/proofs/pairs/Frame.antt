@@ -1,4 +1,5 @@
--- What stays of a map and beside it, and the map whose tree is changed and whose three words are written.
+-- The parts of a map that stay, and the blocks outside it; the map after its tree changes and its three words are
+-- written.
 use Rattle.seg_map.proofs.Common as common
 use common.{Some, extent_at, is_proper, both_ways, false≢true, holds_same, cell_stays, length-map}
 use common.{SameSurroundings-trans, IsTrue, AllByRecursion, PairNode-is_pair_node, is_pair_node-PairNode}
@@ -39,7 +40,7 @@ pub own_stays : (c d : WindowState) (ns ms : List ℕ) → kept_of ms d ≡ kept
 unfolding kept_of
 own_stays c d ns ms e = ap (λ (k : PairTreeFrame). k.own) e
 
--- a byte away from the links of each node is none of a link
+-- a byte outside the links of each node is in no link
 no_link : (ns : List ℕ) (k : ℕ) → ((n : ℕ) → is_in n ns ≡ true → (k < n) ⊎ (n + 16 ≤ k)) → is_link_byte ns k ≡ false
 no_link [] k off = refl
 no_link (n ∷ ns) k off =
@@ -106,7 +107,7 @@ module _ {len : ℕ} {ns : List ℕ} {c : WindowState} (d : WindowState) (good :
           let q : PairNode len ns c n = record { good = good; listed = j } in
           grind (arith, block_apart x q i (λ e. both_ways _ o (ap (λ m. is_in m ns) e ∙ j)))
 
-  -- the header but word 24 stays, and what lies round the window
+  -- the header except word 24 stays, and so do the bytes around the window
   pub kept_keeps : KeepsBlocks c d []
   unfolding kept_of
   kept_keeps = record {
@@ -119,9 +120,9 @@ module _ {len : ℕ} {ns : List ℕ} {c : WindowState} (d : WindowState) (good :
     blocks = tt;
   }
 
--- ---- what stays beside a map
+-- ---- the blocks outside a map
 
--- beside blocks that all stay
+-- two steps that keep all blocks
 pub keeps_beside : {a b : WindowState} {at : ℕ} {ns : List ℕ} {xs : List Extent} → KeepsBlocks a b xs
     → ((x : Extent) → extent_at (live_of a.bytes) (handle x) ≡ Some x → is_in (handle x) ns ≡ false
     → SameBlock (bytes_of a.bytes) (bytes_of b.bytes) x) → KeepsOutsideMap a b at ns
@@ -133,7 +134,7 @@ keeps_beside k same = record {
       let s = same x f o in record { payload = λ n low high z. s.payload.at n low high; colour = s.colour };
 }
 
--- and then beside others, where those that stayed are among them
+-- two steps together keep the blocks that both keep
 pub beside_then : {a b c : WindowState} {at : ℕ} {ns ms : List ℕ} → KeepsOutsideMap a b at ns
     → KeepsOutsideMap b c at ms
     → ((x : Extent) → extent_at (live_of a.bytes) (handle x) ≡ Some x → is_in (handle x) ns ≡ false
@@ -150,7 +151,7 @@ beside_then p q still = record {
       };
 }
 
--- ---- what a call of the tree says of the heap that it was lent
+-- ---- a call of the tree, for the heap that it was lent
 
 -- the bound of an insertion is below that of a removal
 pub fewer : (n digits : ℕ) → n ≤ 28 * digits + 32 → n ≤ 30 * digits + 32
@@ -195,7 +196,7 @@ pub record AtNode {K V : Type 0} (P : Pair K V → Type 0) (m : ℕ) : Type 0 wh
   pub holds : P pair
   pub at : pair_node pair ≡ m
 
--- what holds of all pairs holds at a node of one
+-- a property of all pairs holds at the node of one
 pub at_node : {K V : Type 0} (P : Pair K V → Type 0) (ps : List (Pair K V)) (m : ℕ) → is_in m (nodes_of_pairs ps) ≡ true
     → AllByRecursion P ps → AtNode P m
 at_node P [] m i a = absurd (false≢true i)
@@ -217,7 +218,7 @@ pair_stays {kp = kp} {vp = vp} kl vl m m' {p = p} i s h =
       HasBytesAt-same _ _ _ _ (first + kp.SIZE) (vp.spelling p.value) s (omega arith) (omega arith) h.1,
     )
 
--- a block that is still there, with its bytes
+-- a block that is still in use, with its bytes
 pub record Still (c e : WindowState) (x : Extent) : Type 0 where
   pub found : extent_at (live_of e.bytes) (handle x) ≡ Some x
   pub same : SameBlock (bytes_of c.bytes) (bytes_of e.bytes) x
@@ -281,7 +282,7 @@ module _ {K V : Type 0} {kp : Plain K} {vp : Plain V} (kl : Laws kp) (vl : Laws 
 
 -- ---- the tree of a map is changed, and its three words are written
 
--- a call of the tree changes no block, nor does what is written of the three words then
+-- a call of the tree changes no block, and neither does writing the three words
 module _ {K : Type 0} {kp : Plain K} {c d : WindowState} {ns : List ℕ} {root top : Option ℕ} {becomes : List ℕ → List ℕ}
     {steps : ℕ} (u : Relinked kp ns c d root top becomes steps) where
   pub live_left : live_of d.bytes ≡ live_of c.bytes
@@ -291,14 +292,14 @@ module _ {K : Type 0} {kp : Plain K} {c d : WindowState} {ns : List ℕ} {root t
   pub live_laid : {e : WindowState} {at n : ℕ} → WritesMapHeader d e at top n → live_of e.bytes ≡ live_of c.bytes
   live_laid head = changed-live _ _ _ _ _ head.change ∙ live_left
 
--- what shows that a map with a pair less has one less, and that its block and theirs stay where the tree is changed
+-- rules for a map with one pair less: its length, and its blocks, which stay when the tree changes
 pub ruleset trees = (kept_proper, kept_room, removed_length)
 
 -- a call of the tree of a map
 module _ {K V : Type 0} {kp : Plain K} {vp : Plain V} {c d : WindowState} {h at : ℕ} {ps : List (Pair K V)}
     (s : HoldsMap kp vp c.bytes h at ps) {ns : List ℕ} {root top : Option ℕ} (tree : IsKeyTree kp ns c root
     s.map.tree.tree) {becomes : List ℕ → List ℕ} {steps : ℕ} (u : Relinked kp ns c d root top becomes steps) where
-  -- the root stands at a multiple of 16
+  -- the root is at a multiple of 16
   pub top_whole : IfSome top (λ t. t % 16 ≡ 0)
   top_whole = target_whole (16 + kp.SIZE) ns d top (u.tree s.map.tree.tree tree).1.leads
 
@@ -307,7 +308,7 @@ module _ {K V : Type 0} {kp : Plain K} {vp : Plain V} {c d : WindowState} {h at 
   few_steps = subst (λ n. steps ≤ 30 * bits (n + 1) + 32) (ap length s.map.tree.lists ∙ length-map ps pair_node)
       (u.few s.map.tree.tree tree)
 
-  -- the words are written; the nodes are those of these pairs
+  -- the words are written; the nodes are the nodes of these pairs
   module _ (kl : Laws kp) (vl : Laws vp) (ws : List (Pair K V)) (pairs : AreIn kp vp (live_of c.bytes) h ws)
       (bytes : AreAt kp vp (bytes_of c.bytes) ws) (are : ns
       ≡ nodes_of_pairs ws) (good : IsGoodNodeSet (16 + kp.SIZE) ns c)
@@ -344,7 +345,7 @@ module _ {K V : Type 0} {kp : Plain K} {vp : Plain V} {c d : WindowState} {h at 
               (q, tt)).0;
         }
 
-    -- a node of the tree is one of the nodes, whose links lead to nodes
+    -- a node of the tree is in the node set, whose links lead to nodes
     node_d : (t : Tree) → IsKeyTree kp ns d top t → (m : ℕ) → is_in m (nodes_of t) ≡ true → is_in m ns ≡ true
         → is_pair_node (16 + kp.SIZE) ns d m ≡ true
     node_d t k m i j = by_root top k.leads k.tree.tree.root
@@ -423,7 +424,7 @@ module _ {K V : Type 0} {kp : Plain K} {vp : Plain V} {c d : WindowState} {h at 
           };
         }
 
--- ---- what the bound of a type says of its values, as the lemmas on maps take it
+-- ---- the bound of a type on its values, for the lemmas on maps
 
 -- the laws of the order of keys
 pub laws : {M U l m r e row p pd c cd : _} → Met {M = M} {𝓤 = U} l m r e row p pd c cd → Laws p

@@ -1,4 +1,4 @@
--- Lists of pairs: what is found, put and removed, their nodes and their keys.
+-- Lists of pairs: searches, puts and removals, their nodes and their keys.
 use Rattle.seg_map.proofs.Common.{◌≡◌, refl, sym, ap, subst, ◌∙◌, inl, inr, Bool, List, ◌∷◌, map, reverse, Option, Some}
 use Rattle.seg_map.proofs.Common.{find, option_map, AllByRecursion, last_or, cases_Bool, true, false, ◌||◌, not, None}
 use Rattle.seg_map.proofs.Common.{if◌then◌else◌, and_parts, Chains, Pair, is_rising, pair_at, first_pair, ℕ, suc, ◌≢◌}
@@ -13,13 +13,13 @@ use Rattle.std.proofs.Common.{◌++◌, nat_eq}
 use mathlib.Core.List.{reverse-cons}
 use Rattle.link_tree.proofs.Laws.{without_none}
 
--- what follows of each from what holds of each
+-- a property of each element implies another of each
 pub each : {A : Type 0} {P Q : A → Type 0} (xs : List A) → AllByRecursion P xs → ((x : A) → P x → Q x)
     → AllByRecursion Q xs
 each [] a f = tt
 each (x ∷ xs) a f = (f x a.0, each xs a.1 f)
 
--- what holds by two facts of each element holds of all
+-- two properties of each element imply a third of all
 pub each_both : {A : Type 0} {P Q R : A → Type 0} (xs : List A) → AllByRecursion P xs → AllByRecursion Q xs
     → ((x : A) → P x → Q x → R x) → AllByRecursion R xs
 each_both [] a b f = tt
@@ -30,7 +30,7 @@ all_append : {A : Type 0} (P : A → Type 0) (xs ys : List A) → AllByRecursion
 all_append P [] ys a b = b
 all_append P (x ∷ xs) ys a b = (a.0, all_append P xs ys a.1 b)
 
--- what holds of each holds of each of them the other way round
+-- a property of each element holds for the reversed list
 pub all_reversed : {A : Type 0} (P : A → Type 0) (xs : List A) → AllByRecursion P xs → AllByRecursion P (reverse xs)
 all_reversed P [] a = tt
 all_reversed P (x ∷ xs) a = subst (AllByRecursion P) (sym (reverse-cons x xs))
@@ -42,8 +42,8 @@ map_reversed f [] = refl
 map_reversed f (x ∷ xs) = reverse-cons (f x) (map f xs) ∙ ap (λ zs. zs ++ f x ∷ []) (map_reversed f xs)
     ∙ sym (ap (map f) (reverse-cons x xs) ∙ map-append f (reverse xs) (x ∷ []))
 
--- where a test says of what is made of each what another says of it, the first that passes is made of the first that
--- passes
+-- if a test of the images agrees with a test of the elements, the first image that passes is the image of the first
+-- element that passes
 pub find_mapped : {A B : Type 0} (f : A → B) (test : B → Bool) (test' : A → Bool) (xs : List A)
     → AllByRecursion (λ x. test (f x) ≡ test' x) xs → find test (map f xs) ≡ option_map f (find test' xs)
 find_mapped f test test' [] a = refl
@@ -62,19 +62,19 @@ last_mapped f o (x ∷ xs) = last_mapped f (Some x) xs
 
 -- ---- lists of pairs: the pair of a key, and pairs that are put and removed, and their nodes
 
--- all are pairs of a map, and the bytes of each are there
+-- all are pairs of a map, and memory has the bytes of each
 abbrev pub AreIn : {K V : Type 0} → Plain K → Plain V → LiveSet → ℕ → List (Pair K V) → Type 0
 AreIn kp vp live h = AllByRecursion (IsPairIn kp vp live h)
 
--- the pairs stand in memory at their nodes
+-- memory has the pairs at their nodes
 abbrev pub AreAt : {K V : Type 0} → Plain K → Plain V → Memory → List (Pair K V) → Type 0
 AreAt kp vp m = AllByRecursion (IsPairAt kp.SIZE kp.spelling vp.spelling m)
 
--- the keys are those of the pairs
+-- the keys are the keys of the pairs
 abbrev pub HaveKeys : {K V : Type 0} → (ℕ → Option K) → List (Pair K V) → Type 0
 HaveKeys {K} {V} keys ps = AllByRecursion (λ (p : Pair K V). keys (pair_node p) ≡ Some p.key) ps
 
--- the first that is not below the key has it, or none has
+-- the first pair that is not below the key has it, or no pair has
 abbrev pub by_key : {K V : Type 0} → (K → K → Bool) → K → Option (Pair K V) → Option (Pair K V)
 by_key less key None = None
 by_key less key (Some p) = if less key p.key then None else Some p
@@ -106,9 +106,9 @@ module _ {K V : Type 0} (less : K → K → Bool) (on : Chains less) where
         ]
       ]
 
--- ---- a node that is taken out
+-- ---- removing a node
 
--- a node that was taken out is not left
+-- a removed node is no longer in the list
 pub none_left : (n : ℕ) (ns : List ℕ) → is_in n (without n ns) ≡ false
 none_left n [] = refl
 none_left n (m ∷ ms) =
@@ -122,7 +122,7 @@ other_nodes n (p ∷ ps) h =
     let two = or_parts (n == pair_node p) (is_in n (nodes_of_pairs ps)) h in
     ((λ e. both_ways _ two.0 (eq-eqb _ _ (sym e))), other_nodes n ps two.1)
 
--- a node that differs from all pairs' is none of theirs
+-- a node that differs from each pair's is not among them
 pub not_among : {K V : Type 0} (n : ℕ) (ps : List (Pair K V)) → AllByRecursion (λ p. pair_node p ≢ n) ps
     → is_in n (nodes_of_pairs ps) ≡ false
 not_among n [] a = refl
@@ -166,7 +166,7 @@ module _ {K V : Type 0} (less : K → K → Bool) where
         | inr z ↦ or_right _ _ (in_nodes qs key p (rw z at e))
       ]
 
-  -- what holds of all pairs holds of those that are left
+  -- a property of all pairs holds for the pairs that remain
   pub removed_all : (P : Pair K V → Type 0) (ps : List (Pair K V)) (key : K) → AllByRecursion P ps
       → AllByRecursion P (remove_pair less ps key)
   removed_all P [] key a = tt
@@ -264,7 +264,7 @@ module _ {K V : Type 0} (less : K → K → Bool) where
   absent_here key q qs e =
       elim (cases_Bool (is_key less key q)) [ inl y ↦ absurd (cc) | inr z ↦ (z, rw z at e) ]
 
-  -- the pair that is found is one of them, and has the key
+  -- the pair that is found is in the list, and has the key
   pub pair_of : (P : Pair K V → Type 0) (ps : List (Pair K V)) (key : K) (p : Pair K V) → pair_at less ps key ≡ Some p
       → AllByRecursion P ps → P p × (is_key less key p ≡ true)
   pair_of P [] key p e a = absurd (cc)
@@ -278,7 +278,7 @@ module _ {K V : Type 0} (less : K → K → Bool) where
 
   -- ---- a new pair
 
-  -- what holds of all pairs and of one more holds with it put in
+  -- a property of all pairs and of a new one holds after it is put
   pub put_all : (P : Pair K V → Type 0) (p : Pair K V) (ps : List (Pair K V)) → P p → AllByRecursion P ps
       → AllByRecursion P (put_pair less p ps)
   put_all P p [] h a = (h, tt)
@@ -302,7 +302,7 @@ module _ {K V : Type 0} (less : K → K → Bool) where
         | inr n ↦ rw (n, either_one _ _ two.0 n) (ap suc (put_length p qs two.1))
       ]
 
-  -- keys still rise with a pair put in
+  -- keys still rise after a pair is put
   pub put_rising : Chains less → (p : Pair K V) (ps : List (Pair K V))
       → pair_at less ps p.key ≡ None → is_rising less ps ≡ true → is_rising less (put_pair less p ps) ≡ true
   put_rising on p [] e r = refl
@@ -317,7 +317,7 @@ module _ {K V : Type 0} (less : K → K → Bool) where
       ]
 
   module _ (keys : ℕ → Option K) (p : Pair K V) (own : keys (pair_node p) ≡ Some p.key) where
-    -- the node has a place among those of the others
+    -- the node has a place among the nodes of the others
     pub place_of : (ps : List (Pair K V)) → HaveKeys keys ps → pair_at less ps p.key ≡ None
         → is_ordered_with (comes_before less keys) (pair_node p) (nodes_of_pairs ps) ≡ true
     place_of [] k e = refl
@@ -346,7 +346,7 @@ module _ {K V : Type 0} (less : K → K → Bool) where
   -- ---- a pair in the place of another
 
   module _ (on : Chains less) (p p' : Pair K V) (same : p'.key ≡ p.key) where
-    -- the pair with the key stands after this one, or is it
+    -- the pair with the key is this one or comes after it
     later : (q : Pair K V) (qs : List (Pair K V)) → is_rising less (q ∷ qs) ≡ true
         → pair_at less (q ∷ qs) p'.key ≡ Some p → less p'.key q.key ≡ false
     later q qs r e =
@@ -404,21 +404,21 @@ module _ {K V : Type 0} (less : K → K → Bool) where
               rw (n, z) (below_rising less p' qs (subst (λ k. Below less k qs) is (rising_below less on q qs r)) rest)
         ]
 
--- ---- what is known of a beginning
+-- ---- the first pair
 
--- what was found is there
+-- the value that was found
 pub known : (start o : Option ℕ) → start ≡ o → IfSome start (λ n. o ≡ Some n)
 known None o e = tt
 known (Some n) o e = sym e
 
--- what is said of the node that was found is said of what is left of it
+-- a property of the node that was found holds after the search is narrowed
 pub narrowed : (r f : Option ℕ) (P : ℕ → Type 0) → IfSome r (λ n. f ≡ Some n) → IfSome f P → IfSome r P
 narrowed None f P e h = tt
 narrowed (Some n) f P e h = let k = rw e at h in k
 
 -- ---- keys of nodes
 
--- two ways to read keys that read those of the pairs read the same of their nodes
+-- two ways to read keys that read the keys of the pairs agree on their nodes
 pub keys_agree : {K V : Type 0} (f g : ℕ → Option K) (ps : List (Pair K V)) → HaveKeys f ps → HaveKeys g ps → (m : ℕ)
     → is_in m (nodes_of_pairs ps) ≡ true → f m ≡ g m
 keys_agree f g [] k j m i = absurd (false≢true i)
@@ -429,7 +429,7 @@ keys_agree f g (p ∷ ps) k j m i =
     ]
 
 module _ {K : Type 0} (less : K → K → Bool) (irreflexive : IsStrict less) (transitive : Chains less) where
-  -- of two keys of which one is below the other, one is not
+  -- if one of two keys is below the other, the other is not below it
   one_side : (x y : K) → not (less x y || less y x) ≡ false → less y x ≡ not (less x y)
   one_side x y e =
       elim (cases_Bool (less x y)) [
@@ -437,7 +437,7 @@ module _ {K : Type 0} (less : K → K → Bool) (irreflexive : IsStrict less) (t
         | inr a ↦ rw a (either_one _ _ e a)
       ]
 
-  -- the nodes that stand before a key are those that its node does not come before
+  -- the nodes that precede a key are the nodes that its node does not precede
   pub beside : {V : Type 0} (keys : ℕ → Option K) (p : Pair K V) → keys (pair_node p) ≡ Some p.key
       → (ps : List (Pair K V)) → HaveKeys keys ps → pair_at less ps p.key ≡ None → (m : ℕ) → is_in m (nodes_of_pairs ps)
       ≡ true → stands_before less keys false p.key m ≡ not (comes_before less keys (pair_node p) m)

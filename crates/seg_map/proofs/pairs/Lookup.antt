@@ -1,4 +1,4 @@
--- The pairs of a map that are lent to a call of the tree, and what a search among them finds.
+-- The pairs of a map that are lent to a call of the tree, and the results of a search among them.
 use Rattle.seg_map.proofs.Common.{◌≡◌, refl, sym, ap, subst, ◌∙◌, ℕ, ◌+◌, ◌*◌, ◌≤◌, Bool, List, ◌∷◌, length, true}
 use Rattle.seg_map.proofs.Common.{false, arith, not, IsTrue, reverse, Option, Some, None, IfSome, find, option_map}
 use Rattle.seg_map.proofs.Common.{if◌then◌else◌, AllByRecursion, last_or, WindowState, bytes_of, read, link_at}
@@ -21,7 +21,7 @@ use Rattle.seg_map.specs.Places.{IsSomeMap, SearchSteps, item_of, value_of_pair,
 module _ {K V : Type 0} {kp : Plain K} {vp : Plain V} (laws : Laws kp) (c : WindowState) {h at : ℕ}
     {ps : List (Pair K V)} (s : HoldsMap kp vp c.bytes h at ps) {root : Option ℕ} {ms : List ℕ}
     (is : root ≡ link_at (bytes_of c.bytes) (h + at)) (are : ms ≡ own_nodes c.bytes root None) where
-  -- the nodes that are lent are those of the map
+  -- the lent nodes are the nodes of the map
   pub lent_own : ms ≡ nodes_of s.map.tree.tree
   lent_own = are ∙ ap (λ o. own_nodes c.bytes o None) is ∙ own laws c s
 
@@ -58,7 +58,7 @@ module _ {K V : Type 0} {kp : Plain K} {vp : Plain V} (kl : Laws kp) (vl : Laws 
         (λ p w k. read_pair (keys_in kp ms c) p w.0 w.1 k);
   }
 
--- ---- what a search finds
+-- ---- the result of a search
 
 -- the node of a pair, or none, after this many steps
 pub record Finds {K V : Type 0} (k : Plain K) (v : Plain V) (c : WindowState) (at : Place)
@@ -101,7 +101,7 @@ module _ {K V : Type 0} {k : Plain K} {v : Plain V} {now c : WindowState} {at : 
       let m = most s.map.tree.tree (o.tree ps s).tree in
       let n = ap (λ n. bits (n + 1)) (ap length s.map.tree.lists ∙ length-map ps pair_node) in omega arith
 
-  -- what holds of each pair holds of the one whose node is found
+  -- a property of each pair holds for the pair whose node is found
   finds : {found : Option ℕ} {taken : ℕ} (node : List ℕ → Option ℕ) (pair : List (Pair K V) → Option (Pair K V))
       {path : Tree → ℕ} → ((P : Pair K V → Type 0) (ps : List (Pair K V)) → AllByRecursion P ps → IfSome (pair ps) P)
       → ((ps : List (Pair K V)) → HaveKeys (keys_in k own now) ps
@@ -124,34 +124,34 @@ module _ {K V : Type 0} {k : Plain K} {v : Plain V} {now c : WindowState} {at : 
     path_is ps s = exact s.map.tree.tree (o.tree ps s).tree
         ∙ ap (λ ks. path_length (stands_before k.order ks past key) s.map.tree.tree) (keys_are ps s)
 
-    -- what the search finds is the first pair from the key on
+    -- the search finds the first pair from the key on
     pub finds_first : {found : Option ℕ} → Asked (λ t. found ≡ first_not_before (ahead past key) (nodes_of t))
         → Finds k v c at (first_pair k.order past key) (path_in k c past key) found taken
     finds_first first = finds (first_not_before (ahead past key)) (first_pair k.order past key)
         (λ P ps a. find_good P (λ p. not (is_passed k.order past key p)) ps a)
         (first_node k.order (keys_in k own now) past key) first path_is most
 
-    -- what the search finds is the last pair before the key
+    -- the search finds the last pair before the key
     pub finds_before : {found : Option ℕ} → Asked (λ t. found ≡ last_before (ahead past key) (nodes_of t))
         → Finds k v c at (last_pair k.order past key) (path_in k c past key) found taken
     finds_before last = finds (last_before (ahead past key)) (last_pair k.order past key)
         (λ P ps a. find_good P (is_passed k.order past key) (reverse ps) (all_reversed P ps a))
         (last_node k.order (keys_in k own now) past key) last path_is most
 
-  -- what the search finds is the last pair
+  -- the search finds the last pair
   pub finds_last : {found : Option ℕ} {taken : ℕ} → Asked (λ t. found ≡ last_or None (nodes_of t))
       → Asked (λ t. taken ≡ path_length (λ n. true) t)
       → Asked (λ t. taken ≤ 2 * bits (length (nodes_of t) + 1)) → Finds k v c at final_pair last_path found taken
   finds_last last exact most = finds (last_or None) final_pair (λ P ps a. last_good P None ps tt a)
       (λ ps keyed. last_mapped pair_node None ps) last (λ ps s. exact s.map.tree.tree (o.tree ps s).tree) most
 
-  -- where a change begins, by the keys of the map
+  -- the point at which an insertion begins, by the keys of the map
   pub entry_is : (key : K) {start : Option ℕ} → Asked (λ t. start ≡ insert_point_of (ahead false key) t)
       → (ps : List (Pair K V)) (s : HoldsMap k v c.bytes at.handle at.at ps) → start ≡ entry_in k c key s.map.tree.tree
   entry_is key entry ps s = entry s.map.tree.tree (o.tree ps s).tree
       ∙ ap (λ ks. insert_point_of (stands_before k.order ks false key) s.map.tree.tree) (keys_are ps s)
 
-  -- where a removal would begin
+  -- the point at which a removal begins
   pub exit_is : (r found start : Option ℕ) → IfSome r (λ n. found ≡ Some n)
       → Asked (λ t. IfSome found (λ n. start ≡ remove_point_of (comes_before k.order (keys_in k own now)) n t))
       → FindsExit k v c at r start
@@ -160,7 +160,7 @@ module _ {K V : Type 0} {k : Plain K} {v : Plain V} {now c : WindowState} {at : 
       IfSome found (λ n. start ≡ remove_point_of (comes_before k.order ks) n s.map.tree.tree))
       (keys_are ps s) (exit s.map.tree.tree (o.tree ps s).tree))
 
--- ---- what is read of it
+-- ---- reading the pair
 
 if_mapped : {A B : Type 0} (f : A → B) (x : A) (b : Bool)
     → (if b then None else Some (f x)) ≡ option_map f (if b then None else Some x)
@@ -205,7 +205,7 @@ module _ {K V : Type 0} {k : Plain K} {v : Plain V} {c : WindowState} {at : Plac
       → IfSome found (λ n. IsTrue (has_room (live_of c.bytes) n (16 + k.SIZE + v.SIZE)))
   found_room s = rw (f.node s.0 s.1) (room_read k v c f.keys (pair s.0) (f.good s.0 s.1))
 
-  -- the node that is looked for has room for a key
+  -- the node that is found has room for a key
   pub sought_room : IsSomeMap k v c.bytes at.handle at.at
       → IfSome found (λ n. IsTrue (has_room (live_of c.bytes) n (16 + k.SIZE)))
   sought_room s = less found (found_room s)
@@ -240,7 +240,7 @@ module _ {K V : Type 0} {k : Plain K} {v : Plain V} {c : WindowState} {at : Plac
     exact = steps_read before after e;
   }
 
--- a key that is looked for: its value
+-- the value of a key that is looked up
 pub looked_for : {K V : Type 0} {k : Plain K} {v : Plain V} {c : WindowState} {at : Place} (key : K)
     {found result : Option ℕ}
     {taken before after : ℕ} → Finds k v c at (first_pair k.order false key) (path_in k c false key) found taken
@@ -269,7 +269,7 @@ value_by_key {K} {V} {k} on key item ps s = ap (option_and_then (λ (x : K × V)
     by_pair None = refl
     by_pair (Some p) = if_mapped value_of_pair p (k.order key p.key)
 
--- ---- the pair of a node that was looked for by its key
+-- ---- the pair of a node that was found by its key
 
 module _ {K V : Type 0} {k : Plain K} {v : Plain V} {c : WindowState} {at : Place} {key : K} {found : Option ℕ}
     {before after : ℕ} (f : LooksFor k v c at key found before after) {ps : List (Pair K V)}

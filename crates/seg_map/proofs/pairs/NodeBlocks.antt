@@ -1,4 +1,4 @@
--- Blocks of nodes: what is read of them, and what stays where one field of one node changes.
+-- Blocks of nodes: reading them, and the parts that stay if one field of one node changes.
 use Rattle.seg_map.proofs.Common as common
 use common.{Memory, List, length, IsTrue, eq-eqb, Extent, word_at, current, link_at, LiveSet, is_kept, kept_of, keys_in}
 use common.{refl, false≢true, cases_Bool, is_live_in, beside_cell, lay_out_one, is_pair_node, links_among, comes_before}
@@ -50,12 +50,12 @@ pub length-read : (m : Memory) (at n : ℕ) → length (read m at n) ≡ n
 length-read m at zero = refl
 length-read m at (suc n) = ap suc (length-read m (at + 1) n)
 
--- what shows that there is room, and that sums within a block fit
+-- rules that show that there is room, and that sums within a block fit
 pub ruleset rooms = (room-less, small, changed-room, allocated-room, length-read)
 
 -- ---- one field of one node changes
 
--- what a setter does to the window
+-- the effect of a setter on the window
 pub record Changed (len : ℕ) (ns : List ℕ) (c d : WindowState) (n : ℕ) : Type 0 where
   pub place : SameSurroundings c d
   pub live : live_of d.bytes ≡ live_of c.bytes
@@ -123,7 +123,7 @@ module _ {len : ℕ} {ns : List ℕ} {c d : WindowState} {n : ℕ} (g : PairNode
         colour = λ k. colour_stays k (cases_Bool (is_other ns (live_of c.bytes) k)) i;
       }
 
-  -- the cells, where one of them becomes another
+  -- the cells after a change of one of them
   pub one_cell : (f : Cell → Cell) → cells_of (bytes_of d.bytes) n ≡ f (cells_of (bytes_of c.bytes) n)
       → pair_cells len ns d ≡ (λ (m : ℕ). if m == n then f (pair_cells len ns c m) else pair_cells len ns c m)
   one_cell f own = λ i m. at m (cases_eq m n) i
@@ -162,7 +162,7 @@ module _ {K : Type 0} (value : List ℕ → Option K) (size : ℕ) {ns : List �
   pub keys_stay : key_of value size ns d ≡ key_of value size ns c
   keys_stay = λ i m. key_stays m (cases_Bool (is_pair_node (16 + size) ns c m)) i
 
--- ---- what a call of the heap needs of a node
+-- ---- conditions of the heap's calls on a node
 
 -- an element of a list that passes a test: some element does
 pub any_at : (q : Extent → Bool) (xs : List Extent) (x : Extent) → In x xs → q x ≡ true → list_any q xs ≡ true
@@ -205,7 +205,7 @@ kept_away ns live n k i t =
           | inr r ↦ or_right _ _ (link_byte ms r l m)
         ]
 
--- another block lies away from a node's payload
+-- another block is apart from a node's payload
 pub block_apart : {len : ℕ} {ns : List ℕ} {c : WindowState} {n : ℕ} (x : Extent) → PairNode len ns c n
     → In x (live_of c.bytes).extents → (handle x ≡ n → ⊥) → (x.offset + x.len ≤ n - 16) ⊎ (n + len ≤ x.offset)
 block_apart {len} {ns} {c} {n} x g i o =
@@ -292,7 +292,7 @@ in_others h x (y ∷ ys) i o = by_place (λ j. in_others h x ys j o) (cases_eq (
     by_place rest (inr n) (inl f) = subst (In x) (sym (others-past h y ys n)) (inl f)
     by_place rest (inr n) (inr j) = subst (In x) (sym (others-past h y ys n)) (inr (rest j))
 
--- what holds of all elements holds of one of the list
+-- a property of all elements holds for one of the list
 pub all_in : (P : Extent → Type 0) (xs : List Extent) (x : Extent) → AllByRecursion P xs → In x xs → P x
 all_in P [] x a i = absurd i
 all_in P (y ∷ ys) x a (inl e) = subst P e a.0
@@ -366,9 +366,9 @@ module _ {len : ℕ} {ns : List ℕ} {c d : WindowState} {n : ℕ} {red : Bool} 
         record { at = λ k l h. s.at k (omega arith) h };
   }
 
--- ---- what a setter leaves
+-- ---- the effect of a setter
 
--- the nodes that stand before what is looked for
+-- the nodes that precede the probe
 abbrev ahead_of : {K : Type 0} → Plain K → List ℕ → WindowState → KeyProbe K → ℕ → Bool
 ahead_of k ns c s = stands_before k.order (keys_in k ns c) s.past s.key
 
@@ -395,7 +395,7 @@ module _ {K : Type 0} (k : Plain K) {ns : List ℕ} {c : WindowState} {n : ℕ} 
       }
 
   module _ (to : Option ℕ) (target : leads (is_pair_node (16 + k.SIZE) ns c) to ≡ true) where
-    -- writing the left link changes the cell as it says
+    -- writing the left link changes only this field of the cell
     pub left_set : link_at (bytes_of d.bytes) (n + 0) ≡ to → ChangesBytes current c d (n + 0) 8
         → IsSet k ns c d (with_left (pair_cells (16 + k.SIZE) ns c) n to)
     unfolding with_left
@@ -406,7 +406,7 @@ module _ {K : Type 0} (k : Plain K) {ns : List ℕ} {c : WindowState} {n : ℕ} 
         (leads_in (16 + k.SIZE) ns c to target) (link_parts g).1 in
         set _ o.changed (one_cell g o.changed (λ (x : Cell). record x { left = to }) o.own)
 
-    -- writing the right link changes the cell as it says
+    -- writing the right link changes only this field of the cell
     pub right_set : link_at (bytes_of d.bytes) (n + 8) ≡ to → ChangesBytes current c d (n + 8) 8
         → IsSet k ns c d (with_right (pair_cells (16 + k.SIZE) ns c) n to)
     unfolding with_right
@@ -416,7 +416,7 @@ module _ {K : Type 0} (k : Plain K) {ns : List ℕ} {c : WindowState} {n : ℕ} 
         (leads_in (16 + k.SIZE) ns c to target) in
         set _ o.changed (one_cell g o.changed (λ (x : Cell). record x { right = to }) o.own)
 
-  -- writing the colour changes the cell as it says
+  -- writing the colour changes only this field of the cell
   pub red_set : {red : Bool} → Recolours current c d n red
       → IsSet k ns c d (with_red (pair_cells (16 + k.SIZE) ns c) n red)
   unfolding with_red
@@ -424,9 +424,9 @@ module _ {K : Type 0} (k : Plain K) {ns : List ℕ} {c : WindowState} {n : ℕ} 
       let changed = red_changed g change (omega arith) in
       set _ changed (one_cell g changed (λ (x : Cell). record x { red = red }) (red_own g change (omega arith)))
 
--- ---- what is asked and answered of a node
+-- ---- reads of a node
 
--- the heap may be reached by another name
+-- the same for a heap with an equal state
 module _ (len : ℕ) (ns : List ℕ) (c w : WindowState) (n : ℕ) (h : is_pair_node len ns c n ≡ true) (same : w ≡ c) where
   b : NodeBlock len (live_of c.bytes).extents n
   b = node_block len ns c n (is_pair_node-PairNode len ns c n h)

@@ -79,7 +79,7 @@ is_new {K} {V} k v {a} {d} h at whole room w = record {
 
 -- ---- a node is made: its four parts are written in a new block
 
--- a new block, once a part of it is written
+-- a new block, after a part of it is written
 still : {a b c : WindowState} {n node from k : ℕ} (room : ℕ) → AllocatesOk current a b n Node node
     → ChangesBytes current b c from
     k → room ≤ n → node ≤ from → from + k ≤ node + room → AllocatesOk current a c n Node node
@@ -142,7 +142,7 @@ module _ {K V : Type 0} {kp : Plain K} {vp : Plain V} (kl : Laws kp) (vl : Laws 
   differs = (rising-insert 128 x (live_of c.bytes).extents
       (live-rises (added (live_of c.bytes) x) m.block.live.proper)).differs
 
-  -- no block was there
+  -- no block had this handle
   differs_at : {y : Extent} (g : ℕ) → extent_at (live_of c.bytes) g ≡ Some y → handle y ≢ handle m.block.extent
   differs_at {y} g f e = all_in (λ (z : Extent). x.offset ≢ z.offset) (live_of c.bytes).extents y differs
       (found_in (live_of c.bytes).extents g y f) (omega (arith, e))
@@ -156,7 +156,7 @@ module _ {K V : Type 0} {kp : Plain K} {vp : Plain V} (kl : Laws kp) (vl : Laws 
       → extent_at (live_of d.bytes) (handle y) ≡ Some y
   still_there y f = rw live_d (found-more (handle y) x y (live_of c.bytes).extents (λ e. differs_at _ f (sym e)) f)
 
-  -- the map is as it was, beside the new block
+  -- the map is unchanged, next to the new block
   pub map_there : HoldsMap kp vp d.bytes h at ps
   map_there =
       let r = roomy c h (at + 24) s.heap s.room in let same = kept _ r.found in
@@ -194,7 +194,7 @@ module _ {K V : Type 0} {kp : Plain K} {vp : Plain V} (kl : Laws kp) (vl : Laws 
         );
       }
 
-  -- an insertion begins where it did before the block was taken
+  -- an insertion begins where it did before the block was allocated
   pub can_put_in : {root start : Option ℕ} → root ≡ link_at (bytes_of c.bytes) (h + at)
       → start ≡ entry_in kp c key s.map.tree.tree → CanLinkPair kp vp d h at root start node
   can_put_in top e =
@@ -226,7 +226,7 @@ module _ {K V : Type 0} {kp : Plain K} {vp : Plain V} (kl : Laws kp) (vl : Laws 
 
 -- ---- a pair whose node is made enters the map
 
--- a node that has a place in the tree, and is put there from the root on or from where its insertion begins
+-- a node that has a place in the tree, and is linked there, beginning at the root or at its entry
 pub record CanLink {K : Type 0} (k : Plain K) (ns : List ℕ) (c : WindowState) (root start : Option ℕ) (node : ℕ) :
     Type 0 where
   pub shape : Tree
@@ -236,7 +236,7 @@ pub record CanLink {K : Type 0} (k : Plain K) (ns : List ℕ) (c : WindowState) 
   pub begins : IfSome start (λ n. insert_point_of (λ m. not (comes_before k.order (keys_in k ns c) node m)) shape
       ≡ Some n)
 
--- a link among nodes is one among more of them
+-- a link to a node of the list is a link to a node of a longer list
 leads_more : (n : ℕ) (ns : List ℕ) (o : Option ℕ) → leads (λ j. is_in j ns) o ≡ true
     → leads (λ j. is_in j (n ∷ ns)) o ≡ true
 leads_more n ns None h = refl
@@ -310,7 +310,7 @@ module _ {K V : Type 0} {kp : Plain K} {vp : Plain V} (kl : Laws kp) (c : Window
     own = node_all (pair_node p) own_in;
     place = ap (is_ordered_with (comes_before kp.order (keys_in kp all c)) (pair_node p)) s.map.tree.lists
         ∙ place_of kp.order (keys_in kp all c) p own_key ps keys_all l.absent;
-    -- an insertion begins where the search for the key says
+    -- an insertion begins where the search for the key found
     begins = subst (λ (o : Option ℕ). IfSome start (λ n. o ≡ Some n)) (entry_same (stands_before kp.order
         (keys_in kp ns c) false p.key) (λ m. not (comes_before kp.order (keys_in kp all c) (pair_node p) m))
         s.map.tree.tree (λ m i. let j = ap (is_in m) (sym s.map.tree.lists) ∙ i in

@@ -37,7 +37,7 @@ pub read_spelled : {T : Type 0} (p : Plain T) → Laws p → (m : Memory) (at : 
 read_spelled p l m at x one h = value-spelled p.reading p.is_value p.spelling l.reads x (read m at p.SIZE) one
     (sym h ∙ ap (read m at) (l.spells x one))
 
--- a pair of a map: its key, its value, and what its block holds
+-- a pair of a map: its key, its value, and the contents of its block
 pub record PairParts {K V : Type 0} (kp : Plain K) (vp : Plain V) (p : Pair K V) : Type 0 where
   pub key : kp.is_value p.key ≡ true
   pub value : vp.is_value p.value ≡ true
@@ -45,7 +45,7 @@ pub record PairParts {K V : Type 0} (kp : Plain K) (vp : Plain V) (p : Pair K V)
   pub role : same_role p.node.role Node ≡ true
   pub long : 16 + kp.SIZE + vp.SIZE + 16 ≤ p.node.len
 
--- a pair that stands in a map, in its parts
+-- a pair of a map, in its parts
 pub pair_parts : {K V : Type 0} {kp : Plain K} {vp : Plain V} {live : LiveSet} {h : ℕ} {p : Pair K V}
     → IsPairIn kp vp live h p → PairParts kp vp p
 pair_parts {kp = kp} {vp = vp} {p = p} i =
@@ -58,7 +58,7 @@ pair_parts {kp = kp} {vp = vp} {p = p} i =
       long = leb-true (16 + kp.SIZE + vp.SIZE + 16) p.node.len two.1;
     }
 
--- the block that is found is one of those
+-- the block that is found is in the list
 pub found_in : (xs : List Extent) (h : ℕ) (x : Extent) → find (λ (y : Extent). handle y == h) xs ≡ Some x → In x xs
 found_in [] h x e = absurd (cc)
 found_in (y ∷ ys) h x e =
@@ -106,7 +106,7 @@ module _ {K V : Type 0} (less : K → K → Bool) where
       (all_reversed (λ (p : Pair K V). stands_before less keys past key (pair_node p) ≡ is_passed less past key p) ps
       (each ps k (λ p e. ap (stands less past key) e)))
 
--- what holds of each pair
+-- a property of each pair
 pub pairs_all : {K V : Type 0} (P : ℕ → Bool) (Q : Pair K V → Type 0) (ps : List (Pair K V))
     → ((p : Pair K V) → Q p → P (pair_node p) ≡ true) → AllByRecursion Q ps → list_all P (nodes_of_pairs ps) ≡ true
 pairs_all P Q [] f a = refl
@@ -153,14 +153,14 @@ unfolding key_of key_at
 key_is {kp = kp} l own c {p = p} e i b =
     rw e (read_spelled kp l (bytes_of c.bytes) (handle p.node + 16) p.key (pair_parts i).key b.0)
 
--- the nodes may be more than those of the tree
+-- the lent nodes can be more than the nodes of the tree
 module _ {K V : Type 0} {kp : Plain K} {vp : Plain V} (laws : Laws kp) {c : WindowState} {h at : ℕ}
     {ps : List (Pair K V)} (s : HoldsMap kp vp c.bytes h at ps) {own : List ℕ} (g : IsGoodNodeSet (16 + kp.SIZE) own c)
     (among : (m : ℕ) → is_in m (nodes_of s.map.tree.tree) ≡ true → is_in m own ≡ true) where
   node_in : (n : ℕ) → is_in n (nodes_of s.map.tree.tree) ≡ true → is_pair_node (16 + kp.SIZE) own c n ≡ true
   node_in n i = PairNode-is_pair_node (16 + kp.SIZE) own c n (record { good = g; listed = among n i })
 
-  -- the keys that are read of the nodes are those of the pairs
+  -- the keys that are read from the nodes are the keys of the pairs
   pub keys_among : HaveKeys (keys_in kp own c) ps
   keys_among = each_both ps (pairs_in (nodes_of s.map.tree.tree) ps (λ m i. ap (is_in m) s.map.tree.lists ∙ i))
       (with_bytes s) (λ p i w. key_is laws own c (node_in (pair_node p) i) w.0 w.1)
@@ -196,7 +196,7 @@ module _ {K V : Type 0} {kp : Plain K} {vp : Plain V} (laws : Laws kp) (c : Wind
   abbrev by : ℕ → Option K
   by = keys_in kp (nodes_of s.map.tree.tree) c
 
-  -- the keys are those of the pairs
+  -- the keys are the keys of the pairs
   pub keys : HaveKeys by ps
   keys = keys_among laws s (good laws c s) (λ m i. i)
 

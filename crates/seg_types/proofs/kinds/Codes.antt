@@ -1,4 +1,4 @@
--- The kind of a code is what its parts say: the container, the key and the element.
+-- The parts of a code determine its kind: the container, the key and the element.
 use Rattle.std.proofs.Common.{◌≡◌, ◌≢◌, refl, sym, ap, subst, ◌∙◌, ℕ, ◌/◌, ◌%◌, ◌≤◌, ◌==◌, Bool, true, false}
 use Rattle.std.proofs.Common.{arith, List, [], ◌∷◌}
 use Rattle.std.proofs.lemmas.Bool.{eqb-true, ne_eqb}
@@ -23,7 +23,7 @@ code-read (Map I64 BoolKind) = refl
 code-read (Map U64 BoolKind) = refl
 code-read kind = refl
 
--- the same at a number that is the code
+-- the same for a number that equals the code
 kind_is : (k : Kind) (code : ℕ) → code_of k ≡ code → kind_of_code code ≡ Some k
 kind_is k code e = subst (λ c. kind_of_code c ≡ Some k) e (code-read k)
 
@@ -115,12 +115,12 @@ vector_if : (code : ℕ) → code / 65536 ≡ 2 → (o : Option ScalarKind) → 
 vector_if code part None is = no_kind code (no_vector code part is)
 vector_if code part (Some k) is = let low = scalar_some (code % 65536) k is in kind_is (Vector k) code (omega arith)
 
--- one from 131072 on that of a vector, whose element the rest says
+-- a code from 131072 on is that of a vector, and its rest that of the element
 pub vector_part : (code : ℕ) → code / 65536 ≡ 2
     → kind_of_code code ≡ option_map Vector (scalar_of_code (code % 65536))
 vector_part code part = vector_if code part (scalar_of_code (code % 65536)) refl
 
--- one from 196608 on that of a map, whose key and value the two lowest bytes say
+-- a code from 196608 on is that of a map, and its two lowest bytes those of key and value
 pub map_part : (code : ℕ) (k v : ScalarKind) → code / 65536 ≡ 3 → scalar_of_code (code / 256 % 256) ≡ Some k
     → scalar_of_code (code % 256) ≡ Some v → kind_of_code code ≡ Some (Map k v)
 map_part code k v part key value =

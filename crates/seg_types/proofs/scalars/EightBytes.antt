@@ -16,7 +16,7 @@ fits bytes small = omega (arith, small 0, small 1, small 2, small 3, small 4, sm
 in_range-u64 : (n : ℕ) → n < 2 ^ 64 → is_value U64 (pos n) ≡ true
 in_range-u64 n f = grind arith
 
--- eight bytes and the number that they say: each spells the other
+-- eight bytes and their number encode each other
 pub reads-u64 : (bytes : List ℕ) (v : ℕ) → length bytes ≡ 8 → ((i : ℕ) → get_or bytes i 0 < 256)
     → v ≡ from_le_bytes w64 bytes → (is_value U64 (pos v) ≡ true) × (spelling U64 (pos v) ≡ bytes)
 reads-u64 bytes v len small is = (

@@ -1,4 +1,4 @@
--- What is read as a value of a plain type, and of a scalar type by the whole number that its bytes say.
+-- A value of a plain type that is read from bytes; for a scalar type by the whole number in the bytes.
 use Rattle.std.proofs.Common.{◌≡◌, sym, ap, subst, ◌∙◌, ℕ, suc, ◌<◌, refl, inl, inr, Bool, true, false, ◌&&◌, ◌==◌}
 use Rattle.std.proofs.Common.{if◌then◌else◌, List, [], ◌∷◌, length, get_or, Option, Some, None, MatchOption, ℤ}
 use Rattle.std.proofs.lemmas.Bool.{and_parts, and_from, cases_Bool, cond-true, cond-false, eq-eqb, eqb-true, false≢true}
@@ -46,7 +46,7 @@ value-spelled {T} reading is_one spell reads x bytes one e =
     ∙ cond-true (is_one x && same_bytes (spell x) (spell x)) (Some x) None
     (and_from (is_one x) (same_bytes (spell x) (spell x)) one (same-refl (spell x))))
 
--- what is read of bytes is the value that they spell
+-- the value that is read from bytes is the value that they encode
 pub read-value : {T : Type 0} (reading : List ℕ → Option T) (is_one : T → Bool) (spell : T → List ℕ)
     → ((x : T) → is_one x ≡ true → reading (spell x) ≡ Some x)
     → (bytes : List ℕ) (r : Option T) → Decodes is_one spell bytes r → r ≡ value_in reading is_one spell bytes

@@ -1,4 +1,4 @@
-//! `i32`: four bytes in two's complement, the lowest first.
+//! `i32`: four bytes in two's complement, lowest byte first.
 ghost use Rattle.std.specs.Prelude.{refl, int_lt};
 ghost use Rattle.seg_types.specs.declared.kinds.ScalarKind.TheVariants.{I32};
 ghost use Rattle.seg_types.specs.Kinds.{is_value as is_value_of, spelling as spelling_of};

@@ -1,4 +1,4 @@
-//! `i64`: eight bytes in two's complement, the lowest first.
+//! `i64`: eight bytes in two's complement, lowest byte first.
 ghost use Rattle.std.specs.Prelude.{refl, int_lt};
 ghost use Rattle.seg_types.specs.declared.kinds.ScalarKind.TheVariants.{I64};
 ghost use Rattle.seg_types.specs.Kinds.{is_value as is_value_of, spelling as spelling_of};

@@ -1,4 +1,4 @@
-//! `u64`: eight bytes, the lowest first.
+//! `u64`: eight bytes, lowest byte first.
 ghost use Rattle.std.specs.Prelude.{refl, pos, int_lt};
 ghost use Rattle.seg_types.specs.declared.kinds.ScalarKind.TheVariants.{U64};
 ghost use Rattle.seg_types.specs.Kinds.{is_value as is_value_of, spelling as spelling_of};

@@ -1,4 +1,4 @@
--- The head of a container, its three words and the block that they stand in, through the steps of a call.
+-- The head of a container, its three words and their block, through the steps of a call.
 use Rattle.seg_vector.proofs.Common as W
 use W.{◌≡◌, ◌≢◌, refl, sym, ap, subst, ◌∙◌, inl, inr, ℕ, ◌+◌, ◌*◌, ◌<◌, ◌≤◌, Option, Some, None, List, ◌∷◌, length}
 use W.{arith, ◌⊎◌, ◌++◌, append-nil, IsTrue, nat_lt, option_to_list, AllByRecursion, and_parts, leb-true, Memory}
@@ -15,11 +15,11 @@ use W.{SwapsBlocks, AreDistinct, [], rising-others, KeepsGaps, gaps-payload}
 abbrev pub table : ℕ → Option Extent → BackingArray
 table c o = record { capacity = c; extent = o }
 
--- a value is not both absent and there
+-- an option is not both none and some
 pub none-some : {A B : Type 0} {o : Option A} {x : A} → o ≡ None → o ≡ Some x → B
 none-some e f = absurd (cc)
 
--- two values that are there and equal are one
+-- the values of two equal options are equal
 pub same-some : {A : Type 0} {x y : A} → Some x ≡ Some y → x ≡ y
 same-some e = cc
 
@@ -46,7 +46,7 @@ changed-both {a} {b} {c} {f} {n} {g} {k} at len p q h1 h2 h3 h4 = record {
   rest = record { at = λ j w. q.rest.at j (outside at len g k j h3 h4 w) ∙ p.rest.at j (outside at len f n j h1 h2 w) };
 }
 
--- no block is gone, and none came
+-- no block is freed or allocated
 pub head-exchanged : {old new : WindowState} (p : Place) → IsHeap current old.bytes
     → IsTrue (has_room (live_of old.bytes) p.handle (p.at + 24)) → ChangesBytes current old new (place_at p) 24
     → ExchangesBlocks current old new (place_at p) 24 [] []
@@ -68,7 +68,7 @@ pub head-gaps : {a b : WindowState} (p : Place) → IsTrue (has_room (live_of a.
     → ChangesBytes current a b (place_at p) 24 → KeepsGaps a b
 head-gaps {a} {b} p room c = gaps-payload a b p.handle (p.at + 24) (place_at p) 24 c room (omega arith) (omega arith)
 
--- the head of a container stands in a block in use
+-- the head of a container is in a block in use
 pub record IsHead (c : WindowState) (p : Place) : Type 0 where
   pub block : Extent
   pub found : extent_at (live_of c.bytes) p.handle ≡ Some block
@@ -85,7 +85,7 @@ room-head c p heap t = let q : IsRoomy (live_of c.bytes) p.handle (p.at + 24) = 
 pub head-room : {c : WindowState} {p : Place} → IsHead c p → IsTrue (has_room (live_of c.bytes) p.handle (p.at + 24))
 head-room {c} {p} w = found-room (live_of c.bytes) p.handle (p.at + 24) _ w.found w.big
 
--- it stays where other blocks are exchanged
+-- the head stays if other blocks are exchanged
 pub head-kept : {a b : WindowState} {p : Place} {from n : ℕ} {gone come : List Extent} → IsHead a p
     → ExchangesBlocks current a b from n gone come → IsNone p.handle gone → IsHead b p
 head-kept {a} {b} {p} {from} {n} {gone} {come} w x d = record {
@@ -95,7 +95,7 @@ head-kept {a} {b} {p} {from} {n} {gone} {come} w x d = record {
   big = w.big;
 }
 
--- and where bytes of it change
+-- and if bytes of them change
 pub head-changed : {a b : WindowState} {p : Place} {from n : ℕ} → IsHead a p → ChangesBytes current a b from n
     → IsHead b p
 head-changed {a} {b} {p} {from} {n} w c = record {
@@ -152,7 +152,7 @@ pub beside-head : {a b : WindowState} {p : Place} (h : ℕ) {x : Extent} → IsH
 beside-head {a} {b} {p} h {x} heap w c found other = kept-beside a b _ 24 p.handle h _ x [] [] _ heap (head-exchanged p
     heap (head-room w) c) w.found (omega (arith, w.here)) (omega (arith, w.here, w.big)) other found tt
 
--- Some blocks are gone so far and others came, and the head has these words.
+-- Some blocks were freed so far and others allocated, and the head has these words.
 pub record IsRun (old now : WindowState) (p : Place) (gone come : List Extent) (n : ℕ) (t : BackingArray) : Type 0 where
   pub change : ExchangesBlocks current old now (place_at p) 24 gone come
   pub heap : IsHeap current now.bytes
@@ -183,13 +183,13 @@ run-headed {old} {a} {b} {p} {gone} {come} r c w = record {
   words = w;
 }
 
--- what holds of each of some holds of each of them in other words
+-- a property of each element implies another of each element
 pub all-as : {A : Type 0} → (P Q : A → Type 0) → ((x : A) → P x → Q x) → (xs : List A) → AllByRecursion P xs
     → AllByRecursion Q xs
 all-as P Q f [] a = tt
 all-as P Q f (x ∷ xs) a = (f x a.0, all-as P Q f xs a.1)
 
--- the blocks that came are in use
+-- the allocated blocks are in use
 pub came-found : {a b : WindowState} {from n : ℕ} {gone come : List Extent}
     → ExchangesBlocks current a b from n gone come → AllByRecursion (IsFound (live_of b.bytes).extents) come
 came-found {a} {b} {from} {n} {gone} {come} x =
@@ -199,13 +199,13 @@ came-found {a} {b} {from} {n} {gone} {come} x =
     subst (λ (zs : List Extent). AllByRecursion (IsFound zs) come) (sym is)
     (all-found-in come rest (live-rises (exchanged l gone come) x.live.proper))
 
--- no two of them are one
+-- they are all different
 pub came-others : {a b : WindowState} {from n : ℕ} {gone come : List Extent}
     → ExchangesBlocks current a b from n gone come → AreDistinct come
 came-others {a} {gone = gone} {come} x = rising-others come (without_all gone (live_of a.bytes).extents)
     (live-rises (exchanged (live_of a.bytes) gone come) x.live.proper)
 
--- those that are not gone stay, and are in use still
+-- the extents that are not freed stay, and are still in use
 pub all-kept : {a b : WindowState} {gone come : List Extent} (xs : List Extent) → IsHeap current a.bytes
     → SwapsBlocks a b gone
     come → AllByRecursion (IsFound (live_of a.bytes).extents) xs → AllByRecursion (λ (y : Extent). IsNone (handle y)
@@ -214,7 +214,7 @@ all-kept [] heap x f n = tt
 all-kept {a} {b} {gone} {come} (y ∷ ys) heap x f n =
     (kept a b (handle y) y gone come _ heap x f.0 n.0, all-kept ys heap x f.1 n.1)
 
--- blocks stay in use that are none of those swapped
+-- blocks stay in use that are not among the exchanged ones
 pub all-found-kept : {a b : WindowState} {gone come : List Extent} (xs : List Extent) → SwapsBlocks a b gone come
     → AllByRecursion (IsFound (live_of a.bytes).extents) xs → AllByRecursion (λ (y : Extent). IsNone (handle y) gone)
     xs → AllByRecursion (IsFound (live_of b.bytes).extents) xs
@@ -222,17 +222,17 @@ all-found-kept [] x f n = tt
 all-found-kept {a} {b} {gone} {come} (y ∷ ys) x f n =
     (kept-found a b 0 0 (handle y) y gone come _ x f.0 n.0, all-found-kept ys x f.1 n.1)
 
--- no block is one of none
+-- no block is in the empty list
 pub none-of-none : (xs : List Extent) → AllByRecursion (λ (w : Extent). IsNone (handle w) []) xs
 none-of-none [] = tt
 none-of-none (x ∷ xs) = (tt, none-of-none xs)
 
--- the blocks that came are in use
+-- the allocated blocks are in use
 pub run-found : {old now : WindowState} {p : Place} {gone come : List Extent} {n : ℕ} {t : BackingArray}
     → IsRun old now p gone come n t → AllByRecursion (IsFound (live_of now.bytes).extents) come
 run-found r = came-found r.change
 
--- none of the blocks that came is the head's
+-- no allocated block is the head's
 pub run-none : {first now : WindowState} {p : Place} {gone come : List Extent} {n : ℕ} {t : BackingArray}
     → IsHead first p → IsNone p.handle gone → IsRun first now p gone come n t → IsNone p.handle come
 run-none {first} {p} {gone} {come} w d r =
@@ -263,7 +263,7 @@ pub facts-own : (l : LiveSet) (h : ℕ) (o : Option Extent) → AllByRecursion (
 facts-own l h None f n = tt
 facts-own l h (Some x) f n = (f.0, λ e. n.0 (sym e))
 
--- a container that stands is a run in which nothing was swapped
+-- a container is a run in which nothing was exchanged
 pub stands-run : (c : WindowState) {p : Place} {each len : ℕ} {t : BackingArray} {bytes : List ℕ}
     → IsContainer c.bytes p each len t bytes → IsRun c c p (option_to_list t.extent) (option_to_list t.extent) len t
 stands-run c {p} {t} s =
@@ -276,14 +276,14 @@ stands-run c {p} {t} s =
       words = record { link = s.words.link; len_word = s.words.len_word; capacity = s.words.capacity };
     }
 
--- none of the blocks that came since is the one in which the container stands
+-- no block allocated since is the one that contains the head
 pub stands-none-of : {old now : WindowState} {p : Place} {each len k : ℕ} {t u : BackingArray} {bytes : List ℕ}
     {come : List Extent} → IsContainer old.bytes p each len t bytes
     → IsRun old now p (option_to_list t.extent) come k u → IsNone p.handle come
 stands-none-of {old} {p} {t} s r = run-none (room-head old p s.heap s.room)
     (own-facts (live_of old.bytes) p.handle t.extent s.own).2 r
 
--- what it comes to
+-- the result of the run
 pub run-stands : {old now : WindowState} {p : Place} {each k len : ℕ} {t u : BackingArray} {was : List ℕ}
     (bytes : List ℕ)
     → IsContainer old.bytes p each k t was → IsRun old now p (option_to_list t.extent) (option_to_list u.extent) len u
@@ -300,6 +300,6 @@ run-stands {now} {p} {u} bytes s r table fits long storage = record {
   own = facts-own (live_of now.bytes) p.handle u.extent (run-found r) (stands-none-of s r);
 }
 
--- nothing more is put beside: the spread stays
+-- with nothing more inserted the list stays
 pub spread-nil : (xs : List Extent) → SameSpread xs (xs ++ [])
 spread-nil xs = subst (SameSpread xs) (sym (append-nil xs)) (spread-refl xs)

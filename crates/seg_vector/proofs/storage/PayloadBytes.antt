@@ -9,7 +9,7 @@ use Rattle.raw_region.proofs.Laws.{length-part, length-patched, part-at, part-pa
 use Rattle.best_fit.specs.Heap.{LoansWriteOneBlock, payload_len, with_payload}
 use Rattle.seg_vector.proofs.storage.Storage.{live-if}
 
--- a part of some bytes of a window is written over, and no other byte of it
+-- a part of a window's bytes is replaced, and no other byte changes
 module _ (c d : WindowState) (h at n : ℕ) (bs : List ℕ) (inside : h + n ≤ length c.bytes)
     (long : length d.bytes ≡ length c.bytes) (within : at + length bs ≤ n) (w : ChangesBytes current c d h n)
     (s : part d.bytes h n ≡ patched (part c.bytes h n) at bs) where
@@ -56,13 +56,13 @@ payload-room c h n heap room =
     let whole : h + (b.tile.len - 16) ≤ length c.bytes = omega arith in
     omega (arith, ap length (block_payload c h b), length-part c.bytes h (b.tile.len - 16) whole)
 
--- what a loan of the payload leaves, where bytes were written into it from an offset on
+-- a loan of the payload, after bytes were written to it from an offset on
 module _ (law : LoansWriteOneBlock) (c : WindowState) (h at : ℕ) (bs : List ℕ) (heap : IsHeap current c.bytes)
     (room : IsTrue (has_room (live_of c.bytes) h (at + length bs))) where
   abbrev payload : List ℕ
   payload = payload_at c.bytes (live_of c.bytes) h
 
-  -- bytes written by way of the whole payload change their range alone, and stand there
+  -- bytes written through the whole payload change only their range
   pub payload-spelled : (ws : List ℕ) → ws ≡ patched payload at bs
       → ChangesBytes current c (with_payload c h ws) (h + at) (length bs)
       × HasBytesAt (bytes_of (with_payload c h ws).bytes) (h + at) bs

@@ -1,4 +1,4 @@
--- The three words of a container are written, and its storage is given back or shortened to its elements.
+-- The three words of a container are written, and its storage is freed or shortened to its elements.
 use Rattle.seg_vector.proofs.Common.{◌≡◌, refl, sym, ap, subst, ◌∙◌, inl, ℕ, ◌+◌, ◌%◌, ◌≤◌, Option, Some, None, List}
 use Rattle.seg_vector.proofs.Common.{arith, ◌≢◌, ◌*◌, min, ◌∷◌, length, ◌==◌, IsTrue, option_map, option_to_list}
 use Rattle.seg_vector.proofs.Common.{nat_lt}
@@ -20,7 +20,7 @@ use Rattle.best_fit.specs.Table.{shrunk_backing}
 
 -- ---- a container without a place
 
--- a container whose three words are written is empty and stands
+-- a container whose three words are written is empty
 pub started : {old new : WindowState} (p : Place) (each : ℕ) → p.at % 8 ≡ 0
     → IsTrue (has_room (live_of old.bytes) p.handle (p.at + 24)) → SetsWords old new p None 0
     → IsContainer new.bytes p each 0 no_backing []
@@ -35,9 +35,9 @@ started {old} {new} p each a r w = record {
   own = tt;
 }
 
--- ---- the storage is given back
+-- ---- the storage is freed
 
--- the words are those of a container without a place
+-- the words are an empty container with capacity 0
 emptied : {old mid : WindowState} {p : Place} {each len : ℕ} {t : BackingArray} {bytes : List ℕ}
     → IsContainer old.bytes p each len t bytes
     → ChangesBytes current old mid (place_at p) 24 → IsContainer mid.bytes p each 0 no_backing []
@@ -45,7 +45,7 @@ emptied : {old mid : WindowState} {p : Place} {each len : ℕ} {t : BackingArray
 emptied {old} s c1 e = run-headed {k = 0} {u = no_backing} (stands-run old s) c1
     (record { link = e.words.link; len_word = e.words.len_word; capacity = e.words.capacity })
 
--- the storage of a container is given back, and its words say none
+-- the storage of a container is freed, and its words have none
 pub given-back : {old mid new : WindowState} {p : Place} {each len c g : ℕ} {o : Option Extent} {bytes : List ℕ}
     → IsContainer old.bytes p each len (table c o) bytes → link_at (bytes_of old.bytes) (place_at p) ≡ Some g
     → ChangesBytes current old mid (place_at p) 24 → IsContainer mid.bytes p each 0 no_backing []
@@ -61,7 +61,7 @@ given-back {old} {mid} {new} {o = Some x} s link c1 e r =
       stands = run-stands [] s run refl (omega arith) (omega arith) refl;
     }
 
--- a container without storage has nothing to give back
+-- a container without storage has nothing to free
 pub given-nothing : {old new : WindowState} {p : Place} {each len c : ℕ} {o : Option Extent} {bytes : List ℕ}
     → IsContainer old.bytes p each len (table c o) bytes → link_at (bytes_of old.bytes) (place_at p) ≡ None
     → ChangesBytes current old new (place_at p) 24 → IsContainer new.bytes p each 0 no_backing []
@@ -70,12 +70,12 @@ given-nothing {p} {o = None} s link c1 e =
     record { change = (emptied s c1 e).change; gaps = λ same. head-gaps p s.room c1; stands = e }
 given-nothing {o = Some x} s link c1 e = none-some link s.words.link
 
--- what is none of these is nothing
+-- an option that is never some is none
 pub none-left : (o : Option ℕ) → ((x : ℕ) → o ≡ Some x → ⊥) → o ≡ None
 none-left None n = refl
 none-left (Some x) n = absurd (n x refl)
 
--- ---- what the table is cut to
+-- ---- the storage after the cut
 
 cut-none : (l : LiveSet) (each n : ℕ) (t : BackingArray) → n ≡ 0 → shrunk_backing l each n t ≡ no_backing
 unfolding shrunk_backing
@@ -117,14 +117,14 @@ resized-here {b} {e} l {x} {g} {n} live found s =
     subst (λ (k : LiveSet). ResizesBlock current b e x (shorter k x n)) live
     (subst (λ (y : Extent). ResizesBlock current b e y (shorter (live_of b.bytes) y n)) same s.shortened)
 
--- where the shorter block is the block itself
+-- the case in which the shorter block is the block itself
 unshortened : {b e : WindowState} (l : LiveSet) {x : Extent} {g n : ℕ} → live_of b.bytes ≡ l → extent_at l g ≡ Some x
     → (s : ShrinksInPlace current b e g n) → shorter l x n ≡ x → shorter (live_of b.bytes) s.extent n ≡ s.extent
 unshortened {b} l {x} {g} {n} live found s is =
     let same = same-some (sym s.found ∙ ap (λ (k : LiveSet). extent_at k g) live ∙ found) in
     (λ i. shorter (live i) (same i) n) ∙ is ∙ sym same
 
--- what the shorter block is
+-- the shorter block
 record Short (x y : Extent) (n : ℕ) : Type 0 where
   begins : handle y ≡ handle x
   less : y.len ≤ x.len
@@ -143,7 +143,7 @@ short l x n role big =
           (subst (λ (r : Role). IsTrue (same_role r Storage)) (sym (ap (λ (z : Extent). z.role) sh.same)) role) enough;
     }
 
--- storage that is shortened to its elements: the container stands with them
+-- storage that is shortened to its elements: the container has them
 pub fitted : {old mid new : WindowState} {p : Place} {each len c g : ℕ} {o : Option Extent} {bytes : List ℕ}
     → 1 ≤ len → IsContainer old.bytes p each len (table c o) bytes → link_at (bytes_of old.bytes) (place_at p) ≡ Some g
     → ChangesBytes current old mid (p.handle + (p.at + 16)) 8 → word_at (bytes_of mid.bytes) (p.handle + (p.at + 16))

@@ -1,4 +1,4 @@
--- The storage of a container that stands at a place: regrown, written in, and read.
+-- The storage of a container at a place: regrown, written, and read.
 use Rattle.seg_vector.proofs.Common as W
 use W.{◌≡◌, list_any, read-same, laid-heap, room-less, IfSome_is, IsStorage, SwapsBlocks, gaps-refl, gaps-then}
 use W.{SetsStorage, refl, payload_at, table_link, found-room, live-sound, room_block, in_use-all, legal_size}
@@ -27,7 +27,7 @@ use Rattle.raw_region.proofs.Bytes.{HasBytesAt-patched, length-patch}
 use Rattle.best_fit.specs.{Extents.is_proper, Fit.regrow}
 use Rattle.seg_vector.specs.Vector.{grown_backing}
 
--- ---- what stands
+-- ---- the container
 
 -- the storage of a table holds its elements
 storage-room : (l : LiveSet) (h each len c : ℕ) (o : Option Extent) → IsTrue (has_backing Storage each (table c o))
@@ -90,14 +90,14 @@ grows-nothing {old} each n t f p = record {
   same = p.same;
 }
 
--- where there are this many places there is no such refusal
+-- if the capacity suffices there is no such error
 pub not-refused : {old new : WindowState} {each n : ℕ} {t : BackingArray} {e : Refusal} → n ≤ t.capacity
     → LacksSpace old new each n t e → ⊥
 not-refused {old} {each} {n} {t} f r = let none = sym (grown-same (live_of old.bytes) each n t f) ∙ r.none in cc
 
 -- ---- the block of the container, once the storage is regrown
 
--- a block that came begins at a multiple of 16
+-- an allocated block begins at a multiple of 16
 pub come-aligned : {old mid : WindowState} {o : Option Extent} {n used g : ℕ} → RegrowsOk current old mid o n used g
     → g % 16 ≡ 0
 come-aligned {old} {o} {g} r =
@@ -145,7 +145,7 @@ grown-run {old} {t} s r =
     let begun = stands-run old s in
     run-swapped [] (spread-nil (option_to_list t.extent)) begun (regrown-swapped r.change) (stands-none-of s begun)
 
--- storage that was regrown: the container stands with the larger capacity
+-- storage that was regrown: the container has the larger capacity
 pub grows-more : {old mid new : WindowState} {p : Place} {each : ℕ} (n : ℕ) {len g : ℕ} {t : BackingArray}
     {bytes : List ℕ}
     → t.capacity < n → IsContainer old.bytes p each len t bytes → RegrowsOk current old mid t.extent (each * n)
@@ -175,7 +175,7 @@ grows-more {old} {mid} {new} {p} {each} n {len} {t = t} {bytes} more s r w =
       enough = λ less. absurd (omega (arith, less, more));
     }
 
--- ---- what the calls of the heap say of the container
+-- ---- the calls of the heap, for the container
 
 -- a block has fewer bytes than a segment
 pub room-small : (c : WindowState) (h n : ℕ) → IsHeap current c.bytes → IsTrue (has_room (live_of c.bytes) h n)
@@ -197,17 +197,17 @@ pub len-room : (b : List ℕ) (p : Place) → IsTrue (has_room (live_of b) p.han
     → IsTrue (has_room (live_of b) p.handle (p.at + 8 + 8))
 len-room b p room = room-less (live_of b) p.handle (p.at + 24) (p.at + 8 + 8) (omega arith) room
 
--- where bytes are written, there is a heap still
+-- after bytes are written the window is still a heap
 pub kept-heap : {old new : WindowState} {from n : ℕ} → ChangesBytes current old new from n → IsHeap current new.bytes
 kept-heap c = laid-heap _ _ c.live
 
--- what shows that a word has room, and that a sum within a block fits
+-- rules that show that a word has room, and that a sum within a block fits
 pub ruleset rooms = (room-less, changed-room)
 
 -- the rule that sizes are multiplied by the number of elements
 pub ruleset sizes = (room-small, place-small, stands-small, kept-heap, rooms)
 
--- what is read of the head is the link and the capacity of the storage
+-- the words that are read are the link and the capacity of the storage
 pub storage-read : {b : List ℕ} {p : Place} {each len : ℕ} (k : ℕ) {t : BackingArray} {bytes : List ℕ}
     (storage : Option ℕ) → IsContainer b p each len t bytes → storage ≡ link_at (bytes_of b) (p.handle + p.at)
     → k ≡ word_at (bytes_of b) (place_at p + 8) → IfSome storage (λ g. IsTrue (has_room (live_of b) g (each * k)))
@@ -215,7 +215,7 @@ storage-read {b} {each} k {t} storage s e f = subst (λ o. IfSome o (λ g. IsTru
     (sym (e ∙ s.words.link)) (subst (λ k. IfSome (table_link t) (λ g. IsTrue (has_room (live_of b) g (each * k))))
     (sym (f ∙ s.words.len_word)) (stands-room s))
 
--- the storage that was read is the one that was regrown
+-- the storage that was read is the storage that was regrown
 pub given-of : {old mid : WindowState} {p : Place} {each : ℕ} (n : ℕ) {len : ℕ} (k : ℕ) {g : ℕ} {t : BackingArray}
     {bytes : List ℕ} (storage : Option ℕ) → IsContainer old.bytes p each len t bytes
     → storage ≡ link_at (bytes_of old.bytes) (p.handle + p.at) → k ≡ word_at (bytes_of old.bytes) (place_at p + 8)
@@ -279,7 +279,7 @@ at-least each n f = grind arith
 
 -- ---- places
 
--- one change after another in the storage that there is
+-- two changes, one after the other, in the same storage
 pub same-storage : {old mid : WindowState} {p : Place} {each len from n : ℕ} {t : BackingArray} {bytes : List ℕ}
     → IsContainer old.bytes p each len t bytes → ExchangesBlocks current old mid from n (option_to_list t.extent)
     (option_to_list t.extent) → live_of mid.bytes ≡ live_of old.bytes
@@ -289,7 +289,7 @@ same-storage {old} {mid} {p} {from = from} {n} {t} s x =
     exchanged-live old mid from n own own current x ∙ ap (λ (xs : List Extent). record l { extents = xs })
     (sym (all-in-use own l.extents (live-rises l s.heap.proper) facts.0 facts.1).is)
 
--- the storage is the block that it was, where the same blocks are in use
+-- the storage keeps its block if the same blocks are in use
 pub same-extents : {old mid : WindowState} {from n : ℕ} (h : ℕ) (o q : Option Extent) → IsHeap current old.bytes
     → IsStorageBlock (live_of old.bytes) h o
     → ExchangesBlocks current old mid from n (option_to_list o) (option_to_list q)
@@ -321,7 +321,7 @@ same-extents {old} h (Some a) (Some y) heap own x e = by_test (handle y == handl
         absurd ((found-none (handle y) y (y ∷ []) (without_all (a ∷ []) l.extents)
         (live-rises (exchanged l (a ∷ []) (y ∷ [])) x.live.proper) there).0 refl)
 
--- blocks exchanged, and then those that came written in
+-- blocks are exchanged, and then the new ones are written
 pub exchange-then : {old mid new : WindowState} {from n : ℕ} {gone come : List Extent}
     → ExchangesBlocks current old mid from n gone
     come → ExchangesBlocks current mid new from n come come → ExchangesBlocks current old new from n gone come
@@ -362,13 +362,13 @@ table-if l n t {u} false (Some x) e f = let same : table n (Some x) ≡ u = cc
     in subst (λ (v : BackingArray). n ≤ v.capacity)
     same (omega arith)
 
--- regrown storage has the capacity that was asked for
+-- regrown storage has the requested capacity
 pub table-places : (l : LiveSet) (each n : ℕ) (t : BackingArray) {u : BackingArray} → grown_backing l each n t ≡ Some u
     → n ≤ u.capacity
 unfolding grown_backing
 table-places l each n t e = table-if l n t (nat_le n t.capacity) (regrow l t.extent (each * n)) refl e
 
--- gaps that stay after its growth, in the block that there was
+-- gaps stay after a growth within the block
 pub grown-gaps : {old mid new : WindowState} {p : Place} {each n len : ℕ} {t : BackingArray} {bytes : List ℕ}
     → IsContainer old.bytes p each len t bytes → (g : ReservesStorageOk old mid p each n len t bytes)
     → t.extent ≡ g.table.extent → KeepsGaps mid new → KeepsGaps old new
@@ -386,7 +386,7 @@ has-place {old} {each} {n} {t} f g =
 
 -- ---- the storage is written in, and the length stays
 
--- what the storage has, of a container with a block
+-- the storage of a container with a block
 pub storage-has : {b : List ℕ} {p : Place} {each len c g : ℕ} {o : Option Extent} {bytes : List ℕ}
     → IsContainer b p each len (table c o) bytes → link_at (bytes_of b) (place_at p) ≡ Some g
     → HasBytesAt (bytes_of b) g bytes
@@ -420,7 +420,7 @@ overwritten-all {new} {p} {each} {len} {g} i n {t} {bytes} more s f e link c1 co
     (unchanged new (p.handle + (p.at + 8)) 8 (laid-heap _ _ c1.live)) (ap (word_at (bytes_of new.bytes)) (omega arith)
     ∙ (written-run (each * i) s link c1 (omega (arith, inside, total, less))).words.len_word)
 
--- one is
+-- one element is replaced
 pub overwritten : {old new : WindowState} {p : Place} {each len g : ℕ} (i : ℕ) {t : BackingArray} {bytes : List ℕ}
     (more : List ℕ) → IsContainer old.bytes p each len t bytes
     → i < len → length more ≡ each → link_at (bytes_of old.bytes) (place_at p) ≡ Some g
@@ -457,7 +457,7 @@ truncated {old} {p} {each} {len} n {bytes} s f c2 word =
           long (cut-storage (each * n) s (omega (arith, total, less)) wide);
     }
 
--- ---- what the calls of the heap ask for
+-- ---- conditions of the heap's calls
 
 storage-room_in : {b : List ℕ} {p : Place} {each len c g : ℕ} {o : Option Extent} {bytes : List ℕ}
     → IsContainer b p each len
@@ -468,7 +468,7 @@ storage-room_in {b} {each} {c} {o = Some x} s link =
     subst (λ k. IsTrue (has_room (live_of b) k (each * c))) g_is
     (found-room (live_of b) (handle x) (each * c) x s.own.0 full)
 
--- the storage has room for as many bytes as the elements have, and for as many as there are places
+-- the storage has room for the bytes of the elements, and of the capacity
 pub some-room : {b : List ℕ} {p : Place} {each len g : ℕ} (n : ℕ) {t : BackingArray} {bytes : List ℕ}
     → IsContainer b p each len t
     bytes → link_at (bytes_of b) (place_at p) ≡ Some g → n ≤ each * t.capacity → IsTrue (has_room (live_of b) g n)
@@ -505,7 +505,7 @@ element-fits {each} i {t} s f =
 
 -- ---- the bytes of all elements
 
--- what is read of the payload are the bytes of the elements
+-- the bytes that are read from the payload are the bytes of the elements
 pub read-all : (c : WindowState) {p : Place} {each len : ℕ} (k : ℕ) {g : ℕ} {t : BackingArray} {bytes : List ℕ}
     (out : List ℕ) → IsContainer c.bytes p each len t bytes → k ≡ len → link_at (bytes_of c.bytes) (place_at p) ≡ Some g
     → out ≡ payload_at c.bytes (live_of c.bytes) g → take (each * k) out ≡ bytes
@@ -516,7 +516,7 @@ read-all c {each} {len} k {g} out s is link e =
     ∙ sym (read-part c.bytes g n (omega (arith, r.enough, r.block.inside, r.block.at)))
     ∙ ap (read (bytes_of c.bytes) g) (sym s.long) ∙ storage-has s link
 
--- ---- no extent is as long as a heap may be
+-- ---- each extent is shorter than the greatest heap
 
 ends : (from : ℕ) (xs : List Extent) (to : ℕ) → to < 1073741824 → IsTrue (proper_from from xs to)
     → (from ≤ to) × AllByRecursion (λ (x : Extent). x.len < 1073741824) xs
@@ -540,7 +540,7 @@ unfolding regrow
 regrow-moved l x n o e f = λ i. if e i then Some x else elim (f i) as (λ _. Option Extent)
     [ Some y ↦ Some y | None ↦ place l n Storage ]
 
--- storage that is not there yet is placed anew
+-- storage for a container without storage is allocated
 pub regrow-new : (l : LiveSet) (n : ℕ) → regrow l None n ≡ place l n Storage
 unfolding regrow
 regrow-new l n = refl
@@ -603,7 +603,7 @@ extended {old} {s1} {each} {len} {g} n {t} {bytes} more s f long link c1 content
     rewritten (each * len) (len + n) (bytes ++ more) s link c1 (omega (arith, long, less, step)) f
     (omega (arith, sum, total, long, step)) (HasBytesAt-append ms g bytes more front behind) c2 word
 
--- without storage there are none
+-- without storage there are no elements
 pub none-more : (c : WindowState) {p : Place} {each len k : ℕ} (n : ℕ) {o : Option Extent} {bytes : List ℕ}
     → IsContainer c.bytes p each len (table k o) bytes → len + n ≤ k → link_at (bytes_of c.bytes) (place_at p) ≡ None
     → n ≡ 0
@@ -624,13 +624,13 @@ extended-not c {p} {each} {len} {k} n {o} {bytes} more s f long link =
     (subst (λ (ws : List ℕ). RewritesElements c c p each len (table k o) ws) (sym (append-nil bytes))
     (unchanged-rewritten c s)))
 
--- without storage there is no place
+-- without storage the capacity is 0
 pub none-free : {b : List ℕ} {p : Place} {each len k : ℕ} (n : ℕ) {o : Option Extent} {bytes : List ℕ}
     → IsContainer b p each len (table k o) bytes → len + n ≤ k → link_at (bytes_of b) (place_at p) ≡ None → n ≡ 0
 none-free {k = k} n {o = None} s f link = let none = eqb-true k 0 s.table in omega (arith, f, none)
 none-free n {o = Some x} s f link = none-some link s.words.link
 
--- ---- how many bytes there are before and after an element
+-- ---- the number of bytes before and after an element
 
 record Pieces (each len i : ℕ) (bytes : List ℕ) : Type 0 where
   front : length (take (each * i) bytes) ≡ each * i
@@ -678,7 +678,7 @@ erased {old} {s1} {each} {len} {g} i {t} {bytes} s f link c1 moved c2 word =
     (omega (arith, length-append front back, before, behind, shorter))
     (HasBytesAt-append ms g front back one (subst (λ j. HasBytesAt ms (g + j) back) (sym before) two)) c2 word
 
--- ---- an element is put in
+-- ---- an element is inserted
 
 both-within : {a b c : Memory} {from one n at : ℕ}
     → at ≡ from + one → SameBytesExcept a b at n → SameBytesExcept b c from one → SameBytesExcept a c from (one + n)
@@ -728,9 +728,9 @@ put_in {old} {s1} {s2} {each} {len} {g} i {t} {bytes} more s f room e link c1 mo
     (HasBytesAt-append ms g front (more ++ back) one
     (subst (λ j. HasBytesAt ms (g + j) (more ++ back)) (sym before) three)) c3 word
 
--- ---- what the calls of the heap ask for
+-- ---- conditions of the heap's calls
 
--- the storage has room for an element, those before it and n bytes after it
+-- the storage has room for an element, the elements before it and n bytes after it
 pub record Fitting (l : LiveSet) (each i n g : ℕ) : Type 0 where
   pub small : each * i + each + n < 1073741824
   pub room : IsTrue (has_room l g (each * i + each + n))

@@ -1,4 +1,4 @@
--- Vectors of values and texts, from what is known of their bytes.
+-- Vectors of values and texts, from the facts about their bytes.
 use Rattle.seg_vector.proofs.Common as W
 use W.{◌≡◌, sym, ◌∙◌, ℕ, suc, ◌+◌, ◌*◌, ◌<◌, ◌∷◌, ◌-◌, ◌≤◌, max, part, WindowState, Ok, Err, ShrinksStorage, [], refl}
 use W.{zero, Bool, true, List, ◌++◌, take, drop, arith, false, Some, BackingArray, Place, Result, ReservesStorage}
@@ -17,24 +17,24 @@ use Rattle.best_fit.specs.Table.{shrunk_backing}
 use Rattle.raw_region.proofs.Laws.{patched-append}
 use Rattle.seg_vector.specs.{Vector.capacity_for_more, VectorCalls.replaced}
 
--- ---- what holds of each
+-- ---- properties of each element
 
 all-parts : {T : Type 0} → (test : T → Bool) (n : ℕ) (xs : List T) → IsTrue (list_all test xs)
     → IsTrue (list_all test (take n xs)) × IsTrue (list_all test (drop n xs))
 all-parts test n xs v = and_parts (list_all test (take n xs)) (list_all test (drop n xs))
     (sym (list_all-append test (take n xs) (drop n xs)) ∙ ap (list_all test) (take-append-drop n xs) ∙ v)
 
--- what holds of two lists holds of both together
+-- a property of two lists holds for both together
 pub all-both : {T : Type 0} → (test : T → Bool) (xs ys : List T) → IsTrue (list_all test xs)
     → IsTrue (list_all test ys) → IsTrue (list_all test (xs ++ ys))
 all-both test xs ys v w = list_all-append test xs ys ∙ and_from (list_all test xs) (list_all test ys) v w
 
--- there is none
+-- the case of an empty list
 pub all-none : {T : Type 0} → (test : T → Bool) (xs : List T) → length xs ≡ 0 → IsTrue (list_all test xs)
 all-none test [] e = refl
 all-none test (x ∷ xs) e = absurd (omega (arith, e))
 
--- other elements in the place of those between the first i and those from j on
+-- the elements between the first i and those from j on are replaced
 all-edit : {T : Type 0} → (test : T → Bool) (xs : List T) (i j : ℕ) (ys : List T) → IsTrue (list_all test xs)
     → IsTrue (list_all test ys) → IsTrue (list_all test (take i xs ++ (ys ++ drop j xs)))
 all-edit test xs i j ys v e = all-both test (take i xs) (ys ++ drop j xs) (all-parts test i xs v).0
@@ -43,7 +43,7 @@ all-edit test xs i j ys v e = all-both test (take i xs) (ys ++ drop j xs) (all-p
 all-one : {T : Type 0} → (test : T → Bool) (y : T) → test y ≡ true → IsTrue (list_all test (y ∷ []))
 all-one test y e = and_from (test y) true e refl
 
--- what holds of all elements holds of one
+-- a property of all elements holds for one
 pub all-at : {T : Type 0} → (test : T → Bool) (xs : List T) (i : ℕ) {x : T} → IsTrue (list_all test xs)
     → slice_get xs i ≡ Some x → test x ≡ true
 all-at test [] i v e = absurd (cc)
@@ -55,7 +55,7 @@ pub all-next : {T : Type 0} → (test : T → Bool) (xs : List T) (y : T) → Is
     → IsTrue (list_all test (xs ++ y ∷ []))
 all-next test xs y v e = all-both test xs (y ∷ []) v (all-one test y e)
 
--- others over those from one on, where there is none of them
+-- replacing by an empty list changes nothing
 pub replaced-none : {T : Type 0} → (xs : List T) (i : ℕ) (ys : List T) → length ys ≡ 0 → xs ≡ replaced xs i ys
 replaced-none xs i [] e =
     let at : i ≡ i + 0 = omega arith in sym (take-append-drop i xs) ∙ ap (λ k. take i xs ++ drop k xs) at
@@ -69,7 +69,7 @@ has-element [] i f = absurd (omega arith)
 has-element (x ∷ xs) zero f = (x, refl)
 has-element (x ∷ xs) (suc i) f = has-element xs i (omega arith)
 
--- an element that is set, with what is before and after it
+-- an element that is set, with the elements before and after it
 pub set-pieces : {T : Type 0} → (xs : List T) (i : ℕ) (y : T) → i < length xs
     → slice_set xs i y ≡ take i xs ++ (y ∷ drop (suc i) xs)
 set-pieces [] i y f = absurd (omega arith)
@@ -83,7 +83,7 @@ module _ {T : Type 0} (size : ℕ) (test : T → Bool) (sp : T → List ℕ)
   one-more : (n : ℕ) (x : T) → test x ≡ true → size * suc n ≡ length (sp x) + size * n
   one-more n x e = let step : size * suc n ≡ size + size * n = omega arith in omega (arith, step, spells x e)
 
-  -- as many bytes as there are in all
+  -- the number of all bytes
   pub flat-long : (xs : List T) → IsTrue (list_all test xs) → length (flat_map sp xs) ≡ size * length xs
   flat-long [] v = let none : 0 ≡ size * 0 = omega arith in none
   flat-long (x ∷ xs) v =
@@ -91,7 +91,7 @@ module _ {T : Type 0} (size : ℕ) (test : T → Bool) (sp : T → List ℕ)
       length-append (sp x) (flat_map sp xs) ∙ ap (λ k. length (sp x) + k) (flat-long xs both.1)
       ∙ sym (one-more (length xs) x both.0)
 
-  -- one more that is spelled after others
+  -- one more value is encoded after others
   pub spelled-next : (row : List ℕ) (from : ℕ) (front : List T) (y : T) → IsTrue (list_all test front) → test y ≡ true
       → from + size * length front + size ≤ length row
       → patched (patched row from (flat_map sp front)) (from + size * length front) (sp y)
@@ -132,12 +132,12 @@ module _ {T : Type 0} (size : ℕ) (test : T → Bool) (sp : T → List ℕ)
       ∙ ap sp (same-some e)
   flat-first (y ∷ ys) (suc i) v e = flat-first ys i (and_parts (test y) (list_all test ys) v).1 e
 
-  -- those of one
+  -- the bytes of one element
   pub flat-element : (xs : List T) (i : ℕ) {x : T} → IsTrue (list_all test xs) → slice_get xs i ≡ Some x
       → part (flat_map sp xs) (size * i) size ≡ sp x
   flat-element xs i v e = ap (take size) (flat-drop i xs v) ∙ flat-first xs i v e
 
-  -- other elements between the first i and those from j on
+  -- the elements between the first i and those from j on are replaced
   flat-edit : (xs : List T) (i j k : ℕ) (ys : List T) → k ≡ size * j → IsTrue (list_all test xs)
       → take (size * i) (flat_map sp xs) ++ (flat_map sp ys ++ drop k (flat_map sp xs)) ≡ flat_map sp
       (take i xs ++ (ys ++ drop j xs))
@@ -172,21 +172,21 @@ module _ {T : Type 0} (size : ℕ) (test : T → Bool) (sp : T → List ℕ)
       ∙ flat-edit xs i (suc i) (size * i + length (sp y)) (y ∷ []) behind v
       ∙ sym (ap (flat_map sp) (set-pieces xs i y f))
 
-  -- one more
+  -- one more element
   pub flat-insert : (xs : List T) (i : ℕ) (y : T) → IsTrue (list_all test xs)
       → take (size * i) (flat_map sp xs) ++ (sp y ++ drop (size * i) (flat_map sp xs)) ≡ flat_map sp (insert xs i y)
   flat-insert xs i y v = ap (λ bs. take (size * i) (flat_map sp xs) ++ (bs ++ drop (size * i) (flat_map sp xs)))
       (sym (append-nil (sp y))) ∙ flat-edit xs i i (size * i) (y ∷ []) refl v
 
-  -- one less
+  -- one element less
   pub flat-remove : (xs : List T) (i : ℕ) → IsTrue (list_all test xs)
       → take (size * i) (flat_map sp xs) ++ drop (size * i + size) (flat_map sp xs) ≡ flat_map sp (remove xs i)
   flat-remove xs i v = let step : size * i + size ≡ size * suc i = omega arith in flat-edit xs i (suc i)
       (size * i + size) [] step v
 
--- ---- vectors of values, from what is known of their bytes
+-- ---- vectors of values, from the facts about their bytes
 
--- what stands has this many elements, and they are these values
+-- the vector has this many elements, and these values
 pub vector-now : {T : Type 0} → {size : ℕ} (test : T → Bool) (sp : T
     → List ℕ) {old new : WindowState} {p : Place} {n : ℕ}
     {t : BackingArray} {bytes : List ℕ} (ys : List T) → RewritesElements old new p size n t bytes
@@ -202,7 +202,7 @@ vector-now {size = size} test sp {new = new} {p} {n} {t} ys r e f v = record {
 }
 
 module _ {T : Type 0} {size : ℕ} {test : T → Bool} {sp : T → List ℕ} where
-  -- one change after another, in the storage that there is
+  -- two changes, one after the other, in the same storage
   pub now-then : {old mid new : WindowState} {p : Place} {t : BackingArray} {xs ys zs : List T}
       → IsVector size test sp old.bytes p xs t → ReplacesVector size test sp old mid p t ys t
       → ReplacesVector size test sp mid new p t zs t → ReplacesVector size test sp old new p t zs t
@@ -226,7 +226,7 @@ module _ {T : Type 0} {size : ℕ} {test : T → Bool} {sp : T → List ℕ} whe
     };
   }
 
-  -- the storage is grown, and then there are other values in it
+  -- the storage grows, and then has other values
   pub grown-then : {old mid new : WindowState} {p : Place} {n : ℕ} {t : BackingArray} {xs ys : List T}
       → IsVector size test sp old.bytes p xs t → (g : ReservesStorageOk old mid p size n (length xs) t (flat_map sp xs))
       → ReplacesVector size test sp mid new p g.table ys g.table → GrowsVectorOk size test sp old new p t n ys
@@ -285,9 +285,9 @@ text-grown-then s g w = record {
   };
 }
 
--- ---- what the calls on bytes do, for vectors. Their element size is the type's.
+-- ---- the effect of calls on bytes, for vectors. The element size is the type's.
 
--- what is done where the storage is grown, to this many places as the length and the capacity say
+-- the effect of growing the storage to this capacity, by the length and the capacity
 abbrev pub HasGrown : WindowState → WindowState → Place → ℕ → (ℕ → ℕ → ℕ) → Type 0
 HasGrown old mid p k n = (len : ℕ) (t : BackingArray) (bytes : List ℕ) → IsContainer old.bytes p k len t bytes
     → ReservesStorageOk old mid p k (n len t.capacity) len t bytes
@@ -309,13 +309,13 @@ module _ {T : Type 0} {size : ℕ} {test : T → Bool} {sp : T
   without-space n {f = f} h = subst (λ j. LacksSpace old mid j (n (length xs) t.capacity) t f) e
       (h (length xs) t (flat_map sp xs) stands-at)
 
-  -- the bytes of an element are those of its value
+  -- the bytes of an element encode its value
   pub element-spells : (i : ℕ) {x : T} (out : List ℕ) → ((x : T) → test x ≡ true → length (sp x) ≡ size)
       → slice_get xs i ≡ Some x → ReadsOne old.bytes p k i out → out ≡ sp x
   element-spells i out spells f h = h (length xs) t (flat_map sp xs) stands-at
       ∙ ap (λ j. part (flat_map sp xs) (j * i) j) e ∙ flat-element size test sp spells xs i v.values f
 
-  -- this many places as are asked for
+  -- the requested capacity
   pub reserved-of : (n : ℕ) (r : Result (Unit {0}) Refusal) → ReservesStorage old mid p k n r
       → MatchResult r (λ u. GrowsVectorOk size test sp old mid p t n xs) (LacksSpace old mid size n t)
   reserved-of n (Ok u) h = vector-grown v (grown-of (λ len capacity. n) h)
@@ -327,7 +327,7 @@ module _ {T : Type 0} {size : ℕ} {test : T → Bool} {sp : T
   reserved-enough n (Ok tt) h less = (refl, (grown-of (λ len capacity. n) h).enough less)
   reserved-enough n (Err f) h less = absurd (not-refused less (without-space (λ len capacity. n) h))
 
-  -- one element more: it has a place then
+  -- one more element: the capacity suffices then
   pub stands-for-one : HasGrown old mid p k capacity_for_one → IsStanding mid.bytes p size
   stands-for-one h = let grown = grown-of capacity_for_one h in
       (length xs, (grown.table, (flat_map sp xs, grown.stands)))
@@ -421,7 +421,7 @@ module _ {T : Type 0} {size : ℕ} {test : T → Bool} {sp : T
 
 -- ---- capacities for more
 
--- it is enough
+-- the capacity is enough
 pub enough-for-more : (len more c : ℕ) → len + more ≤ capacity_for_more len more c
 enough-for-more len more c = by-test (nat_le (len + more) c) refl
   where
@@ -429,7 +429,7 @@ enough-for-more len more c = by-test (nat_le (len + more) c) refl
     by-test true e = leb-true (len + more) c e
     by-test false e = grind arith
 
--- the capacity for more elements, by what was read
+-- the capacity for more elements, by the words that were read
 pub wanted-for-more : {w len capacity n k : ℕ} (more : ℕ) → w ≡ capacity_for_more len more capacity → len ≡ n
     → capacity ≡ k → w ≡ capacity_for_more n more k
 wanted-for-more more e f g = e ∙ (λ i. capacity_for_more (f i) more (g i))
@@ -443,9 +443,9 @@ few-places {size = size} c {t = t} some v = (
   omega (arith, capacity-bytes c v.stands.heap v.stands, at-least size t.capacity some),
 )
 
--- ---- what the calls on bytes do, for texts
+-- ---- the effect of calls on bytes, for texts
 
--- there are places for as many bytes as were asked for
+-- the capacity is enough for the requested bytes
 pub wanted-bytes : (n c : ℕ) → n ≤ capacity_for_text n c
 wanted-bytes n c = wanted-if n c (nat_le n c) refl
   where
@@ -453,7 +453,7 @@ wanted-bytes n c = wanted-if n c (nat_le n c) refl
     wanted-if n c true e = leb-true n c e
     wanted-if n c false e = grind arith
 
--- the capacity for a longer string, by what was read
+-- the capacity for a longer string, by the words that were read
 pub text-wanted : {w n capacity k : ℕ} (bytes more : List ℕ) → w ≡ capacity_for_text (n + length more) capacity
     → n ≡ length bytes → capacity ≡ k → w ≡ capacity_for_text (length (bytes ++ more)) k
 text-wanted {n = n} bytes more e f g =

@@ -1,5 +1,5 @@
--- The blocks of a vector of texts, its array and those of its texts, among the other blocks of a heap, and through the
--- steps of a call.
+-- The blocks of a vector of texts (its array and its texts' blocks) among the other blocks of a heap, through the steps
+-- of a call.
 use Rattle.seg_vector.proofs.Common as W
 use W.{in_use-all, take-append-drop, length-take, length-drop, ◌≡◌, ◌≢◌, sym, ap, subst, ◌∙◌, ℕ, ◌+◌, ◌%◌, ◌≤◌, Option}
 use W.{Some, None, List, ◌∷◌, ◌++◌, ◌==◌, append_assoc, length, arith, inl, inr, refl, zero, suc, ◌-◌, ◌*◌, ◌<◌, take}
@@ -21,13 +21,13 @@ use Rattle.seg_vector.proofs.storage.HeadAndBlock.{room-head, own-facts, facts-o
 use Rattle.seg_vector.proofs.{storage.Storage.live-if, storage.TypedVectors.has-element}
 use Rattle.best_fit.specs.Extents.{is_proper}
 
--- ---- the blocks of a vector of texts, its array and those of its texts, among the other blocks of a heap
+-- ---- the blocks of a vector of texts among the other blocks of a heap
 
--- the blocks of a vector of strings: its array and those of its strings
+-- the blocks of a vector of strings: its array and its strings' blocks
 abbrev pub own_blocks : List OwnedText → BackingArray → List Extent
 own_blocks ps t = option_to_list t.extent ++ text_blocks ps
 
--- a block for each that there is
+-- one block, if there is one
 pub no-extent : {o : Option Extent} → option_to_list o ≡ [] → o ≡ None
 no-extent {o = None} e = refl
 no-extent {o = Some x} e = absurd (cc)
@@ -39,7 +39,7 @@ same-extent {o = None} {q = Some y} e = absurd (cc)
 same-extent {o = Some x} {q = None} e = absurd (cc)
 same-extent {o = Some x} {q = Some y} e = cc
 
--- blocks none of which is one of them are none
+-- a list of which no block is a member is empty
 pub fresh-none : (xs : List Extent) → AllByRecursion (λ (x : Extent). IsNone (handle x) xs) xs → xs ≡ []
 fresh-none [] d = refl
 fresh-none (x ∷ xs) d = absurd (d.0.0 refl)
@@ -51,13 +51,13 @@ behind-array (Some x) e = cc
 
 -- ---- lists in parts
 
--- what holds of a list holds of both its parts
+-- a property of a list holds for both its parts
 pub all-split : {A : Type 0} → (P : A → Type 0) (xs ys : List A) → AllByRecursion P (xs ++ ys)
     → AllByRecursion P xs × AllByRecursion P ys
 all-split P [] ys a = (tt, a)
 all-split P (x ∷ xs) ys a = let both = all-split P xs ys a.1 in ((a.0, both.0), both.1)
 
--- what holds of two lists holds of both together
+-- a property of two lists holds for both together
 pub all-join : {A : Type 0} → (P : A → Type 0) (xs ys : List A) → AllByRecursion P xs → AllByRecursion P ys
     → AllByRecursion P (xs ++ ys)
 all-join P [] ys a b = b
@@ -77,12 +77,13 @@ pub found-texts : (l : LiveSet) (ps : List OwnedText) → AllByRecursion (IsHeld
 found-texts l [] h = tt
 found-texts l (q ∷ qs) h = found-head l q.bytes q.extent (text_blocks qs) h.0 (found-texts l qs h.1)
 
--- a handle that differs from all of a list is none of them
+-- a handle that differs from each of a list is not in it
 pub none-of : (h : ℕ) (xs : List Extent) → AllByRecursion (λ (x : Extent). handle x ≢ h) xs → IsNone h xs
 none-of h [] n = tt
 none-of h (x ∷ xs) n = ((λ e. n.0 (sym e)), none-of h xs n.1)
 
--- The block in which the vector stands, which is none of these; and these are put in among the others.
+-- The block that contains the vector's words is not one of its own blocks; its own blocks are inserted among the
+-- others.
 pub record AreOwn (c : WindowState) (p : Place) (own : List Extent) : Type 0 where
   pub head : IsHead c p
   pub none : IsNone p.handle own
@@ -109,14 +110,14 @@ held-head : (l : LiveSet) (bytes : List ℕ) (o : Option Extent) (xs : List Exte
 held-head l bytes None xs s f = (s, f)
 held-head l bytes (Some x) xs s f = ((f.0, s.0, s.1), f.1)
 
--- blocks in use that serve strings hold them
+-- blocks in use with room for strings hold them
 pub held-texts : (l : LiveSet) (ps : List OwnedText) → AllByRecursion IsServed ps
     → AllByRecursion (IsFound l.extents) (text_blocks ps) → AllByRecursion (IsHeldText l) ps
 held-texts l [] s f = tt
 held-texts l (q ∷ qs) s f = let both = held-head l q.bytes q.extent (text_blocks qs) s.0 f in
     (both.0, held-texts l qs s.1 both.1)
 
--- a handle that is none of a list differs from all
+-- a handle that is not in a list differs from each of it
 pub of-none : (h : ℕ) (xs : List Extent) → IsNone h xs → AllByRecursion (λ (x : Extent). handle x ≢ h) xs
 of-none h [] n = tt
 of-none h (x ∷ xs) n = ((λ e. n.0 (sym e)), of-none h xs n.1)
@@ -160,7 +161,7 @@ pub blocks-three : (xs ys ws : List OwnedText) → text_blocks (xs ++ (ys ++ ws)
     ++ (text_blocks ys ++ text_blocks ws)
 blocks-three xs ys ws = blocks-append xs (ys ++ ws) ∙ ap (λ zs. text_blocks xs ++ zs) (blocks-append ys ws)
 
--- those of an array and of texts between others: these first
+-- the blocks of an array and of texts between others come first
 pub own-between : (a m b : List OwnedText) (t : BackingArray) → SameSpread (own_blocks (a ++ (m ++ b)) t)
     ((option_to_list t.extent ++ text_blocks m) ++ (text_blocks a ++ text_blocks b))
 own-between a m b t =
@@ -169,7 +170,7 @@ own-between a m b t =
     subst (SameSpread (own_blocks (a ++ (m ++ b)) t)) (sym (append_assoc arr tm (ta ++ tb)))
     (subst (λ (xs : List Extent). SameSpread (arr ++ xs) (arr ++ (tm ++ (ta ++ tb)))) (sym (blocks-three a m b)) p)
 
--- the other way round
+-- the converse
 pub between-own : (a m b : List OwnedText) (t : BackingArray) → SameSpread ((option_to_list t.extent ++ text_blocks m)
     ++ (text_blocks a ++ text_blocks b)) (own_blocks (a ++ (m ++ b)) t)
 between-own a m b t =
@@ -231,7 +232,7 @@ own-parts c {p} a m b {t} s =
     w.is ∙ (own-between a m b t).same rest (subst (Rising 128) w.is (live-rises (live_of c.bytes) s.heap.proper))
     ∙ inserted-append (option_to_list t.extent ++ text_blocks m) (text_blocks a ++ text_blocks b) rest
 
--- ---- the vector afterwards: the change that all steps come to
+-- ---- the vector after all steps
 
 -- strings in the middle are exchanged for others
 pub texts-between : {old new : WindowState} {p : Place} {ps : List OwnedText} (qs a m m' b : List OwnedText)
@@ -309,7 +310,7 @@ each-at P [] i a e = absurd (cc)
 each-at P (x ∷ xs) zero {q} a e = let same : x ≡ q = cc in subst P same a.0
 each-at P (x ∷ xs) (suc i) a e = each-at P xs i a.1 e
 
--- what is left from a place on begins with the string there
+-- the list from an index on begins with the string there
 pub drop-at : (ps : List OwnedText) (i : ℕ) {q : OwnedText} → slice_get ps i ≡ Some q → drop i ps ≡ q ∷ drop (suc i) ps
 drop-at [] i e = absurd (cc)
 drop-at (x ∷ xs) zero {q} e = let same : x ≡ q = cc in ap (λ (y : OwnedText). y ∷ xs) same
@@ -323,7 +324,7 @@ links-split m at (x ∷ xs) ys l =
     let e : at + 16 + 16 * length xs ≡ at + 16 * suc (length xs) = omega arith in
     ((l.0, l.1, r.0), subst (λ k. AreTextLinks m k ys) e r.1)
 
--- the link and the length of a string stand in the array
+-- the link and the length of a string are in the array
 pub links-at : (m : Memory) (at : ℕ) (ps : List OwnedText) (i : ℕ) {q : OwnedText} → AreTextLinks m at ps
     → slice_get ps i ≡ Some q
     → (link_at m (at + 16 * i) ≡ option_map handle q.extent) × (word_at m (at + 16 * i + 8) ≡ length q.bytes)
@@ -388,7 +389,7 @@ text-block {b} {bytes} {o = Some x} s link =
 pub block-live : {b : List ℕ} {g : ℕ} {bytes : List ℕ} → IsTextBlock b g bytes → IsTrue (is_live_in (live_of b) g)
 block-live {b} {g} {bytes} t = live-if g (length bytes) (live_of b).extents t.room
 
--- what is read of the block begins with the string
+-- the bytes that are read from the block begin with the string
 pub block-front : (c : WindowState) {g : ℕ} {bytes : List ℕ} (out : List ℕ) → IsHeap current c.bytes
     → IsTextBlock c.bytes g bytes → out ≡ payload_at c.bytes (live_of c.bytes) g → take (length bytes) out ≡ bytes
 block-front c {g} {bytes} out heap t e =
@@ -445,7 +446,7 @@ pub released-none : (old : WindowState) {array at : ℕ} {bytes : List ℕ} {o :
 released-none old {o = None} s link = record { change = swapped-none old s.heap; same = λ e. refl }
 released-none old {o = Some x} s link = none-some link s.link
 
--- what holds of all blocks of texts holds of that of one
+-- a property of all blocks of texts holds for the block of one
 pub one-of : (P : Extent → Type 0) (ps : List OwnedText) (i : ℕ) {q : OwnedText} → AllByRecursion P (text_blocks ps)
     → slice_get ps i ≡ Some q → AllByRecursion P (option_to_list q.extent)
 one-of P [] i a e = absurd (cc)
@@ -487,7 +488,7 @@ element-left {old} {now} {array} {n} i {ps} {q} s e x =
           first).0;
     }
 
--- one element more is released
+-- one more element is freed
 pub releases-next : {old now new : WindowState} (i : ℕ) (ps : List OwnedText) {q : OwnedText} → slice_get ps i ≡ Some q
     → SwapsBlocks old now (text_blocks ps) (text_blocks (drop i ps)) → SwapsBlocks now new (option_to_list q.extent) []
     → SwapsBlocks old new (text_blocks ps) (text_blocks (drop (i + 1) ps))
@@ -498,7 +499,7 @@ releases-next {old} {now} {new} i ps {q} e x y =
     subst (λ k. SwapsBlocks old new (text_blocks ps) (text_blocks (drop k ps))) count
     (exchange-next _ old now new 0 0 _ _ _ left [] spread x y)
 
--- so far none of them has a block, and nothing has changed
+-- so far no text has a block, and nothing has changed
 pub released-nothing-next : {old now new : WindowState} (ps : List OwnedText) (i : ℕ) {q : OwnedText}
     → slice_get ps i ≡ Some q → text_blocks ps ≡ [] → now ≡ old → (option_to_list q.extent ≡ [] → new ≡ now) → new ≡ old
 released-nothing-next ps i {q} e none so_far next =
@@ -533,7 +534,7 @@ links-moved m m' a b (q ∷ qs) l s =
     let e : SameElement m m' a b = same-at (omega arith) (omega arith) (s 0 (omega arith)) in
     (e.link ∙ l.0, e.len_word ∙ l.1, links-moved m m' (a + 16) (b + 16) qs l.2 (later m m' a b (length qs) s))
 
--- the links of two runs of strings stand one after the other
+-- the links of two runs of strings follow each other
 pub links-join : (m : Memory) (at : ℕ) (xs ys : List OwnedText) → AreTextLinks m at xs
     → AreTextLinks m (at + 16 * length xs) ys → AreTextLinks m at (xs ++ ys)
 links-join m at [] ys l r = let e : at + 16 * 0 ≡ at = omega arith in subst (λ k. AreTextLinks m k ys) e r
@@ -541,7 +542,7 @@ links-join m at (x ∷ xs) ys l r =
     let e : at + 16 * suc (length xs) ≡ at + 16 + 16 * length xs = omega arith in
     (l.0, l.1, links-join m (at + 16) xs ys l.2 (subst (λ k. AreTextLinks m k ys) e r))
 
--- other elements in the place of those between the first i and those from j on
+-- the elements between the first i and those from j on are replaced
 pub links-edited : {m m' : Memory} (g : ℕ) {at to n : ℕ} (ps : List OwnedText) (i j : ℕ) (zs : List OwnedText)
     → i ≤ length ps → j ≤ length ps → at ≡ g + 16 * j → to ≡ g + 16 * i + 16 * length zs → n ≡ length ps - j
     → AreTextLinks m g ps → SameElements m m' g g i → AreTextLinks m' (g + 16 * i) zs → SameElements m m' at to n
@@ -560,7 +561,7 @@ links-edited {m} {m'} g {at} {to} {n} ps i j zs f h a b c l front mid back =
 
 -- ---- it begins
 
--- a vector of strings, with those in the middle to be swapped
+-- a vector of strings, whose middle strings will be exchanged
 pub run-begin : (c : WindowState) {p : Place} {ps : List OwnedText} (a m b : List OwnedText) {t : BackingArray}
     → ps ≡ a ++ (m ++ b) → IsTexts c.bytes p ps t
     → IsRun c c p (option_to_list t.extent ++ text_blocks m) (option_to_list t.extent ++ text_blocks m) (length ps) t
@@ -575,7 +576,7 @@ run-begin c {p} a m b {t} e s =
       words = record { link = s.words.link; len_word = s.words.len_word; capacity = s.words.capacity };
     }
 
--- ---- the block of an array, and what its links lead to
+-- ---- the block of an array, and the targets of its links
 
 -- an element of a run that is held is held
 pub held-element : (c : WindowState) {array n : ℕ} (i : ℕ) {ps : List OwnedText} {q : OwnedText}
@@ -592,7 +593,7 @@ held-element c {array} {n} i {ps} {q} s e =
 
 -- ---- links lead to multiples of 16
 
--- a block stands at a multiple of 16
+-- a block begins at a multiple of 16
 pub even-block : (l : LiveSet) (o : Option Extent) → IsTrue (is_proper l)
     → AllByRecursion (IsFound l.extents) (option_to_list o) → IfSome (option_map handle o) (λ target. target % 16 ≡ 0)
 even-block l None p f = tt
@@ -615,13 +616,13 @@ even-from m a b i k n e is f j g =
 
 -- ---- the array, once other blocks are exchanged
 
--- the array stands, with room for its elements
+-- the array is in use, with room for its elements
 pub record IsArrayLeft (c : WindowState) (array n : ℕ) : Type 0 where
   pub heap : IsHeap current c.bytes
   pub room : IsTrue (has_room (live_of c.bytes) array (16 * n))
   pub even : AreEvenLinks (bytes_of c.bytes) array n
 
--- the array stands after other blocks were swapped
+-- the array stays after other blocks were exchanged
 pub array-left : {old new : WindowState} {array n : ℕ} {ps : List OwnedText} {gone come : List Extent}
     → AreHeldElements old.bytes array n ps → SwapsBlocks old new gone come → IsNone array gone → IsArrayLeft new array n
 array-left {old} {new} {array} {n} {gone} {come} s x none =
@@ -637,7 +638,7 @@ array-left {old} {new} {array} {n} {gone} {come} s x none =
 
 -- ---- elements of the array of a vector of texts, put elsewhere one after another
 
--- an element beside what is written
+-- an element outside a write
 pub element-beside : {m m' : Memory} {from n : ℕ} (at : ℕ)
     → SameBytesExcept m m' from n → (at + 16 ≤ from) ⊎ (from + n ≤ at) → SameElement m m' at at
 element-beside {m} {m'} {from} {n} at s (inl f) = record {
@@ -656,19 +657,19 @@ element-trans p q = record { link = q.link ∙ p.link; len_word = q.len_word ∙
 
 -- ---- the first one first
 
--- an element that is still to be moved is as before
+-- an element that is not moved yet is unchanged
 pub source-stays : {old now : WindowState} (a : ℕ) {b : ℕ} (i n : ℕ) → ChangesBytes current old now b (16 * i) → (b ≤ a)
     ⊎ (a + 16 * n ≤ b) → i < n → SameElement (bytes_of old.bytes) (bytes_of now.bytes) (a + 16 * i) (a + 16 * i)
 source-stays a i n c (inl f) below = element-beside (a + 16 * i) c.rest (inr (omega arith))
 source-stays a i n c (inr f) below = element-beside (a + 16 * i) c.rest (inl (omega arith))
 
--- one element more is moved down: what changed
+-- one more element is moved down: the bytes that changed
 pub carried-changed : {old now new : WindowState} {b to : ℕ} (i : ℕ) → ChangesBytes current old now b (16 * i)
     → to ≡ b + 16 * i → ChangesBytes current now new to 16 → ChangesBytes current old new b (16 * (i + 1))
 carried-changed {b} i c e d =
     changed-both b (16 * (i + 1)) c d (omega arith) (omega arith) (omega (arith, e)) (omega (arith, e))
 
--- one more is put in its place
+-- one more element is copied to its place
 one-more : {m m' m'' : Memory} {at to : ℕ} (a b k j : ℕ)
     → (j ≢ k → SameElement m m' (a + 16 * j) (b + 16 * j)) → SameBytesExcept m' m'' to 16 → SameElement m m'' at to
     → at ≡ a + 16 * k → to ≡ b + 16 * k → (j < k) ⊎ ((k < j) ⊎ (j ≡ k)) → SameElement m m'' (a + 16 * j) (b + 16 * j)
@@ -681,7 +682,7 @@ one-more a b k j s d e from is (inr (inr f)) = same-at (omega (arith, f, from)) 
 sides : (j k : ℕ) → (j < k) ⊎ ((k < j) ⊎ (j ≡ k))
 sides j k = grind arith
 
--- one element more is moved down: they are the same
+-- one more element is moved down: the elements are equal
 pub carried-next : {old now new : WindowState} {at to : ℕ} (a : ℕ) {b : ℕ} (i n : ℕ) → SameElements (bytes_of old.bytes)
     (bytes_of now.bytes) a b i → ChangesBytes current old now b (16 * i) → (b ≤ a) ⊎ (a + 16 * n ≤ b) → i < n
     → at ≡ a + 16 * i → to ≡ b + 16 * i → ChangesBytes current now new to 16 → SameElement (bytes_of now.bytes)
@@ -696,24 +697,24 @@ even-now a n i e f s = subst (λ o. IfSome o (λ target. target % 16 ≡ 0)) (sy
 
 -- ---- the last one first
 
--- those from k on have moved up
+-- the elements from k on have moved up
 abbrev pub AreUp : Memory → Memory → ℕ → ℕ → ℕ → Type 0
 AreUp m m' a k n = (j : ℕ) → k ≤ j → j < n → SameElement m m' (a + 16 * j) (a + 16 + 16 * j)
 
--- an element that is still to be moved up is as before
+-- an element that is not moved up yet is unchanged
 pub up-source : {old now : WindowState} (a k i n : ℕ) → k + (i + 1) ≡ n
     → ChangesBytes current old now (a + 16 + 16 * (n - i))
     (16 * i) → SameElement (bytes_of old.bytes) (bytes_of now.bytes) (a + 16 * k) (a + 16 * k)
 up-source a k i n e c = element-beside (a + 16 * k) c.rest (inl (omega arith))
 
--- one element more is moved up: what changed
+-- one more element is moved up: the bytes that changed
 pub up-changed : {old now new : WindowState} {to : ℕ} (a k i n : ℕ) → k + (i + 1) ≡ n
     → ChangesBytes current old now (a + 16 + 16 * (n - i)) (16 * i) → to ≡ a + 16 + 16 * k
     → ChangesBytes current now new to 16 → ChangesBytes current old new (a + 16 + 16 * (n - (i + 1))) (16 * (i + 1))
 up-changed a k i n e c is d = changed-both (a + 16 + 16 * (n - (i + 1))) (16 * (i + 1)) c d (omega arith) (omega arith)
     (omega (arith, e, is)) (omega (arith, e, is))
 
--- one element more is moved up: they are the same
+-- one more element is moved up: the elements are equal
 pub up-next : {old now new : WindowState} {at to : ℕ} (a k i n : ℕ) → k + (i + 1) ≡ n → AreUp (bytes_of old.bytes)
     (bytes_of now.bytes) a (n - i) n → ChangesBytes current old now (a + 16 + 16 * (n - i)) (16 * i) → at ≡ a + 16 * k
     → to ≡ a + 16 + 16 * k → ChangesBytes current now new to 16

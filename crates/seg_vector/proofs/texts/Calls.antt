@@ -134,7 +134,7 @@ elements-through a b n k1 s k2 f1 f2 g1 g2 j h = element-trans
     (element-trans (element-in (a + 16 * j) k1 (omega (arith, f1)) (omega (arith, f2, h))) (s j h))
     (element-in (b + 16 * j) k2 (omega (arith, g1)) (omega (arith, g2, h)))
 
--- elements beside those that are written
+-- elements outside a range that is written stay
 pub elements-beside : {old new : WindowState} {from k : ℕ} (a n : ℕ) → ChangesBytes current old new from k
     → (a + 16 * n ≤ from) ⊎ (from + k ≤ a) → SameElements (bytes_of old.bytes) (bytes_of new.bytes) a a n
 elements-beside a n c (inl f) j h = element-beside (a + 16 * j) c.rest (inl (omega (arith, f, h)))
@@ -197,7 +197,7 @@ pub record IsLeft (s0 s1 : WindowState) (p : Place) (ps : List OwnedText) (g i :
   pub element : IsHeldElement s0.bytes g (16 * i) q
   pub after : SwapsBlocks s0 s1 (option_to_list q.extent) [] → IsArrayLeft s1 g (length ps) × IsHead s1 p
 
--- what is left of the vector when the string's block is released
+-- the vector after the string's block is freed
 pub left : (s0 s1 : WindowState) {p : Place} {ps : List OwnedText} {c g : ℕ} (i : ℕ) {o : Option Extent} {q : OwnedText}
     → IsTexts s0.bytes p ps (table c o) → slice_get ps i ≡ Some q → link_at (bytes_of s0.bytes) (place_at p) ≡ Some g
     → IsLeft s0 s1 p ps g i q
@@ -315,7 +315,7 @@ shrunk {old} {new} {ps} {t} s f =
     (cut-links (live_of old.bytes) (bytes_of old.bytes) (bytes_of new.bytes) ps t.capacity t.extent s.words.array
     w.words.storage) tt tt (λ e. f.gaps (same-extent e))
 
--- ---- what is asked for
+-- ---- allocations
 
 -- an empty text is placed without a block
 pub empty-placed : (l : LiveSet) (bytes : List ℕ) → length bytes ≡ 0
@@ -366,7 +366,7 @@ placed-some {old} {mid} {new} bytes {h} f a c has =
       served = (f, place-serves (live_of old.bytes) (length bytes) Storage b.extent b.placed);
     }
 
--- ---- the vector beside it
+-- ---- the vector while another is built
 
 -- an array has room for its places
 abbrev IfFull : ℕ → Option Extent → Type 0
@@ -391,7 +391,7 @@ still-array {a} {b} h c (Some y) ps {come} heap x own full fits l =
       (kept-found a b 0 0 (handle y) y [] come _ x own.0 tt, own.1),
     )
 
--- a vector of strings stays while blocks come
+-- a vector of strings stays while blocks are allocated
 pub texts-still : {a b : WindowState} {p : Place} {ps : List OwnedText} {t : BackingArray} {come : List Extent}
     → IsTexts a.bytes p ps t → SwapsBlocks a b [] come → IsTexts b.bytes p ps t
 texts-still {a} {b} {p} {ps} {t} s x =
@@ -427,9 +427,9 @@ pub come-even : {a b : WindowState} (o : Option Extent) → SwapsBlocks a b [] (
     → IfSome (option_map handle o) (λ target. target % 16 ≡ 0)
 come-even {a} {b} o x = let heap = laid-heap _ _ x.live in even-block (live_of b.bytes) o heap.proper (came-found x)
 
--- ---- a text in the place of another one: its block was taken into use before the other is given back
+-- ---- a text replaces another: its block is allocated before the other is freed
 
--- no two of the blocks that came are one
+-- the allocated blocks are all different
 pub run-others : {old now : WindowState} {p : Place} {gone come : List Extent} {n : ℕ} {t : BackingArray}
     → IsRun old now p gone come n t → AreDistinct come
 run-others r = came-others r.change
@@ -449,7 +449,7 @@ loose-kept {a} {b} bytes o heap x f n s w = (
   all-found-kept (option_to_list o) x f n,
 )
 
--- its block is none of those after it
+-- its block is not among those after it
 pub others-front : (o : Option Extent) (xs : List Extent) → AreDistinct (option_to_list o ++ xs)
     → AllByRecursion (λ (y : Extent). AllByRecursion (λ (z : Extent). handle y ≢ handle z) xs) (option_to_list o)
 others-front None xs d = tt
@@ -457,7 +457,7 @@ others-front (Some y) xs d = (d.0, tt)
 
 -- ---- the vector afterwards
 
--- another string is put in the place of one
+-- a string is replaced by another
 pub text-set : {s0 s1 mid s3 : WindowState} {p : Place} {ps : List OwnedText} {c len g : ℕ} {o : Option Extent}
     {q : OwnedText} {bytes : List ℕ} {block : Option ℕ} (i : ℕ) → IsTexts s0.bytes p ps (table c o)
     → slice_get ps i ≡ Some q → (pl : PlacesTextOk s0 s1 bytes block) → link_at (bytes_of s1.bytes) (place_at p)

@@ -1,4 +1,4 @@
--- The array of a vector of texts with more places, one text more in it, and what was asked for given up.
+-- The array of a vector of texts with a larger capacity, with one more text in it, and the undoing of a reservation.
 use Rattle.seg_vector.proofs.Common as W
 use W.{◌≡◌, ◌≢◌, refl, sym, ap, subst, ◌∙◌, ℕ, ◌+◌, ◌*◌, ◌<◌, ◌≤◌, Option, Some, None, List, ◌∷◌, ◌++◌, arith, length}
 use W.{inl, inr, ◌⊎◌, ◌%◌, append-nil, IsTrue, Result, Ok, Err, MatchResult, option_map, option_to_list, IfSome, nat_lt}
@@ -22,7 +22,7 @@ use Rattle.seg_vector.proofs.texts.Calls.{held-elements, run-others, texts-stand
 use Rattle.best_fit.specs.Fit.{regrow}
 use Rattle.seg_vector.specs.Vector.{grown_backing}
 
--- ---- it is asked for
+-- ---- the reservation
 
 asked-new : (old new : WindowState) (o : Option Extent) (n : ℕ) (r : Result ℕ Refusal)
     → regrow (live_of old.bytes) o n ≡ place (live_of old.bytes) n Storage → TakesStorage old new n r
@@ -30,7 +30,7 @@ asked-new : (old new : WindowState) (o : Option Extent) (n : ℕ) (r : Result �
 asked-new old new o n (Ok g) e a = taken a (e ∙ a.placed)
 asked-new old new o n (Err f) e a = record { refusal = a.refusal; none = e ∙ a.none; same = a.same }
 
--- a vector without storage asks for a new array
+-- a vector without storage allocates a new array
 pub asked-none : (old new : WindowState) {p : Place} {ps : List OwnedText} {c : ℕ} (n : ℕ) {o : Option Extent}
     (r : Result ℕ Refusal) → IsTexts old.bytes p ps (table c o) → link_at (bytes_of old.bytes) (place_at p) ≡ None
     → TakesStorage old new n r
@@ -46,13 +46,13 @@ array-of {o = None} s link e = none-some s.words.link link
 array-of {b} {o = Some x} s link e =
     let g_is = same-some (sym s.words.link ∙ link) in sym s.own.0 ∙ ap (λ k. extent_at (live_of b) k) g_is ∙ e
 
--- the array is lengthened where it stands
+-- the array is lengthened in place
 pub asked-wide : {old new : WindowState} {p : Place} {ps : List OwnedText} {t : BackingArray} {g n : ℕ}
     → IsTexts old.bytes p ps t → link_at (bytes_of old.bytes) (place_at p) ≡ Some g
     → WidensBlock current old new g n → ReservesArray old new t.extent n g
 asked-wide s link w = widened w (array-of s link w.found)
 
--- a new array is asked for beside the old one
+-- a new array is reserved while the old one stays
 pub asked-beside : {old mid : WindowState} (new : WindowState) {p : Place} {ps : List OwnedText} {t : BackingArray}
     {g n : ℕ} (r : Result ℕ Refusal) → IsTexts old.bytes p ps t
     → link_at (bytes_of old.bytes) (place_at p) ≡ Some g → CannotWiden old mid g n → TakesStorage mid new n r
@@ -73,7 +73,7 @@ pub not-grown : (l : LiveSet) (n : ℕ) (t : BackingArray) → t.capacity < n �
     → grown_backing l 16 n t ≡ None
 not-grown l n t f e = grown-more l 16 n t f ∙ ap (option_map (λ x. table n (Some x))) e
 
--- ---- what stays
+-- ---- the blocks that stay
 
 -- blocks that differ from the head's stay where the head is written
 pub all-beside-head : {a b : WindowState} {p : Place} (xs : List Extent) → IsHeap current a.bytes
@@ -82,16 +82,16 @@ pub all-beside-head : {a b : WindowState} {p : Place} (xs : List Extent) → IsH
 all-beside-head [] heap w c f n = tt
 all-beside-head (x ∷ xs) heap w c f n = (beside-head (handle x) heap w c f.0 n.0, all-beside-head xs heap w c f.1 n.1)
 
--- a new block differs from those in use
+-- a new block differs from each block in use
 pub new-other : {first mid : WindowState} {n g : ℕ} (h : ℕ) {x : Extent}
     → (a : AllocatesOk current first mid n Storage g) → extent_at (live_of first.bytes) h ≡ Some x → h ≢ handle a.extent
 new-other {first} h {x} a e =
     let l = live_of first.bytes in
     (found-none h x (a.extent ∷ []) l.extents (live-rises (exchanged l [] (a.extent ∷ [])) a.live.proper) e).0
 
--- ---- the words are written, and the elements stand where they are
+-- ---- the words are written, and the elements stay in place
 
--- the array that was asked for is the only one
+-- the reserved array is the old one
 pub record IsInPlace (first now : WindowState) (p : Place) (ps : List OwnedText) (t : BackingArray) (g n : ℕ)
     (loose : List Extent) : Type 0 where
   pub array : Extent
@@ -189,7 +189,7 @@ adopt-none n {o = Some x} s more a since was d = none-some was s.words.link
 adopt-none n {o = None} s more (widened w is) since was d = absurd (cc)
 adopt-none n {o = None} s more (taken a e) since was d = adopt-place s more (first-place n s a since) d
 
--- the same one
+-- the case in which the array is the old one
 pub adopt-same : {first mid old new : WindowState} {p : Place} {ps : List OwnedText} {c g : ℕ} (n : ℕ)
     {o : Option Extent}
     {loose : List Extent} → IsTexts first.bytes p ps (table c o) → c < n → ReservesArray first mid o (16 * n) g
@@ -211,7 +211,7 @@ others-of-loose (z ∷ zs) y x d =
     let here = (all-split (λ (w : Extent). handle z ≢ handle w) zs (y ∷ x ∷ []) d.0).1 in
     let rest = others-of-loose zs y x d.1 in (((here.0, tt), rest.0), ((here.1.0, tt), rest.1))
 
--- so far: the new array stands beside the old one
+-- so far: the new array and the old one are in use
 pub record IsBeside (first old : WindowState) (p : Place) (ps : List OwnedText) (t : BackingArray) (x y : Extent)
     (loose : List Extent) : Type 0 where
   pub run : IsRun first old p (x ∷ []) (loose ++ (y ∷ x ∷ [])) (length ps) t
@@ -238,7 +238,7 @@ beside {first} {mid} {old} {p} {ps} {c} {g} {n} {x} s a since =
           (kept mid old (handle x) x [] _ _ r1.heap since found1.1.0 tt);
     }
 
--- the elements are carried over, the words are written, and the old array is given back
+-- the elements are copied, the words are written, and the old array is freed
 adopt-beside : {first mid old a1 a2 new : WindowState} {p : Place} {ps : List OwnedText} {c g : ℕ} (n : ℕ) {x : Extent}
     {loose : List Extent} → IsTexts first.bytes p ps (table c (Some x)) → c < n → (a : AllocatesOk current first mid
     (16 * n) Storage g) → regrow (live_of first.bytes) (Some x) (16 * n) ≡ Some a.extent → SwapsBlocks mid old [] loose
@@ -296,7 +296,7 @@ adopt-beside {first} {old} {a1} {a2} {new} {p} {ps} {c} {g} n {x} {loose} s more
           (all-beside-head loose r1.heap r1.head c2 loose1 none.0) (all-kept loose r2.heap x3 loose2 apart.1));
     }
 
--- a new array is adopted: the strings stand in it
+-- a new array is installed: it has the strings
 pub adopt-other : {first mid old a1 a2 new : WindowState} {p : Place} {ps : List OwnedText} {c g h : ℕ} (n : ℕ)
     {o : Option Extent} {loose : List Extent} → IsTexts first.bytes p ps (table c o) → c < n
     → ReservesArray first mid o (16 * n) g → SwapsBlocks mid old [] loose → link_at (bytes_of first.bytes) (place_at p)
@@ -312,9 +312,9 @@ adopt-other {old} {a1} {a2} {new} {ps} {g} n {o = Some x} s more (taken a e) sin
     adopt-beside {new = new} n s more a e since c1 (subst (λ k. SameElements (bytes_of old.bytes) (bytes_of a1.bytes)
     (k + 0) (g + 0) (length ps)) h_is carried) d (subst (Deallocates current a2 new) h_is rel)
 
--- ---- what is known of the heap once an array was asked for
+-- ---- the heap after an array was reserved
 
--- the array that was asked for, and what has changed since
+-- the reserved array, and the changes since
 pub record IsReadyRun (first now : WindowState) (p : Place) (ps : List OwnedText) (t : BackingArray) (g n : ℕ) :
     Type 0 where
   pub come : List Extent
@@ -335,7 +335,7 @@ ready-place {now} {n} {loose} q = record {
   big = serves-full q.array (16 * n) q.serving;
 }
 
--- an array that is ready: what blocks there are
+-- a reserved array: the blocks in use
 pub ready-in : {first mid now : WindowState} {p : Place} {ps : List OwnedText} {c g : ℕ} (n : ℕ) {o : Option Extent}
     {loose : List Extent} → IsTexts first.bytes p ps (table c o) → ReservesArray first mid o (16 * n) g
     → SwapsBlocks mid now [] loose → (loose ≡ [] → now ≡ mid) → IsReadyRun first now p ps (table c o) g n
@@ -353,7 +353,7 @@ ready-in {first} n {o = Some x} {loose} s (taken a e) since still =
       big = serves-full a.extent (16 * n) (place-serves (live_of first.bytes) (16 * n) Storage _ a.placed);
     }
 
--- an array that was reserved is ready to be adopted
+-- an array that was reserved can be installed
 abbrev pub ready-of : {first mid now : WindowState} {p : Place} {ps : List OwnedText} {t : BackingArray} {g : ℕ} (n : ℕ)
     {loose : List Extent} → IsTexts first.bytes p ps t → t.capacity < n → ReservesArray first mid t.extent (16 * n) g
     → SwapsBlocks mid now [] loose → (loose ≡ [] → now ≡ mid) → IsArrayReserved now p g n
@@ -375,18 +375,18 @@ pub ready : {now : WindowState} {p : Place} {g n : ℕ} → (r : IsArrayReserved
     → IsReadyRun r.first now p r.ps r.t g n
 ready {n} r = ready-in n r.texts r.asked r.since r.still
 
--- the words are those that they were
+-- the words are still unchanged
 pub ready-link : {now : WindowState} {p : Place} {g n : ℕ} → (r : IsArrayReserved now p g n)
     → link_at (bytes_of now.bytes) (place_at p) ≡ link_at (bytes_of r.first.bytes) (place_at p)
 ready-link r = (ready r).run.words.link ∙ sym r.texts.words.link
 
--- a reserved array stands at a multiple of 16
+-- a reserved array begins at a multiple of 16
 pub ready-even : {now : WindowState} {p : Place} {g n : ℕ} → IsArrayReserved now p g n → g % 16 ≡ 0
 ready-even {now} r =
     let q = ready r in
     subst (λ k. k % 16 ≡ 0) (sym q.at) (even-block (live_of now.bytes) (Some q.array) q.run.heap.proper (q.found, tt))
 
--- ---- where it is a new one, beside the old one
+-- ---- the case of a new array, while the old one is in use
 
 pub record IsReadyNew (now : WindowState) (g h n k : ℕ) : Type 0 where
   pub source : IsTrue (has_room (live_of now.bytes) h (0 + 16 * k))
@@ -426,7 +426,7 @@ ready-new_in {first} {now} {p} {ps} {c} {g} {h} n {o = Some x} {loose} s more (t
           (two-apart (live_of now.bytes) x y b.run.heap.proper b.old_found b.new_found b.apart);
     }
 
--- a reserved array beside the old one: both stand
+-- a reserved array that is a new block: both arrays are in use
 pub ready-new : {now : WindowState} {p : Place} {g h n : ℕ} → (r : IsArrayReserved now p g n)
     → link_at (bytes_of now.bytes) (place_at p) ≡ Some h → h ≢ g → IsReadyNew now g h n (length r.ps)
 ready-new {n} r was differ = ready-new_in n r.texts r.more r.asked r.since (sym (ready-link r) ∙ was) differ

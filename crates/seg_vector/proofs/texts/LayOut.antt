@@ -1,4 +1,4 @@
--- Other texts for a vector, laid out beside those that it has.
+-- Other texts for a vector, stored while its old ones stay.
 use Rattle.seg_vector.proofs.Common as W
 use W.{◌≡◌, ◌≢◌, refl, sym, ap, subst, ◌∙◌, inl, ℕ, zero, suc, ◌+◌, ◌*◌, ◌<◌, ◌≤◌, Option, Some, None, List, ◌∷◌, ◌++◌}
 use W.{append-nil, append_assoc, arith, length, length-append, drop, map, slice_index_or, Bor, ◌%◌, inr, if◌then◌else◌}
@@ -23,7 +23,7 @@ use Rattle.seg_vector.proofs.texts.Blocks.{run-begin, owned-same, texts-between,
 use Rattle.seg_vector.proofs.{texts.Growth.new-table, texts.Puts.came-alone, texts.Puts.flip-each}
 use Rattle.seg_vector.proofs.texts.Calls.{come-even, run-others, texts-still}
 
--- ---- blocks that came
+-- ---- the allocated blocks
 
 pub record AreCome (b : WindowState) (come : List Extent) : Type 0 where
   pub heap : IsHeap current b.bytes
@@ -45,7 +45,7 @@ with-text_in : {a b : WindowState} (bytes : List ℕ) (o : Option Extent) → Sw
 with-text_in {a} {b} bytes None s = exchanged-live a b 0 0 [] [] _ s
 with-text_in bytes (Some x) s = came-alone s
 
--- ---- what is asked for
+-- ---- allocations
 
 none-before : (o : Option (List OwnedText)) → o ≡ option_map (λ (qs : List OwnedText). [] ++ qs) o
 none-before None = refl
@@ -88,7 +88,7 @@ laid-begin c {y} more heap found =
       served = tt;
     }
 
--- a text was placed: all blocks that came since the first
+-- a text was placed: all blocks allocated since the first
 beside-text : {old now mid : WindowState} {y : Extent} {tb oq : List Extent} → SwapsBlocks old now (y ∷ []) (y ∷ tb)
     → SwapsBlocks now mid [] oq → SwapsBlocks old mid (y ∷ []) (y ∷ (tb ++ oq))
 beside-text {old} {now} {mid} {y} {tb} {oq} p q = exchange-order _ old mid 0 0 _ _ _ (last-first oq (y ∷ tb))
@@ -109,7 +109,7 @@ laid-links now {new} {y} {g} i n ps q at long below big stays c link len l =
     (links-moved (bytes_of now.bytes) (bytes_of new.bytes) (handle y) (handle y) ps l same)
     (subst (λ k. AreTextLinks (bytes_of new.bytes) k (q ∷ [])) behind (link, len, tt))
 
--- one string more is laid out
+-- one more string is stored
 pub laid-put : {old now mid new : WindowState} {y : Extent} {i : ℕ} (n array : ℕ) {bytes : List ℕ}
     {more : List (List ℕ)} {block : Option ℕ} → handle y ≡ array → StoresFirstTexts old now y i more
     → drop i more ≡ bytes ∷ drop (i + 1) more → i < n → 16 * n + 16 ≤ y.len → PlacesTextOk now mid bytes block
@@ -174,9 +174,9 @@ drop-next xs i d f =
     drop-map now i xs ∙ ap (map now) (drop-cons xs i d f) ∙ ap (λ zs. (slice_index_or xs i d).now ∷ zs)
     (sym (drop-map now (suc i) xs) ∙ ap (λ k. drop k (map now xs)) count)
 
--- ---- what the calls of a step need
+-- ---- conditions of the calls of a step
 
--- the block of a string stands at a multiple of 16
+-- the block of a string begins at a multiple of 16
 pub text-even : {a b : WindowState} {bytes : List ℕ} {block : Option ℕ} → PlacesTextOk a b bytes block
     → IfSome block (λ target. target % 16 ≡ 0)
 text-even pl = subst (λ o. IfSome o (λ target. target % 16 ≡ 0)) (sym pl.at) (come-even pl.text.extent pl.change)
@@ -197,10 +197,9 @@ found-big c array n {y} heap room found =
     let r = roomy c array n heap room in
     subst (λ (x : Extent). n + 16 ≤ x.len) (same-some (sym r.found ∙ found)) r.room
 
--- ---- an array that was taken into use, and the texts that are laid out in it: all of them, or none once it is given
--- up
+-- ---- an array that was allocated, and the texts stored in it: all of them, or none after it is freed
 
--- ---- what is asked for
+-- ---- allocations
 
 -- an array with a place takes a block
 pub new-array : (l : LiveSet) (n : ℕ) → 0 < n → new_array l n ≡ option_map (λ (x : Extent). table n (Some x))
@@ -311,7 +310,7 @@ laid-out {old} {mid} {new} {k} {more} t e w all =
       served = a.served;
     }
 
--- ---- not all of them
+-- ---- not all of them are stored
 
 -- the strings laid out so far are held
 pub laid-held : {old mid new : WindowState} {n k g : ℕ} {more : List (List ℕ)} → (t : IsArrayTaken old mid n g)
@@ -363,7 +362,7 @@ swapped-back {old} {new} x = record {
   };
 }
 
--- strings and array are given back: all is as before
+-- the strings and the array are freed: all is as before
 pub taken-off : {old mid new left last : WindowState} {n k g : ℕ} {more : List (List ℕ)}
     → (t : IsArrayTaken old mid n g)
     → n ≡ length more → 0 < n → (w : StoresArrayUpTo mid new t.block k more) → k ≢ n → SwapsBlocks new left
@@ -404,7 +403,7 @@ all-beside {a} {b} {p} {gone} {come} (x ∷ xs) heap w e f n d =
       all-beside xs heap w e f.1 n.1 d.1,
     )
 
--- ---- the blocks that came stand beside those of the vector
+-- ---- the new blocks are apart from the vector's blocks
 
 record IsBesideOwn (old now : WindowState) (p : Place) (ps : List OwnedText) (t : BackingArray)
     (come : List Extent) : Type 0 where
@@ -465,14 +464,14 @@ assigned {old} {now} {rel} {new} {p} {ps} {t} n {more} s w e some released q =
           b.others in let none = fresh-none come fresh in absurd (cc)));
     }
 
--- the array stands at a multiple of 16
+-- the array begins at a multiple of 16
 pub laid-even : {old now : WindowState} {g : ℕ} {more : List (List ℕ)} → StoresArrayOk old now more g → g % 16 ≡ 0
 laid-even {now} w =
     let come = are-come w.change in
     subst (λ k. k % 16 ≡ 0) (sym w.at) (even-block (live_of now.bytes) (Some w.block) come.heap.proper
     (come.found.0, tt))
 
--- ---- what the call answers
+-- ---- the result of the call
 
 -- strings are assigned: at least one
 pub assigns-some : (old new : WindowState) (p : Place) (more : List (List ℕ)) → 0 < length more
@@ -486,7 +485,7 @@ pub some-texts : (n : ℕ) → false ≡ (n == 0) → 0 < n
 some-texts zero e = absurd (cc)
 some-texts (suc n) e = omega arith
 
--- ---- a vector of texts stands where the same blocks are in use as before, with the same bytes
+-- ---- a vector of texts stays if the same blocks are in use, with the same bytes
 
 nothing-swapped : {a b : WindowState} → KeepsLiveSet current a b → SwapsBlocks a b [] []
 nothing-swapped {a} {b} r = record {
@@ -497,7 +496,7 @@ nothing-swapped {a} {b} r = record {
   blocks = all-same-but (bytes_of a.bytes) (bytes_of b.bytes) 0 0 (live_of a.bytes).extents r.keeps.blocks;
 }
 
--- a vector of strings is there where all blocks are as before
+-- a vector of strings stays if all blocks are unchanged
 pub texts-restored : {a b : WindowState} {p : Place} {ps : List OwnedText} {t : BackingArray} → IsTexts a.bytes p ps t
     → KeepsLiveSet current a b → IsTexts b.bytes p ps t
 texts-restored s r = texts-still s (nothing-swapped r)

@@ -1,5 +1,5 @@
--- A text and a vector of texts made with what they hold: their blocks come first, and then the three words are written,
--- whatever stood there.
+-- A text and a vector of texts, made with their contents: their blocks are allocated first, and then the three words
+-- are written over any old bytes.
 use Rattle.seg_vector.proofs.Common as W
 use W.{◌≡◌, refl, sym, ap, subst, ◌∙◌, ℕ, zero, suc, ◌+◌, ◌*◌, ◌<◌, ◌%◌, Option, Some, None, List, [], ◌∷◌, length}
 use W.{arith, IsTrue, option_map, option_to_list, AllByRecursion, nat_lt, and_from, eq-eqb, lt-ltb, Memory, WindowState}
@@ -19,7 +19,7 @@ use Rattle.seg_vector.proofs.texts.Growth.{new-table}
 use Rattle.best_fit.specs.Fit.{regrow}
 use Rattle.seg_vector.specs.{TextsCalls.MakesTexts, Vector.grown_backing}
 
--- ---- the blocks come, and then the words are written
+-- ---- the blocks are allocated, and then the words are written
 
 pub record IsMade (old mid new : WindowState) (p : Place) (come : List Extent) (n : ℕ) (u : BackingArray) :
     Type 0 where
@@ -45,7 +45,7 @@ made {old} {mid} {new} {p} {come} {n = n} o heap room x q e =
     let stay = all-beside come still there written (came-found x) none (none-of-none come) in
     record { run = run; none = none; stay = stay }
 
--- the head has its room still when the blocks came
+-- the head still has its room after the blocks are allocated
 pub head-still : {old mid : WindowState} (p : Place) {come : List Extent} → IsHeap current old.bytes
     → IsTrue (has_room (live_of old.bytes) p.handle (p.at + 24)) → SwapsBlocks old mid [] come
     → IsTrue (has_room (live_of mid.bytes) p.handle (p.at + 24))
@@ -123,7 +123,7 @@ made-text {old} {mid} {new} {p} {bytes} heap whole room pl q =
       };
     }
 
--- there is no space for it
+-- there is no space for the text
 pub text-lacks : {old new : WindowState} (bytes : List ℕ) {why : Refusal}
     → LacksFit old new (placed_text (live_of old.bytes) bytes) why → LacksSpace old new 1 (length bytes) no_backing why
 text-lacks {old} bytes f = record {
@@ -176,7 +176,7 @@ made-texts {old} {mid} {new} {p} n {more} heap whole room w e some q =
           (record { change = r.change; gaps = λ same. absurd (cc); texts = texts });
     }
 
--- at least one text was asked for
+-- at least one text was requested
 pub makes-some : (old new : WindowState) (p : Place) (more : List (List ℕ)) → 0 < length more
     → AssignsTextsOk old new p [] no_backing more → MakesTexts old new p more (Ok tt)
 makes-some old new p [] f a = absurd (omega (arith, f))

@@ -124,7 +124,7 @@ put-by {first} {now} {b1} {b2} {new} {p} {ps} {t} {y} {m} {z} i {g} n len block 
     (16 * m) (g + 16 * i) 16 c2 (found-room (live_of b1.bytes) (handle y) (16 * m) y (run-found r1).0 big)
     (omega (arith, g_is)) (omega (arith, g_is, inside, space))) (head-gaps p (head-room r2.head) c3'))))
 
--- ---- what the calls of a put need
+-- ---- conditions of the calls of an insertion
 
 pub record IsPutPlace (now : WindowState) (p : Place) (g i k : ℕ) : Type 0 where
   pub heap : IsHeap current now.bytes
@@ -160,7 +160,7 @@ put-place {now} {p} {g} r leads =
       count = w.len_word;
     }
 
--- the block of the string stands at a multiple of 16
+-- the block of the string begins at a multiple of 16
 pub put-even : {now : WindowState} {p : Place} {i : ℕ} {block : Option ℕ} {len : ℕ} → IsPutAsked now p i block len
     → IfSome block (λ target. target % 16 ≡ 0)
 put-even {now} {p} r =
@@ -168,7 +168,7 @@ put-even {now} {p} r =
     subst (λ o. IfSome o (λ target. target % 16 ≡ 0)) (sym r.at)
     (even-block (live_of now.bytes) r.z.extent q.heap.proper (run-found q).1)
 
--- ---- an array that was asked for is given up
+-- ---- a reserved array is freed
 
 module _ {first mid : WindowState} {p : Place} {ps : List OwnedText} {t : BackingArray} {g : ℕ} (n : ℕ)
     (s : IsTexts first.bytes p ps t) (a : ReservesArray first mid t.extent (16 * n) g) where
@@ -193,7 +193,7 @@ undone-none {o = Some x} s a was r = none-some was s.words.link
 undone-none {o = None} s (widened w is) was r = absurd (cc)
 undone-none {mid} {new} {g} {n} {o = None} s (taken a e) was r = taken-back _ mid new n g _ a r
 
--- the reserved array beside the old one is given back
+-- a reserved array that is a new block is freed
 pub undone-other : {first mid new : WindowState} {p : Place} {ps : List OwnedText} {c g h n : ℕ} {o : Option Extent}
     → IsTexts first.bytes p ps (table c o) → ReservesArray first mid o n g → link_at (bytes_of first.bytes) (place_at p)
     ≡ Some h → h ≢ g → Deallocates current mid new g → KeepsLiveSet current first new
@@ -281,7 +281,7 @@ within-ok {s0} {new} {p} ps {c} i (Some x) {bytes} space pl {y} e now =
 abbrev after : LiveSet → BackingArray → List ℕ → Option BackingArray → Option OwnedText
 after l t bytes o = elim o [ None ↦ None | Some u ↦ placed_text (with_array l t u) bytes ]
 
--- where nothing changes, nothing does at first
+-- if nothing changes, the first step changes nothing
 refused-same : {s0 s1 : WindowState} {ps : List OwnedText} {t : BackingArray} {bytes : List ℕ} {e : Refusal}
     → IsHeap current s0.bytes
     → e ≡ NoSpace → requested_text (live_of s0.bytes) ps t bytes ≡ None → s1 ≡ s0 → RefusesPut s0 s1 ps t bytes e
@@ -301,9 +301,9 @@ within-err {s0} {ps = ps} {t} {bytes} s space r = refused-same s.heap r.refusal
     (ap (after (live_of s0.bytes) t bytes) (same-grown-one (live_of s0.bytes) ps t space)
     ∙ ap (λ l. placed_text l bytes) (array-is (live_of s0.bytes) t) ∙ r.none) r.same
 
--- ---- the first block that is asked for
+-- ---- the first allocation
 
--- a text that is put in had both
+-- a text that is inserted had both blocks
 first-put : {old new : WindowState} {p : Place} {ps : List OwnedText} {t : BackingArray} {i : ℕ} {bytes : List ℕ}
     → InsertsTextOk old new p ps t i bytes → RefusesFirstBlock old new ps t bytes
 first-put {old} {ps} {t} {bytes} w =
@@ -318,7 +318,7 @@ first-put {old} {ps} {t} {bytes} w =
       array = λ none. let both = sym w.grown ∙ none in absurd (cc);
     }
 
--- what the first put of a string answers
+-- the result of the first allocation for a string
 pub first-answered : (old new : WindowState) (p : Place) (ps : List OwnedText) (t : BackingArray) (i : ℕ)
     (bytes : List ℕ)
     (r : Result (Unit {0}) Refusal) → PutsInto old new p ps t i bytes r → RefusesFirstBlock old new ps t bytes
@@ -351,7 +351,7 @@ others-none y [] d = refl
 others-none y (z ∷ zs) d = others-past (handle y) z zs (λ e. d.0 (omega (arith, e)))
     ∙ ap (λ (ws : List Extent). z ∷ ws) (others-none y zs d.1)
 
--- a block that is new is put in among the others
+-- a new block is inserted among the others
 pub came-alone : {a b : WindowState} {x : Extent} → SwapsBlocks a b [] (x ∷ [])
     → live_of b.bytes ≡ resized (live_of a.bytes) x
 came-alone {a} {b} {x} s =
@@ -411,7 +411,7 @@ growing-none {s0} {t = t} n bytes s more wanted r = refused-same s.heap r.refusa
     (ap (after (live_of s0.bytes) t bytes) (ap (λ k. grown_backing (live_of s0.bytes) 16 k t) (sym wanted)
     ∙ not-grown (live_of s0.bytes) n t more r.none)) r.same
 
--- no space for the string: the array is given back
+-- without space for the string, the array is freed
 pub growing-err : {s0 s1 s2 new : WindowState} (ps : List OwnedText) (t : BackingArray) {g : ℕ} (n : ℕ)
     {bytes : List ℕ} {e : Refusal} → t.capacity < n → n ≡ capacity_for_one (length ps) t.capacity → t.capacity
     ≤ length ps → ReservesArray s0 s1 t.extent (16 * n) g → LacksFit s1 s2 (placed_text (live_of s1.bytes) bytes) e
@@ -434,11 +434,11 @@ full-if : (k c : ℕ) (b : Bool) → nat_lt k c ≡ b → c ≤ k → (if b then
 full-if k c true e f = absurd (grind arith)
 full-if k c false e f = refl
 
--- more than there were
+-- a larger capacity than before
 pub wanted-more : (n k c : ℕ) → c ≤ k → n ≡ capacity_for_one k c → n ≡ max 4 (2 * c)
 wanted-more n k c f e = e ∙ full-if k c (nat_lt k c) refl f
 
--- ---- what the calls need
+-- ---- conditions of the calls
 
 -- an array has fewer than 2^30 bytes
 pub few_places : (c : WindowState) {p : Place} {ps : List OwnedText} {t : BackingArray} → IsTexts c.bytes p ps t

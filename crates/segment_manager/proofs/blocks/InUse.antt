@@ -1,5 +1,5 @@
--- The blocks of a directory, as its live set has them: each is found by its handle, has the room that its extent holds,
--- and lies at a whole place.
+-- The blocks of a directory in its live set: each is found by its handle, has the room of its extent, and is at a
+-- multiple of 16.
 use Rattle.segment_manager.proofs.Common.{◌≡◌, Option, IsTrue, IfSome, flat_map, Extent, extent_at, has_room, Directory}
 use Rattle.segment_manager.proofs.Common.{ℕ, ◌+◌, ◌%◌, Some, None, List, [], ◌∷◌, arith, handle, holds, Object, live}
 use Rattle.segment_manager.proofs.Common.{option_to_list, AllByRecursion, LiveSet, is_proper, extents_of, value_extents}
@@ -8,7 +8,7 @@ use Rattle.segment_manager.proofs.{directory.ExtentOrder.live-rises, directory.L
 use Rattle.raw_region.proofs.Facts.{no_more, AllByRecursion-behind}
 use Rattle.best_fit.proofs.Laws.{IsSound, found-room, live-sound}
 
--- ---- what holds of each extent of a list that rises
+-- ---- properties of each extent of a rising list
 
 -- two facts of each give a third
 pub all-both : {X : Type 0} (P Q R : X → Type 0) → ((x : X) → P x → Q x → R x) → (xs : List X) → AllByRecursion P xs
@@ -16,7 +16,7 @@ pub all-both : {X : Type 0} (P Q R : X → Type 0) → ((x : X) → P x → Q x 
 all-both P Q R f [] p q = tt
 all-both P Q R f (x ∷ xs) p q = (f x p.0 q.0, all-both P Q R f xs p.1 q.1)
 
--- one fact of each gives another
+-- a property of each element implies another
 pub all-each : {X : Type 0} (P Q : X → Type 0) → ((x : X) → P x → Q x) → (xs : List X) → AllByRecursion P xs
     → AllByRecursion Q xs
 all-each P Q f [] p = tt
@@ -55,7 +55,7 @@ table-some : (l : LiveSet) (e : Option Extent) → AllByRecursion (IsInUse l) (o
 table-some l None h = tt
 table-some l (Some x) h = h.0.found
 
--- so is the block of each index
+-- and the block of each index is in use
 pub named-in_use : (d : Directory) → IsTrue (is_proper (live d))
     → IfSome d.named.extent (λ x. extent_at (live d) (handle x) ≡ Some x)
 named-in_use d h = table-some (live d) d.named.extent (of_each (IsInUse (live d)) (all-in_use (live d) h)).named

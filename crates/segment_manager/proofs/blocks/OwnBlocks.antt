@@ -1,5 +1,5 @@
--- Which handles are those of objects, and that the blocks of objects among those of a live set are those of the
--- directory's objects, in its order.
+-- The handles of objects; the own blocks of objects in a live set are the blocks of the directory's objects, in its
+-- order.
 use Rattle.segment_manager.proofs.Common as common
 use common.{◌≡◌, sym, ◌∙◌, ℕ, suc, ◌*◌, ◌∷◌, map, refl, arith, holds, BackingArray, Value, Bytes, Pairs, Texts, Object}
 use common.{sorted}
@@ -49,7 +49,7 @@ any_of-sorted t (x ∷ xs) = any_of-insert t x (sorted xs) ∙ ap (λ b. t x || 
 
 -- ---- where only objects' own extents can pass
 
--- none of the extents passes
+-- none of the extents passes the test
 abbrev pub NonePasses : (Extent → Bool) → List Extent → Type 0
 NonePasses t = AllByRecursion (λ x. t x ≡ false)
 
@@ -62,7 +62,7 @@ pub none-append : (t : Extent → Bool) (xs ys : List Extent) → NonePasses t x
     → NonePasses t (xs ++ ys)
 none-append t xs ys h k = AllByRecursion-append (λ x. t x ≡ false) xs ys h k
 
--- the object's own extent passes where it has the handle, and none of its value's
+-- the object's own extent passes exactly if it has the handle, and no extent of its value passes
 pub record IsTold (t : Extent → Bool) (h : ℕ) (o : Object) : Type 0 where
   pub own : t o.extent ≡ (h == handle o.extent)
   pub value : NonePasses t (value_extents o.value)
@@ -80,7 +80,7 @@ any-objects t h (o ∷ os) a = list_any-append t (extents_of o) (flat_map extent
     ∙ (λ i. a.0.own i || any-objects t h os a.1 i)
     ∙ sym (find-some (h == handle o.extent) o (find (has_key (ByHandle h)) os))
 
--- then one of the live set passes exactly where there is an object of the handle
+-- then an extent of the live set passes exactly if there is an object of the handle
 pub any-live : (t : Extent → Bool) (h : ℕ) (d : Directory) → AllByRecursion (IsTold t h) d.objects
     → NonePasses t (tables_of d) → list_any t (live d).extents ≡ is_some (object_at d (ByHandle h))
 any-live t h d a b = ap (list_any t) (live-extents d) ∙ any_of-sorted t (flat_map extents_of d.objects ++ tables_of d)
@@ -92,13 +92,13 @@ eq-swap-if : (a b : ℕ) (x : Bool) → (a == b) ≡ x → (b == a) ≡ x
 eq-swap-if a b true e = eq-eqb b a (sym (eqb-true a b e))
 eq-swap-if a b false e = ne_eqb b a (λ f. eqb-false a b e (sym f))
 
--- a test of two numbers, either way round
+-- the test of equal numbers is symmetric
 pub eq-swap : (a b : ℕ) → (a == b) ≡ (b == a)
 eq-swap a b = sym (eq-swap-if a b (a == b) refl)
 
 -- ---- by the roles
 
--- the block of a handle, where it is an object's
+-- whether the extent is an object's own block with this handle
 abbrev pub is_object_block : ℕ → Extent → Bool
 is_object_block h x = (handle x == h) && same_role x.role ObjectRole
 
@@ -172,7 +172,7 @@ value-none h (Texts ps t) e = none-append (is_object_block h) (table_extents t) 
     e))) (all_owned-none h ps (second (nat_le (length ps) t.capacity
     && has_backing Storage 16 t) (list_all is_owned_text ps) e))
 
--- the block of an object is told from others by its handle
+-- the handle of an object's own block distinguishes it from other blocks
 pub object-told : (format h : ℕ) (o : Object) → IsTrue (is_object format o) → IsTold (is_object_block h) h o
 object-told format h o e =
     let serving = serves o.extent ObjectRole (object_len o.name o.value) in
@@ -199,7 +199,7 @@ pub table-of : (t : BackingArray) (os : List Object) (lt : Object → Object →
 table-of t os lt e = first (has_backing Index 8 t) (nat_le (length os) t.capacity)
     (first (has_backing Index 8 t && nat_le (length os) t.capacity) (rises lt os) e)
 
--- the handle is an object's exactly where a block of it is in use for an object
+-- the handle is an object's exactly if an object's own block with it is in use
 pub handle-is-object : {format : ℕ} {d : Directory} (h : ℕ) → IsDirectory format d
     → list_any (is_object_block h) (live d).extents ≡ is_some (object_at d (ByHandle h))
 handle-is-object {format} {d} h k = any-live (is_object_block h) h d (objects-told format h d.objects k.objects)

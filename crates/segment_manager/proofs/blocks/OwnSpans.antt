@@ -13,7 +13,7 @@ use Rattle.raw_region.proofs.Facts.{first, second}
 use Rattle.best_fit.specs.{Fit.insert, Extents.Span, Extents.span_between, Extents.spans_from}
 use Rattle.std.proofs.lemmas.List.Elements.{filter-append}
 
--- ---- a filter of extents that are put in by offset
+-- ---- a filter of extents that are inserted by offset
 
 filter-none : {X : Type 0} (p : X → Bool) (xs : List X) → AllByRecursion (λ x. p x ≡ false) xs → filter p xs ≡ []
 filter-none p [] h = refl
@@ -30,7 +30,7 @@ skip-if : (p : Extent → Bool) (b : Bool) (x z : Extent) (zs ws : List Extent) 
 skip-if p true x z zs ws e f = filter-past p x (z ∷ zs) e
 skip-if p false x z zs ws e f = ap (λ (os : List Extent). cond (p z) (z ∷ os) os) f
 
--- one that does not pass makes no difference
+-- an extent that fails the test makes no difference
 filter-skip : (p : Extent → Bool) (x : Extent) (zs : List Extent) → p x ≡ false → filter p (insert x zs) ≡ filter p zs
 filter-skip p x [] e = filter-past p x [] e
 filter-skip p x (z ∷ zs) e = skip-if p (nat_lt x.offset z.offset) x z zs (insert x zs) e (filter-skip p x zs e)
@@ -39,11 +39,11 @@ filter-skips : (p : Extent → Bool) (xs zs : List Extent) → NonePasses p xs �
 filter-skips p [] zs h = refl
 filter-skips p (x ∷ xs) zs h = filter-skip p x (inserted xs zs) h.0 ∙ filter-skips p xs zs h.1
 
--- each one that passes is after it
+-- each extent that passes is after this one
 abbrev AreBehind : (Extent → Bool) → Extent → List Extent → Type 0
 AreBehind p x = AllByRecursion (λ (z : Extent). p z ≡ true → x.offset < z.offset)
 
--- one that is not after it does not pass
+-- an extent that is not after this one fails
 past-if : (p : Extent → Bool) (b : Bool) (x z : Extent) (zs ws : List Extent) → p z ≡ b
     → (b ≡ true → x.offset < z.offset) → z.offset ≤ x.offset → filter p ws ≡ x ∷ filter p zs
     → filter p (z ∷ ws) ≡ x ∷ filter p (z ∷ zs)
@@ -57,14 +57,14 @@ front-if : (p : Extent → Bool) (b : Bool) (x z : Extent) (zs ws : List Extent)
 front-if p true x z zs ws t e a f = filter-first p x (z ∷ zs) e
 front-if p false x z zs ws t e a f = past-if p (p z) x z zs ws refl a (ltb-false x.offset z.offset t) f
 
--- one that passes and is before all others that do is the first
+-- an extent that passes and precedes all others that do is the first
 filter-front : (p : Extent → Bool) (x : Extent) (zs : List Extent) → p x ≡ true → AreBehind p x zs
     → filter p (insert x zs) ≡ x ∷ filter p zs
 filter-front p x [] e a = filter-first p x [] e
 filter-front p x (z ∷ zs) e a =
     front-if p (nat_lt x.offset z.offset) x z zs (insert x zs) refl e a.0 (filter-front p x zs e a.1)
 
--- what holds of those that pass
+-- a property of the extents that pass
 kept-if : {X : Type 0} (Q : X → Type 0) (p : X → Bool) (b : Bool) (x : X) (xs : List X) → p x ≡ b
     → AllByRecursion Q (cond b (x ∷ xs) xs) → (p x ≡ true → Q x) × AllByRecursion Q xs
 kept-if Q p true x xs e h = ((λ f. h.0), h.1)
@@ -77,7 +77,7 @@ of-filter Q p (x ∷ xs) h = let both = kept-if Q p (p x) x (filter p xs) refl h
 
 -- ---- the extents of objects
 
--- the block of its own passes, and none of its value's
+-- the object's own block passes, and no block of its value
 record IsTaken (p : Extent → Bool) (o : Object) : Type 0 where
   own : p o.extent ≡ true
   value : NonePasses p (value_extents o.value)
@@ -143,7 +143,7 @@ own-blocks {format} {d} k = ap (filter is_own) (live-extents d)
 
 -- ---- among the blocks and gaps
 
--- a block as it stands there
+-- a block in use as a span
 abbrev pub as_used : Extent → Span
 as_used x = record { offset = x.offset; len = x.len; use_of = Some x.role }
 

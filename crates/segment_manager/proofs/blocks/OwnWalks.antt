@@ -1,4 +1,4 @@
--- The walk over the blocks and gaps that stops at those of objects, for each directory that the bytes stand for.
+-- The walk over the blocks and gaps that stops at objects' own blocks, for each directory that the bytes denote.
 use Rattle.segment_manager.proofs.Common as common
 use common.{◌≡◌, refl, sym, ap, subst, ◌∙◌, ℕ, zero, suc, ◌+◌, ◌-◌, ◌≤◌, Bool, true, false, Some, None, Option, List}
 use common.{[], ◌∷◌, length, map, arith, cond, ◌/◌, ◌<◌, take, IsTrue, filter, is_some, option_map, slice_get, nat_lt}
@@ -19,16 +19,16 @@ use Rattle.segment_manager.specs.indexes.Iterating.{GoesOnOwn, GoesOnTiles, HasP
 use Rattle.segment_manager.specs.indexes.Iterating.{own_before}
 use Rattle.segment_manager.specs.{indexes.Iterating.own_count, declared.blocks.tiles.TileInfo.TileInfo, Calls.as_span}
 
--- ---- places among those that pass
+-- ---- places among the elements that pass
 
--- ---- a list, and those of it that pass
+-- ---- a list, and its elements that pass
 
 past-one : {X : Type 0} (b : Bool) (x : X) (ys zs : List X) → length ys ≡ length zs
     → length (cond b (x ∷ ys) ys) ≡ length (cond b (x ∷ zs) zs)
 past-one true x ys zs e = ap suc e
 past-one false x ys zs e = e
 
--- one that does not pass
+-- an element that fails
 pub none-more : {X : Type 0} (p : X → Bool) (xs : List X) (i : ℕ) {x : X} → slice_get xs i ≡ Some x → p x ≡ false
     → length (filter p (take (suc i) xs)) ≡ length (filter p (take i xs))
 none-more p [] i {x} e f = absurd (none-some x e)
@@ -41,7 +41,7 @@ one-behind : {X : Type 0} (b : Bool) (x : X) (ys zs : List X) → length ys ≡ 
 one-behind true x ys zs e = ap suc e
 one-behind false x ys zs e = e
 
--- one that passes
+-- an element that passes
 pub one-more : {X : Type 0} (p : X → Bool) (xs : List X) (i : ℕ) {x : X} → slice_get xs i ≡ Some x → p x ≡ true
     → length (filter p (take (suc i) xs)) ≡ suc (length (filter p (take i xs)))
 one-more p [] i {x} e f = absurd (none-some x e)
@@ -54,7 +54,7 @@ there-if : {X : Type 0} (b : Bool) (y : X) {x : X} (ys zs : List X) → slice_ge
 there-if true y ys zs e = e
 there-if false y ys zs e = e
 
--- it stands after as many as passed before it
+-- the element's place is the number of earlier elements that pass
 pub passes-there : {X : Type 0} (p : X → Bool) (xs : List X) (i : ℕ) {x : X} → slice_get xs i ≡ Some x → p x ≡ true
     → slice_get (filter p xs) (length (filter p (take i xs))) ≡ Some x
 passes-there p [] i {x} e f = absurd (none-some x e)
@@ -67,14 +67,14 @@ end-if : {X : Type 0} (b : Bool) (y : X) (ys zs : List X) → slice_get ys (leng
 end-if true y ys zs e = e
 end-if false y ys zs e = e
 
--- none stands there where all were passed
+-- after the end no element passes
 pub passes-none : {X : Type 0} (p : X → Bool) (xs : List X) (i : ℕ) → slice_get xs i ≡ None
     → slice_get (filter p xs) (length (filter p (take i xs))) ≡ None
 passes-none p [] i e = refl
 passes-none p (y ∷ ys) zero e = absurd (none-some y (sym e))
 passes-none p (y ∷ ys) (suc i) e = end-if (p y) y (filter p ys) (filter p (take i ys)) (passes-none p ys i e)
 
--- ---- how many tiles
+-- ---- the number of tiles
 
 tile-more : (b : Bool) (m : Memory) (at end n : ℕ) → length (tiles_from n m (at + (tile_at m at).len) end) ≤ n
     → length (elim b as (λ _. List Tile) [
@@ -98,14 +98,14 @@ segment-short b g =
     first (is_legal_size l.size) (proper_from 128 l.extents _) g.1.denotes.directory.proper in
     omega (arith, (legal_size l.size legal).high, g.1.denotes.heap.size)
 
--- and so a number of 64 bits counts its tiles
+-- and so 64 bits count the tiles
 pub tile-few : (b : List ℕ) (at : ℕ) → IsSegment b → at < length (tiles_of (bytes_of b) (length b))
     → at + 1 ≤ 1073741824
 tile-few b at g l = omega (arith, segment-short b g, tiles-bounded (length b / 32) (bytes_of b) 128 (length b - 16))
 
 -- ---- one turn of the walk
 
--- the walk went on, and passed no block of an object
+-- the walk continued, and passed no block of an object
 pub record IsStill (old new : TileWalk) : Type 0 where
   pub segment : new.segment ≡ old.segment
   pub count : (d : Directory) → DenotesCurrent old.segment.cut.bytes d → own_before d new.at ≡ own_before d old.at
@@ -150,14 +150,14 @@ none-mapped f [] i e = refl
 none-mapped f (x ∷ xs) zero e = absurd (none-some (f x) (sym e))
 none-mapped f (x ∷ xs) (suc i) e = none-mapped f xs i e
 
--- all objects came
+-- all objects were returned
 pub objects-end : (s : SegmentState) (at : ℕ) {d : Directory}
     → DenotesCurrent s.cut.bytes d → None ≡ slice_get (own_spans d) at → length d.objects ≤ at
 objects-end s at {d} k e = none_more d.objects at (none-mapped (λ (o : Object). o.extent) d.objects at
     (none-mapped as_used (blocks d.objects) at
     (ap (λ ss. slice_get ss at) (sym (all-own_spans k.denotes.directory)) ∙ sym e)))
 
--- the object whose block stands at a place among those of objects
+-- the object whose own block is at a place among the objects' own blocks
 pub record IsOwner (d : Directory) (at : ℕ) (span : TileInfo) : Type 0 where
   pub object : Object
   pub is : slice_get d.objects at ≡ Some object
@@ -169,7 +169,7 @@ owner-in [] at {span} e = absurd (none-some span e)
 owner-in (o ∷ os) zero {span} e = (o, refl, ap (λ (s : LiveSpan). s.offset) (sym (same_Some (as_used o.extent) span e)))
 owner-in (o ∷ os) (suc at) e = owner-in os at e
 
--- an object's block that stands at a place among the blocks and gaps is that of the object of its handle
+-- an object's own block at a place among the blocks and gaps belongs to the object of its handle
 pub tile-here : {s : SegmentState} (i : ℕ) (span : LiveSpan) → ((d : Directory) → DenotesCurrent s.cut.bytes d
     → Some span ≡ slice_get (spans (live d)) i) → is_own_span span ≡ true
     → AnswersWith s (λ d. is_object_at d (span.offset + 16)) true
@@ -183,7 +183,7 @@ tile-here {s} i span next own = record {
       (each-by_handle 0 d.objects k.denotes.directory.by_offset) o.1));
 }
 
--- ---- how large the numbers are
+-- ---- the bounds of the numbers
 
 all-within : (from : ℕ) (xs : List Extent) (to : ℕ) → IsTrue (proper_from from xs to)
     → AllByRecursion (λ (x : Extent). end_of x ≤ to) xs
@@ -203,7 +203,7 @@ unfolding is_proper
 live-within d h = all-within 128 (live d).extents ((live d).size - 16)
     (second (is_legal_size (live d).size) (proper_from 128 (live d).extents ((live d).size - 16)) h)
 
--- the blocks of objects lie within the segment
+-- the own blocks of objects lie within the segment
 own-within : {b : List ℕ} {d : Directory} → DenotesCurrent b d
     → AllByRecursion (λ (o : Object). end_of o.extent ≤ (live d).size - 16) d.objects
 own-within {d} k = all-blocks (λ (x : Extent). end_of x ≤ (live d).size - 16) d.objects
@@ -211,7 +211,7 @@ own-within {d} k = all-blocks (λ (x : Extent). end_of x ≤ (live d).size - 16)
     (AllByRecursion-filter (λ (x : Extent). end_of x ≤ (live d).size - 16) is_own (live d).extents
     (live-within d k.denotes.directory.proper)))
 
--- objects that rise are no more than there are offsets
+-- the number of rising objects is at most the number of offsets
 rises-few : (n m : ℕ) (os : List Object) → n ≤ m + 1 → IsTrue (rises_from n os)
     → AllByRecursion (λ (o : Object). end_of o.extent ≤ m) os → n + length os ≤ m + 1
 rises-few n m [] l r a = omega (arith, l)
@@ -228,7 +228,7 @@ objects-few b g = omega (
   g.1.denotes.heap.size,
 )
 
--- how many objects there are, as the tags say
+-- the number of objects, by the tags
 pub counts-own : {b : List ℕ} {d : Directory} → DenotesCurrent b d → own_count b ≡ length d.objects
 counts-own {b} {d} k = ap (λ (l : LiveSet). length (filter is_own l.extents)) (denotes-live current b d k.denotes)
     ∙ ap length (own-blocks k.denotes.directory) ∙ length-map d.objects (λ o. o.extent)
@@ -242,7 +242,7 @@ module _ {s : SegmentState} {at : ℕ} {span : TileInfo} (own : IsObjectTile s a
       (ap (λ ss. slice_get ss at) (sym (all-own_spans k.denotes.directory)) ∙ sym (own.stands d k)) in
       record { object = o.0; is = o.1; offset = o.2 }
 
-  -- it is found by its handle
+  -- the object is found by its handle
   owner-found : {d : Directory} (k : DenotesCurrent s.cut.bytes d) {h : ℕ} → h ≡ span.offset + 16
       → object_at d (ByHandle h) ≡ Some (owner k).object
   owner-found {d} k e =
@@ -255,7 +255,7 @@ module _ {s : SegmentState} {at : ℕ} {span : TileInfo} (own : IsObjectTile s a
   pub owner-here : (h : ℕ) → h ≡ span.offset + 16 → AnswersWith s (λ d. is_object_at d h) true
   owner-here h e = record { answers = λ d k. sym (ap is_some (owner-found k e)) }
 
-  -- what is said of it is said of the object at the place
+  -- the properties of the block's object are those of the object at the place
   pub owner-says : (h : ℕ) {said : Instance} → h ≡ span.offset + 16 → SaysOf s (ByHandle h) said
       → SaysAt s (λ d. d.objects) at said
   owner-says h {said} e f = record {
@@ -265,12 +265,12 @@ module _ {s : SegmentState} {at : ℕ} {span : TileInfo} (own : IsObjectTile s a
         (o.object, o.is, subst (λ (q : Object). IsInstance q said) same p.2);
   }
 
-  -- the place is one of as many as the tags say
+  -- the place is below the number of objects in the tags
   pub owner-counts : IsSegment s.cut.bytes → at < own_count s.cut.bytes
   owner-counts g =
       subst (λ n. at < n) (sym (counts-own g.1)) (slice_get_within g.0.objects at (owner g.1).object (owner g.1).is)
 
-  -- and so 64 bits count it, and what its block goes from
+  -- and so 64 bits count it and its block's end
   pub owner-few : IsSegment s.cut.bytes → at + 1 ≤ 1073741825
   owner-few g = omega (arith, owner-counts g, counts-own g.1, objects-few s.cut.bytes g)
 
@@ -287,7 +287,7 @@ module _ {s : SegmentState} {old new : TileWalk} {at : ℕ} {r : Option TileInfo
   at-own {d} k = g.says d (subst (λ (t : SegmentState). DenotesCurrent t.cut.bytes d) (sym h.segment) k)
       ∙ ap (slice_get (own_spans d)) (sym (h.count.answers d k))
 
-  -- a block came
+  -- a block was returned
   pub block-at : {span : TileInfo} → r ≡ Some span → IsObjectTile s at span
   block-at e = record { stands = λ d k. ap (option_map as_span) (sym e) ∙ at-own k }
 

@@ -1,4 +1,4 @@
--- What the bytes stand for where the end of the heap moves, and then the size is written.
+-- The directory of the bytes after the end of the heap moves and the size is written.
 use Rattle.segment_manager.proofs.Common.{◌≡◌, refl, sym, ap, subst, ◌∙◌, ℕ, ◌+◌, ◌≤◌, inl, inr, List, length, arith}
 use Rattle.segment_manager.proofs.Common.{AllByRecursion, WindowState, SameBytes, bytes_of, word_at, current}
 use Rattle.segment_manager.proofs.Common.{SameBytes-part, SameBytes-word, LiveSet, ChangesBytes, EncodesLiveSet}
@@ -112,12 +112,12 @@ shrinks {old} mode moved change word = resizes mode moved change (word ∙ moved
     (λ d h. ap (λ (l : LiveSet). let e : Directory = record d { size = least_size l } in
     e) (denotes-live current old.cut.bytes d h.denotes))
 
--- and it is still a segment
+-- and the new bytes are still a segment
 pub resized-segment : {old new : SegmentState} {next : Directory → Directory}
     → Resizes old new next → IsSegment old.cut.bytes → IsSegment new.cut.bytes
 resized-segment {next} r s = (next s.0, r.denotes s.0 s.1)
 
--- ---- what the call of the heap needs
+-- ---- the conditions of the heap's call
 
 -- the size is that of each directory
 pub fits-small : {b : List ℕ} (extra : ℕ) → IsSegment b

@@ -1,4 +1,4 @@
--- A call on whatever has storage: the kind of the object of the key says which call it is.
+-- A call on any object with storage: the kind of the key's object decides which call it is.
 use Rattle.segment_manager.proofs.Common.{◌≡◌, refl, sym, ap, ◌∙◌, ℕ, true, false, Option, Some, None, Result, Ok, Err}
 use Rattle.segment_manager.proofs.Common.{eq-eqb, Kind, Refusal, NotFound, WrongKind, code_of, Key, Command, Answer}
 use Rattle.segment_manager.proofs.Common.{Refused, kind_at, sizes_at, sizes_at_kind, sizes_of, Directory, Object}
@@ -22,7 +22,7 @@ told-if d key kind None e f = absurd (cc)
 told-if d key kind (Some o) e f =
     let same : kind_of o.value ≡ kind = cc in record { object = o; is = e; kind_is = same }
 
--- the kind that was told is the object's
+-- the kind in the result is the object's
 pub kind-told : (d : Directory) (key : Key) (kind : Kind) → Ok kind ≡ kind_at d key → IsOfKindAt d key kind
 kind-told d key kind e = told-if d key kind (object_at d key) refl e
 
@@ -46,7 +46,7 @@ pub of_kind-steps : (old new : SegmentState) (key : Key) (kind : Kind) (c : Comm
 of_kind-steps old new key kind c answer a r = moves-same old new answer (λ d. step_of_kind old.mode d key kind c)
     (λ d. step old.mode d c) (λ d k. of_kind-same old.mode d key kind c (kind-told d key kind (a.answers d k))) r
 
--- it has no storage
+-- the object has no storage
 pub change-other : (change : Change) (s : SegmentState) (key : Key) (kind : Kind) → is_read_only s.mode ≡ false
     → has_storage kind ≡ false → AnswersWith s (λ d. kind_at d key) (Ok kind)
     → TakesStep s s (command_of change key) (Refused WrongKind)

@@ -1,4 +1,4 @@
--- Objects that a command changes: what a crate that calls by kinds learns of them.
+-- Objects that a command changes: the facts for a crate that calls by kinds.
 use Rattle.segment_manager.proofs.Common.{◌≡◌, refl, sym, ap, subst, ◌∙◌, false, Result, Ok, Err, MatchResult, Kind}
 use Rattle.segment_manager.proofs.Common.{Refusal, Key, ByHandle, Command, is_changing, Mode, Answer, Refused, kind_at}
 use Rattle.segment_manager.proofs.Common.{IsChangeable, IsChangeableObject, IsUnchangeable, Directory, live, IsMissing}
@@ -14,14 +14,14 @@ use Rattle.seg_types.specs.declared.refusals.Refusal.TheVariants as refusal
 
 -- ---- an object that was located
 
--- it is of the kind that it says
+-- the object has the kind of its head
 pub says-kind : {s : SegmentState} {key : Key} {o : Object} {kind : Kind} → IsLocated s key o → o.kind ≡ kind
     → AnswersWith s (λ d. kind_at d key) (Ok kind)
 says-kind {s} {key} {o} l e = subst (λ k. AnswersWith s (λ d. kind_at d key) (Ok k)) e (kind-by_key s key o l)
 
 module _ {s : SegmentState} {key : Key} {o : Object} (h : IsChangeableObject s key o) {kind : Kind} (e : o.kind
     ≡ kind) where
-  -- the object may be changed
+  -- the object can be changed
   pub to-change : IsChangeable s key kind
   to-change = record { writing = h.writing; is = says-kind h.located e }
 
@@ -29,7 +29,7 @@ module _ {s : SegmentState} {key : Key} {o : Object} (h : IsChangeableObject s k
   pub handle-to-change : IsChangeable s (ByHandle o.handle) kind
   handle-to-change = record { writing = h.writing; is = says-kind (located-here s key o h.located) e }
 
--- ---- whether there is one to change
+-- ---- whether there is an object to change
 
 not-reading : (mode : Mode) → (mode ≡ ReadOnly → ⊥) → is_read_only mode ≡ false
 not-reading ReadOnly h = absurd (h refl)
@@ -49,12 +49,12 @@ changeable s key (Err why) writing m = record
 
 -- ---- commands by their plans
 
--- a plan that comes to a refusal
+-- a plan that ends with an error
 pub refuses : (s : SegmentState) (c : Command) (why : Refusal) → is_read_only s.mode ≡ false
     → ((d : Directory) → DenotesCurrent s.cut.bytes d → effect d c ≡ Refuse why) → TakesStep s s c (Refused why)
 refuses s c why writing each = refused-steps s c why writing (λ d st. ap (perform d (live d)) (each d st))
 
--- a command that changes nothing is answered as its plan is, whatever the mode
+-- a command that changes nothing has the answer of its plan, in each mode
 pub answered-reads : (mode : Mode) (d : Directory) (c : Command) → is_changing c ≡ false
     → (step mode d c).0 ≡ (perform d (live d) (effect d c)).0
 answered-reads mode d c e = ap (λ (r : Answer × Directory). r.0) (step-effect mode d c (open-reading mode c e))

@@ -1,5 +1,5 @@
--- A vector or text as the value of an object: it stands at its place as the calls of seg_vector see it, and what they
--- do to it is what becomes of the object.
+-- A vector or text as the value of an object: its place for the calls of seg_vector, and the effect of these calls on
+-- the object.
 use Rattle.segment_manager.proofs.Common as common
 use common.{◌≡◌, refl, Bool, ◌&&◌, Some, None, List, IsContainer, Value, Bytes, Object, padded, sym, ap, ◌∙◌, ◌+◌, ◌*◌}
 use common.{◌≤◌, ℤ, [], ◌∷◌, WindowState, Key, live, subst, ObjectRole, ScalarKind, is_kind_of, IsStorageBlock}
@@ -21,7 +21,7 @@ use Rattle.raw_region.proofs.Facts.{second, first, no_more}
 
 -- ---- the value
 
--- what is known of a good one
+-- the properties of a good value
 pub record Fits (v : Value) (c : Contents) : Type 0 where
   pub table : IsTrue (has_backing Storage c.each c.table)
   pub fits : c.len ≤ c.table.capacity
@@ -40,7 +40,7 @@ elements_in k zs t = record { each = size_of k; len = length zs; table = t; byte
 abbrev bytes_in : List ℕ → BackingArray → Contents
 bytes_in bs t = record { each = 1; len = length bs; table = t; bytes = bs }
 
--- what is so of vectors of numbers and of texts is so of every value with contents
+-- a property of vectors of numbers and of texts holds for each value with contents
 pub of-contents : (P : Value → Contents → Type 0)
     → ((k : ScalarKind) (zs : List ℤ) (t : BackingArray) → P (Elements k zs t) (elements_in k zs t))
     → ((bs : List ℕ) (t : BackingArray) → P (Bytes bs t) (bytes_in bs t))
@@ -49,7 +49,7 @@ of-contents P f g (Elements k zs t) c e = subst (P (Elements k zs t)) (same_Some
 of-contents P f g (Bytes bs t) c e = subst (P (Bytes bs t)) (same_Some (bytes_in bs t) c e) (g bs t)
 of-contents P f g v c e = absurd (cc)
 
--- a good value is one with no more elements than places, whose storage serves, and whose elements are values
+-- a value is good if its length is at most its capacity, its storage has room, and its elements are values
 good-contents : (v : Value) (c : Contents) → contents_of v ≡ Some c
     → is_good_value v ≡ (nat_le c.len c.table.capacity && has_backing Storage c.each c.table && has_values v)
 good-contents = of-contents (λ v c.
@@ -78,7 +78,7 @@ pub contents-shape : (v : Value) (c : Contents) → contents_of v ≡ Some c →
 contents-shape = of-contents Shape (λ k zs t. record { extents = refl; len = refl; count = refl })
     (λ bs t. record { extents = refl; len = refl; count = refl })
 
--- the other way round: elements that have their places make a good value
+-- the converse: elements within their capacity form a good value
 pub contents-good : (v : Value) (c : Contents) → contents_of v ≡ Some c → c.len ≤ c.table.capacity
     → IsTrue (has_backing Storage c.each c.table) → IsTrue (has_values v) → IsTrue (is_good_value v)
 contents-good v c e f t h = subst (λ (b : Bool). IsTrue b) (sym (good-contents v c e))
@@ -86,13 +86,13 @@ contents-good v c e f t h = subst (λ (b : Bool). IsTrue b) (sym (good-contents 
     (and_from (nat_le c.len c.table.capacity) (has_backing Storage c.each c.table) (le-leb c.len c.table.capacity f)
     t) h)
 
--- what the bytes say of the value they say of its contents, and the other way round
+-- memory has a value exactly if it has its contents
 contents-said : (m : Memory) (at : ℕ) (v : Value) (c : Contents) → contents_of v ≡ Some c → IsValueAt m at v
     → IsContainerAt m at c.len c.table c.bytes
 contents-said m at =
     of-contents (λ v c. IsValueAt m at v → IsContainerAt m at c.len c.table c.bytes) (λ k zs t h. h) (λ bs t h. h)
 
--- contents that stand are the value that stands
+-- memory has the value if it has its contents
 pub value-said : (m : Memory) (at : ℕ) (v : Value) (c : Contents) → contents_of v ≡ Some c
     → IsContainerAt m at c.len c.table c.bytes → IsValueAt m at v
 value-said m at =
@@ -100,7 +100,7 @@ value-said m at =
 
 -- ---- the object
 
--- it is good with another value of its kind and length
+-- the object stays good with another value of its kind and length
 pub good-with : (format : ℕ) (o : Object) (w : Value) → IsTrue (is_object format o) → kind_of w ≡ kind_of o.value
     → value_len w ≡ value_len o.value → IsTrue (is_good_value w) → IsTrue (is_object format (with_value o w))
 good-with format o w h kind len good =
@@ -130,11 +130,11 @@ own-block : (format : ℕ) (b : List ℕ) (d : Directory) (o : Object) (t : Opti
 own-block format b d o None k f e = tt
 own-block format b d o (Some x) k f e = own-some format b d o x k f e
 
--- a container stands where its value begins
+-- a container is at the beginning of its object's value
 pub start-place : (o : Object) → value_start o ≡ place_at (container_place o)
 start-place o = omega arith
 
--- its vector or text stands at its place
+-- the object's vector or text is at its place
 pub contents-stand : (b : List ℕ) (d : Directory) (key : Key) (o : Object) (c : Contents) → Denotes current b d
     → object_at d key ≡ Some o → contents_of o.value ≡ Some c
     → IsContainer b (container_place o) c.each c.len c.table c.bytes
@@ -155,7 +155,7 @@ contents-stand b d key o c k e h =
       own = own-block current b d o c.table.extent k f shape.extents;
     }
 
--- And what is done to it there comes to the directory with the other value.
+-- And a change at this place gives the directory with the other value.
 pub contents-changed : (old new : WindowState) (d : Directory) (key : Key) (o : Object) (w : Value) (c c' : Contents)
     → Denotes current old.bytes d → object_at d key ≡ Some o
     → contents_of o.value ≡ Some c → contents_of w ≡ Some c' → kind_of w ≡ kind_of o.value → IsTrue (has_values w)

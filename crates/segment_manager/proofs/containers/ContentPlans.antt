@@ -11,11 +11,11 @@ use Rattle.segment_manager.proofs.Common.{effect, slice_get, slice_set, shrunk_b
 use Rattle.segment_manager.proofs.{Common.values_of, directory.CommandSteps.with-found}
 use Rattle.segment_manager.specs.Step.{text_among, text_of}
 
--- an element that is read or left out, which there is where the index is of one
+-- an element that is read or removed, if the index is in range
 abbrev pub of_slice : Option ℤ → Result ℤ Refusal
 of_slice r = elim r as (λ _. Result ℤ Refusal) [ None ↦ Err OutOfRange | Some z ↦ Ok z ]
 
--- a plan that goes by the object and its value
+-- a plan by the object and its value
 by-value : (d : Directory) (key : Key) (o : Object) (v : Value) (next : Object → Value → Plan)
     → object_at d key ≡ Some o → o.value ≡ v → with (found_at d key) (λ o. next o o.value) ≡ next o v
 by-value d key o v next e f = with-found d key o (λ o. next o o.value) e ∙ ap (next o) f
@@ -34,7 +34,7 @@ module _ (d : Directory) (key : Key) (o : Object) (k : ScalarKind) (zs : List �
       → effect d (asked.Push key l) ≡ with r push_with
   push-plan l r g = by-value d key o _ (λ o v. step.push d o v l) e f ∙ ap (λ r. with r push_with) g
 
-  -- the last is taken away
+  -- the last element is removed
   abbrev pub pop_with : ℤ → Plan
   pop_with z = Reply (Element k z) (changed d o (Elements k (take (length zs - 1) zs) t))
 
@@ -54,11 +54,11 @@ module _ (d : Directory) (key : Key) (o : Object) (k : ScalarKind) (zs : List �
   insert-plan i l r b g h =
       by-value d key o _ (λ o v. step.insert_at d o v i l) e f ∙ (λ j. with (g j) (insert_with i (h j)))
 
-  -- one less among the others
+  -- one element less
   abbrev pub erase_with : ℕ → ℤ → Plan
   erase_with i z = Reply Done (changed d o (Elements k (remove zs i) t))
 
-  -- the plan of `erase`, by the element there
+  -- the plan of `erase`, by the element at the index
   pub erase-plan : (i : ℕ) (r : Option ℤ) → slice_get zs i ≡ r
       → effect d (asked.Erase key i) ≡ with (of_slice r) (erase_with i)
   erase-plan i r g = by-value d key o _ (λ o v. step.erase d o v i) e f ∙ ap (λ r. with (of_slice r) (erase_with i)) g
@@ -80,7 +80,7 @@ module _ (d : Directory) (key : Key) (o : Object) (k : ScalarKind) (zs : List �
       → effect d (asked.Assign key ls) ≡ Refuse r
   assign-refused ls r g = assign-literals ls ∙ ap (λ r. with r assign_with) g
 
-  -- one element read, and written over
+  -- one element is read, and replaced
   pub get-plan : (i : ℕ) (r : Option ℤ) → slice_get zs i ≡ r
       → effect d (asked.Get key i) ≡ with (of_slice r) (λ z. Reply (Element k z) d)
   get-plan i r g =
@@ -89,7 +89,7 @@ module _ (d : Directory) (key : Key) (o : Object) (k : ScalarKind) (zs : List �
   abbrev pub set_with : ℕ → ℤ → ℤ → Plan
   set_with i z old = Reply Done (changed d o (Elements k (slice_set zs i z) t))
 
-  -- the plan of `set`, by the value and the element there
+  -- the plan of `set`, by the value and the element at the index
   pub set-plan : (i : ℕ) (l : Literal) (z : ℤ) (r : Option ℤ) → value_of_literal k l ≡ Ok z → slice_get zs i ≡ r
       → effect d (asked.Set key i l) ≡ with (of_slice r) (set_with i z)
   set-plan i l z r g h =
@@ -125,7 +125,7 @@ module _ (d : Directory) (key : Key) (o : Object) (bs : List ℕ) (t : BackingAr
       → effect d (asked.Assign key ls) ≡ Refuse r
   text-refused ls r g = text-literals ls ∙ ap (λ r. with r text_with) g
 
-  -- one byte read, and written over
+  -- one byte is read, and replaced
   pub byte-plan : (i : ℕ) (r : Option ℤ) → slice_get (map pos bs) i ≡ r
       → effect d (asked.Get key i) ≡ with (of_slice r) (λ z. Reply (Element U8 z) d)
   byte-plan i r g =
@@ -140,13 +140,13 @@ module _ (d : Directory) (key : Key) (o : Object) (bs : List ℕ) (t : BackingAr
   set_byte-plan i l z r g h =
       by-value d key o _ (λ o v. step.set d o v i l) e f ∙ (λ j. with (g j) (λ z. with (of_slice (h j)) (put_byte i z)))
 
--- ---- whatever has storage
+-- ---- any object with storage
 
--- what a reservation plans, by the contents
+-- the plan of a reservation, by the contents
 abbrev pub reserve_with : Directory → Object → Value → ℕ → ℕ × ℕ × BackingArray → Plan
 reserve_with d o v n (each, len, t) = with_capacity each n t (λ u. Reply Done (changed d o (with_table v u)))
 
--- what fitting the storage plans, by the contents
+-- the plan of shrinking the storage, by the contents
 abbrev pub shrink_with : Directory → Object → Value → ℕ × ℕ × BackingArray → Plan
 shrink_with d o v (each, len, t) = Reply Done (changed d o (with_table v (shrunk_backing (live d) each len t)))
 
@@ -170,7 +170,7 @@ module _ (d : Directory) (key : Key) (o : Object) (e : object_at d key
 
 -- ---- an object of another kind
 
--- it is no vector
+-- the value is no vector
 abbrev pub is_no_vector : Value → Bool
 is_no_vector (Elements k zs t) = false
 is_no_vector (Texts ps t) = false
@@ -205,7 +205,7 @@ module _ (d : Directory) (key : Key) (o : Object) (e : object_at d key ≡ Some 
   pub erase-other : (i : ℕ) → effect d (asked.Erase key i) ≡ Refuse WrongKind
   erase-other i = with-found d key o (λ o. step.erase d o o.value i) e ∙ (no-plan d o o.value h).erase i
 
--- it is no text
+-- the object is no text
 pub append-other : (d : Directory) (key : Key) (o : Object) (more : List ℕ) (r : Refusal) → object_at d key ≡ Some o
     → text_of o.value ≡ Err r → effect d (asked.Append key more) ≡ Refuse r
 append-other d key o more r e f = with-found d key o (λ o. with (text_of o.value) (append_with d o more)) e

@@ -1,4 +1,4 @@
--- Where the elements of an object stand: what is read of its head and of the words of its container is its run.
+-- The place of an object's elements: the result of reading its head and its container's words is its run.
 use Rattle.segment_manager.proofs.Common as common
 use common.{◌≡◌, refl, sym, ap, subst, ◌∙◌, ℕ, ℤ, zero, suc, Bool, true, ◌∷◌, ◌+◌, ◌*◌, ◌%◌, ◌≤◌, Option, Some, None}
 use common.{Result, Ok, Err, List, [], length, arith, IsTrue, WindowState, Memory, HasBytesAt, bytes_of, read, current}
@@ -22,7 +22,7 @@ use Rattle.std.specs.{Option.unwrap_or, Prelude.IfOk, Prelude.option_map}
 use Rattle.segment_manager.specs.declared.containers.element_runs.ElementRun.{ElementRun}
 use Rattle.segment_manager.specs.containers.ElementRuns.{IsRunOf, run_at, run_in, run_of, spelled_in, storage_offset}
 
--- ---- what is read
+-- ---- reads
 
 -- the link of a container leads to its storage
 link-offset : (t : Option Extent)
@@ -88,13 +88,13 @@ module _ {b : List ℕ} {h : ℕ} (o : Object) (s : IsObjectInBlock b h o) where
   no-run_in kind (Pairs k v ps) e f g n = refl
   no-run_in kind (Texts ps t) e f g n = refl
 
--- where the three words of a container stand in the block of its object
+-- the place of a container's three words in the block of its object
 pub record AreWords (b : List ℕ) (h at : ℕ) : Type 0 where
   pub whole : at % 8 ≡ 0
   pub near : at ≤ 4096
   pub room : IsTrue (has_room (live_of b) h (at + 24))
 
--- the three words of a container stand after the head
+-- the three words of a container follow the head
 pub are-words : {b : List ℕ} {h : ℕ} (o : Object) → IsObjectInBlock b h o → (at : ℕ)
     → at ≡ head_len + padded (length o.name) → value_len o.value ≡ 24 → AreWords b h at
 are-words {b} {h} o s at e len =
@@ -115,7 +115,7 @@ pub string-len : (v : Value) → String ≡ kind_of v → value_len v ≡ 24
 string-len (Bytes bs t) e = refl
 string-len v e = absurd (cc)
 
--- ---- where it lies, and what stands there
+-- ---- the place of the run, and its bytes
 
 -- a run of this many bytes lies in the heap, at a multiple of 8
 record Lies (c : WindowState) (at n : ℕ) : Type 0 where
@@ -201,7 +201,7 @@ module _ (c : WindowState) (d : Directory) (key : Key) (k : Denotes current c.by
 
 -- ---- the object of a key
 
--- it has the run
+-- the object has the run
 record HasRun (d : Directory) (key : Key) (run : ElementRun) : Type 0 where
   object : Object
   is : object_at d key ≡ Some object
@@ -215,7 +215,7 @@ has-if : {d : Directory} {key : Key} {run : ElementRun} (r : Option Object) → 
 has-if None e f = absurd (cc)
 has-if (Some o) e f = record { object = o; is = e; run_is = sym f }
 
--- the run of an object is what the directory says
+-- the run of an object is the directory's
 pub run-answers : {s t : SegmentState} (view : s ≡ t) (key : Key) {h : ℕ} {r : Result ElementRun Refusal}
     → AnswersWith t (λ d. handle_at d key) (Some h) → ((o : Object) → IsObjectInBlock s.cut.bytes h o → r ≡ run_of o)
     → AnswersWith t (λ d. run_at d key) r
@@ -230,12 +230,12 @@ nothing-if : (r : Option Object) → None ≡ option_map located r → r ≡ Non
 nothing-if None e = refl
 nothing-if (Some o) e = absurd (cc)
 
--- an object that is not there has no run
+-- an object that does not exist has no run
 pub no-run : {s : SegmentState} (key : Key) → AnswersWith s (λ d. located_at d key) None
     → AnswersWith s (λ d. run_at d key) (Err NotFound)
 no-run key a = record { answers = λ d k. sym (ap run_if (nothing-if (object_at d key) (a.answers d k))) }
 
--- and its elements are spelled there
+-- and its bytes encode the elements
 pub run-bytes : {s t : SegmentState} (view : s ≡ t) (key : Key) (r : Result ElementRun Refusal) → IsSegment s.cut.bytes
     → AnswersWith t (λ d. run_at d key) r → IfOk r (λ run. IsRunOf t key run)
 run-bytes view key (Err why) g a = tt
@@ -292,7 +292,7 @@ row-if m at k (Elements j zs t) i {z} (AVector e) good h f =
 row-if m at k v i (AnArray e) good h f = absurd (cc)
 row-if m at k v i (AVector e) good h f = absurd (cc)
 
--- the elements of the object of a key stand in its run
+-- the elements of a key's object are in its run
 pub row-element : (s : SegmentState) (key : Key) (run : ElementRun) (k : ScalarKind) → IsRunOf s key run
     → (d : Directory)
     → DenotesCurrent s.cut.bytes d → (o : Object) → object_at d key ≡ Some o → IsRowOfKind k o.value → (i : ℕ) {z : ℤ}
@@ -302,7 +302,7 @@ row-element s key run k r d l o is row i e = row-if (bytes_of s.cut.bytes) run.o
     (subst (λ (bs : List ℕ). HasBytesAt (bytes_of s.cut.bytes) run.offset bs) (ap (λ (q : Option Object).
     elim q as (λ _. List ℕ) [ None ↦ [] | Some p ↦ spelled_in p.value ]) is) (r.spells d l)) e
 
--- and the run says their kind
+-- and the run has their kind
 pub run-kind : (s : SegmentState) (key : Key) (run : ElementRun) (k : ScalarKind)
     → AnswersWith s (λ d. run_at d key) (Ok run) → (d : Directory) → DenotesCurrent s.cut.bytes d → (o : Object)
     → object_at d key ≡ Some o → IsRowOfKind k o.value → (run.kind ≡ k) × (run.count ≡ length (numbers_in o.value))

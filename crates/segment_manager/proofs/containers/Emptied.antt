@@ -13,7 +13,7 @@ use Rattle.segment_manager.proofs.{directory.IndexedParts.ordered-changed}
 
 -- ---- the value
 
--- it has the kind, the count and the length in its own block, and no block
+-- the emptied value has the kind, the count and the length in its own block, and no block
 pub record IsEmptied (v : Value) : Type 0 where
   pub kind : kind_of (emptied v) ≡ kind_of v
   pub count : count_of (emptied v) ≡ count_of v
@@ -26,14 +26,14 @@ pub emptied-is : (v : Value) → IsEmptied v
 emptied-is (Numbers k zs) = record { kind = refl; count = refl; len = refl; good = λ h. h; alone = refl }
 emptied-is v = record { kind = refl; count = refl; len = refl; good = λ h. refl; alone = refl }
 
--- numbers have none before
+-- a value of numbers has no blocks
 pub emptied-numbers : (k : ScalarKind) (v : Value) → kind_of v ≡ Scalar k → emptied v ≡ v
 emptied-numbers k (Numbers l zs) e = refl
 emptied-numbers k v e = absurd (cc)
 
 -- ---- the objects, one of which has another value
 
--- what is so where it comes first, and with one more in front of those among which it stands, is so wherever it stands
+-- a property that holds for the first object, and stays with one more object in front, holds for each object
 by-place : (o : Object) (P : List Object → Type 0) → ((p : Object) (ps : List Object) → handle o.extent ≡ handle
     p.extent → p ≡ o → P (p ∷ ps)) → ((p : Object) (ps : List Object) → handle o.extent ≢ handle p.extent → P ps
     → P (p ∷ ps)) → (os : List Object) → IsFound (handle o.extent) os o → P os
@@ -45,7 +45,7 @@ by-place o P first more (p ∷ ps) f = placed (found-place (handle o.extent) p p
     placed (behind n found) k = more p ps n (k found)
 
 module _ (o : Object) (v : Value) where
-  -- it stands among them
+  -- the object is in the list
   found-replaced : (os : List Object) → IsFound (handle o.extent) os o
       → IsFound (handle o.extent) (replace_object (with_value o v) os) (with_value o v)
   found-replaced = by-place o (λ os. IsFound (handle o.extent) (replace_object (with_value o v) os) (with_value o v))

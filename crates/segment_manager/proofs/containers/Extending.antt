@@ -1,4 +1,4 @@
--- Elements that one call puts after the last of a vector: what comes of it in each directory.
+-- Elements that one call appends to a vector: the result in each directory.
 use Rattle.segment_manager.proofs.Common as common
 use common.{◌≡◌, refl, sym, ap, ◌∙◌, ℕ, ℤ, Bool, true, false, Option, Some, Result, Err, List, ◌++◌, length}
 use common.{if◌then◌else◌, eq-eqb, WindowState, current, ScalarKind, Vector, code_of, same_kind, size_of, Key, Refusal}
@@ -43,7 +43,7 @@ module _ (mode : Mode) (d : Directory) (key : Key) (k : ScalarKind) (more : List
         (ap (λ v. same_kind (Vector k) (kind_of v)) value ∙ eq-eqb (code_of (Vector k)) (code_of (Vector k)) refl)
         ∙ ap (λ v. perform d (live d) (extend d o v more)) value
 
-    -- or there is none
+    -- or there is no such vector
     pub extended-missing : (why : Refusal) → Err why ≡ container_at d key (Vector k)
         → extended mode d key k more ≡ (Refused why, d)
     extended-missing why a = by-kind d key (Vector k) (λ f. plan-is (with-not_found d key (of_object d k more) f)
@@ -61,7 +61,7 @@ extended-room {b} d den k n t next r g = room-grown d (live d) (size_of k) t n n
 
 -- ---- the segment
 
--- what the call did
+-- the effect of the call
 abbrev pub VectorExtended : SegmentState → SegmentState → WindowState → Key → ScalarKind → List ℤ
     → Result (Unit {0}) Refusal → Type 0
 VectorExtended s t new key k more r = Performed s t new (λ mode d. extended mode d key k more) r

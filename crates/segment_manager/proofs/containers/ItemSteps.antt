@@ -1,5 +1,5 @@
--- A call on a vector of numbers or on a text is one step: what the calls of seg_vector ensure of the elements at its
--- place comes to the directory.
+-- A call on a vector of numbers or on a text is one step: the contracts of seg_vector for the elements at its place
+-- give the next directory.
 use Rattle.segment_manager.proofs.Common as common
 use common.{◌&&◌, same_Some, same_kind, ScalarKind, OutOfRange, RefusesIndex, RefillsContainer, has_values, Directory}
 use common.{object_at, ◌<◌, IsTrue, Result, length, Vector, Refusal, NoSpace, Refused, Denotes, kind_of, perform}
@@ -15,7 +15,7 @@ use Rattle.segment_manager.proofs.containers.Contained.{contents-changed, conten
 use Rattle.segment_manager.proofs.containers.Safely.{done-so, stays}
 use Rattle.segment_manager.proofs.{objects.KindCodes.code-read, directory.Frame.object-roomy, objects.Here.standing}
 
--- ---- what is of the kind of a vector
+-- ---- values of the kind of a vector
 
 -- a code is of one kind
 pub one-kind : (a b : Kind) → same_kind a b ≡ true → a ≡ b
@@ -26,15 +26,15 @@ vector-if : (k : ScalarKind) (v : Value) → Vector k ≡ kind_of v
 vector-if k (Elements l zs t) e = let same : l ≡ k = cc in (zs, (t, λ i. Elements (same i) zs t))
 vector-if k v e = absurd (cc)
 
--- it is a vector of such numbers
+-- the value is a vector of such numbers
 pub vector-only : (k : ScalarKind) (v : Value) → same_kind (Vector k) (kind_of v) ≡ true
     → (zs : List ℤ) × ((t : BackingArray) × (v ≡ Elements k zs t))
 vector-only k v e = vector-if k v (one-kind (Vector k) (kind_of v) e)
 
 -- ---- values that are elements in storage
 
--- Of which kind they are, how many bytes an element has, what spells them, which lists are good, and what the other
--- words say of such a value.
+-- A kind of list: the kind of its elements, their length, their encoding, the good lists, and the other definitions for
+-- such a value.
 pub record Listing (A : Type 0) : Type 0 where
   pub kind : Kind
   pub each : ℕ
@@ -48,7 +48,7 @@ pub record Listing (A : Type 0) : Type 0 where
       → contents_of (value xs t) ≡ Some (record { each = each; len = length xs; table = t; bytes = spell xs })
   pub values : (xs : List A) (t : BackingArray) → has_values (value xs t) ≡ good xs
 
--- the object of the key is such a value, which stands at the place
+-- the object of the key is such a value, at this place
 pub record HoldsItems {A : Type 0} (L : Listing A) (b : List ℕ) (d : Directory) (key : Key) (p : Place) : Type 0 where
   pub object : Object
   pub is : object_at d key ≡ Some object
@@ -59,7 +59,7 @@ pub record HoldsItems {A : Type 0} (L : Listing A) (b : List ℕ) (d : Directory
   pub stands : IsContainer b p L.each (length items) table (L.spell items)
   pub values : IsTrue (L.good items)
 
--- these elements with the table u are in the place of those with the table t
+-- these elements with the table u replace those with the table t
 pub record ListedNow {A : Type 0} (L : Listing A) (old new : WindowState) (p : Place) (t : BackingArray) (xs : List A)
     (u : BackingArray) : Type 0 where
   pub change : ExchangesBlocks current old new (place_at p) 24 (option_to_list t.extent) (option_to_list u.extent)
@@ -77,7 +77,7 @@ module _ {A : Type 0} (L : Listing A) where
   abbrev items_in : List A → BackingArray → Contents
   items_in xs t = record { each = L.each; len = length xs; table = t; bytes = L.spell xs }
 
-  -- where the search ended, there it is
+  -- the object that the search found
   pub holds-items : (b : List ℕ) (d : Directory) (key : Key) (p : Place) → Denotes current b d
       → Ok p ≡ container_at d key L.kind → HoldsItems L b d key p
   holds-items b d key p den e =
@@ -135,7 +135,7 @@ module _ {A : Type 0} {L : Listing A} (old new : WindowState) {d : Directory} {k
     outcome = outcome;
   }
 
-  -- in the places that there were, or fewer
+  -- the elements within the capacity, or fewer
   pub items-now : (xs : List A) (u : BackingArray) (c : Command) (answer : Answer) → effect d c
       ≡ Reply answer (with_elements xs u) → ListedNow L old new p h.table xs u → Refill old new d key c answer
   items-now xs u c answer e now = items-refill xs u c answer (ap (perform d (live d)) e) now
@@ -153,22 +153,22 @@ module _ {A : Type 0} (L : Listing A) (s : SegmentState) (key : Key) (p : Place)
   abbrev Held : Directory → Type 0
   Held d = HoldsItems L s.cut.bytes d key p
 
-  -- the items of the object are those that the bytes say
+  -- the items of the object are the items in the bytes
   pub found-items : (d : Directory) → DenotesCurrent s.cut.bytes d → Held d
   found-items d l = holds-items L s.cut.bytes d key p l.denotes (found.answers d l)
 
-  -- some stand there
+  -- there are items at the place
   pub some-items : Held b.0
   some-items = found-items b.0 b.1
 
-  -- The call is the step, where for each directory the object is changed so.
+  -- The call is the step, if it changes the object in this way for each directory.
   pub items-steps : (new : WindowState) (c : Command) (answer : Answer) → is_read_only s.mode ≡ false
       → ((d : Directory) → Denotes current s.cut.bytes d → Held d → Refill s.cut new d key c answer)
       → TakesStepOfKind s (record s { cut = new }) key L.kind c answer
   items-steps new c answer writing each =
       refill-steps_of_kind s new key L.kind p found c answer writing b (λ d l. each d l.denotes (found-items d l))
 
-  -- it answers so, and nothing changes
+  -- the call has this answer, and nothing changes
   pub items-stay : (c : Command) (answer : Answer) → (is_read_only s.mode && is_changing c) ≡ false
       → ((d : Directory) → Denotes current s.cut.bytes d → Held d → perform d (live d) (effect d c) ≡ (answer, d))
       → TakesStepOfKind s s key L.kind c answer
@@ -177,14 +177,14 @@ module _ {A : Type 0} (L : Listing A) (s : SegmentState) (key : Key) (p : Place)
       step_of_kind-found s.mode d key L.kind c h.object may h.is h.same ∙ each d l.denotes (found-items d l))
 
   module _ (new : WindowState) (writing : is_read_only s.mode ≡ false) where
-    -- it is refused, and nothing has changed
+    -- the call fails, and nothing has changed
     pub items-refused : (c : Command) (e why : Refusal) → e ≡ why → new ≡ s.cut
         → ((d : Directory) → Denotes current s.cut.bytes d → Held d
         → perform d (live d) (effect d c) ≡ (Refused why, d)) → StepsSafely s new key L.kind c (Err e)
     items-refused c e why is same each =
         stays s new key L.kind c e why is same (items-stay c (Refused why) (open-writing s.mode c writing) each)
 
-    -- there is no space for n places
+    -- there is no space for a capacity of n
     pub items-full : (c : Command) (n : ℕ) (xs : List A) (d : Directory) → Denotes current s.cut.bytes d → (h : Held d)
         → effect d c ≡ with_capacity L.each n h.table (λ u. Reply Done (changed d h.object (L.value xs u)))
         → grown_backing (live_of s.cut.bytes) L.each n h.table ≡ None
@@ -192,7 +192,7 @@ module _ {A : Type 0} (L : Listing A) (s : SegmentState) (key : Key) (p : Place)
     items-full c n xs d den h e none = room-asked current s.cut.bytes d c L.each n h.table None
         (λ u. Reply Done (changed d h.object (L.value xs u))) den e none
 
-    -- a call on the element at an index, in the places that there are
+    -- a call on the element at an index, within the capacity
     pub changes-safely : (c : Command) (i : ℕ) (ys : List A → List A) (r : Result (Unit {0}) Refusal)
         → ((d : Directory) (h : Held d) → i < length h.items → effect d c ≡ Reply Done (changed d h.object
         (L.value (ys h.items) h.table))) → ((d : Directory) (h : Held d) → length h.items ≤ i → effect d c ≡ Refuse
@@ -216,7 +216,7 @@ module _ {A : Type 0} (L : Listing A) (s : SegmentState) (key : Key) (p : Place)
         items-refused c e NoSpace (each b.0 some-items).refusal (each b.0 some-items).same
         (λ d den h. items-full c (n h.items h.table) (ys h.items) d den h (plan d h) (each d h).none)
 
--- what is so where a call went well is so in other words
+-- a property after a success, in other words
 pub so-too : (P Q : Type 0) (F : Refusal → Type 0) (r : Result (Unit {0}) Refusal) → MatchResult r (λ u. P) F → (P → Q)
     → MatchResult r (λ u. Q) F
 so-too P Q F (Ok u) m f = f m

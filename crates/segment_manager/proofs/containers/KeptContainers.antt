@@ -23,7 +23,7 @@ abbrev places_in : Result (ℕ × ℕ) Refusal → ℕ
 places_in (Ok (len, capacity)) = capacity
 places_in (Err r) = 0
 
--- those of the object that the key has
+-- the length and the capacity of the key's object
 pub enough-places : (d : Directory) (key : Key) (o : Object) (n len capacity : ℕ) → object_at d key ≡ Some o
     → sizes_of o.value ≡ Ok (len, capacity) → HasPlaces key n d → n ≤ capacity
 enough-places d key o n len capacity is sizes has =

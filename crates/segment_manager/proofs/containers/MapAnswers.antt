@@ -27,11 +27,11 @@ module _ {K V : Type 0} {k v : ScalarKind} {kp : Plain K} {vp : Plain V} {kw : K
   found-there = subst (λ (r : Place). AnswersWith s (λ d. container_at d key (Map k v)) (Ok r)) (sym same)
       (seen-found s t view key (Map k v) p found)
 
-  -- some map of the types stands there
+  -- there is a map of the types at the place
   pub some-there : IsSomeMap kp vp s.cut.bytes q.handle q.at
   some-there = some-map kl vl s.cut.bytes q.handle q.at (stands-map s key k v q b found-there)
 
-  -- ---- what is read
+  -- ---- reads
 
   -- the value of a key is the directory's
   pub got-there : (x : K) (r : Option V) → kp.is_value x ≡ true → FindsValue kp vp s.cut.bytes q.handle q.at x r
@@ -68,7 +68,7 @@ module _ {K V : Type 0} {k v : ScalarKind} {kp : Plain K} {vp : Plain V} {kw : K
       → AnswersWith t (λ d. answer_of_map d key k v pair_at_end) (Ok (numbers_in kw vw r))
   last-there r each = told-there pair_at_end r (finds-last kl vl s.cut.bytes q.handle q.at r each)
 
-  -- ---- what is changed
+  -- ---- changes
 
   module _ (new : WindowState) (writing : is_read_only t.mode ≡ false) where
     writing-there : is_read_only s.mode ≡ false

@@ -1,5 +1,5 @@
--- The blocks of an object and of its map's pairs: each is in use once, and what stays of the others where pairs are put
--- or removed.
+-- The blocks of an object and of its map's pairs: each is in use once, and the other blocks stay if pairs are put or
+-- erased.
 use Rattle.segment_manager.proofs.Common.{◌≡◌, refl, sym, ap, subst, ◌∙◌, ℕ, ◌≢◌, ℤ, Bool, true, false, ◌||◌, ◌==◌, not}
 use Rattle.segment_manager.proofs.Common.{Option, Some, None, List, [], ◌∷◌, ◌++◌, map, arith, if◌then◌else◌, IsTrue}
 use Rattle.segment_manager.proofs.Common.{find, int_lt, AllByRecursion, ne_eqb, Extent, LiveSet, handle, is_proper}
@@ -65,13 +65,13 @@ blocks-in_use d o p f =
 abbrev pub nodes : List NumberPair → List Extent
 nodes ps = map (λ (p : NumberPair). p.node) ps
 
--- a block that differs from them is none of them
+-- a block that differs from all of them is not among them
 pub no-node : (x : Extent) (ps : List NumberPair) → Differs x (nodes ps) → is_in (handle x) (nodes_of_pairs ps) ≡ false
 no-node x [] n = refl
 no-node x (p ∷ ps) n = ap (λ (b : Bool). b || is_in (handle x) (nodes_of_pairs ps))
     (ne_eqb (handle x) (handle p.node) (λ e. n.0 (omega (arith, e)))) ∙ no-node x ps n.1
 
--- those in front of a pair, and those after it
+-- the nodes before a pair, and after it
 pub record PartedNodes (all more : List Extent) (x : Extent) : Type 0 where
   pub front : List Extent
   pub back : List Extent
@@ -91,7 +91,7 @@ absent-here : (b : Bool) (q : NumberPair) (r : Option NumberPair) → (if b then
 absent-here true q r e = let none : Option NumberPair = None in let f : Some q ≡ none = e in absurd (cc)
 absent-here false q r e = (refl, e)
 
--- a pair whose key is new comes among the others
+-- a pair whose key is new is inserted among the others
 pub put-parted : (p : NumberPair) (ps : List NumberPair) → pair_at int_lt ps p.key ≡ None
     → PartedNodes (nodes ps) (nodes (put_pair int_lt p ps)) p.node
 put-parted p [] e = first-of p.node []
@@ -106,7 +106,7 @@ put-parted p (q ∷ qs) e =
     chosen false true n r = behind-one q.node (nodes qs) (nodes (put_pair int_lt p qs)) p.node r
     chosen false false n r = absurd (cc)
 
--- a pair that is found goes from among them
+-- a pair that is found is removed from among the others
 pub removed-parted : (x : ℤ) (p : NumberPair) (ps : List NumberPair) → pair_at int_lt ps x ≡ Some p
     → PartedNodes (nodes (remove_pair int_lt ps x)) (nodes ps) p.node
 removed-parted x p [] e = let none : Option NumberPair = None in let f : none ≡ Some p = e in absurd (cc)

@@ -1,4 +1,4 @@
--- The calls on maps of numbers, each as one step: what the calls of seg_map ensure of the map at its place comes to the
+-- The calls on maps of numbers, each as one step: the contracts of seg_map for the map at its place give the next
 -- directory.
 use Rattle.segment_manager.proofs.Common as common
 use Rattle.seg_types.specs.Commands as asked
@@ -31,7 +31,7 @@ use Rattle.segment_manager.specs.{Answers.Absent, containers.Maps.IsPairs}
 
 -- ---- the search
 
--- the object of the key is a map of the kinds, which stands at the place
+-- the object of the key is a map of the kinds, at this place
 pub record HoldsPairs (b : List ℕ) (d : Directory) (key : Key) (k v : ScalarKind) (p : Place) : Type 0 where
   pub object : Object
   pub is : object_at d key ≡ Some object
@@ -61,12 +61,12 @@ holds-pairs b d key k v p den e =
       map = subst (λ (r : Place). IsPairs k v b r w.0) h.at (object-map den known);
     }
 
--- why there is no such map is why every call for its kind is refused
+-- without such a map each call for its kind fails with the same error
 pub finds-no_map : (s : SegmentState) (key : Key) (k v : ScalarKind) (c : Command) (r : Refusal) → IsOpenFor s.mode c
     → AnswersWith s (λ d. container_at d key (Map k v)) (Err r) → TakesStepOfKind s s key (Map k v) c (Refused r)
 finds-no_map s key k v c r w a = finds-no_container s key (Map k v) c r w a
 
--- ---- what the plans come to
+-- ---- the results of the plans
 
 module _ {b : List ℕ} {d : Directory} {key : Key} {k v : ScalarKind} {p : Place} (h : HoldsPairs b d key k v p) where
   read : map_of h.object.value ≡ Ok (k, v, h.pairs)
@@ -123,7 +123,7 @@ module _ {b : List ℕ} {d : Directory} {key : Key} {k v : ScalarKind} {p : Plac
 abbrev pub TellsSafely : SegmentState → WindowState → Key → Kind → Command → Result Bool Refusal → Type 0
 TellsSafely = AnswersSafely truth_answer
 
--- what a put answers
+-- the result of a put
 abbrev pub put_result : {E : Type 0} → Result Bool E → Result Bool Refusal
 put_result (Ok t) = Ok t
 put_result (Err why) = Err NoSpace
@@ -138,7 +138,7 @@ module _ (s : SegmentState) (key : Key) (k v : ScalarKind) (p : Place) (b : IsSe
   map_in : (d : Directory) → DenotesCurrent s.cut.bytes d → Holds d
   map_in d l = holds-pairs s.cut.bytes d key k v p l.denotes (found.answers d l)
 
-  -- some map stands there
+  -- there is a map at the place
   pub stands-map : HasPairs k v s.cut.bytes p
   stands-map = ((map_in b.0 b.1).pairs, (map_in b.0 b.1).map)
 
@@ -146,7 +146,7 @@ module _ (s : SegmentState) (key : Key) (k v : ScalarKind) (p : Place) (b : IsSe
   is-map h =
       eq-eqb (code_of (Map k v)) (code_of (kind_of h.object.value)) (ap (λ w. code_of (kind_of w)) (sym h.known.value))
 
-  -- what the step of a call comes to
+  -- the result of the step of a call
   abbrev outcome : Command → Directory → Answer × Directory
   outcome c d = step_of_kind s.mode d key (Map k v) c
 
@@ -156,7 +156,7 @@ module _ (s : SegmentState) (key : Key) (k v : ScalarKind) (p : Place) (b : IsSe
   map-plan c w {d} l h = step_of_kind-found s.mode d key (Map k v) c h.object w h.is (is-map h)
       ∙ ap (λ (m : LiveSet). perform d m (effect d c)) (sym (denotes-live current s.cut.bytes d l.denotes))
 
-  -- ---- what is read
+  -- ---- reads
 
   -- the value of a key, as numbers, is the directory's
   pub map-got : (x : ℤ) (r : Option ℤ) → is_value k x ≡ true → FindsValue (numbers_of k) (numbers_of v) s.cut.bytes
@@ -169,7 +169,7 @@ module _ (s : SegmentState) (key : Key) (k v : ScalarKind) (p : Place) (b : IsSe
       ∙ looked-up h (live_of s.cut.bytes) (pair_at int_lt h.pairs x)
       ∙ (λ i. (value_or_absent v (sym (each h.pairs h.map) i), d))))
 
-  -- what is said of the pairs is said of those of the object
+  -- a function of the pairs is a function of the object's pairs
   pub map-told : {A : Type 0} (say : List NumberPair → A) (r : A) → ((ps : List NumberPair) → IsPairs k v s.cut.bytes p
       ps → r ≡ say ps) → AnswersWith s (λ d. answer_of_map d key k v say) (Ok r)
   map-told {A} say r each = record {
@@ -179,10 +179,10 @@ module _ (s : SegmentState) (key : Key) (k v : ScalarKind) (p : Place) (b : IsSe
         ∙ sym (told-some d key (Map k v) (λ o. told_of say o.value) h.object true h.is (is-map h));
   }
 
-  -- ---- what is changed
+  -- ---- changes
 
   module _ (new : WindowState) (writing : is_read_only s.mode ≡ false) where
-    -- what the step comes to, and that the window stays in its place
+    -- the result of the step; the window keeps its place
     abbrev Moved : Command → Bool → Directory → Type 0
     Moved c t d = SameSurroundings s.cut new × IsMove (record s { cut = new }) (Truth t) (outcome c d)
 
@@ -250,7 +250,7 @@ module _ (s : SegmentState) (key : Key) (k v : ScalarKind) (p : Place) (b : IsSe
       put-full e r = put-outcome None e
           ∙ perform-no_space d (live_of s.cut.bytes) Node (node_len (size_of k) (size_of v)) (new_with h x y) r.none
 
-      -- what was put, or put again
+      -- a pair that was new, or was there
       put-moves : (E : Type 0) (t : Bool) (o : Option NumberPair) → pair_at int_lt h.pairs x ≡ o
           → PutsHere (let one : Result Bool E = Ok t in one) o → Moved (Put x y) t d
       put-moves E t None e r = (

@@ -1,4 +1,4 @@
--- The pairs of the object of a key, a map of kinds: what is told of them, how many they are, and that their keys rise.
+-- The pairs of a key's map of kinds: functions of them, their number, and the order of their map keys.
 use Rattle.segment_manager.proofs.Common.{◌≡◌, sym, ap, subst, ◌∙◌, ℕ, ℤ, true, false, Some, None, Ok, Err, List, []}
 use Rattle.segment_manager.proofs.Common.{Map, Key, Value, Option, NotFound, same_kind, is_rising, sizes_of, Directory}
 use Rattle.segment_manager.proofs.Common.{object_at, first_size, pair_from, first_of, Result, length, int_lt, current}
@@ -36,9 +36,9 @@ module _ (d : Directory) (key : Key) (k v : ScalarKind) where
       → listed ≡ pairs_of o.value
   those-of o e g = list-of pairs_of d key (Map k v) o true e g
 
-  -- ---- what is told of the map is told of the pairs that are listed, and where it is refused none are listed
+  -- ---- a function of the map is a function of its pairs; if it fails there are none
 
-  -- what is told of a map is said of its pairs
+  -- a function of a map is a function of its pairs
   pub map-told : {A : Type 0} (say : List NumberPair → A) (r : Result A Refusal) → r ≡ answer_of_map d key k v say
       → MatchResult r (λ a. a ≡ say (pairs_at_kinds d key k v)) (λ why. pairs_at_kinds d key k v ≡ [])
   map-told say r f = by-kind d key (Map k v) (λ e. refused-told (λ a. a ≡ say listed) (listed ≡ []) r NotFound
@@ -49,7 +49,7 @@ module _ (d : Directory) (key : Key) (k v : ScalarKind) where
       answered-told (λ a. a ≡ say listed) (listed ≡ []) r (say is.0) (f ∙ told-some d key (Map k v) (λ o. told_of say
       o.value) o true e g ∙ ap (told_of say) is.1) (ap say (sym (those-of o e g ∙ ap pairs_of is.1))))
 
-  -- ---- how many
+  -- ---- their number
 
   map-many : (w : Value) → same_kind (Map k v) (kind_of w) ≡ true → first_size (sizes_of w) ≡ Ok (length (pairs_of w))
   map-many w e =
@@ -61,7 +61,7 @@ module _ (d : Directory) (key : Key) (k v : ScalarKind) where
       → number_or_none r ≡ length (pairs_at_kinds d key k v)
   map-length r e = listed-length pairs_of d key (Map k v) map-many r e
 
-  -- ---- their keys rise, and from the least key of the kind on the first of them comes
+  -- ---- the map keys rise, and the first pair is the first from the least key of the kind on
 
   module _ (b : List ℕ) (den : Denotes current b d) where
     -- the keys of a map rise

@@ -1,5 +1,4 @@
--- A map as the value of an object: it stands at its place as the calls of seg_map see it, and what they do to it is
--- what becomes of the object.
+-- A map as the value of an object: its place for the calls of seg_map, and the effect of these calls on the object.
 use Rattle.segment_manager.proofs.Common as common
 use common.{◌≡◌, refl, sym, ◌∙◌, true, ◌&&◌, Some, None, List, SameBytes, Value, Pairs, live, ap, and_from, bytes_of}
 use common.{Directory, is_object, value_len, IsValueAt, exchanged, subst, ℕ, arith, int_lt, Memory, Extent, handle}
@@ -22,7 +21,7 @@ use Rattle.segment_manager.proofs.{directory.Frame.IsRoomy, directory.IndexedPar
 use Rattle.raw_region.proofs.Facts.{first, second}
 use Rattle.best_fit.proofs.Laws.{spread-refl}
 
--- ---- what is of the kind of a map
+-- ---- values of the kind of a map
 
 map-if : (k v : ScalarKind) (w : Value) → Map k v ≡ kind_of w → (ps : List NumberPair) × (w ≡ Pairs k v ps)
 map-if k v (Pairs l m ps) e =
@@ -65,7 +64,7 @@ same-handles (p ∷ ps) = ap (λ (ns : List ℕ). handle p.node ∷ ns) (same-ha
 
 -- ---- an object that is a map
 
--- it stands in its block, is found, and has these pairs
+-- the object is in its block, is found, and has these pairs
 pub record IsMapObject (b : List ℕ) (d : Directory) (o : Object) (k v : ScalarKind)
     (ps : List NumberPair) : Type 0 where
   pub stands : IsObjectInBlock b (handle o.extent) o
@@ -75,7 +74,7 @@ pub record IsMapObject (b : List ℕ) (d : Directory) (o : Object) (k v : Scalar
 
 module _ {b : List ℕ} {d : Directory} {o : Object} {k v : ScalarKind} {ps : List NumberPair} (den : Denotes current b d)
     (x : IsMapObject b d o k v ps) where
-  -- its map stands at its place
+  -- its map is at its place
   pub object-map : HoldsMap (numbers_of k) (numbers_of v) b (handle o.extent) (head_len + padded (length o.name)) ps
   object-map =
       let good : IsTrue (is_rising int_lt ps && list_all (is_number_pair k v) ps) =
@@ -95,7 +94,7 @@ module _ {b : List ℕ} {d : Directory} {o : Object} {k v : ScalarKind} {ps : Li
             (other-handles o.extent ps (subst (λ w. Differs o.extent (value_extents w)) x.value x.in_use.own_apart));
       }
 
--- ---- what becomes of it
+-- ---- the effect of calls
 
 module _ (old new : WindowState) {d : Directory} {o : Object} {k v : ScalarKind} {ps : List NumberPair}
     (qs : List NumberPair) (den : Denotes current old.bytes d) (x : IsMapObject old.bytes d o k v ps) where
@@ -111,7 +110,7 @@ module _ (old new : WindowState) {d : Directory} {o : Object} {k v : ScalarKind}
       (and_from (is_rising int_lt qs) (list_all (is_number_pair k v) qs) s.rising
       (all-good k v (live_of new.bytes) (handle o.extent) qs s.pairs))
 
-  -- a block that is none of the pairs'
+  -- a block that is not a pair's
   module _ (b : KeepsOutsideMap old new (handle o.extent + (head_len + padded (length o.name)))
       (nodes_of_pairs ps)) where
     stays-beside : (y : Extent) → IsFoundIn (live d).extents y → Differs y (value_extents o.value)
@@ -125,7 +124,7 @@ module _ (old new : WindowState) {d : Directory} {o : Object} {k v : ScalarKind}
     all-beside [] f n = tt
     all-beside (y ∷ ys) f n = (stays-beside y f.0 n.0, all-beside ys f.1 n.1)
 
-    -- the map has other pairs: blocks of theirs are gone, and others came
+    -- the map has other pairs: some blocks were freed, and others allocated
     pub pairs-changed : HoldsMap (numbers_of k) (numbers_of v) new.bytes (handle o.extent)
         (head_len + padded (length o.name)) qs → (gone come : List Extent) → Exchange o (with_value o next) gone come
         → EncodesLiveSet current new.bytes (exchanged (live_of old.bytes) gone come)
@@ -158,7 +157,7 @@ module _ (old new : WindowState) {d : Directory} {o : Object} {k v : ScalarKind}
         (sym (ap kind_of x.value)) (sym (ap count_of x.value)) front (subst (λ at. IsValueAt m' at next)
         (sym (start-place o)) s.map))
 
-  -- the nodes of one are those of the other but one, which came or is gone
+  -- the nodes of the new map are the nodes of the old one, with one more or one less
   pub came : (n : Extent) → PartedNodes (nodes ps) (nodes qs) n → Exchange o (with_value o next) [] (n ∷ [])
   came n r = between o (with_value o next) r.front [] (n ∷ []) r.back (ap value_extents x.value ∙ r.others) r.whole
 

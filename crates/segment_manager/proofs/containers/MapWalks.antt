@@ -1,4 +1,4 @@
--- A walk over the pairs of a map, each from the key before: so all of them come, in the order of the directory.
+-- A walk over the pairs of a map, each from the map key before: it returns all of them, in the order of the directory.
 use Rattle.segment_manager.proofs.Common.{◌≡◌, refl, ap, ◌∙◌, ℤ, Bool, true, false, not, Some, List, [], ◌∷◌, ◌++◌}
 use Rattle.segment_manager.proofs.Common.{arith, if◌then◌else◌, IsTrue, int_lt, option_map, list_all, ScalarKind}
 use Rattle.segment_manager.proofs.Common.{is_value, lowest, transitive, is_rising, NumberPair, first_pair, item_of}
@@ -13,7 +13,7 @@ not-below : (k : ScalarKind) (z : ℤ) → is_value k z ≡ true → int_lt z (l
 not-below k z h = let low : IsTrue (int_le (lowest k) z) = first (int_le (lowest k) z) (int_le z (highest k)) h in grind
     arith
 
--- so from there on the first pair comes
+-- so the first pair is the first from there on
 pub walk-starts : (k : ScalarKind) (ps : List NumberPair) → IsTrue (list_all (λ (p : NumberPair). is_value k p.key) ps)
     → pair_from (lowest k) ps ≡ option_map item_of (first_of ps)
 walk-starts k [] h = refl
@@ -21,14 +21,14 @@ walk-starts k (p ∷ ps) h =
     ap (λ (b : Bool). option_map item_of (if not b then Some p else first_pair int_lt false (lowest k) ps))
     (not-below k p.key (first (is_value k p.key) (list_all (λ (p : NumberPair). is_value k p.key) ps) h))
 
--- above a key comes the pair after that of the key
+-- the next pair above a map key is the pair after that key's
 behind : (p : NumberPair) (back : List NumberPair) → is_rising int_lt (p ∷ back) ≡ true
     → first_pair int_lt true p.key back ≡ first_of back
 behind p [] r = refl
 behind p (q ∷ qs) r = ap (λ (b : Bool). if not (not b) then Some q else first_pair int_lt true p.key qs)
     (first (int_lt p.key q.key) (is_rising int_lt (q ∷ qs)) r)
 
--- what rises to a key is below it
+-- pairs before a key are below it
 below-end : (q : NumberPair) (front : List NumberPair) (p : NumberPair) (back : List NumberPair)
     → is_rising int_lt (q ∷ (front ++ p ∷ back)) ≡ true → int_lt q.key p.key ≡ true
 below-end q [] p back r = first (int_lt q.key p.key) (is_rising int_lt (p ∷ back)) r
@@ -40,7 +40,7 @@ rest-rises : (q : NumberPair) (qs : List NumberPair) → is_rising int_lt (q ∷
 rest-rises q [] r = refl
 rest-rises q (s ∷ qs) r = second (int_lt q.key s.key) (is_rising int_lt (s ∷ qs)) r
 
--- a number is not below one that is below it
+-- a number is not below a number that is below it
 not-above : (x y : ℤ) → int_lt x y ≡ true → int_lt y x ≡ false
 not-above x y e = by_cases (int_lt y x) refl
   where

@@ -16,7 +16,7 @@ use Rattle.seg_types.specs.Commands as asked
 abbrev contents : ℕ → ℕ → List ℕ → BackingArray → Contents
 contents each len bytes t = record { each = each; len = len; table = t; bytes = bytes }
 
--- what such a content asks for, and what it is in storage
+-- the blocks of such contents, and their storage
 record IsContainerOf (content : Content) (each len : ℕ) (bytes : List ℕ) (v : BackingArray → Value) : Type 0 where
   asks : (next : Value → Plan) → with_value content next ≡ with_storage each len (λ t. next (v t))
   is_kind : (t : BackingArray) → kind_of (v t) ≡ kind_of (bare content)
@@ -60,7 +60,7 @@ module _ {content : Content} {each len : ℕ} {bytes : List ℕ} {v : BackingArr
     said = value-said (bytes_of new.bytes) (place_at p) (v t) (contents each len bytes t) (is.holds t) stands.words;
   }
 
-  -- there is no storage for them
+  -- there is no space for their storage
   unstored-value : (why : Refusal) → new ≡ mid → grown_backing (live_of mid.bytes) each len no_backing ≡ None
       → why ≡ NoSpace → MakesValueErr content old new p why
   unstored-value why same none refusal =
@@ -92,7 +92,7 @@ module _ {T : Type 0} (k : ScalarKind) (w : T → ℤ) (size : ℕ) (test : T �
         (contents (sym law.long i) (length-map ys w i) (sym (whole-spelled k w size test sp law ys) i) t);
   }
 
-  -- it is made, and then its values are put there
+  -- the vector is made, and then its values are written
   pub vector-made : (old mid new : WindowState) (p q : Place) (ys : List T) (r : Result (Unit {0}) Refusal) → q ≡ p
       → ChangesBytes current old mid (place_at p) 24 → InitsVector size test sp old mid p
       → Assigns size test sp mid new q ys r → MakesValue (asked.Elements k (map w ys)) old new p r

@@ -1,5 +1,5 @@
--- The words of containers, and what the calls of seg_vector leave of storage whose elements have one length: as the
--- steps of the calls on the object, a vector of numbers or a text.
+-- The words of containers, and the contracts of seg_vector for storage with elements of one length, as steps of the
+-- calls on the object, a vector of numbers or a text.
 use Rattle.segment_manager.proofs.Common as common
 use Rattle.seg_types.specs.Commands as asked
 use common.{◌≡◌, shrunk_backing, IsValueAt, Directory, value_len, IsSegment, DenotesCurrent, HasEnough, has_sizes}
@@ -28,7 +28,7 @@ use Rattle.segment_manager.specs.containers.Stored.{ChangesElements, IsElements,
 
 -- ---- the words of a container
 
--- how many places they say
+-- the capacity in the words
 abbrev pub places_in : Memory → ℕ → Kind → ℕ
 places_in m at (MapKind k v) = 0
 places_in m at kind = word_at m (at + 16)
@@ -83,7 +83,7 @@ module _ {s t : SegmentState} (view : s ≡ t) (key : Key) (kind : Kind) (p : Pl
       (subst (λ (q : Place). IsTrue (has_room (live_of s.cut.bytes) q.handle (q.at + 24))) (at-place b.0 b.1).at
       (standing-room s.cut.bytes _ (16 + padded (length o.name) + 24) o (stands b.0 b.1) (omega (arith, len))))
 
-  -- what they say
+  -- the length and the capacity in the words
   pub measured : (m n : ℕ) → m ≡ word_at (bytes_of s.cut.bytes) (p.handle + (p.at + 8))
       → n ≡ places_in (bytes_of s.cut.bytes) (p.handle + p.at) kind
       → AnswersWith t (λ d. sizes_at_kind d key kind) (Ok (m, n))
@@ -143,7 +143,7 @@ elements-in v h n = absurd (cc)
 each-few : (kind : Kind) → (1 ≤ each_of kind) × (each_of kind ≤ 8)
 each-few kind = grind arith
 
--- the object of the key is of the kind, and its elements stand at the place
+-- the object of the key has the kind, and its elements are at the place
 pub record HoldsElements (b : List ℕ) (d : Directory) (key : Key) (kind : Kind) (p : Place) : Type 0 where
   pub found : HoldsAt d key kind p
   pub len : ℕ
@@ -185,7 +185,7 @@ module _ {s t : SegmentState} (view : s ≡ t) (key : Key) (kind : Kind) (p : Pl
   held d l = holds-elements s.cut.bytes d key kind p l.denotes
       ((seen-found s t view key kind p found).answers d l) stored no_texts
 
-  -- some stand there
+  -- there are elements at the place
   pub some-elements : IsElements s.cut.bytes p (each_of kind)
   some-elements =
       let h : Held b.0 = held b.0 b.1 in
@@ -209,7 +209,7 @@ module _ {s t : SegmentState} (view : s ≡ t) (key : Key) (kind : Kind) (p : Pl
     writing : is_read_only s.mode ≡ false
     writing = subst (λ (u : SegmentState). is_read_only u.mode ≡ false) (sym view) may
 
-    -- what becomes of them in a directory
+    -- the effect on the elements in a directory
     record Becomes (d : Directory) (h : Held d) (c : Command) : Type 0 where
       value : Value
       next : Contents

@@ -107,7 +107,7 @@ module _ {d : Directory} {key : Key} {k v : ScalarKind} (m : IsMapAt d key k v) 
   remove-of : (l : Literal) → effect d (asked.Remove key l) ≡ removes d m.object l (k, v, m.pairs)
   remove-of l = remove-plan d key m.object m.is _ (ap map_of m.value) l
 
-  -- what they do with literals that are read, and that are not
+  -- the effect on literals that have the kinds, and on others
   abbrev puts_read : Result (List ℤ) Refusal → Plan
   puts_read q = with q (λ new. step.put d m.object k v m.pairs new)
 
@@ -160,7 +160,7 @@ module _ (s : SegmentState) (key : Key) (k v : ScalarKind) (a : AnswersWith s (�
         good) ∙ sym (answered-reads s.mode d (asked.Lookup key l) refl);
   }
 
--- ---- as the calls say it
+-- ---- as the calls
 
 module _ {s : SegmentState} {key : Key} {o : Located} (h : IsChangeableObject s key o) {k v : ScalarKind}
     (is : o.kind ≡ Map k v) where
@@ -220,19 +220,19 @@ module _ {s : SegmentState} {key : Key} {o : Located} (l : IsLocated s key o) {k
   lookup-no_value at {why} e = refuses-read s (asked.Lookup key at) why refl
       (λ d st. let m = map-at s key k v (says-kind l is) d st in lookup-of m at ∙ ap (looks_up_read m) e)
 
--- no object that may be changed has the key
+-- there is no object with the key that can be changed
 module _ {s : SegmentState} {key : Key} {why : Refusal} (h : IsUnchangeable s key why) where
-  -- `put` into an object that may not be changed is refused
+  -- `put` into an object that cannot be changed fails
   pub put-unchangeable : (at value : Literal) → TakesStep s s (asked.Put key at value) (Refused why)
   put-unchangeable at value = h.refuses (asked.Put key at value) refl
       (λ d n. with-not_found d key (λ o. with (map_of o.value) (puts d o at value)) n)
 
-  -- `remove` from an object that may not be changed is refused
+  -- `remove` from an object that cannot be changed fails
   pub remove-unchangeable : (at : Literal) → TakesStep s s (asked.Remove key at) (Refused why)
   remove-unchangeable at =
       h.refuses (asked.Remove key at) refl (λ d n. with-not_found d key (λ o. with (map_of o.value) (removes d o at)) n)
 
--- none has it
+-- no object has the key
 pub lookup-nowhere : {s : SegmentState} {key : Key} (at : Literal) {why : Refusal} → IsMissing s key why
     → AnswersQuery s (asked.Lookup key at) (Refused why)
 lookup-nowhere {s} {key} at {why} m = refuses-read s (asked.Lookup key at) why refl

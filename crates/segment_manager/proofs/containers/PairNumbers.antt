@@ -1,5 +1,5 @@
--- Maps of values of two types as maps of their numbers: lists of pairs, maps at a place, and what the calls of seg_map
--- ensure of them.
+-- Maps of values of two types as maps of their numbers: lists of pairs, maps at a place, and the contracts of seg_map
+-- for them.
 use Rattle.segment_manager.proofs.Common as common
 use common.{◌≡◌, sym, ap, ◌∙◌, ◌+◌, not, Some, None, Ok, Err, List, [], ◌∷◌, map, find, WindowState, HasBytesAt, Node}
 use common.{PutsPair, refl, Bool, true, false, ◌&&◌, ◌||◌, Memory, handle, place, serves, Plain, ErasesKey, PutsNoSpace}
@@ -15,7 +15,7 @@ use Rattle.seg_map.specs.Places.{final_pair, is_passed, last_pair}
 use Rattle.seg_map.specs.{Changing.FreesAllPairs, Map.IsPairAt, Map.Pair, Map.is_pair}
 use Rattle.seg_map.proofs.Laws.{last_mapped, map_reversed}
 
--- what a type's laws say of its values and their numbers
+-- the laws of a type for its values and their numbers
 pub record IsScalarOf {T : Type 0} (k : ScalarKind) (p : Plain T) (w : T → ℤ) : Type 0 where
   pub long : p.SIZE ≡ size_of k
   pub values : (x : T) → p.is_value x ≡ is_value k (w x)
@@ -23,21 +23,21 @@ pub record IsScalarOf {T : Type 0} (k : ScalarKind) (p : Plain T) (w : T → ℤ
   pub ordered : (x y : T) → p.order x y ≡ int_lt (w x) (w y)
   pub reached : (z : ℤ) → is_value k z ≡ true → (x : T) × (w x ≡ z)
 
--- what a put does, by the pair of the key that there was or was not, and an erasing
+-- the effect of a put, by whether the map has the key, and of an erasure
 module _ {K V : Type 0} (kp : Plain K) (vp : Plain V) (old new : WindowState) (h at : ℕ) (ps : List (Pair K V)) where
-  -- what a put of a pair does, by the pair with its key
+  -- the effect of putting a pair, by the pair with its key
   abbrev pub PutsBy : {E : Type 0} → K → V → Result Bool E → Option (Pair K V) → Type 0
   PutsBy x y result o = MatchOption o (MatchResult result (λ b. (b ≡ true) × PutsNewPair kp vp old new h at ps x y)
       (λ e. PutsNoSpace kp vp old new)) (λ p. (result ≡ Ok false) × OverwritesPair kp vp old new h at ps p x y)
 
-  -- what an erasure of a key does, by the pair with the key
+  -- the effect of erasing a key, by the pair with the key
   abbrev pub ErasesBy : K → Bool → Option (Pair K V) → Type 0
   ErasesBy x result o =
       MatchOption o ((result ≡ false) × (new ≡ old)) (λ p. (result ≡ true) × ErasesPair kp vp old new h at ps p x)
 
 -- ---- lists
 
--- the first of some that are made of others is made of the first of those
+-- the first image that passes is the image of the first element that passes
 find-made : {A B : Type 0} (f : A → B) (s : A → Bool) (t : B → Bool) → ((a : A) → t (f a) ≡ s a) → (xs : List A)
     → find t (map f xs) ≡ option_map f (find s xs)
 find-made f s t same [] = refl
@@ -148,7 +148,7 @@ module _ {K V : Type 0} {k v : ScalarKind} {kp : Plain K} {vp : Plain V} {kw : K
   abbrev HoldsNumbers : List ℕ → ℕ → ℕ → List NumberPair → Type 0
   HoldsNumbers b h at qs = HoldsMap (numbers_of k) (numbers_of v) b h at qs
 
-  -- pairs of numbers of the kinds are those of values
+  -- pairs of numbers of the kinds are pairs of values
   reached-pair : (q : NumberPair) → is_number_pair k v q ≡ true → (p : Pair K V) × (number_pair p ≡ q)
   reached-pair q e =
       let good : IsTrue (is_value k q.key && is_value v q.value) =
@@ -165,7 +165,7 @@ module _ {K V : Type 0} {k v : ScalarKind} {kp : Plain K} {vp : Plain V} {kw : K
       let rest : (ps : List (Pair K V)) × (number_pairs ps ≡ qs) = reached-pairs l h qs a.1 in
       (one.0 ∷ rest.0, λ i. one.1 i ∷ rest.1 i)
 
-  -- ---- what is found
+  -- ---- searches
 
   found-value : (o : Option (Pair K V))
       → option_map vw (option_map value_of_pair o) ≡ option_map value_of_pair (option_map number_pair o)
@@ -178,7 +178,7 @@ module _ {K V : Type 0} {k v : ScalarKind} {kp : Plain K} {vp : Plain V} {kw : K
   found-item (Some p) = refl
 
   module _ (b : List ℕ) (h at : ℕ) where
-    -- a map of values is one of their numbers
+    -- a map of values is a map of their numbers
     pub map-numbers : (ps : List (Pair K V)) → HoldsMap kp vp b h at ps → HoldsNumbers b h at (number_pairs ps)
     map-numbers ps s = record {
       heap = s.heap;
@@ -194,7 +194,7 @@ module _ {K V : Type 0} {k v : ScalarKind} {kp : Plain K} {vp : Plain V} {kw : K
       pairs = pairs-in (live_of b) h ps s.pairs;
     }
 
-    -- and the other way round
+    -- and conversely
     pub numbers-map : (ps : List (Pair K V)) → HoldsNumbers b h at (number_pairs ps) → HoldsMap kp vp b h at ps
     numbers-map ps s = record {
       heap = s.heap;
@@ -217,12 +217,12 @@ module _ {K V : Type 0} {k v : ScalarKind} {kp : Plain K} {vp : Plain V} {kw : K
         let r : (ps : List (Pair K V)) × (number_pairs ps ≡ qs) = reached-pairs (live_of b) h qs s.pairs in
         (r.0, (r.1, numbers-map r.0 (subst (HoldsNumbers b h at) (sym r.1) s)))
 
-    -- What is said of each map of values is said of each of numbers.
+    -- A property of each map of values holds for each map of numbers.
     of-values : (P : List NumberPair → Type 0) → ((ps : List (Pair K V)) → HoldsMap kp vp b h at ps
         → P (number_pairs ps)) → (qs : List NumberPair) → HoldsNumbers b h at qs → P qs
     of-values P each qs s = let r = reached-map qs s in subst P r.1.0 (each r.0 r.1.1)
 
-    -- where one of numbers stands, one of values does
+    -- a map of numbers is a map of values
     pub some-map : IsSomeMap (numbers_of k) (numbers_of v) b h at → IsSomeMap kp vp b h at
     some-map s = let r = reached-map s.0 s.1 in (r.0, r.1.1)
 
@@ -256,7 +256,7 @@ module _ {K V : Type 0} {k v : ScalarKind} {kp : Plain K} {vp : Plain V} {kw : K
         → FindsLastItem (numbers_of k) (numbers_of v) b h at (numbers_in kw vw r)
     finds-last = finds final_pair final_pair (λ ps. last_mapped number_pair None ps)
 
-  -- ---- what becomes of them
+  -- ---- the effect of calls
 
   module _ (old new : WindowState) (h at : ℕ) where
     beside-numbers : (ps : List (Pair K V)) → KeepsOutsideMap old new (h + at) (nodes_of_pairs ps)

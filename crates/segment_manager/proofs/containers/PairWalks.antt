@@ -1,5 +1,4 @@
--- A walk over the pairs of the object of a key, of whatever kinds they are: what each call of it answers, and that none
--- is left out.
+-- A walk over the pairs of a key's object, of any kinds: the result of each call, and that it omits no pair.
 use Rattle.segment_manager.proofs.Common as common
 use common.{◌≡◌, refl, sym, ap, subst, ◌∙◌, ℕ, zero, suc, ◌+◌, ℤ, Bool, true, ◌&&◌, Option, Some, None, Result, Ok}
 use common.{List, [], ◌∷◌, ◌++◌, slice_get, arith, IsTrue, int_lt, option_map, list_all, eq-eqb, current, Node}
@@ -59,13 +58,13 @@ module _ (d : Directory) (key : Key) (k v : ScalarKind) (e : IsOfKindAt d key (M
   pairs-found = ap (λ (r : Option Object). elim r as (λ _. List NumberPair) [ None ↦ [] | Some o ↦ pairs_of o.value ])
       e.is ∙ ap pairs_of the-pairs.1
 
-  -- what is said of the map of the kinds is said of them
+  -- a function of the map of the kinds is a function of the pairs
   pub told-of-them : {A : Type 0} (say : List NumberPair → A) → answer_of_map d key k v say ≡ Ok (say (pairs_at d key))
   told-of-them {A} say =
       told-some d key (Map k v) (λ o. told_of say o.value) e.object true e.is same ∙ ap (told_of say) the-pairs.1
       ∙ sym (ap (λ (ps : List NumberPair). let r : Result A Refusal = Ok (say ps) in r) pairs-found)
 
-  -- from the least value of their kind on the first of them comes
+  -- the first pair is the first from the least value of the kind on
   pub starts : (b : List ℕ) → Denotes current b d
       → pair_from (lowest k) (pairs_at d key) ≡ option_map item_of (first_of (pairs_at d key))
   starts b den =
@@ -75,7 +74,7 @@ module _ (d : Directory) (key : Key) (k v : ScalarKind) (e : IsOfKindAt d key (M
       (walk-starts k the-pairs.0 (keys-are k v the-pairs.0
       (second (is_rising int_lt the-pairs.0) (list_all (is_number_pair k v) the-pairs.0) good)))
 
--- ---- what the calls answer
+-- ---- the results of the calls
 
 seen-if : (k v : ScalarKind) (o : Option (ScalarValue × ScalarValue)) (q : Option (ℤ × ℤ)) → AreOfKinds k v (Ok o)
     → numbers_read value_of_scalar value_of_scalar (Ok o) ≡ Ok q
@@ -101,14 +100,14 @@ module _ (s : SegmentState) (key : Key) (k v : ScalarKind) (is : IsMap s key k v
         ∙ ap (option_map (item_of_kinds k v)) (starts d key k v (map-known d l) s.cut.bytes l.denotes);
   }
 
--- the same by the least value, whose kind is that of the keys
+-- the same by the least value, whose kind is the kind of the map keys
 module _ (x : ScalarValue) (k : ScalarKind) (e : kind_of_scalar x ≡ k) where
-  -- what is of the kind of the least key is of the kind of the map
+  -- pairs of the least key's kind are pairs of the map's kinds
   pub least-kinds : (v : ScalarKind) (o : Option (ScalarValue × ScalarValue)) → AreOfKinds (kind_of_scalar x) v (Ok o)
       → AreOfKinds k v (Ok o)
   least-kinds v o h = subst (λ j. AreOfKinds j v (Ok o)) e h
 
-  -- what is told from the least key on is told of the whole map
+  -- the pairs from the least key on are all pairs
   pub least-told : value_of_scalar x ≡ lowest k
       → (s : SegmentState) (key : Key) (v : ScalarKind) (r : Result (Option (ℤ × ℤ))
       Refusal) → AnswersWith s (λ d. answer_of_map d key (kind_of_scalar x) v (pair_from (value_of_scalar x))) r
@@ -118,12 +117,12 @@ module _ (x : ScalarValue) (k : ScalarKind) (e : kind_of_scalar x ≡ k) where
 
 -- ---- the places of the pairs
 
--- the first stands at the first place
+-- the first pair has the first index
 pub first-at : (ps : List NumberPair) → slice_get ps 0 ≡ first_of ps
 first-at [] = refl
 first-at (p ∷ ps) = refl
 
--- the pair at a place, and those after it
+-- the pair with an index, and the pairs after it
 record IsSplitAt (ps : List NumberPair) (i : ℕ) (p : NumberPair) : Type 0 where
   front : List NumberPair
   back : List NumberPair
@@ -139,7 +138,7 @@ split-at (q ∷ qs) (suc i) p e =
     let s = split-at qs i p e in
     record { front = q ∷ s.front; back = s.back; is = ap (λ (ps : List NumberPair). q ∷ ps) s.is; next = s.next }
 
--- above the key of the pair at a place comes the pair at the next
+-- the next pair above the map key of a pair has the next index
 pub walk-next : (b : List ℕ) (d : Directory) (key : Key) (i : ℕ) (p : NumberPair) → Denotes current b d
     → slice_get (pairs_at d key) i ≡ Some p
     → pair_above p.key (pairs_at d key) ≡ option_map item_of (slice_get (pairs_at d key) (i + 1))

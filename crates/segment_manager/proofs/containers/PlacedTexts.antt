@@ -1,4 +1,4 @@
--- Texts that ask for their blocks one after another get what `place_all` gives, and keep their bytes.
+-- Texts whose blocks are allocated one after another get the blocks of `place_all`, and keep their bytes.
 use Rattle.segment_manager.proofs.Common as common
 use common.{◌≡◌, refl, sym, ap, ◌∙◌, Bool, true, List, [], ◌∷◌, Some, None, ◌==◌, Role, place, Plan, New, subst}
 use common.{ℕ, option_map, placed_is_proper, AllByRecursion, if◌then◌else◌, placed_text, placed_texts, with_owned_texts}
@@ -40,7 +40,7 @@ first-block d l x bs bss next None e = refl
 first-block d l x bs bss next (Some xs) e = ap (λ ps. perform d (all_added (added l x) xs) (next ps))
     (sym (cond-false (length bs == 0) (unplaced bs ∷ owned_texts bss (x ∷ xs)) (in_block bs x ∷ owned_texts bss xs) e))
 
--- what one request comes to
+-- the result of one allocation
 abbrev requested : Directory → LiveSet → (Extent → Plan) → Option Extent → Answer × Directory
 requested d l next o = elim o [ None ↦ (Refused NoSpace, d) | Some x ↦ perform d (resized l x) (next x) ]
 
@@ -62,7 +62,7 @@ request-placed d l bs bss next (Some x) more p e f =
     x l.extents (live-rises (added l x) q)).differs) ∙ more (added l x) (λ ps. next (in_block bs x ∷ ps)) q
     ∙ first-block d l x bs bss next (place_all (added l x) (text_needs bss)) e
 
--- one text more
+-- one more text
 one-more : (d : Directory) (l : LiveSet) (bs : List ℕ) (bss : List (List ℕ)) (next : List OwnedText → Plan) (b : Bool)
     → Placed d bss → IsTrue (is_proper l) → (length bs == 0) ≡ b → perform d l (with_owned_texts (bs ∷ bss) next)
     ≡ with_blocks d l (bs ∷ bss) next (place_all l (text_needs (bs ∷ bss)))
@@ -115,7 +115,7 @@ texts_bytes-if l bs bss qs (Some q) f h more e = behind (placed_texts (with_text
     behind (Some ps) g e =
         subst (AllByRecursion HasBytes) (same_Some (q ∷ ps) qs e) (text-bytes l bs q h f, more (with_text l q) ps g)
 
--- the same of several
+-- the same for several texts
 pub texts-bytes : (l : LiveSet) (bss : List (List ℕ)) (qs : List OwnedText) → IsTrue (list_all are_bytes bss)
     → placed_texts l bss ≡ Some qs → AllByRecursion HasBytes qs
 texts-bytes l [] qs h e = subst (AllByRecursion HasBytes) (same_Some [] qs e) tt

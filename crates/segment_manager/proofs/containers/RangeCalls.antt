@@ -1,4 +1,4 @@
--- Elements of arrays and vectors that one call writes: what comes of it in each directory.
+-- Elements of arrays and vectors that one call writes: the result in each directory.
 use Rattle.segment_manager.proofs.Common as common
 use common.{◌≡◌, refl, sym, ap, subst, ◌∙◌, ℕ, ◌+◌, ◌*◌, ◌<◌, ◌≤◌, ℤ, Bool, true, false, ◌||◌, Option, Some, None}
 use common.{Result, Ok, Err, List, ◌++◌, length, map, take, drop, if◌then◌else◌, arith, IsTrue, list_all, nat_le}
@@ -69,9 +69,9 @@ whole-replaced w xs i ys =
     ∙ (λ j. sym (take-map w i xs) j ++ (map w ys ++ sym (drop-map w (i + length ys) xs) j))
     ∙ ap (λ n. take i (map w xs) ++ (map w ys ++ drop (i + n) (map w xs))) (sym many)
 
--- ---- what is answered
+-- ---- the result
 
--- the numbers of an object that has a row of the kind, or why it has none
+-- the numbers of an object that has a row of the kind, or its error
 abbrev pub row_in : ScalarKind → Option Object → Result (List ℤ) Refusal
 row_in k r =
     elim r as (λ _. Result (List ℤ) Refusal) [ None ↦ Err NotFound | Some o ↦ numbers_if k o.value ]
@@ -95,7 +95,7 @@ module _ (mode : Mode) (d : Directory) (key : Key) (k : ScalarKind) (first : ℕ
   range-reading e = ap (λ b. if b then (Refused ReadOnly, d)
       else written_if (range_at d key k first (length zs)) d (with_range d key first zs)) e
 
-  -- writing a range of an object that is not there is refused
+  -- writing a range of an object that does not exist fails
   pub range-nowhere : is_read_only mode ≡ false → object_at d key ≡ None
       → written mode d key k first zs ≡ (Refused NotFound, d)
   range-nowhere e f = open-for e (Err NotFound) (ap (row_in k) f)
@@ -136,7 +136,7 @@ range-elements d key o k ns t first zs is value = ap (range_with d first zs) is
 
 -- ---- the segment
 
--- what the call did
+-- the effect of the call
 abbrev pub RangeWritten : SegmentState → SegmentState → WindowState → Key → ScalarKind → ℕ → List ℤ
     → Result (Unit {0}) Refusal → Type 0
 RangeWritten s t new key k first zs r = Performed s t new (λ mode d. written mode d key k first zs) r
@@ -181,7 +181,7 @@ no-same : (a b : Kind) → (a ≡ b → ⊥) → same_kind a b ≡ false
 no-same a b n = ne_eqb (code_of a) (code_of b)
     (λ e. n (same_Some a b (sym (code-read a) ∙ ap kind_of_code e ∙ code-read b)))
 
--- a vector of another kind has no such row, nor has what is no array of it
+-- a vector of another kind has no such row, nor has an object that is no array of the kind
 pub row-none : (k : ScalarKind) (v : Value) → same_kind (Vector k) (kind_of v) ≡ false
     → same_kind (Scalar k) (kind_of v) ≡ false → numbers_if k v ≡ Err WrongKind
 row-none k v e f = λ i. if e i || f i then Ok (numbers_in v) else Err WrongKind
@@ -206,7 +206,7 @@ row-numbers k ns =
 module _ (old new : WindowState) (d : Directory) (key : Key) (o : Object) (k : ScalarKind) (ns : List ℤ) (first : ℕ)
     (zs : List ℤ) (den : Denotes current old.bytes d) (is : object_at d key ≡ Some o) (value : o.value ≡ Numbers k ns)
     (fits : first + length zs ≤ length ns) (good : IsTrue (list_all (is_value k) zs)) where
-  -- where the elements begin that are written
+  -- the offset of the elements to write
   abbrev spot : ℕ
   spot = value_start o + size_of k * first
 
@@ -248,7 +248,7 @@ record HasNumbers (d : Directory) (o : Located) (k : ScalarKind) : Type 0 where
 
 module _ (s : SegmentState) (o : Located) (l : IsLocated s (ByHandle o.handle) o) (k : ScalarKind) (first : ℕ)
     (zs : List ℤ) where
-  -- of another kind, and no vector
+  -- the object has another kind, and is no vector
   pub array-other : is_read_only s.mode ≡ false → ((j : ScalarKind) → o.kind ≡ Vector j → ⊥)
       → same_kind (Scalar k) o.kind ≡ false → WritesRange s s (ByHandle o.handle) k first zs (Refused WrongKind)
   array-other writing never other = range-stays s (ByHandle o.handle) k first zs WrongKind (λ d st.
@@ -273,7 +273,7 @@ module _ (s : SegmentState) (o : Located) (l : IsLocated s (ByHandle o.handle) o
     row-of : {d : Directory} (h : HasNumbers d o k) → numbers_if k h.object.value ≡ Ok h.numbers
     row-of h = ap (numbers_if k) h.value ∙ row-numbers k h.numbers
 
-    -- there are not this many
+    -- there are too few elements
     pub array-short : is_read_only s.mode ≡ false → nat_le (first + length zs) o.count ≡ false
         → WritesRange s s (ByHandle o.handle) k first zs (Refused OutOfRange)
     array-short writing f = range-stays s (ByHandle o.handle) k first zs OutOfRange (λ d st.
@@ -281,7 +281,7 @@ module _ (s : SegmentState) (o : Located) (l : IsLocated s (ByHandle o.handle) o
         range-short s.mode d (ByHandle o.handle) k first zs writing h.object h.is h.numbers (row-of h)
         (let l = leb-false (first + length zs) o.count f in omega (arith, l, many h)))
 
-    -- where they stand
+    -- the offset of the elements
     abbrev pub row_spot : ℕ
     row_spot = o.handle + (value_offset o + size_of k * first)
 
@@ -333,7 +333,7 @@ module _ (s t : SegmentState) (o : Located) (l : IsLocated s (ByHandle o.handle)
       (ap (λ (q : Located). q.handle + (value_offset q + size_of k * first)) same
       ∙ (λ j. sym x.stands.at j + sym x.at j)) but) (place_at d (ByHandle o.handle) k first) refl
 
-  -- what is no array has no such element
+  -- an object that is no array has no such element
   pub vector-but : (j : ScalarKind) → o.kind ≡ Vector j → ChangesRange s t (ByHandle o.handle) k first n
   vector-but j is d st = but-if d st (λ p x.
       let q = said-at s (ByHandle o.handle) o l d st in
@@ -356,19 +356,19 @@ but-by_key s t key o l k first n m = λ d st.
     subst (λ (r : Option Object). But s t (size_of k * n) (place_of r k first)) (sym (same-object s key o l d st))
     (m d st)
 
--- what follows of a success, if more follows
+-- a property of a success implies another
 pub on_ok-map : {P Q : Type 0} (r : Result (Unit {0}) Refusal) → (P → Q) → OnOk r P → OnOk r Q
 on_ok-map (Ok a) f p = f p
 on_ok-map (Err why) f p = tt
 
--- what holds anyway holds of a success
+-- a property that always holds holds after a success
 pub on_ok : {P : Type 0} (r : Result (Unit {0}) Refusal) → P → OnOk r P
 on_ok (Ok a) p = p
 on_ok (Err why) p = tt
 
 -- ---- the calls
 
--- what the tests of the code say: of its kind, and of how many there are
+-- the tests of the code: of the kind, and of the number of elements
 pub array-kind : (o : Located) {k l : ScalarKind} {a b : ℕ} → l ≡ k → a ≡ code_of (Scalar l) → b ≡ code_of o.kind
     → a ≡ b → o.kind ≡ Scalar k
 array-kind o {k} e f g h = sym (one-kind (Scalar k) o.kind (eq-eqb (code_of (Scalar k)) (code_of o.kind)
@@ -385,7 +385,7 @@ pub row-test : {T : Type 0} (w : T → ℤ) (xs : List T) (first : ℕ) {count n
     → r ≡ nat_le (first + length xs) n → r ≡ b → nat_le (first + length (map w xs)) count ≡ b
 row-test w xs first e f g = (λ i. nat_le (first + length-map xs w i) (sym e i)) ∙ sym f ∙ g
 
--- nothing was to be written
+-- there was nothing to write
 pub array-empty : (s : SegmentState) (o : Located) → IsLocated s (ByHandle o.handle) o → (k : ScalarKind) (first : ℕ)
     (zs : List ℤ) → o.kind ≡ Scalar k → is_read_only s.mode ≡ false → nat_le (first + length zs) o.count ≡ true
     → length zs ≡ 0 → WritesRange s s (ByHandle o.handle) k first zs Done
@@ -426,7 +426,7 @@ array-room s b o loc k first zs is fits {at} {size} {n} e f g =
     (standing-room s.cut.bytes (handle h.object.extent) (at + size * first + n) h.object stands
     (omega (arith, at_is, long, inside, step, each, g)))
 
--- values of a type are spelled where the elements stand
+-- memory has the encodings of a type's values at the elements' place
 module _ {T : Type 0} {k : ScalarKind} {w : T → ℤ} {size : ℕ} {test : T → Bool} {sp : T → List ℕ}
     (law : IsOfKind k w size test sp) (s t : SegmentState) (view : s ≡ t) (b : IsSegment s.cut.bytes) (o : Located)
     (l : IsLocated t (ByHandle o.handle) o) (first : ℕ) (values : List T) (is : o.kind ≡ Scalar k)

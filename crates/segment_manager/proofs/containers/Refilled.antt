@@ -16,14 +16,14 @@ use Rattle.segment_manager.proofs.{directory.HeapCalls.denotes-live}
 use Rattle.segment_manager.proofs.containers.Contained.{contents-changed}
 use Rattle.std.proofs.lemmas.Bool.{leb-false}
 
--- ---- a plan that asks for a block
+-- ---- a plan that allocates a block
 
--- what comes of what is made with it, with the blocks beside that; or there is no space
+-- the result of continuing with the block, if it was allocated; otherwise `NoSpace`
 abbrev pub then_by : {A : Type 0} → (A → LiveSet) → Directory → (A → Plan) → Option A → Answer × Directory
 then_by beside d next None = (Refused NoSpace, d)
 then_by beside d next (Some a) = perform d (beside a) (next a)
 
--- a request that is met goes on with its block
+-- an allocation that succeeds continues with its block
 pub asked-met : {A : Type 0} (beside : A → LiveSet) (made : Extent → A) (d : Directory) (l : LiveSet) (next : A → Plan)
     → ((x : Extent) → resized l x ≡ beside (made x)) → (r : Option Extent) → elim r as (λ _. Answer × Directory)
     [ None ↦ (Refused NoSpace, d) | Some x ↦ perform d (resized l x) (next (made x)) ]
@@ -52,7 +52,7 @@ room-if d l each t n next true h =
 room-if d l each t n next false h = asked-met (with_array l t) (of_places n) d l next (λ x i. grown_set l
     (of_places n x) (sym (lt-ltb t.capacity n (leb-false n t.capacity h)) i)) (regrow l t.extent (each * n))
 
--- a plan for more capacity, by what the storage becomes
+-- a plan for a larger capacity, by the new storage
 pub room-grown : (d : Directory) (l : LiveSet) (each : ℕ) (t : BackingArray) (n : ℕ) (next : BackingArray → Plan)
     → perform d l (with_capacity each n t next) ≡ then_room d l t next (grown_backing l each n t)
 unfolding grown_backing
@@ -60,8 +60,8 @@ room-grown d l each t n next = room-if d l each t n next (nat_le n t.capacity) r
 
 -- ---- a directory
 
--- For a directory that the old bytes denote: the object of the key, its next value, what was done to it, and what the
--- command's plan comes to.
+-- For a directory of the old bytes: the object of the key, its next value, the change of its blocks, and the result of
+-- the command's plan.
 pub record Refill (old new : WindowState) (d : Directory) (key : Key) (c : Command) (answer : Answer) : Type 0 where
   pub object : Object
   pub is : object_at d key ≡ Some object
@@ -75,7 +75,7 @@ pub record Refill (old new : WindowState) (d : Directory) (key : Key) (c : Comma
   pub change : RefillsContainer old new (container_place object) was next
   pub outcome : perform d (live d) (effect d c) ≡ (answer, changed d object value)
 
--- the plan asks for room, where there is some or none
+-- the plan allocates storage, and there is space or not
 pub room-asked : (format : ℕ) (b : List ℕ) (d : Directory) (c : Command) (each n : ℕ) (t : BackingArray)
     (r : Option BackingArray)
     (next : BackingArray → Plan) → Denotes format b d → effect d c ≡ with_capacity each n t next
@@ -83,7 +83,7 @@ pub room-asked : (format : ℕ) (b : List ℕ) (d : Directory) (c : Command) (ea
 room-asked format b d c each n t r next k e g = ap (perform d (live d)) e ∙ room-grown d (live d) each t n next
     ∙ ap (then_room d (live d) t next) (ap (λ l. grown_backing l each n t) (sym (denotes-live format b d k)) ∙ g)
 
--- the new bytes stand for the directory with the next value
+-- the new bytes denote the directory with the next value
 pub refill-moves : (s : SegmentState) (new : WindowState) (d : Directory) (key : Key) (c : Command) (answer : Answer)
     (next : Answer × Directory) → DenotesCurrent s.cut.bytes d → (r : Refill s.cut new d key c answer)
     → next ≡ perform d (live d) (effect d c) → IsMove (record s { cut = new }) answer next
@@ -96,7 +96,7 @@ refill-moves s new d key c answer next k r e = record {
   };
 }
 
--- a plan that comes to a refusal
+-- a plan that ends with an error
 pub refused-steps : (s : SegmentState) (c : Command) (r : Refusal) → is_read_only s.mode ≡ false → ((d : Directory)
     → DenotesCurrent s.cut.bytes d → perform d (live d) (effect d c) ≡ (Refused r, d)) → TakesStep s s c (Refused r)
 refused-steps s c r writing each =
@@ -104,7 +104,7 @@ refused-steps s c r writing each =
 
 -- ---- the search
 
--- the object of a key: there is none, it is of another kind, or of the kind
+-- the cases of a key: no object, an object of another kind, or an object of the kind
 pub by-kind : (d : Directory) (key : Key) (kind : Kind) {P : Type 0} → (object_at d key ≡ None → P)
     → ((o : Object) → object_at d key ≡ Some o → same_kind kind (kind_of o.value) ≡ false → P)
     → ((o : Object) → object_at d key ≡ Some o → same_kind kind (kind_of o.value) ≡ true → P) → P
@@ -118,14 +118,14 @@ by-kind d key kind {P} none other of-kind = found (object_at d key) refl
     found None e = none e
     found (Some o) e = is o (same_kind kind (kind_of o.value)) e refl
 
--- what is told of it if it is of the kind
+-- a function of the object if it has the kind
 abbrev pub told_if : {A : Type 0} → Directory → Key → Kind → (Object → Result A Refusal) → Result A Refusal
 told_if {A} d key kind say = elim (object_at d key) as (λ _. Result A Refusal) [
   | None ↦ Err NotFound
   | Some o ↦ if same_kind kind (kind_of o.value) then say o else Err WrongKind
 ]
 
--- of an object that is not there nothing is told
+-- a function of an object that does not exist fails
 pub told-none : {A : Type 0} (d : Directory) (key : Key) (kind : Kind) (say : Object → Result A Refusal)
     → object_at d key ≡ None → told_if d key kind say ≡ Err NotFound
 told-none {A} d key kind say e = ap (λ (r : Option Object). elim r as (λ _. Result A Refusal) [
@@ -133,7 +133,7 @@ told-none {A} d key kind say e = ap (λ (r : Option Object). elim r as (λ _. Re
   | Some o ↦ if same_kind kind (kind_of o.value) then say o else Err WrongKind
 ]) e
 
--- what is told of an object of the kind
+-- a function of an object of the kind
 pub told-some : {A : Type 0} (d : Directory) (key : Key) (kind : Kind) (say : Object → Result A Refusal) (o : Object)
     (b : Bool) → object_at d key ≡ Some o → same_kind kind (kind_of o.value) ≡ b
     → told_if d key kind say ≡ (if b then say o else Err WrongKind)
@@ -150,14 +150,14 @@ same_Err x y e = cc
 pub not-Err : {A P : Type 0} (a : A) (x : Refusal) → (let r : Result A Refusal = Ok a in r) ≡ Err x → P
 not-Err a x e = absurd (cc)
 
--- the object of the key stands at the place, and is of the kind
+-- the object of the key is at the place, and has the kind
 pub record HoldsAt (d : Directory) (key : Key) (kind : Kind) (p : Place) : Type 0 where
   pub object : Object
   pub is : object_at d key ≡ Some object
   pub same : same_kind kind (kind_of object.value) ≡ true
   pub at : container_place object ≡ p
 
--- where the container of an object stands, or why it has none
+-- the place of an object's container, or an error
 abbrev pub placed : Object → Result Place Refusal
 placed o = Ok (container_place o)
 
@@ -180,7 +180,7 @@ finds-no_container s key kind c r w a = by_no_change_of_kind s key kind c (Refus
 
 -- ---- the call
 
--- a call for objects of one kind is the step, where the object of the key is changed so
+-- a call for objects of one kind is the step, if it changes the key's object in this way
 pub refill-steps_of_kind : (s : SegmentState) (new : WindowState) (key : Key) (kind : Kind) (p : Place)
     → AnswersWith s (λ d. container_at d key kind) (Ok p) → (c : Command) (answer : Answer) → is_read_only s.mode
     ≡ false → IsSegment s.cut.bytes → ((d : Directory) → DenotesCurrent s.cut.bytes d → Refill s.cut new d key c answer)
@@ -201,7 +201,7 @@ same-step : (mode : Mode) (d : Directory) (c c' : Command) → is_changing c ≡
 unfolding step
 same-step mode d c c' e f = λ i. perform d (live d) (if is_read_only mode && e i then Refuse ReadOnly else f i)
 
--- what is a step of one is a step of the other
+-- a step of one command is a step of the other
 pub same_plan-steps : (old new : SegmentState) (c c' : Command) (answer : Answer) → is_changing c ≡ is_changing c'
     → ((d : Directory) → DenotesCurrent old.cut.bytes d → effect d c ≡ effect d c')
     → TakesStep old new c' answer → TakesStep old new c answer

@@ -30,11 +30,11 @@ pub held-stands : (b : List ℕ) (h : ℕ) (d : Directory) (o : Object)
 held-stands b h d o k e = subst (λ g. IsObjectInBlock b g o) (sym (found-handle h d.objects o (record { is = e })))
     (standing b d (ByHandle h) o k.denotes e)
 
--- an object that is held is there
+-- the object of the handle exists
 pub held-object : (b : List ℕ) (h : ℕ) → HoldsObject b h → HasObject b h
 held-object b h x = (x.object, held-stands b h x.directory x.object x.stands x.is)
 
--- where its container stands, as its head says
+-- the place of the object's container, by its head
 abbrev pub place_behind : ℕ → ℕ → Place
 place_behind h at = record { handle = h; at = at }
 
@@ -49,9 +49,9 @@ found-container : (d : Directory) (key : Key) (kind : Kind) (o : Object) (p : Pl
 found-container d key kind o p e f g = ap Ok (sym g) ∙ sym
     (told-some d key kind placed o true e (eq-eqb (code_of kind) (code_of (kind_of o.value)) (ap code_of (sym f))))
 
--- ---- what the head says
+-- ---- the head
 
--- it says that elements of one length stand after it, a vector of texts, or a map
+-- the value after the head has elements of one length, or is a vector of texts, or a map
 module _ {b : List ℕ} {h at : ℕ} {head : Head} (said : IsReadAt b h head)
     (behind : at ≡ head_len + padded head.name_len) {d : Directory} {o : Object} (s : DenotesCurrent b d)
     (e : object_at d (ByHandle h) ≡ Some o) where
@@ -88,9 +88,9 @@ module _ (b : List ℕ) (h at : ℕ) (head : Head) (x : HoldsObject b h) (said :
   pub some-pairs : (k l : ScalarKind) → head.kind ≡ Map k l → HasPairs k l b (place_behind h at)
   some-pairs k l is = let m = read-pairs said behind x.stands x.is k l is in (m.pairs, m.map)
 
--- ---- what becomes of the object
+-- ---- the effect on the object
 
--- numbers have no block to give back
+-- numbers have no block to free
 pub number-contents : (old : WindowState) (h : ℕ) (head : Head) → IsReadAt old.bytes h head → (k : ScalarKind)
     → head.kind ≡ Scalar k → Empties old old h
 number-contents old h head said k is d o s e =
@@ -102,8 +102,8 @@ number-contents old h head said k is d o s e =
           (sym (changed-itself d o f (emptied o.value) (emptied-numbers k o.value kind))) s.denotes;
     }
 
--- All blocks of the value of a container are gone and none came, and its 24 bytes say that nothing is in it, as a call
--- says it of the container at a place: all that is to be known of a call that releases a kind of value.
+-- All blocks of a container's value are freed, none is allocated, and its 24 bytes are an empty container: the facts
+-- about a call that releases a kind of value.
 container-released : (old new : WindowState) (d : Directory) (key : Key) (o : Object) (p : Place) (v : Value)
     → Denotes current old.bytes d → object_at d key ≡ Some o → o.value ≡ v → container_place o ≡ p
     → value_len v ≡ 24 → ExchangesBlocks current old new (place_at p) 24 (value_extents v) []
@@ -128,7 +128,7 @@ container-released old new d key o p v k e is at len change said =
           (subst (λ w. IsValueAt (bytes_of new.bytes) (place_at p) (emptied w)) (sym is) said));
     }
 
--- so it is of elements of one length, of a vector of texts, and of a map
+-- the same for elements of one length, for a vector of texts, and for a map
 module _ (old new : WindowState) (h at : ℕ) (head : Head) (said : IsReadAt old.bytes h head)
     (behind : at ≡ head_len + padded head.name_len) where
   -- releasing the elements empties the object

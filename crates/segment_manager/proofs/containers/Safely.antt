@@ -10,7 +10,7 @@ use Rattle.best_fit.specs.Heap.{KeepsGaps}
 use Rattle.segment_manager.proofs.directory.CommandSteps.{IsMove, by_moves, by_same, step-segment, step_of_kind-segment}
 use Rattle.segment_manager.specs.objects.Located.{container_in, located, located_at}
 
--- it is refused, and nothing has changed
+-- the call fails, and nothing has changed
 pub stays : (s : SegmentState) (new : WindowState) (key : Key) (kind : Kind) (c : Command) (e why : Refusal)
     → e ≡ why → new ≡ s.cut → TakesStepOfKind s s key kind c (Refused why) → StepsSafely s new key kind c (Err e)
 stays s new key kind c e why is same step = record {
@@ -19,7 +19,7 @@ stays s new key kind c e why is same step = record {
   refused = same;
 }
 
--- it is done
+-- the call succeeds
 pub done-so : {s : SegmentState} {new : WindowState} {key : Key} {kind : Kind} {c : Command} {u : Unit {0}}
     → TakesStepOfKind s (record s { cut = new }) key kind c Done → StepsSafely s new key kind c (Ok u)
 done-so step = record { step = step; refused = tt }
@@ -46,7 +46,7 @@ pub seen-refused : {R : Type 0} (s t : SegmentState) (view : s ≡ t) (new : Win
 seen-refused s t view new (Ok u) e = tt
 seen-refused s t view new (Err w) e = (λ i. record s { cut = e i }) ∙ view
 
--- a call did what the machine does, changed nothing where it was refused, and left a segment
+-- a call had the effect of the machine's step, changed nothing if it failed, and left a segment
 pub record Performed (s t : SegmentState) (new : WindowState) (next : Mode → Directory → Answer × Directory)
     (r : Result (Unit {0}) Refusal) : Type 0 where
   pub step : Transitions t (record s { cut = new }) (done_answer r) (λ d. next t.mode d)
@@ -77,7 +77,7 @@ module _ (s t : SegmentState) (view : s ≡ t) (b : IsSegment s.cut.bytes) (new 
     segment = subst (λ (c : WindowState). IsSegment c.bytes) (sym same) b;
   }
 
--- a call came to its step, changed nothing where it was refused, and left a segment
+-- a call took its step, changed nothing if it failed, and left a segment
 pub record Answered {R : Type 0} (says : Result R Refusal
     → Answer) (s t : SegmentState) (new : WindowState) (key : Key) (kind : Kind)
     (c : Command) (r : Result R Refusal) : Type 0 where
@@ -96,7 +96,7 @@ answered {says = says} s t view b new key kind c r done = record {
   segment = step_of_kind-segment s (record s { cut = new }) key kind c (says r) done.step b;
 }
 
--- what the call ensures
+-- the contract of the call
 pub told : {R : Type 0} {says : Result R Refusal
     → Answer} {s t : SegmentState} {new : WindowState} {key : Key} {kind : Kind}
     {c : Command} {r : Result R Refusal} → Answered says s t new key kind c r → record {
@@ -105,7 +105,7 @@ pub told : {R : Type 0} {says : Result R Refusal
     }
 told a = record { step = a.step; refused = a.refused }
 
--- the same, and what it does to the gaps
+-- the same, with its effect on the gaps
 pub told-gaps : {R G : Type 0} {says : Result R Refusal → Answer} {s t : SegmentState} {new : WindowState} {key : Key}
     {kind : Kind} {c : Command} {r : Result R Refusal} → Answered says s t new key kind c r → G → record {
       step : TakesStepOfKind t (record s { cut = new }) key kind c (says r);
@@ -114,7 +114,7 @@ pub told-gaps : {R G : Type 0} {says : Result R Refusal → Answer} {s t : Segme
     }
 told-gaps a g = record { step = a.step; refused = a.refused; gaps = g }
 
--- the same of a call on whatever object
+-- the same for a call on any object
 pub record Stepped (s t : SegmentState) (new : WindowState) (c : Command) (answer : Answer) : Type 0 where
   pub step : TakesStep t (record s { cut = new }) c answer
   pub segment : IsSegment new.bytes
@@ -133,7 +133,7 @@ stepped s t view b new c answer may each =
 
 -- ---- the gaps
 
--- what a call does to them where it is done, and where it is refused nothing changes
+-- the effect of a call on the gaps if it succeeds; if it fails nothing changes
 pub kept-gaps : {R : Type 0} {P : R → Type 0} {F : Refusal
     → Type 0} {s t : SegmentState} (view : s ≡ t) {new : WindowState}
     (r : Result R Refusal) → MatchResult r P F → ((x : R) → P x → KeepsGaps s.cut new)
@@ -142,7 +142,7 @@ kept-gaps view {new} (Ok x) m f g = subst (λ (u : SegmentState). KeepsGaps u.cu
 kept-gaps {s = s} view {new} (Err e) m f g = subst (λ (u : SegmentState). KeepsGaps u.cut new) view
     (subst (KeepsGaps s.cut) (sym (g e m)) (gaps-refl s.cut))
 
--- the same blocks are in use, as the view names the segment
+-- the same blocks are in use, for the view of the segment
 pub same-live : {s t : SegmentState} (view : s ≡ t) (new : WindowState) → live_of new.bytes ≡ live_of t.cut.bytes
     → live_of new.bytes ≡ live_of s.cut.bytes
 same-live view new e = e ∙ sym (ap (λ (u : SegmentState). live_of u.cut.bytes) view)
@@ -157,7 +157,7 @@ same-place : (kind : Kind) (r : Option Object) → container_of kind (option_map
 same-place kind None = refl
 same-place kind (Some o) = refl
 
--- where the container is of the object that is found is where that of the key's is
+-- the container of the object that was found is the container of the key's object
 pub contains : {s : SegmentState} (key : Key) (kind : Kind) {r : Option Located} {q : Result Place Refusal}
     → AnswersWith s (λ d. located_at d key) r → q ≡ container_of kind r → AnswersWith s (λ d. container_at d key kind) q
 contains key kind a e = record {

@@ -1,4 +1,4 @@
--- The calls on whatever has storage where they are refused, reserve, shrink and clear; and calls that read.
+-- The calls on any object with storage: failures, reserve, shrink and clear; and calls that read.
 use Rattle.segment_manager.proofs.Common.{Err, None, Some, false, refl, subst, true, ◌≡◌, Command, is_changing, Key}
 use Rattle.segment_manager.proofs.Common.{Kind, Refusal, NotFound, WrongKind, Answer, Refused, container_at, Directory}
 use Rattle.segment_manager.proofs.Common.{Numbers, Object, Pairs, Value, kind_of, object_at, Refuse, AnswersWith}
@@ -43,7 +43,7 @@ pub step_of_kind-reply : (s : SegmentState) (key : Key) (kind : Kind) (c : Comma
     → TakesStepOfKind s s key kind c answer → AnswersQueryOfKind s key kind c answer
 step_of_kind-reply s key kind c answer r = record { answers = r.answers }
 
--- the same in the segment, as its view before the call is named
+-- the same in the segment, for its view before the call
 pub seen-reply : (s t : SegmentState) (view : s ≡ t) (key : Key) (kind : Kind) (c : Command) (answer : Answer)
     → TakesStepOfKind s s key kind c answer → AnswersQueryOfKind t key kind c answer
 seen-reply s t view key kind c answer r =

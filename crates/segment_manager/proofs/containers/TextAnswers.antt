@@ -1,5 +1,4 @@
--- What the calls of seg_vector ensure of the text at the place that was found, as the steps of the calls on the
--- object's string.
+-- The contracts of seg_vector on a text at its place, as steps of the calls on the object's string.
 use Rattle.segment_manager.proofs.Common as common
 use common.{◌++◌, ◌<◌, Err, IsTrue, List, None, Ok, Option, Result, Some, [], ap, arith, false, get_or, length, map}
 use common.{nat_abs, nat_le, nat_lt, pos, refl, slice_get, subst, suc, sym, true, zero, ℕ, ◌∙◌, ◌∷◌, ◌≡◌, and_from}
@@ -23,7 +22,7 @@ use Rattle.segment_manager.specs.{containers.Contents.text_bytes, containers.ToC
 
 -- ---- bytes
 
--- those of a slice of type `u8` are below 256 each
+-- the elements of a slice of type `u8` are bytes
 pub fits-bytes : (bs : List ℕ) → ((k : ℕ) → Fits w8 (get_or bs k 0)) → IsTrue (are_bytes bs)
 fits-bytes bs h = fits-are_bytes bs (λ k. omega (arith, h k))
 
@@ -39,11 +38,11 @@ are_bytes-set (b ∷ bs) zero x h g = and_from (nat_lt x 256) (are_bytes bs) g (
 are_bytes-set (b ∷ bs) (suc i) x h g = and_from (nat_lt b 256) (are_bytes (slice_set bs i x))
     (first (nat_lt b 256) (are_bytes bs) h) (are_bytes-set bs i x (second (nat_lt b 256) (are_bytes bs) h) g)
 
--- one is a value of its kind
+-- a byte is a value of the kind `u8`
 pub byte-value : (x : ℕ) → x < 256 → is_value U8 (pos x) ≡ true
 byte-value x h = and_from (nat_le 0 x) (nat_le x 255) (le-leb 0 x (omega arith)) (le-leb x 255 (omega arith))
 
--- bytes as numbers, with another among them
+-- the numbers of bytes, with one byte replaced
 bytes-set : (bs : List ℕ) (i x : ℕ) → map nat_abs (slice_set (map pos bs) i (pos x)) ≡ slice_set bs i x
 bytes-set [] i x = refl
 bytes-set (b ∷ bs) zero x = ap (λ ys. x ∷ ys) (bytes-back bs)
@@ -75,7 +74,7 @@ texts = record {
   values = λ bs t. refl;
 }
 
--- what became of a text, with its bytes below 256
+-- a text after a change, with elements that are bytes
 bytes-now : {old new : WindowState} {p : Place} {t u : BackingArray} {bs : List ℕ}
     → IsTrue (are_bytes bs) → ReplacesText old new p t bs u → ListedNow texts old new p t bs u
 bytes-now small r = record { change = r.change; stands = r.text; values = small }
@@ -86,7 +85,7 @@ bytes-grown small r = record { table = r.table; grown = r.grown; now = bytes-now
 
 -- ---- the calls
 
--- what is read there are the bytes of the key's text
+-- the call returns the bytes of the key's text
 pub reads-bytes : (s : SegmentState) (key : Key) (p : Place) (out : List ℕ)
     → AnswersWith s (λ d. container_at d key String) (Ok p)
     → ReadsText s.cut.bytes p out → AnswersWith s (λ d. bytes_at d key) (Ok out)
@@ -99,7 +98,7 @@ reads-bytes s key p out found reads = record {
       [ None ↦ Err NotFound | Some o ↦ text_bytes o.value ]) h.is);
 }
 
--- as the view before the call names the segment
+-- for a segment that is the same as the one before the call
 module _ {s t : SegmentState} (view : s ≡ t) (key : Key) (p : Place) (b : IsSegment s.cut.bytes)
     (there : AnswersWith t (λ d. container_at d key String) (Ok p)) where
   there-too : AnswersWith s (λ d. container_at d key String) (Ok p)
@@ -108,11 +107,11 @@ module _ {s t : SegmentState} (view : s ≡ t) (key : Key) (p : Place) (b : IsSe
   abbrev some : HoldsItems texts s.cut.bytes b.0 key p
   some = some-items texts s key p b there-too
 
-  -- some bytes stand there
+  -- there is a text at the place
   pub text-standing : IsSomeText s.cut.bytes p
   text-standing = (some.items, (some.table, some.stands))
 
-  -- one of them
+  -- one byte of the text is read
   pub text-got : (i x : ℕ) → GetsByte s.cut p i (Ok x) → TakesStepOfKind s s key String (Get key i) (Element U8 (pos x))
   text-got i x a = items-stay texts s key p b there-too (Get key i) (Element U8 (pos x)) (open-reading s.mode
       (Get key i) refl) (λ d den h. ap (perform d (live d)) (byte-plan d key h.object h.items h.table h.is h.value i
@@ -127,7 +126,7 @@ module _ {s t : SegmentState} (view : s ≡ t) (key : Key) (p : Place) (b : IsSe
       (λ d den h. ap (perform d (live d)) (byte-plan d key h.object h.items h.table h.is h.value i None
       (byte-got h.items i None (slice_get_past h.items i (a h.items h.table h.stands).outside)))))
 
--- the same, where it may be changed
+-- for a segment that is open for writing
 module _ {s t : SegmentState} (view : s ≡ t) (b : IsSegment s.cut.bytes) {key : Key} {p : Place}
     (to : IsChangeableContainer t key String p) (new : WindowState) where
   found : AnswersWith s (λ d. container_at d key String) (Ok p)

@@ -1,5 +1,5 @@
--- The blocks of a vector of texts among all others: each is in use, and no two are one. And what becomes of them where
--- a part of the texts is replaced.
+-- The blocks of a vector of texts among all others: each is in use, and all are different. And their change when a part
+-- of the texts is replaced.
 use Rattle.segment_manager.proofs.Common.{◌≡◌, sym, ap, subst, ◌∙◌, ℕ, ◌≢◌, List, [], ◌∷◌, ◌++◌, append_assoc, arith}
 use Rattle.segment_manager.proofs.Common.{option_to_list, AllByRecursion, Extent, handle, BackingArray, SameSpread}
 use Rattle.segment_manager.proofs.Common.{middle-first, AreDistinct, text_blocks, OwnedText, Object, Texts}
@@ -16,7 +16,7 @@ differ-handles : (x : Extent) (ys : List Extent) → Differs x ys → AllByRecur
 differ-handles x [] h = tt
 differ-handles x (y ∷ ys) h = ((λ e. h.0 (omega (arith, e))), differ-handles x ys h.1)
 
--- no two of those that are put in are one
+-- the inserted extents are all different
 pub others-apart : (n : ℕ) (xs zs : List Extent) → Rising n (inserted xs zs) → AreDistinct xs
 others-apart n [] zs r = tt
 others-apart n (x ∷ xs) zs r =
@@ -39,14 +39,14 @@ part-back ws fs xs bs =
 
 -- ---- a part of the texts is replaced
 
--- some texts stand where others stood, between the same
+-- some texts replace others, between the same texts
 pub record IsPartOther (ps qs out in_place : List OwnedText) : Type 0 where
   pub front : List OwnedText
   pub back : List OwnedText
   pub was : ps ≡ front ++ (out ++ back)
   pub is : qs ≡ front ++ (in_place ++ back)
 
--- Then the array and the blocks of the old ones are gone, and the array and the blocks of the new ones come.
+-- Then the old array and the old texts' blocks are freed, and the new array and the new texts' blocks are allocated.
 pub part-exchange : (o : Object) (ps qs out in_place : List OwnedText) (t u : BackingArray) (gone come : List Extent)
     → o.value ≡ Texts ps t → IsPartOther ps qs out in_place → gone ≡ option_to_list t.extent ++ text_blocks out
     → come ≡ option_to_list u.extent ++ text_blocks in_place → Exchange o (with_value o (Texts qs u)) gone come

@@ -36,7 +36,7 @@ use Rattle.seg_vector.specs.TextsCalls.{RefusesFirstBlock, SetsTextOk, LacksFit,
 use Rattle.seg_vector.specs.{TextsCalls.UnchangedIfFirstRefused, TextsCalls.new_array, Vector.capacity_for_one}
 use Rattle.segment_manager.specs.Keeping.{UnchangedWhere, LacksArray, LacksFirst}
 
--- texts as literals are read as them
+-- texts as literals are read back as themselves
 texts-read : (bss : List (List ℕ)) → texts_of (map asked.Quoted bss) ≡ Ok bss
 texts-read [] = refl
 texts-read (bs ∷ bss) = ap (λ (q : Result (List (List ℕ)) Refusal). elim q as (λ _. Result (List (List ℕ)) Refusal)
@@ -50,7 +50,7 @@ module _ {s t : SegmentState} (view : s ≡ t) (key : Key) (p : Place) (b : IsSe
   there-too : AnswersWith s (λ d. container_at d key StringsKind) (Ok p)
   there-too = seen-found s t view key StringsKind p there
 
-  -- some texts stand there
+  -- there are texts at the place
   pub texts-standing : IsTextsContainer s.cut.bytes p
   texts-standing = some-texts s key p b there-too
 
@@ -73,7 +73,7 @@ module _ {s t : SegmentState} (view : s ≡ t) (key : Key) (p : Place) (b : IsSe
       s.mode (asked.Get key i) refl) (λ d h. ap (perform d (live_of s.cut.bytes)) (got-text h i None (slice_get_past
       h.texts i (a h.texts h.table h.stand).outside))))
 
--- the same, where they may be changed
+-- for a segment that is open for writing
 module _ {s t : SegmentState} (view : s ≡ t) (b : IsSegment s.cut.bytes) {key : Key} {p : Place}
     (to : IsChangeableContainer t key StringsKind p) (new : WindowState) where
   found : AnswersWith s (λ d. container_at d key StringsKind) (Ok p)
@@ -188,7 +188,7 @@ module _ {s t : SegmentState} (view : s ≡ t) (b : IsSegment s.cut.bytes) {key 
       seen-kept (given-up o.refusal o.restored
       (λ d h. ap (perform d heap) (push-text h bs) ∙ put-unmet h (length h.texts) bs (a h.texts h.table h.stand).none))
 
-  -- where the first block has no space, nothing changes
+  -- if the first block has no space, nothing changes
   pub text-first : (bs : List ℕ) → UnchangedIfFirstRefused s.cut new p bs
       → UnchangedWhere t (record s { cut = new }) (LacksFirst key bs)
   text-first bs a = subst (λ (u : SegmentState). UnchangedWhere u (record s { cut = new }) (LacksFirst key bs)) view
@@ -283,7 +283,7 @@ module _ {s t : SegmentState} (view : s ≡ t) (b : IsSegment s.cut.bytes) {key 
       led s t view b new key (asked.Pop key) (Err e) (Some e)
       (step-leads-on s (record s { cut = new }) key (asked.Pop key) (Refused e) safe.step) o.same
 
-  -- ---- none, and others in the place of all
+  -- ---- all texts are replaced, by none or by others
 
   cleared : (c : Command) → ClearsTexts s.cut new p → ((d : Directory) (h : Holds d) → effect d c ≡ assign_in h h.table
       []) → TakesStepOfKind s (record s { cut = new }) key StringsKind c Done
@@ -330,7 +330,7 @@ module _ {s t : SegmentState} (view : s ≡ t) (b : IsSegment s.cut.bytes) {key 
       ap (perform d heap) (reserve-texts h n) ∙ room-grown d heap 16 h.table n next
       ∙ ap (then_room d heap h.table next) e
 
-  -- what is done with them
+  -- the effect of a change on the texts
   pub texts-changed : (change : Change) (r : Result (Unit {0}) Refusal) → ChangesTexts change s.cut new p r
       → StepsSafely s new key StringsKind (command_of change key) r
   texts-changed (Reserve n) (Ok u) a = done-so (does (λ d l h.

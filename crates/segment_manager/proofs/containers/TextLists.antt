@@ -1,10 +1,10 @@
--- Lists of texts with one more, one less, or another among them.
+-- Lists of texts with one more, one less, or one replaced.
 use Rattle.segment_manager.proofs.Common.{◌≡◌, refl, sym, ap, ◌∙◌, ℕ, zero, suc, ◌-◌, Some, List, [], ◌∷◌, ◌++◌, length}
 use Rattle.segment_manager.proofs.Common.{take, drop, append-nil, arith, insert, remove, slice_get, slice_set}
 use Rattle.segment_manager.proofs.{Common.OwnedText, containers.TextBlocks.IsPartOther}
 use Rattle.std.proofs.{Math.Seq.take-length, Math.Seq.drop-length, lemmas.List.drop_all, lemmas.List.take-append-drop}
 
--- the text with i others before it, among them
+-- the text at index i, among the others
 split-at : (ps : List OwnedText) (i : ℕ) (q : OwnedText) → slice_get ps i ≡ Some q
     → ps ≡ take i ps ++ q ∷ drop (suc i) ps
 split-at [] i q e = absurd (cc)
@@ -17,7 +17,7 @@ set-at [] i q r e = absurd (cc)
 set-at (p ∷ ps) zero q r e = refl
 set-at (p ∷ ps) (suc i) q r e = ap (λ (qs : List OwnedText). p ∷ qs) (set-at ps i q r e)
 
--- one more
+-- one more text
 pub part-inserted : (ps : List OwnedText) (i : ℕ) (q : OwnedText) → IsPartOther ps (insert ps i q) [] (q ∷ [])
 part-inserted ps i q = record { front = take i ps; back = drop i ps; was = sym (take-append-drop i ps); is = refl }
 
@@ -27,12 +27,12 @@ pub part-set : (ps : List OwnedText) (i : ℕ) (q r : OwnedText) → slice_get p
 part-set ps i q r e = record
     { front = take i ps; back = drop (suc i) ps; was = split-at ps i q e; is = set-at ps i q r e }
 
--- one less
+-- one text less
 pub part-removed : (ps : List OwnedText) (i : ℕ) (q : OwnedText) → slice_get ps i ≡ Some q
     → IsPartOther ps (remove ps i) (q ∷ []) []
 part-removed ps i q e = record { front = take i ps; back = drop (suc i) ps; was = split-at ps i q e; is = refl }
 
--- all of them, and none
+-- all texts are replaced, and none
 pub part-all : (ps qs : List OwnedText) → IsPartOther ps qs ps qs
 part-all ps qs = record { front = []; back = []; was = sym (append-nil ps); is = sym (append-nil qs) }
 

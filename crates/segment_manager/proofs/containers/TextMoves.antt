@@ -1,4 +1,4 @@
--- A call on a vector of texts is one step: what the calls of seg_vector ensure of the texts at its place comes to the
+-- A call on a vector of texts is one step: the contracts of seg_vector for the texts at its place give the next
 -- directory.
 use Rattle.segment_manager.proofs.Common as common
 use common.{◌≡◌, sym, ◌∙◌, true, None, Ok, List, ◌++◌, OnErr, WindowState, BackingArray, Kind, Key, Place, Value, Texts}
@@ -21,11 +21,11 @@ use Rattle.best_fit.specs.Exchange.{KeepsLiveSet}
 
 -- ---- one directory
 
--- one block more, or none, at the end of a list
+-- one more block, or none, at the end of a list
 pub one-block : (xs : List Extent) (r : Option Extent) → xs ++ option_to_list r ≡ xs ++ (option_to_list r ++ [])
 one-block xs r = ap (λ (ys : List Extent). xs ++ ys) (sym (append-nil (option_to_list r)))
 
--- it is so where a part of them is another
+-- the step takes place if a part of the texts is replaced
 pub moved : {old new : WindowState} {p : Place} {ps qs out in_place : List OwnedText} {t u : BackingArray}
     {gone come : List Extent} → IsPartOther ps qs out in_place → AllByRecursion HasBytes in_place
     → gone ≡ option_to_list t.extent ++ text_blocks out → come ≡ option_to_list u.extent ++ text_blocks in_place
@@ -54,13 +54,13 @@ pub all-other : {old new : WindowState} {p : Place} {ps qs : List OwnedText} {t 
     → ReplacesTexts old new p (option_to_list t.extent ++ text_blocks ps) come qs u → IsTextsMove old new p ps t qs u
 all-other {ps = ps} {qs = qs} small e now = moved (part-all ps qs) small refl e now
 
--- one of them is left out
+-- one text is removed
 pub left-out : {old new : WindowState} {p : Place} {i : ℕ} {ps : List OwnedText} {t : BackingArray}
     → (r : ErasesTextOk old new p ps t i) → IsTextsMove old new p ps t (remove ps i) t
 left-out {i = i} {ps = ps} {t = t} r = moved (part-removed ps i r.before r.found) tt
     (one-block (option_to_list t.extent) r.before.extent) (sym (append-nil (option_to_list t.extent))) r.now
 
--- and what the command's plan comes to
+-- and the result of the command's plan
 pub record TextsMove (old new : WindowState) (d : Directory) (key : Key) (p : Place) (h : HoldsTexts old.bytes d key p)
     (c : Command) (answer : Answer) : Type 0 where
   pub texts : List OwnedText
@@ -73,11 +73,11 @@ module _ (s : SegmentState) (key : Key) (p : Place) (b : IsSegment s.cut.bytes)
   abbrev Holds : Directory → Type 0
   Holds d = HoldsTexts s.cut.bytes d key p
 
-  -- the strings of the object are those that the bytes say
+  -- the strings of the object are the strings in the bytes
   abbrev pub texts_in : (d : Directory) → DenotesCurrent s.cut.bytes d → Holds d
   texts_in d l = holds-texts s.cut.bytes d key p l.denotes (found.answers d l)
 
-  -- what the step of a call comes to
+  -- the result of the step of a call
   abbrev outcome-of : Command → Directory → Answer × Directory
   outcome-of c d = step_of_kind s.mode d key StringsKind c
 
@@ -88,7 +88,7 @@ module _ (s : SegmentState) (key : Key) (p : Place) (b : IsSegment s.cut.bytes)
       (ap (λ (v : Value). same_kind StringsKind (kind_of v)) (texts_in d l).value)
       ∙ ap (λ (m : LiveSet). perform d m (effect d c)) (sym (denotes-live current s.cut.bytes d l.denotes))
 
-  -- the new bytes stand for the directory with the other texts
+  -- the new bytes denote the directory with the other texts
   texts-move : (new : WindowState) (d : Directory) (l : DenotesCurrent s.cut.bytes d) (c : Command) (answer : Answer)
       → is_read_only s.mode ≡ false → TextsMove s.cut new d key p (texts_in d l) c answer
       → IsMove (record s { cut = new }) answer (outcome-of c d)
@@ -108,7 +108,7 @@ module _ (s : SegmentState) (key : Key) (p : Place) (b : IsSegment s.cut.bytes)
       (record { mode = refl; place = (each b.0 b.1 (texts_in b.0 b.1)).move.now.change.place })
       (λ d l. texts-move new d l c answer writing (each d l (texts_in d l)))
 
-  -- the same of a call that does not say what it took away
+  -- the same for a call that does not return the text that it removed
   pub texts-lead-on : (new : WindowState) (c : Command) (answer : (d : Directory) → DenotesCurrent s.cut.bytes d
       → Answer) → is_read_only s.mode ≡ false
       → ((d : Directory) (l : DenotesCurrent s.cut.bytes d) → refusal_of (answer d l) ≡ None)
@@ -125,13 +125,13 @@ module _ (s : SegmentState) (key : Key) (p : Place) (b : IsSegment s.cut.bytes)
           → IsMove (record s { cut = new }) (answer d l) (outcome-of c d)
       moves d l = texts-move new d l c (answer d l) writing (each d l)
 
-  -- it answers so, and nothing changes
+  -- the call has this answer, and nothing changes
   pub texts-stay : (c : Command) (answer : Answer) → IsOpenFor s.mode c → ((d : Directory) (h : Holds d)
       → perform d (live_of s.cut.bytes) (effect d c) ≡ (answer, d)) → TakesStepOfKind s s key StringsKind c answer
   texts-stay c answer may each =
       by_no_change_of_kind s key StringsKind c answer (λ d l. texts-plan d l c may ∙ each d (texts_in d l))
 
-  -- it answers so, and all blocks are as they were
+  -- the call has this answer, and all blocks are unchanged
   pub texts-restored : (new : WindowState) (c : Command) (answer : Answer) → IsOpenFor s.mode c
       → KeepsLiveSet current s.cut new
       → ((d : Directory) (h : Holds d) → perform d (live_of s.cut.bytes) (effect d c) ≡ (answer, d))
@@ -145,9 +145,9 @@ module _ (s : SegmentState) (key : Key) (p : Place) (b : IsSegment s.cut.bytes)
         };
       })
 
--- ---- a call that may ask for several blocks
+-- ---- a call that can allocate several blocks
 
--- its step, and that it changes nothing where it is refused before it asks for one
+-- its step; it changes nothing if it fails before it allocates a block
 pub record StepsKeeping (s : SegmentState) (new : WindowState) (key : Key) (c : Command)
     (r : Result (Unit {0}) Refusal) : Type 0 where
   pub step : TakesStepOfKind s (record s { cut = new }) key StringsKind c (done_answer r)
@@ -173,14 +173,14 @@ kept s t view b new key c r done = record {
 
 -- ---- a call that answers nothing
 
--- it leads on, changes nothing where it is refused, and leaves a segment
+-- the call takes its step without the answer, changes nothing if it fails, and leaves a segment
 pub record Led (s t : SegmentState) (new : WindowState) (key : Key) (c : Command) (r : Result (Unit {0}) Refusal)
     (why : Option Refusal) : Type 0 where
   pub step : LeadsOnOfKind t (record s { cut = new }) key StringsKind c why
   pub refused : OnErr r ((record s { cut = new }) ≡ t)
   pub segment : IsSegment new.bytes
 
--- a call that leads to the directory's answer is its step
+-- a call with the directory's answer is its step
 pub led : (s t : SegmentState) (view : s ≡ t) (b : IsSegment s.cut.bytes) (new : WindowState) (key : Key) (c : Command)
     (r : Result (Unit {0}) Refusal) (why : Option Refusal)
     → LeadsOnOfKind s (record s { cut = new }) key StringsKind c why → OnErr r (new ≡ s.cut) → Led s t new key c r why
@@ -190,13 +190,13 @@ led s t view b new key c r why step same = record {
   segment = ((step_of_kind s.mode b.0 key StringsKind c).1, step.denotes b.0 b.1);
 }
 
--- what is a step leads on, refused for the reason that it answers
+-- a step also takes place without its answer, with the answer's error
 pub step-leads-on : (old new : SegmentState) (key : Key) (c : Command) (answer : Answer)
     → TakesStepOfKind old new key StringsKind c answer → LeadsOnOfKind old new key StringsKind c (refusal_of answer)
 step-leads-on old new key c answer r =
     record { stays = r.stays; answers = λ d l. ap refusal_of (r.answers d l); denotes = r.denotes }
 
--- where the object of the key says its kind, the step of the kind is the command's
+-- if the key's object has the kind, the step for the kind is the command's
 pub of_kind-leads_on : (old new : SegmentState) (key : Key) (kind : Kind) (c : Command) (why : Option Refusal)
     → AnswersWith old (λ d. kind_at d key) (Ok kind) → LeadsOnOfKind old new key kind c why
     → StepsWithoutAnswer old new c why

@@ -1,4 +1,4 @@
--- The plans of the commands on a vector of texts, and what they come to.
+-- The plans of the commands on a vector of texts, and their results.
 use Rattle.segment_manager.proofs.Common as common
 use Rattle.seg_types.specs.Commands as asked
 use Rattle.segment_manager.specs.Step as step
@@ -15,7 +15,7 @@ use Rattle.segment_manager.proofs.containers.PlacedTexts.{in_block, unplaced}
 use Rattle.segment_manager.proofs.containers.TextLists.{pushed-last, removed-last}
 use Rattle.segment_manager.proofs.{directory.CommandSteps.with-found, containers.TextsHeld.HoldsTexts}
 
--- ---- what requests come to
+-- ---- the results of allocations
 
 -- the block of a text
 abbrev pub then_text : Directory → LiveSet → (OwnedText → Plan) → Option OwnedText → Answer × Directory
@@ -32,7 +32,7 @@ pub text-placed : (d : Directory) (l : LiveSet) (bs : List ℕ) (next : OwnedTex
     → perform d l (with_owned_text bs next) ≡ then_text d l next (placed_text l bs)
 text-placed d l bs next = text-if d l bs next (length bs == 0)
 
--- those of several texts
+-- the live set with the blocks of several texts
 abbrev pub beside_texts : LiveSet → List OwnedText → LiveSet
 beside_texts l [] = l
 beside_texts l (q ∷ qs) = beside_texts (with_text l q) qs
@@ -133,7 +133,7 @@ module _ (d : Directory) (l : LiveSet) (bss : List (List ℕ)) (next : BackingAr
 
 -- ---- the commands
 
--- the text that is read or left out, which there is where the index is of one
+-- the text that is read or removed, if the index is in range
 abbrev pub text_in : Option OwnedText → Result OwnedText Refusal
 text_in r = elim r as (λ _. Result OwnedText Refusal) [ None ↦ Err OutOfRange | Some p ↦ Ok p ]
 
@@ -143,12 +143,12 @@ module _ {b : List ℕ} {d : Directory} {key : Key} {p : Place} (h : HoldsTexts 
   abbrev pub texts_after : List OwnedText → BackingArray → Directory
   texts_after qs u = changed d h.object (Texts qs u)
 
-  -- a plan that goes by the object and its value
+  -- a plan by the object and its value
   by-texts : (next : Object → Value → Plan)
       → with (found_at d key) (λ o. next o o.value) ≡ next h.object (Texts h.texts h.table)
   by-texts next = with-found d key h.object (λ o. next o o.value) h.is ∙ ap (next h.object) h.value
 
-  -- one text read
+  -- one text is read
   pub got-text : (i : ℕ) (r : Option OwnedText) → slice_get h.texts i ≡ r
       → effect d (asked.Get key i) ≡ with (text_in r) (λ q. Reply (TextElement q.bytes) d)
   got-text i r g = by-texts (λ o v. step.get d v i) ∙ ap (λ r. with (text_in r) (λ q. Reply (TextElement q.bytes) d)) g
@@ -163,7 +163,7 @@ module _ {b : List ℕ} {d : Directory} {key : Key} {p : Place} (h : HoldsTexts 
   set-text i bs r g = by-texts (λ o v. step.set d o v i (asked.Quoted bs))
       ∙ ap (λ r. with (text_in r) (λ old. with_owned_text bs (set_in i))) g
 
-  -- one more, among the others or after the last
+  -- one more text, among the others or after the last
   abbrev pub insert_in : ℕ → BackingArray → OwnedText → Plan
   insert_in i u q = Reply Done (texts_after (insert h.texts i q) u)
 
@@ -182,7 +182,7 @@ module _ {b : List ℕ} {d : Directory} {key : Key} {p : Place} (h : HoldsTexts 
   insert-text i bs b g = by-texts (λ o v. step.insert_at d o v i (asked.Quoted bs))
       ∙ ap (λ (b : Bool). if b then Refuse OutOfRange else insert_plan i bs) g
 
-  -- one less
+  -- one text less
   pub erase-text : (i : ℕ) (r : Option OwnedText) → slice_get h.texts i ≡ r
       → effect d (asked.Erase key i) ≡ with (text_in r) (λ q. Reply Done (texts_after (remove h.texts i) h.table))
   erase-text i r g = by-texts (λ o v. step.erase d o v i)
@@ -194,7 +194,7 @@ module _ {b : List ℕ} {d : Directory} {key : Key} {p : Place} (h : HoldsTexts 
   pop-text r g = by-texts (λ o v. step.pop d o v) ∙ (λ i. with (text_in (g i)) (λ q.
       Reply (TextElement q.bytes) (texts_after (sym (removed-last h.texts) i) h.table)))
 
-  -- others in the place of all: none, and one or more
+  -- all texts are replaced, by none or by others
   pub assign-none : effect d (asked.Assign key []) ≡ Reply Done (texts_after [] h.table)
   assign-none = by-texts (λ o v. step.assign d o v [])
 

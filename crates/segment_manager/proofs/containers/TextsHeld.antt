@@ -1,5 +1,5 @@
--- A vector of texts as the value of an object: it stands at its place as the calls of seg_vector see it, and what they
--- do to it is what becomes of the object.
+-- A vector of texts as the value of an object: its place for the calls of seg_vector, and the effect of these calls on
+-- the object.
 use Rattle.segment_manager.proofs.Common as common
 use common.{◌≡◌, sym, true, ◌&&◌, Some, None, List, ◌++◌, live, ◌∙◌, ◌+◌, ◌≢◌, ◌≤◌, Ok, [], ◌∷◌, WindowState, Key, ℕ}
 use common.{refl, Storage, LiveSet, live_of, length, IsTrue, nat_le, nat_lt, eq-eqb, Denotes, kind_of, AnswersWith}
@@ -39,7 +39,7 @@ InUse l x = extent_at l (handle x) ≡ Some x
 abbrev Beside : ℕ → Extent → Type 0
 Beside h x = h ≢ handle x
 
--- its block is in use, where it has one
+-- the text's block is in use, if it has one
 held-one : (l : LiveSet) (bytes : List ℕ) (r : Option Extent)
     → IsTrue (has_own_block (record { bytes = bytes; extent = r }))
     → AllByRecursion (InUse l) (option_to_list r) → IsHeldText l (record { bytes = bytes; extent = r })
@@ -83,7 +83,7 @@ owned-each l (p ∷ ps) h s = and_from (is_owned_text p) (list_all is_owned_text
 
 -- ---- the value
 
--- what is known of a good one
+-- the properties of a good vector of texts
 record FitsTexts (ps : List OwnedText) (t : BackingArray) : Type 0 where
   table : IsTrue (has_backing Storage 16 t)
   fits : length ps ≤ t.capacity
@@ -99,7 +99,7 @@ fits-texts ps t h =
       owned = second (nat_le (length ps) t.capacity && has_backing Storage 16 t) (list_all is_owned_text ps) h;
     }
 
--- texts that stand at a place make one
+-- texts at a place form a good value
 pub good-texts : (b : List ℕ) (p : Place) (ps : List OwnedText) (t : BackingArray) → IsTexts b p ps t
     → AllByRecursion HasBytes ps → IsTrue (is_good_value (Texts ps t))
 good-texts b p ps t h s = and_from (nat_le (length ps) t.capacity
@@ -118,7 +118,7 @@ pub texts-only : (v : Value) → same_kind StringsKind (kind_of v) ≡ true
     → (ps : List OwnedText) × ((t : BackingArray) × (v ≡ Texts ps t))
 texts-only v e = texts-if v (one-kind StringsKind (kind_of v) e)
 
--- its blocks are in use, and no two of them and its own are one
+-- the vector's blocks are in use, and differ from each other and from the object's own
 its-blocks : (d : Directory) (o : Object) (ps : List OwnedText) (t : BackingArray) → IsIn d o
     → IsTrue (is_proper (live d))
     → o.value ≡ Texts ps t → AllByRecursion (InUse (live d)) (option_to_list t.extent ++ text_blocks ps) × AreDistinct
@@ -144,7 +144,7 @@ other-way h (x ∷ xs) n = ((λ e. n.0 (sym e)), other-way h xs n.1)
 
 -- ---- the object of a key
 
--- it is a vector of texts, which stands at the place
+-- the object is a vector of texts, at the place
 pub record HoldsTexts (b : List ℕ) (d : Directory) (key : Key) (p : Place) : Type 0 where
   pub object : Object
   pub is : object_at d key ≡ Some object
@@ -155,7 +155,7 @@ pub record HoldsTexts (b : List ℕ) (d : Directory) (key : Key) (p : Place) : T
   pub stand : IsTexts b p texts table
   pub bytes : AllByRecursion HasBytes texts
 
--- where the search ended, there it is
+-- the object that the search found
 pub holds-texts : (b : List ℕ) (d : Directory) (key : Key) (p : Place) → Denotes current b d
     → Ok p ≡ container_at d key StringsKind → HoldsTexts b d key p
 holds-texts b d key p k e =
@@ -196,16 +196,16 @@ holds-texts b d key p k e =
       bytes = bytes-each ps good.owned;
     }
 
--- so some texts stand there
+-- so there are texts at the place
 pub some-texts : (s : SegmentState) (key : Key) (p : Place) → IsSegment s.cut.bytes
     → AnswersWith s (λ d. container_at d key StringsKind) (Ok p) → IsTextsContainer s.cut.bytes p
 some-texts s key p b a =
     let h : HoldsTexts s.cut.bytes b.0 key p = holds-texts s.cut.bytes b.0 key p b.1.denotes (a.answers b.0 b.1) in
     (h.texts, (h.table, h.stand))
 
--- ---- what becomes of the object
+-- ---- the effect on the object
 
--- what a call did to the vector: which texts stand there now, in which array, and which part of them is another
+-- the effect of a call on the vector: its texts, its array, and the part of the texts that is replaced
 pub record IsTextsMove (old new : WindowState) (p : Place) (ps : List OwnedText) (t : BackingArray)
     (qs : List OwnedText) (u : BackingArray) : Type 0 where
   pub out : List OwnedText

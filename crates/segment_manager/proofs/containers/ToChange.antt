@@ -1,4 +1,4 @@
--- The container that is to be changed, as the calls that change it find it.
+-- The container to change, for the calls that change it.
 use Rattle.segment_manager.proofs.Common.{◌≡◌, true, false, sym, subst, Result, Ok, Err, MatchResult, Kind, Refusal}
 use Rattle.segment_manager.proofs.Common.{Key, Command, Place, Refused, container_at, AnswersWith, SegmentState}
 use Rattle.segment_manager.proofs.Common.{TakesStepOfKind, Answer, answer_of, is_changing, is_read_only, IsNotToChange}
@@ -7,7 +7,7 @@ use Rattle.segment_manager.proofs.{directory.CommandSteps.open-writing}
 use Rattle.std.specs.Prelude.{IsErrAnd}
 use Rattle.segment_manager.specs.containers.ToChange.{IsChangeableContainer}
 
--- a segment that may be changed
+-- a segment that is open for writing
 pub to_change : (s : SegmentState) (key : Key) (kind : Kind) (r : Result Place Refusal) → is_read_only s.mode ≡ false
     → AnswersWith s (λ d. container_at d key kind) r
     → MatchResult r (IsChangeableContainer s key kind) (IsNotToChange s key kind)
@@ -22,14 +22,14 @@ pub seen-found : (s t : SegmentState) (view : s ≡ t) (key : Key) (kind : Kind)
 seen-found s t view key kind p =
     subst (λ (u : SegmentState). AnswersWith u (λ d. container_at d key kind) (Ok p)) (sym view)
 
--- where there is none, the call that would change it answers why
+-- without such an object, the call that would change it fails with this error
 pub not-changed : {R : Type 0} {s : SegmentState} {key : Key} {l k : Kind} {why : Refusal} (says : R
     → Answer) (c : Command) (r : Result R Refusal) → l ≡ k → IsErrAnd r (λ e. e ≡ why)
     → is_changing c ≡ true → IsNotToChange s key l why → TakesStepOfKind s s key k c (answer_of says r)
 not-changed {s = s} {key = key} {why = why} says c r same is changing not = rw (exit-is r why is)
     (subst (λ (kind : Kind). TakesStepOfKind s s key kind c (Refused why)) same (not.refused c changing))
 
--- the same, as the clauses of a call that says what it does to the gaps
+-- the same, as the clauses of a call with an effect on the gaps
 pub told-unchanged : {R G : Type 0} {s : SegmentState} {key : Key} {l k : Kind} {why : Refusal} (says : R
     → Answer) (c : Command) (r : Result R Refusal) → l ≡ k → IsErrAnd r (λ e. e ≡ why)
     → is_changing c ≡ true → IsNotToChange s key l why → G → record {

@@ -92,11 +92,11 @@ module _ {T : Type 0} {k : ScalarKind} {w : T → ℤ} {size : ℕ} {test : T �
     some : Holds b.0
     some = some-items typed s key p b found
 
-    -- some vector stands there
+    -- there is a vector at the place
     pub some-vector : IsSomeVector size test sp s.cut.bytes p
     some-vector = (some.items, (some.table, vector b.0 some))
 
-    -- the index of an element, and one after them, as their numbers have it
+    -- an index within the length, and one past it, for the numbers
     within : (xs : List T) (i : ℕ) → i < length xs → slice_get (map w xs) i ≡ Some (get_or (map w xs) i (pos 0))
     within xs i h = slice_get-get_or (map w xs) i (pos 0) (subst (λ (n : ℕ). i < n) (sym (length-map xs w)) h)
 
@@ -105,7 +105,7 @@ module _ {T : Type 0} {k : ScalarKind} {w : T → ℤ} {size : ℕ} {test : T �
 
     -- ---- the gaps
 
-    -- those that stay with the block of the storage
+    -- the gaps stay if the block of the storage does
     grown-gaps : {new : WindowState} {n : ℕ} {ys : List T} → GrowsVectorOk size test sp s.cut new p some.table n ys
         → live_of new.bytes ≡ live_of s.cut.bytes → KeepsGaps s.cut new
     grown-gaps g e = g.now.gaps (same-extents p.handle some.table.extent g.table.extent some.stands.heap
@@ -299,7 +299,7 @@ module _ {T : Type 0} {k : ScalarKind} {w : T → ℤ} {size : ℕ} {test : T �
           h.table (λ u. Reply Done (changed d h.object (Elements k (map w ys) u))))) (λ d h. so-too _ _ _ r
           (a h.items h.table (vector d h)) (λ q. grown-so q)))
 
-      -- ---- others over those from one on, and after the last
+      -- ---- elements replaced from an index on, or appended
 
       pub vector-overwritten : (first : ℕ) (ys : List T) (r : Result (Unit {0}) Refusal)
           → SetsAll size test sp s.cut new p first ys r → RangeWritten s t new key k first (map w ys) r

@@ -1,4 +1,4 @@
--- The calls that leave the directory, whichever the bytes denote: zeros in the gaps, and what is asked of a segment.
+-- The calls that keep the directory, for each directory of the bytes: zeroing the gaps, and reading the segment.
 use Rattle.seg_types.specs.Commands as asked
 use Rattle.segment_manager.proofs.Common.{◌≡◌, bytes_of, gap_front, SameBlock, ZeroesFree, Directory, tiles_of}
 use Rattle.segment_manager.proofs.Common.{slice_get, refl, ap, subst, true, false, ◌==◌, spans, KeepsBlocks, Truth}
@@ -15,9 +15,9 @@ use Rattle.segment_manager.proofs.directory.Frame.{any_objects-same}
 use Rattle.best_fit.specs.{Extents.Gap, Extents.free_bytes, FreeTree.span}
 use Rattle.segment_manager.specs.{Calls.HasZeroGaps, Layout.size_at}
 
--- ---- what the bytes stand for stays with the header and all blocks
+-- ---- the directory of the bytes stays if the header and all blocks stay
 
--- whatever objects there are
+-- for any objects
 pub denotes-kept : {format : ℕ} (old new : WindowState) {d : Directory} → Denotes format old.bytes d
     → EncodesLiveSet format new.bytes (live d) → KeepsBlocks old new (live d).extents → Denotes format new.bytes d
 denotes-kept {format} old new {d} h l k =
@@ -35,7 +35,7 @@ denotes-kept {format} old new {d} h l k =
 
 -- ---- zeros in the gaps
 
--- the gaps' bytes are part of nothing that stands there
+-- the bytes of gaps are part of no object
 pub zeroed : (mode : Mode) {old new : WindowState} {d : Directory} → Denotes current old.bytes d
     → is_read_only mode ≡ false → ZeroesFree current old new → IsNext new.bytes (step mode d asked.ZeroFree) Done d
 zeroed mode {old} {new} {d} h writing z =
@@ -59,7 +59,7 @@ zeroed-gaps {old} {new} z = record {
       (live_of old.bytes) z.live) ∙ denotes-live current new.cut.bytes d h.denotes) z.zero;
 }
 
--- ---- what is asked of a segment
+-- ---- reading a segment
 
 -- the size word
 pub size-replies : (mode : Mode) (b : List ℕ)

@@ -1,4 +1,4 @@
--- How a call is shown to be one step of the directory machine.
+-- Lemmas that show that a call is one step of the directory machine.
 use Rattle.segment_manager.proofs.Common as common
 use common.{◌≡◌, sym, ◌∙◌, ℕ, ◌&&◌, Some, None, Err, Role, Kind, Key, Mode, live, Plan, New, with, step, List, refl}
 use common.{subst, true, false, Ok, place, Object, Answer, Refuse, Reply, effect, SegmentState, KeepsModeAndPlace}
@@ -15,13 +15,13 @@ pub record IsNext (b : List ℕ) (next : Answer × Directory) (answer : Answer) 
   pub is : next ≡ (answer, after)
   pub denotes : Denotes current b after
 
--- the same of what the bytes of a segment stand for
+-- the same for the directory of a segment's bytes
 pub record IsMove (new : SegmentState) (answer : Answer) (next : Answer × Directory) : Type 0 where
   pub after : Directory
   pub is : next ≡ (answer, after)
   pub stands : DenotesCurrent new.cut.bytes after
 
--- the new bytes stand for the next directory
+-- the new bytes denote the next directory
 pub lands : {new : SegmentState} {next : Answer × Directory} {answer : Answer} (after : Directory)
     → IsNext new.cut.bytes next answer after → IsMove new answer next
 lands after n = record { after = after; is = n.is; stands = record { denotes = n.denotes } }
@@ -37,46 +37,46 @@ by_moves {new} s each = record {
       (each d h).stands;
 }
 
--- for each directory that the old bytes stand for the step is known, and the new bytes stand for what it leaves
+-- the step is known for each directory of the old bytes, and the new bytes denote the next one
 pub by_step : {old new : SegmentState} (c : Command) {answer : Answer} → KeepsModeAndPlace old new
     → ((d : Directory) → DenotesCurrent old.cut.bytes d → IsMove new answer (step old.mode d c))
     → TakesStep old new c answer
 by_step c s each = by_moves s each
 
--- the same of a call for objects of one kind
+-- the same for a call for objects of one kind
 pub by_step_of_kind : (old new : SegmentState) (key : Key) (kind : Kind) (c : Command) (answer : Answer)
     → KeepsModeAndPlace old new
     → ((d : Directory) → DenotesCurrent old.cut.bytes d → IsMove new answer (step_of_kind old.mode d key kind c))
     → TakesStepOfKind old new key kind c answer
 by_step_of_kind old new key kind c answer s each = by_moves s each
 
--- after a step the bytes stand for a directory again
+-- after a step the bytes denote a directory again
 pub step-segment : (old new : SegmentState) (c : Command) (answer : Answer)
     → TakesStep old new c answer → IsSegment old.cut.bytes → IsSegment new.cut.bytes
 step-segment old new c answer m s = ((step old.mode s.0 c).1, m.denotes s.0 s.1)
 
--- the same of a call for objects of one kind
+-- the same for a call for objects of one kind
 pub step_of_kind-segment : (old new : SegmentState) (key : Key) (kind : Kind) (c : Command) (answer : Answer)
     → TakesStepOfKind old new key kind c answer → IsSegment old.cut.bytes → IsSegment new.cut.bytes
 step_of_kind-segment old new key kind c answer m s = ((step_of_kind old.mode s.0 key kind c).1, m.denotes s.0 s.1)
 
 -- ---- calls that change nothing
 
--- what is unchanged stays
+-- an unchanged segment keeps mode and place
 pub stays-refl : {s : SegmentState} → KeepsModeAndPlace s s
 stays-refl = record { mode = refl; place = record { before = refl; after = refl } }
 
--- for each directory the call leads to an answer and that directory
+-- for each directory the call gives this answer and this directory
 pub by_same : {s : SegmentState} {answer : Answer} (next : Directory → Answer × Directory) → ((d : Directory)
     → DenotesCurrent s.cut.bytes d → next d ≡ (answer, d)) → Transitions s s answer next
 by_same next each = by_moves stays-refl (λ d h. record { after = d; is = each d h; stands = h })
 
--- so it is of the step
+-- the same for the step
 pub by_no_change : (s : SegmentState) (c : Command) (answer : Answer)
     → ((d : Directory) → DenotesCurrent s.cut.bytes d → step s.mode d c ≡ (answer, d)) → TakesStep s s c answer
 by_no_change s c answer each = by_same (λ d. step s.mode d c) each
 
--- the same of a call for objects of one kind
+-- the same for a call for objects of one kind
 pub by_no_change_of_kind : (s : SegmentState) (key : Key) (kind : Kind) (c : Command) (answer : Answer)
     → ((d : Directory) → DenotesCurrent s.cut.bytes d → step_of_kind s.mode d key kind c ≡ (answer, d))
     → TakesStepOfKind s s key kind c answer
@@ -95,7 +95,7 @@ by_replies b mode c say each s = record {
   says = λ d h. s.says d h ∙ sym (ap (λ (r : Answer × Directory). r.0) (each d));
 }
 
--- so it is of a segment
+-- the same for a segment
 pub answered : {A : Type 0} {s : SegmentState} {say : Directory → A} {result : A} → Says s.cut.bytes say result
     → AnswersWith s say result
 answered h = record { answers = λ d k. h.says d k.denotes }
@@ -107,15 +107,15 @@ pub refuses-read_only : (s : SegmentState) (c : Command) → is_read_only s.mode
     → TakesStep s s c (Refused ReadOnly)
 refuses-read_only s c e f = by_no_change s c (Refused ReadOnly) (λ d h. step-read_only s.mode d c e f)
 
--- the same of a call for objects of one kind
+-- the same for a call for objects of one kind
 pub refuses_of_kind-read_only : (s : SegmentState) (key : Key) (kind : Kind) (c : Command) → is_read_only s.mode ≡ true
     → is_changing c ≡ true → TakesStepOfKind s s key kind c (Refused ReadOnly)
 refuses_of_kind-read_only s key kind c e f =
     by_no_change_of_kind s key kind c (Refused ReadOnly) (λ d h. step_of_kind-read_only s.mode d key kind c e f)
 
--- ---- what a step is, by the command's plan
+-- ---- the step by the command's plan
 
--- the segment may be changed, or the command changes nothing
+-- the segment is open for writing, or the command changes nothing
 abbrev pub IsOpenFor : Mode → Command → Type 0
 IsOpenFor mode c = (is_read_only mode && is_changing c) ≡ false
 
@@ -148,7 +148,7 @@ module _ (mode : Mode) (d : Directory) (c : Command) where
 
 -- ---- the object of a key
 
--- the plan goes on with the object that is there
+-- the plan continues with the object that exists
 pub with-found : (d : Directory) (key : Key) (o : Object) (next : Object → Plan) → object_at d key ≡ Some o
     → with (found_at d key) next ≡ next o
 with-found d key o next e = ap (λ (r : Option Object).
@@ -160,7 +160,7 @@ pub with-not_found : (d : Directory) (key : Key) (next : Object → Plan) → ob
 with-not_found d key next e = ap (λ (r : Option Object).
     with (elim r as (λ _. Result Object Refusal) [ None ↦ Err NotFound | Some o ↦ Ok o ]) next) e
 
--- what a call for objects of one kind does with an object
+-- the plan of a call for objects of one kind on an object
 abbrev of_kind : Directory → Kind → Command → Object → Plan
 of_kind d kind c o = if same_kind kind (kind_of o.value) then effect d c else Refuse WrongKind
 
@@ -183,20 +183,20 @@ module _ (mode : Mode) (d : Directory) (key : Key) (kind : Kind) (c : Command) w
   step_of_kind-step o f g = ap (λ p. perform d (live d) (if is_read_only mode && is_changing c then Refuse ReadOnly else
       p)) (with-found d key o (of_kind d kind c) f ∙ ap (λ b. if b then effect d c else Refuse WrongKind) g)
 
-  -- it is of another kind
+  -- the object has another kind
   pub step_of_kind-other : (o : Object) → IsOpenFor mode c → object_at d key ≡ Some o
       → same_kind kind (kind_of o.value) ≡ false → step_of_kind mode d key kind c ≡ (Refused WrongKind, d)
   step_of_kind-other o e f g = step_of_kind-plan e
       (with-found d key o (of_kind d kind c) f ∙ ap (λ b. if b then effect d c else Refuse WrongKind) g)
 
-  -- it is not there
+  -- there is no object with the key
   pub step_of_kind-not_found : IsOpenFor mode c → object_at d key ≡ None
       → step_of_kind mode d key kind c ≡ (Refused NotFound, d)
   step_of_kind-not_found e f = step_of_kind-plan e (with-not_found d key (of_kind d kind c) f)
 
 -- ---- the requests
 
--- a block is there
+-- a block is allocated
 pub perform-new : (d : Directory) (l : LiveSet) (role : Role) (n : ℕ) (next : Extent → Plan) (x : Extent)
     → place l n role ≡ Some x → perform d l (Request (New role n) next) ≡ perform d (resized l x) (next x)
 perform-new d l role n next x e = ap (λ (o : Option Extent).
@@ -208,7 +208,7 @@ pub perform-no_space : (d : Directory) (l : LiveSet) (role : Role) (n : ℕ) (ne
 perform-no_space d l role n next e = ap (λ (o : Option Extent).
     elim o as (λ _. Answer × Directory) [ None ↦ (Refused NoSpace, d) | Some x ↦ perform d (resized l x) (next x) ]) e
 
--- what a call leads to is what another does
+-- a call with an equal next directory is the same step
 pub moves-same : {A : Type 0} (old new : SegmentState) (answer : A) (next other : Directory → A × Directory)
     → ((d : Directory) → DenotesCurrent old.cut.bytes d → next d ≡ other d)
     → Transitions old new answer next → Transitions old new answer other

@@ -102,7 +102,7 @@ stands-empty old {new} {size} l h header named unique =
 
 -- ---- the window of a segment, from the region on
 
--- the one gap, where there is one, has null links
+-- the one gap, if there is one, has null links
 null-links : (m : Memory) (size : ℕ) → AllByRecursion (HasNullLinks current m) (gaps (no_blocks size)) → (at : ℕ)
     → at % 8 ≡ 0 → 144 ≤ at → at < 128 + gap_front current → at < size - 16 → word_at m at ≡ 1
 unfolding gaps
@@ -124,7 +124,7 @@ module _ (region : List ℕ) (base : ℕ) {size : ℕ} {window fresh : WindowSta
   cleared : AreZero (bytes_of window.bytes) 0 size
   cleared = subst (λ (c : WindowState). AreZero (bytes_of c.bytes) 0 size) (sym is_window) (zeros-AreZero size)
 
-  -- each is 0 still that lies in the gap's free bytes
+  -- each byte of the gap's free bytes is still 0
   zero-gap : AreZero (bytes_of fresh.bytes) (128 + gap_front current) (size - 16)
   zero-gap =
       let rest : SameBytes (bytes_of window.bytes) (bytes_of fresh.bytes) (128 + gap_front current) (size - 16) =
@@ -155,7 +155,7 @@ module _ (region : List ℕ) (base : ℕ) {size : ℕ} {window fresh done : Wind
   created-stands = stands-empty fresh.bytes (subst (λ n. EncodesLiveSet current fresh.bytes
       (record { size = n; extents = [] })) long f.live) live header named unique
 
-  -- the segment is made as it is to be
+  -- the segment meets the contract of `create`
   pub created : {mode : Mode} → IsTrue (is_legal_size size) → base + size ≤ length region
       → CreatesOk region base size mode (record { cut = done; mode = mode })
   created legal fits = record {

@@ -1,4 +1,4 @@
--- Extents put in by offset: a sorted list of them, and what was put in is taken out again.
+-- Extents inserted by offset: a sorted list of them, and removing an inserted extent.
 use Rattle.segment_manager.proofs.Common.{◌≡◌, refl, ap, ◌∙◌, ℕ, ◌≢◌, Bool, true, false, List, [], ◌∷◌, ◌++◌, arith}
 use Rattle.segment_manager.proofs.Common.{if◌then◌else◌, nat_lt, AllByRecursion, Extent, LiveSet, handle, others, added}
 use Rattle.segment_manager.proofs.Common.{resized, sorted, ◌+◌, ◌<◌, ◌==◌, Some, find, cond-false, cond-true}
@@ -11,23 +11,23 @@ pub use Rattle.best_fit.proofs.Laws.{insert-inserted, inserted-comm, live-rises,
 pub use Rattle.best_fit.proofs.Laws.{rising-weak, without-inserted}
 pub use Rattle.best_fit.specs.Exchange.{inserted, without_all}
 
--- no two of them begin at one place
+-- no two extents begin at one offset
 abbrev pub Apart : List Extent → List Extent → Type 0
 Apart xs ys = AllByRecursion (λ x. Differs x ys) xs
 
--- the first list is put in among the second
+-- sorting two lists inserts the first into the sorted second
 pub sorted-append : (xs ys : List Extent) → sorted (xs ++ ys) ≡ inserted xs (sorted ys)
 sorted-append [] ys = refl
 sorted-append (x ∷ xs) ys = ap (insert x) (sorted-append xs ys)
 
--- what holds of each of a sorted list
+-- a property of each element of a sorted list
 pub all_of-sorted : (P : Extent → Type 0) (xs : List Extent) → AllByRecursion P (sorted xs) → AllByRecursion P xs
 all_of-sorted P [] h = tt
 all_of-sorted P (x ∷ xs) h =
     let both = all_of-insert P x (sorted xs) h in
     (both.0, all_of-sorted P xs both.1)
 
--- what holds of each holds of each of the sorted list
+-- a property of each element holds for each element of the sorted list
 pub all-sorted : (P : Extent → Type 0) (xs : List Extent) → AllByRecursion P xs → AllByRecursion P (sorted xs)
 all-sorted P [] h = tt
 all-sorted P (x ∷ xs) h = AllByRecursion-insert_from P x (sorted xs) h.0 (all-sorted P xs h.1)
@@ -47,7 +47,7 @@ found-behind z zs n (x ∷ xs) r l a = (
   found-behind z zs (x.offset + 1) xs r.1 (omega (arith, r.0, l)) a.1,
 )
 
--- each of some that rise is found among them
+-- each extent of a rising list is found in it
 pub found-each : (n : ℕ) (zs : List Extent) → Rising n zs → AllByRecursion (IsFoundIn zs) zs
 found-each n [] r = tt
 found-each n (z ∷ zs) r = (
@@ -63,7 +63,7 @@ others-if : (b : Bool) (x z : Extent) {zs : List Extent} (ws : List Extent) → 
 others-if true x z {zs} ws n e = others-here (handle x) x (z ∷ zs) refl
 others-if false x z ws n e = others-past (handle x) z ws (λ f. n (omega (arith, f))) ∙ ap (λ vs. z ∷ vs) e
 
--- what was put in is what is taken out
+-- the inserted extent is the one that is removed
 pub others-insert : (x : Extent) (zs : List Extent) → Differs x zs → others (handle x) (insert x zs) ≡ zs
 others-insert x [] n = others-here (handle x) x [] refl
 others-insert x (z ∷ zs) n = others-if (nat_lt x.offset z.offset) x z (insert x zs) n.0 (others-insert x zs n.1)

@@ -1,4 +1,4 @@
--- What the contracts of the heap come to for a directory: blocks asked for, released and written.
+-- The contracts of the heap for a directory: blocks allocated, freed and written.
 use Rattle.segment_manager.proofs.Common.{◌≡◌, sym, ap, ◌∙◌, ℕ, Bool, true, ◌&&◌, ◌==◌, List, WindowState, live, []}
 use Rattle.segment_manager.proofs.Common.{◌∷◌, refl, is_live_in, value_extents, without_object, lay_out_one}
 use Rattle.segment_manager.proofs.Common.{list_any-insert, subst, IsTrue, eq-eqb, Extent, handle, holds, KeepsBlocks}
@@ -23,19 +23,19 @@ pub object-live : (d : Directory) (o : Object) → IsIn d o → IsTrue (is_prope
 object-live d o f p =
     any-object d o (λ (x : Extent). handle x == handle o.extent) f p (eq-eqb (handle o.extent) (handle o.extent) refl)
 
--- it has the room that its extent has
+-- the object has the room of its extent
 pub object-room : (d : Directory) (o : Object) (n : ℕ) → IsIn d o → IsTrue (is_proper (live d))
     → holds o.extent n ≡ true → has_room (live d) (handle o.extent) n ≡ true
 object-room d o n f p h = any-object d o (λ (x : Extent). (handle x == handle o.extent) && holds x n) f p
     (and_from (handle o.extent == handle o.extent) (holds o.extent n)
     (eq-eqb (handle o.extent) (handle o.extent) refl) h)
 
--- the bytes say an object that is found
+-- the bytes encode an object that is found
 pub object-at : (format : ℕ) (b : List ℕ) (d : Directory) (h : ℕ) (o : Object) → Denotes format b d
     → IsFound h d.objects o → IsObjectAt (bytes_of b) o
 object-at format b d h o k f = all-found (IsObjectAt (bytes_of b)) (has_key (ByHandle h)) d.objects o k.objects f.is
 
--- ---- what the bytes denote after the heap's calls
+-- ---- the directory of the bytes after the heap's calls
 
 -- the heap's live set is that of the directory
 pub denotes-live : (format : ℕ) (b : List ℕ) (d : Directory) → Denotes format b d → live_of b ≡ live d

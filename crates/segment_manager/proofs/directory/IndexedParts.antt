@@ -33,7 +33,7 @@ face o = record { class = o.class; name = o.name; value = bare_of (kind_of o.val
 abbrev faces : List Object → List Object
 faces = map face
 
--- the same class, name, kind and block
+-- the two objects have the same class, name, kind and block
 pub record IsLike (o p : Object) : Type 0 where
   pub extent : p.extent ≡ o.extent
   pub name : p.name ≡ o.name
@@ -43,7 +43,7 @@ pub record IsLike (o p : Object) : Type 0 where
 face-like : {o p : Object} → IsLike o p → face p ≡ face o
 face-like h = λ i. record { class = h.class i; name = h.name i; value = bare_of (h.kind i); extent = h.extent i }
 
--- an order that goes by faces
+-- an order that depends only on class, name, kind and block
 abbrev pub IsByFace : (Object → Object → Bool) → Type 0
 IsByFace lt = (o p : Object) → lt (face o) (face p) ≡ lt o p
 
@@ -96,7 +96,7 @@ ordered-alike : (c : Class) (lt : Object → Object → Bool) → IsByFace lt �
     → faces (ordered c lt os) ≡ faces (ordered c lt ps)
 ordered-alike c lt e os ps f = faces-ordered c lt e os ∙ ap (ordered c lt) f ∙ sym (faces-ordered c lt e ps)
 
--- ---- what goes by faces
+-- ---- properties that depend only on class, name, kind and block
 
 handles-faces : (os : List Object) → handles (faces os) ≡ handles os
 handles-faces [] = refl
@@ -111,7 +111,7 @@ rises_from-faces : (n : ℕ) (os : List Object) → rises_from n (faces os) ≡ 
 rises_from-faces n [] = refl
 rises_from-faces n (o ∷ os) = ap (λ b. nat_le n o.extent.offset && b) (rises_from-faces (o.extent.offset + 1) os)
 
--- the entries of an index, and that it is one
+-- the entries of an index, and its legality, are the same
 pub record SameIndex (lt : Object → Object → Bool) (os ps : List Object) : Type 0 where
   pub entries : handles ps ≡ handles os
   pub index : (t : BackingArray) → is_index t ps lt ≡ is_index t os lt
@@ -148,7 +148,7 @@ pub replace-rises : (n : ℕ) (os : List Object) {o o' : Object} → IsFound (ha
 replace-rises n os {o} {o'} f h = sym (rises_from-faces n (replace_object o' os))
     ∙ ap (rises_from n) (faces-replace os o o' f (face-like h)) ∙ rises_from-faces n os
 
--- so does an index whose order goes by faces, as both do
+-- and so is an index whose order depends only on these, as both orders do
 pub ordered-changed : (c : Class) (lt : Object → Object → Bool) → IsByFace lt → (d : Directory) (o o' : Object)
     → IsFound (handle o'.extent) d.objects o → IsLike o o'
     → SameIndex lt (ordered c lt d.objects) (ordered c lt (with_changed d o').objects)
@@ -181,18 +181,18 @@ filter-remove : (c : Class) (h : ℕ) (os : List Object) (o : Object) → IsFoun
 filter-remove c h [] o f e = absurd (found-nothing h o f)
 filter-remove c h (p ∷ ps) o f e = remove-filter c (found-place h p ps o f) e (λ g. filter-remove c h ps o g e)
 
--- put in, it is in no place in their order
+-- an object of another class does not change the order when it is inserted
 pub ordered-with : (c : Class) (lt : Object → Object → Bool) (d : Directory) (o : Object) → is_class c o ≡ false
     → ordered c lt (with_object d o).objects ≡ ordered c lt d.objects
 ordered-with c lt d o e = ap (fold (λ os o. insert_by lt o os) []) (filter-put c o d.objects e)
 
--- taken out, it leaves them
+-- an object of another class does not change the order when it is removed
 pub ordered-without : (c : Class) (lt : Object → Object → Bool) (d : Directory) (o : Object) → IsFound (handle o.extent)
     d.objects o → is_class c o ≡ false → ordered c lt (without_object d o).objects ≡ ordered c lt d.objects
 ordered-without c lt d o f e =
     ap (fold (λ os o. insert_by lt o os) []) (filter-remove c (handle o.extent) d.objects o f e)
 
--- an anonymous object stands in no index
+-- an anonymous object is in no index
 pub anonymous-named : (o : Object) → o.class ≡ Anonymous → is_class Named o ≡ false
 anonymous-named o e = ap (λ c. class_code Named == class_code c) e
 

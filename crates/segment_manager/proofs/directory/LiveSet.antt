@@ -18,7 +18,7 @@ spread os t = sorted (flat_map extents_of os ++ t)
 abbrev pub tables_of : Directory → List Extent
 tables_of d = table_extents d.named ++ table_extents d.unique
 
--- one object's extents are put in among the others
+-- one object's extents are inserted among the others
 pub spread-cons : (o : Object) (os : List Object) (t : List Extent)
     → spread (o ∷ os) t ≡ inserted (extents_of o) (spread os t)
 spread-cons o os t = ap sorted (append_assoc (extents_of o) (flat_map extents_of os) t)
@@ -54,7 +54,7 @@ pub live-size : (d : Directory) → (live d).size ≡ d.size
 unfolding live
 live-size d = refl
 
--- its extents are those of the objects and tables
+-- the extents of a directory are the extents of its objects and tables
 pub live-extents : (d : Directory) → (live d).extents ≡ spread d.objects (tables_of d)
 unfolding live
 live-extents d = refl
@@ -72,11 +72,11 @@ live-put d o h = ap (λ (xs : List Extent). let l : LiveSet = record { size = d.
 pub record IsFound (h : ℕ) (os : List Object) (o : Object) : Type 0 where
   pub is : find (has_key (ByHandle h)) os ≡ Some o
 
--- it is the first of the list, or it stands after that
+-- the object is the first of the list, or comes after the first
 pub data Place (h : ℕ) (p : Object) (ps : List Object) (o : Object) : Type 0 where
   -- an object that is the first of the list
   here : h ≡ handle p.extent → p ≡ o → Place h p ps o
-  -- an object that stands after the first of the list
+  -- an object after the first of the list
   behind : h ≢ handle p.extent → IsFound h ps o → Place h p ps o
 
 place-if : {h : ℕ} {p : Object} {ps : List Object} {o : Object} → (b : Bool) → (h == handle p.extent) ≡ b
@@ -84,7 +84,7 @@ place-if : {h : ℕ} {p : Object} {ps : List Object} {o : Object} → (b : Bool)
 place-if {h} {p} true e f = here (eqb-true h (handle p.extent) e) (cc)
 place-if {h} {p} false e f = behind (λ g. cc (eq-eqb h (handle p.extent) g)) (record { is = f })
 
--- an object that is found is the first or stands after it
+-- an object that is found is the first or comes after it
 pub found-place : (h : ℕ) (p : Object) (ps : List Object) (o : Object) → IsFound h (p ∷ ps) o → Place h p ps o
 found-place h p ps o f = place-if (h == handle p.extent) refl f.is
 
@@ -96,7 +96,7 @@ found-nothing h o f = let e : find (has_key (ByHandle h)) [] ≡ Some o = f.is i
 pub remove-here : (h : ℕ) (p : Object) (ps : List Object) → h ≡ handle p.extent → remove_object h (p ∷ ps) ≡ ps
 remove-here h p ps e = ap (λ b. if b then ps else p ∷ remove_object h ps) (eq-eqb h (handle p.extent) e)
 
--- the one to take out stands after the first
+-- the object to remove comes after the first
 pub remove-behind : (h : ℕ) (p : Object) (ps : List Object) → h ≢ handle p.extent
     → remove_object h (p ∷ ps) ≡ p ∷ remove_object h ps
 remove-behind h p ps n = ap (λ b. if b then ps else p ∷ remove_object h ps) (ne_eqb h (handle p.extent) n)
@@ -107,7 +107,7 @@ pub replace-here : (o p : Object) (ps : List Object) → handle o.extent ≡ han
 replace-here o p ps e =
     ap (λ b. if b then o ∷ ps else p ∷ replace_object o ps) (eq-eqb (handle o.extent) (handle p.extent) e)
 
--- it stands after the first
+-- the object comes after the first
 pub replace-behind : (o p : Object) (ps : List Object) → handle o.extent ≢ handle p.extent
     → replace_object o (p ∷ ps) ≡ p ∷ replace_object o ps
 replace-behind o p ps n =
@@ -127,7 +127,7 @@ remove-place n {h} {p} {ps} {o} t (behind e f) r k =
     ∙ ap (inserted (extents_of o)) (sym (spread-cons p (remove_object h ps) t))
     ∙ ap (λ qs. inserted (extents_of o) (spread qs t)) (sym (remove-behind h p ps e))
 
--- all extents are those of one object and of the others
+-- all extents are the extents of one object and of the others
 pub spread-remove : (n h : ℕ) (os : List Object) (o : Object) (t : List Extent) → IsFound h os o
     → Rising n (spread os t) → spread os t ≡ inserted (extents_of o) (spread (remove_object h os) t)
 spread-remove n h [] o t f r = absurd (found-nothing h o f)
@@ -141,7 +141,7 @@ removing l xs = record l { extents = without_all xs l.extents }
 abbrev pub IsIn : Directory → Object → Type 0
 IsIn d o = IsFound (handle o.extent) d.objects o
 
--- all extents are an object's and those of the others
+-- all extents are the extents of an object and of the others
 pub live-split : (d : Directory) (o : Object) → IsIn d o → IsTrue (is_proper (live d))
     → live d ≡ adding (live (without_object d o)) (extents_of o)
 unfolding live
@@ -181,7 +181,7 @@ change-place n {p} {ps} o' t (behind e f) r k =
     ∙ ap (inserted (extents_of o')) (sym (spread-cons p (remove_object (handle o'.extent) ps) t))
     ∙ ap (λ qs. inserted (extents_of o') (spread qs t)) (sym (remove-behind (handle o'.extent) p ps e))
 
--- the extents of an object in the place of another, and those of the others
+-- the extents of an object replaced by those of another
 pub spread-change : (n : ℕ) (os : List Object) (o o' : Object) (t : List Extent) → IsFound (handle o'.extent) os o
     → Rising n (inserted (extents_of o') (spread (remove_object (handle o'.extent) os) t))
     → spread (replace_object o' os) t ≡ inserted (extents_of o') (spread (remove_object (handle o'.extent) os) t)
@@ -198,7 +198,7 @@ live-changed d o o' f h = ap (λ (xs : List Extent). let l : LiveSet = record { 
     (spread-change 128 d.objects o o' (tables_of d) f
     (live-rises (adding (live (without_object d o')) (extents_of o')) h))
 
--- ---- what holds of each block in use
+-- ---- properties of each block in use
 
 -- each extent of an object, and each of the tables
 pub record OfEach (P : Extent → Type 0) (d : Directory) : Type 0 where
@@ -206,7 +206,7 @@ pub record OfEach (P : Extent → Type 0) (d : Directory) : Type 0 where
   pub named : AllByRecursion P (table_extents d.named)
   pub unique : AllByRecursion P (table_extents d.unique)
 
--- what holds of each extent of the live set holds of each of these
+-- a property of each extent of the live set holds for each of these extents
 pub of_each : (P : Extent → Type 0) {d : Directory} → AllByRecursion P (live d).extents → OfEach P d
 unfolding live
 of_each P {d} h =

@@ -1,5 +1,5 @@
--- What bytes denote by an older format they denote by the current one, where version, tags and free tree are those of
--- the current one.
+-- Bytes that denote a directory in an older format denote it in the current one, after version, tags and free tree are
+-- changed to the current one.
 use Rattle.segment_manager.proofs.Common as common
 use common.{◌≡◌, refl, ap, ◌∙◌, ℕ, zero, suc, Bool, true, false, not, ◌&&◌, ◌==◌, List, [], ◌∷◌, length, arith, IsTrue}
 use common.{nat_le, nat_lt, if◌then◌else◌, AllByRecursion, list_all, chars, is_utf8, and_from, and_parts, le-leb}
@@ -54,7 +54,7 @@ printable-text name h =
     (is_utf8-from_IsUtf8 name (IsUtf8-from_ascii name ascii))) (ap (list_all (λ c. not (is_control c)))
     (chars-IsAscii name ascii) ∙ calm)
 
--- a name of any format is one of the current
+-- a name of any format is a name of the current one
 name-later : (format : ℕ) (name : List ℕ) → IsTrue (is_name format name) → IsTrue (is_name current name)
 unfolding current
 name-later zero name h = printable-text name h
@@ -79,7 +79,7 @@ object-later format o h = four-weaker (has_good_name format o) (is_kind_of forma
     (kind_of o.value)) (if-weaker (is_class Named o) (is_name format o.name) (is_name current o.name) (length o.name ==
     0) (name-later format o.name)) (known-kind (kind_of o.value)) h
 
--- a directory of any format is one of the current
+-- a directory of any format is a directory of the current one
 pub directory-later : (format : ℕ) (d : Directory) → IsDirectory format d → IsDirectory current d
 directory-later format d h = record {
   proper = h.proper;
@@ -108,7 +108,7 @@ header-later {m} {m'} s h = record {
   zeros = record { at = λ k a b. s.behind.at k (omega arith) (omega arith) ∙ h.zeros.at k a b };
 }
 
--- what bytes of an older format denote they denote by the current one
+-- bytes of an older format denote the same directory in the current one
 pub denotes-later : (format : ℕ) (old new : List ℕ) (d : Directory) → Denotes format old d
     → StaysButVersion (bytes_of old) (bytes_of new) d → EncodesLiveSet current new (live d) → Denotes current new d
 denotes-later format old new d h s l =

@@ -19,7 +19,7 @@ use Rattle.raw_region.proofs.Facts.{first, second, no_more}
 use Rattle.block_tags.specs.declared.tile.Role.TheVariants.{Index}
 use Rattle.seg_types.specs.declared.kinds.Class.TheVariants.{Named, Unique}
 
--- ---- what stays
+-- ---- the parts that stay
 
 -- as many handles as objects
 pub handles-length : (os : List Object) → length (handles os) ≡ length os
@@ -116,7 +116,7 @@ directory-without {format} {d} o h f c p = record {
       (sym (ordered-without Unique by_kind d o f (anonymous-unique o c))) h.unique;
 }
 
--- an anonymous object, with all its extents: those of the others stay
+-- an anonymous object with all its extents is removed: the extents of the others stay
 pub denotes-without : {format : ℕ} (old new : WindowState) {d : Directory} (o : Object) → Denotes format old.bytes d
     → IsIn d o → o.class ≡ Anonymous → EncodesLiveSet format new.bytes (removing (live d) (extents_of o))
     → KeepsBlocks old new (removing (live d) (extents_of o)).extents → Denotes format new.bytes (without_object d o)
@@ -171,19 +171,19 @@ denotes-replaced format old new d o o' h f like is_there l k at =
           (all-remove (IsObjectAt (bytes_of old.bytes)) (handle o'.extent) d.objects h.objects));
     }
 
--- the header words round the two indexes stay
+-- the header words around the two indexes stay
 pub record KeepsFront (m m' : Memory) : Type 0 where
   pub front : SameBytes m m' 0 24
   pub zeros : SameBytes m m' 80 128
 
--- what the two indexes of a directory are, and the bytes that say so
+-- the two indexes of a directory, and their bytes
 pub record HasIndexes (m : Memory) (d : Directory) : Type 0 where
   pub named : IsTrue (is_index d.named (named_objects d) by_name)
   pub unique : IsTrue (is_index d.unique (unique_objects d) by_kind)
   pub named_at : IsIndexAt m 32 d.named (handles (named_objects d))
   pub unique_at : IsIndexAt m 56 d.unique (handles (unique_objects d))
 
--- One object more, of any class. The directory e is d, but for the tables of its indexes, which may have grown.
+-- One more object, of any class. The directory e is d, except the tables of its indexes, which can have grown.
 pub denotes-put : {format : ℕ} {b : List ℕ} {b' : List ℕ} {d : Directory} (e : Directory) {o : Object}
     → Denotes format b d → e.size ≡ d.size → e.objects ≡ d.objects → IsTrue (is_object format o)
     → EncodesLiveSet format b' (adding (live e) (extents_of o)) → KeepsFront (bytes_of b) (bytes_of b')
@@ -209,7 +209,7 @@ denotes-put {format} {b} {b'} {d} e {o} h s os is_there l k blocks i at =
           (sym os) (any_objects-same format (bytes_of b) (bytes_of b') d.objects h.directory.objects blocks h.objects));
     }
 
--- One object less, of any class: the indexes are written as those of the others.
+-- One object of any class is removed: the indexes are written without it.
 pub denotes-taken : {format : ℕ} {b : List ℕ} {b' : List ℕ} {d : Directory} (o : Object) → Denotes format b d → IsIn d o
     → EncodesLiveSet format b' (removing (live d) (extents_of o)) → KeepsFront (bytes_of b) (bytes_of b')
     → AllByRecursion (SameBlock (bytes_of b) (bytes_of b'))

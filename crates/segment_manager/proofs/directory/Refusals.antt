@@ -19,20 +19,19 @@ use Rattle.segment_manager.specs.Step.{assign, push, pop, insert_at, erase, put,
 use Rattle.std.proofs.lemmas.List.{length-set}
 use Rattle.seg_vector.specs.Vector.{capacity_for_more}
 
--- the object of a key with another value, of which the same is said
+-- the object of a key with another value of the same kind
 pub record IsAnother (d : Directory) (o : Object) : Type 0 where
   pub key : Key
   pub was : Object
   pub is : object_at d key ≡ Some was
   pub same : located o ≡ located was
 
--- What the replies of a plan leave: a refusal the directory as it was; another answer that too; or, of a command that
--- may change something, one of its objects with another value; or, of one that is on no element besides, another
--- directory.
+-- The directory after a plan. An error keeps the directory, and so can another answer. A command that can change
+-- something can change the value of one object; a command that is not on elements can have any next directory.
 pub data Leaves (d : Directory) : Bool → Bool → Plan → Type 0 where
   -- a plan that refuses leaves the directory
   by_refusal : {changing other : Bool} {r : Refusal} → Leaves d changing other (Refuse r)
-  -- a plan that requests blocks leaves the directory if what follows does
+  -- a plan that allocates blocks has this property if its continuation has it
   by_request : {changing other : Bool} {need : Need} {next : Extent → Plan}
       → ((x : Extent) → Leaves d changing other (next x)) → Leaves d changing other (Request need next)
   -- a plan that answers with the same directory leaves it
@@ -43,7 +42,7 @@ pub data Leaves (d : Directory) : Bool → Bool → Plan → Type 0 where
   -- a plan that changes the directory answers with no refusal
   by_other : {answer : Answer} {after : Directory} → refusal_of answer ≡ None → Leaves d true true (Reply answer after)
 
--- the same of what a request leads to
+-- the same for the continuation of an allocation
 requested : {d : Directory} (r : Refusal) (on : Extent → Answer × Directory)
     → ((x : Extent) → (on x).0 ≡ Refused r → (on x).1 ≡ d) → (o : Option Extent)
     → (elim o as (λ _. Answer × Directory) [ None ↦ (Refused NoSpace, d) | Some x ↦ on x ]).0 ≡ Refused r
@@ -51,7 +50,7 @@ requested : {d : Directory} (r : Refusal) (on : Extent → Answer × Directory)
 requested r on each None e = refl
 requested r on each (Some x) e = each x e
 
--- what such a plan comes to
+-- the result of such a plan
 pub perform-leaves : {d : Directory} (changing other : Bool) (l : LiveSet) (p : Plan) → Leaves d changing other p
     → (r : Refusal) → (perform d l p).0 ≡ Refused r → (perform d l p).1 ≡ d
 perform-leaves changing other l p by_refusal r e = refl
@@ -64,13 +63,13 @@ perform-leaves {d} changing other l p (by_request {need = need} {next = next} k)
 
 -- ---- the parts of plans
 
--- what a test decides
+-- the case of a test
 if-leaves : (m w : Bool) (d : Directory) (b : Bool) (p q : Plan) → Leaves d m w p → Leaves d m w q
     → Leaves d m w (if b then p else q)
 if-leaves m w d true p q h k = h
 if-leaves m w d false p q h k = k
 
--- what is there, or a refusal
+-- the case of a result: its value, or its error
 with-leaves : {A : Type 0} (m w : Bool) (d : Directory) (a : Result A Refusal) (next : A → Plan)
     → ((x : A) → Leaves d m w (next x)) → Leaves d m w (with a next)
 with-leaves m w d (Ok x) next k = k x
@@ -86,7 +85,7 @@ found-leaves m w d key next k = found-if (object_at d key) refl
     found-if None e = by_refusal
     found-if (Some o) e = k o e
 
--- what an option decides
+-- the case of an option
 option-leaves : {A : Type 0} (m w : Bool) (d : Directory) (o : Option A) (p : Plan) (q : A → Plan) → Leaves d m w p
     → ((x : A) → Leaves d m w (q x)) → Leaves d m w (elim o as (λ _. Plan) [ None ↦ p | Some x ↦ q x ])
 option-leaves m w d None p q h k = h
@@ -326,7 +325,7 @@ effect-leaves d (asked.ReserveUnique n) = search parts
 effect-leaves d asked.ShrinkIndexes = by_other {answer = Done} refl
 effect-leaves d c = same d _
 
--- and so is the whole of a step, and of one for objects of a kind
+-- and so has a whole step, and a step for objects of a kind
 pub plan-leaves : (mode : Mode) (d : Directory) (c : Command)
     → Leaves d (is_changing c) (not (is_elementwise c)) (plan mode d c)
 plan-leaves mode d c = if-leaves _ _ d (is_read_only mode && is_changing c) _ _ by_refusal (effect-leaves d c)
@@ -349,25 +348,25 @@ extended-leaves mode d key k more =
     (λ o is. if-leaves _ _ d (same_kind (Vector k) (kind_of o.value)) _ _
     (extend-leaves _ d key o is o.value refl more) (by_refusal {r = WrongKind})))
 
--- whatever is refused, the directory is as it was
+-- a step with an error keeps the directory
 pub step-refused : (mode : Mode) {d : Directory} (c : Command) (r : Refusal) → (step mode d c).0 ≡ Refused r
     → (step mode d c).1 ≡ d
 unfolding step
 step-refused mode {d} c r e = perform-leaves _ _ (live d) (plan mode d c) (plan-leaves mode d c) r e
 
--- the same of a call for objects of one kind
+-- the same for a call for objects of one kind
 pub step_of_kind-refused : (mode : Mode) {d : Directory} (key : Key) (kind : Kind) (c : Command) (r : Refusal)
     → (step_of_kind mode d key kind c).0 ≡ Refused r → (step_of_kind mode d key kind c).1 ≡ d
 unfolding step_of_kind
 step_of_kind-refused mode {d} key kind c r e = perform-leaves _ _ (live d) _ (plan_of_kind-leaves mode d key kind c) r e
 
--- a segment that is open for reading refuses each command that may change it
+-- a segment that is open for reading refuses each command that can change it
 pub step-read_only : (mode : Mode) (d : Directory) (c : Command) → is_read_only mode ≡ true → is_changing c ≡ true
     → step mode d c ≡ (Refused ReadOnly, d)
 unfolding step
 step-read_only mode d c e f = λ i. perform d (live d) (if e i && f i then Refuse ReadOnly else effect d c)
 
--- the same of a call for objects of one kind
+-- the same for a call for objects of one kind
 pub step_of_kind-read_only : (mode : Mode) (d : Directory) (key : Key) (kind : Kind) (c : Command)
     → is_read_only mode ≡ true → is_changing c ≡ true → step_of_kind mode d key kind c ≡ (Refused ReadOnly, d)
 unfolding step_of_kind

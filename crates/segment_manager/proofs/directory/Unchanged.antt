@@ -1,4 +1,4 @@
--- What only reads leaves the directory, and a step leads on.
+-- A command that only reads keeps the directory, and a step also takes place without its answer.
 use Rattle.segment_manager.proofs.Common as common
 use common.{◌≡◌, sym, subst, Bool, false, Some, None, Ok, Err, Kind, Key, Mode, live, Plan, met, plan, step}
 use common.{SegmentState, refl, Option, Result, Extent, resized, Refusal, NoSpace, Command, Answer, Refused, perform}
@@ -27,7 +27,7 @@ pub step-reads : (mode : Mode) (d : Directory) (c : Command) → is_changing c �
 unfolding step
 step-reads mode d c e = perform-reads _ e (live d) (plan mode d c) (plan-leaves mode d c)
 
--- the same of a call for objects of one kind
+-- the same for a call for objects of one kind
 pub step_of_kind-reads : (mode : Mode) (d : Directory) (key : Key) (kind : Kind) (c : Command) → is_changing c ≡ false
     → (step_of_kind mode d key kind c).1 ≡ d
 unfolding step_of_kind
@@ -35,7 +35,7 @@ step_of_kind-reads mode d key kind c e = perform-reads _ e (live d) _ (plan_of_k
 
 -- ---- calls that answer less than the machine
 
--- a step leads on
+-- a step also takes place without its answer
 pub step-leads : (old new : SegmentState) (c : Command) (answer : Answer) → TakesStep old new c answer
     → StepsWithoutAnswer old new c (refusal_of answer)
 step-leads old new c answer m = record {
@@ -44,13 +44,13 @@ step-leads old new c answer m = record {
   denotes = m.denotes;
 }
 
--- what a result answers is refused where the result is
+-- the answer of a result has the result's error
 refusal_in-answer : {A : Type 0} (f : A → Answer) → ((a : A) → refusal_of (f a) ≡ None) → (result : Result A Refusal)
     → refusal_of (answer_of f result) ≡ refusal_in result
 refusal_in-answer f none (Ok a) = none a
 refusal_in-answer f none (Err r) = refl
 
--- so a call of which the whole answer is known leads on
+-- so does a call whose whole answer is known
 pub result-leads : {A : Type 0} (f : A → Answer)
     → ((a : A) → refusal_of (f a) ≡ None) → {old new : SegmentState} (c : Command) (result : Result A Refusal)
     → TakesStep old new c (answer_of f result) → StepsWithoutAnswer old new c (refusal_in result)
@@ -62,7 +62,7 @@ refused-is : {r : Refusal} (answer : Answer) → Some r ≡ refusal_of answer �
 refused-is (Refused q) e = cc
 refused-is answer e = cc
 
--- what is refused stays where it is
+-- a call that fails keeps mode and place
 pub refused-stays : (old new : SegmentState) (c : Command) (r : Refusal) → StepsWithoutAnswer old new c (Some r)
     → (d : Directory) → DenotesCurrent old.cut.bytes d → DenotesCurrent new.cut.bytes d
 refused-stays old new c r m d h = subst (DenotesCurrent new.cut.bytes)

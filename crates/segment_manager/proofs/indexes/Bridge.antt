@@ -1,5 +1,5 @@
--- The bridge from a directory to the two indexes of its heap: what a look-up in them means for the directory, and which
--- entry an object is when it comes or goes. What the bytes hold stands in HeldIndexes.
+-- The relation between a directory and the two indexes of its heap: the meaning of a look-up, and the entry of an
+-- object that is constructed or destroyed. The contents of the bytes are in HeldIndexes.
 use Rattle.segment_manager.proofs.Common as common
 use Rattle.seg_types.specs.Names as names
 use common.{◌≡◌, refl, sym, ap, subst, ◌∙◌, ℕ, ◌+◌, ◌<◌, ◌≤◌, ◌≢◌, ◌⊎◌, inl, inr, true, false, ◌&&◌, ◌==◌, Some, None}
@@ -24,7 +24,7 @@ use Rattle.segment_manager.proofs.objects.ObjectLists.{rises-rest, all-found}
 use Rattle.raw_region.proofs.Facts.{first}
 use Rattle.seg_index.specs.{declared.keys.Entry.Entry, Lookups.order, Sorted.index_of}
 
--- what a place among the entries means: the object of the key, which that entry leads to
+-- the object of the key is the object of the entry at a place
 pub record IsEntryFor (i : Index) (d : Directory) (key : names.Key) (at : ℕ) : Type 0 where
   pub object : Object
   pub is : object_at d key ≡ Some object
@@ -38,7 +38,7 @@ pub record IsNoEntryFor (i : Index) (d : Directory) (key : names.Key) (at : ℕ)
 
 -- ---- keys that an index looks up
 
--- of two objects in its order at most one has the key, and none of another class
+-- at most one object in the index's order has the key, and no object of another class
 record IsKeyIn (i : Index) (key : names.Key) : Type 0 where
   apart : (o p : Object) → IsRanked (order_of i) o p → has_key key o ≡ true → has_key key p ≡ false
   other : (p : Object) → is_class (class_of_index i) p ≡ false → has_key key p ≡ false
@@ -62,13 +62,13 @@ says-of Unique (Code n) (names.ByKind k) {o} q a c = subst (Says (order_of Uniqu
     (λ j. nat_cmp (sym a.code j) (sym q j)) (kinds-say k o c)
 says-of i e key q a c = absurd q
 
--- ---- what is known of each entry
+-- ---- the facts about each entry
 
 in-class : (i : Index) (d : Directory) → AllByRecursion (λ o. is_class (class_of_index i) o ≡ true) (objects_of i d)
 in-class i d = all-ordered (λ o. is_class (class_of_index i) o ≡ true) (class_of_index i) (order_of i) d.objects
     (of-class (class_of_index i) d.objects)
 
--- one that has the key is the object of the key
+-- an object with the key is the object of the key
 in-found : {format : ℕ} {i : Index} {d : Directory} {key : names.Key} → IsDirectory format d → IsKeyIn i key
     → AllByRecursion (λ o. has_key key o ≡ true → object_at d key ≡ Some o) (objects_of i d)
 in-found {i} {d} {key} h k = all-ordered (λ o. has_key key o ≡ true → object_at d key ≡ Some o) (class_of_index i)
@@ -104,7 +104,7 @@ pub by-handle : {format : ℕ} {d : Directory} (key : names.Key) {o : Object} �
 by-handle {d} key {o} h e = all-found (λ (p : Object). object_at d (names.ByHandle (handle p.extent)) ≡ Some p)
     (has_key key) d.objects o (each-by_handle 0 d.objects h.by_offset) e
 
--- ---- what a look-up means
+-- ---- the meaning of a look-up
 
 -- the key is of the sort of the index
 pub seeks-sort : (i : Index) (e : Entry) (key : names.Key) → Seeks i e key → index_of e ≡ i
@@ -151,7 +151,7 @@ module _ (i : Index) (c : WindowState) {d : Directory} (e : Entry) (key : names.
 
 -- ---- one entry more
 
--- where the look-up says that an object of the key belongs
+-- the place where an object with the key belongs, by the look-up
 place-of : (i : Index) (c : WindowState) {d : Directory} (e : Entry) (key : names.Key) (at : ℕ) (o : Object)
     → Denotes current c.bytes d → Seeks i e key → FindsPosition (bytes_of c.bytes) e (entries_of i d) (Absent at)
     → has_key key o ≡ true → IsPlaceOf (order_of i) o (objects_of i d) at
@@ -170,7 +170,7 @@ objects-more Unique d (Code x) (names.ByKind k) o q h n = unique-more d o (first
     (kind_of p.value))) d.objects ≡ None) (code-of k o h) n)
 objects-more i d e key o q h n = absurd q
 
--- an object with the key comes in at the place that the look-up answers
+-- an object with the key is inserted at the place that the look-up returns
 pub entry-added : (i : Index) (c : WindowState) {d : Directory} (e : Entry) (key : names.Key) (at : ℕ) (o : Object)
     → Denotes current c.bytes d → Seeks i e key → FindsPosition (bytes_of c.bytes) e (entries_of i d) (Absent at)
     → has_key key o ≡ true → insert (entries_of i d) at (handle o.extent) ≡ entries_of i (with_object d o)
@@ -188,7 +188,7 @@ objects-less : {format : ℕ} (i : Index) {d : Directory} (o : Object) → IsDir
 objects-less Named {d} o h f c = one-removed NamedClass by_name by_name-strict d o f c h.by_offset d.named h.named
 objects-less Unique {d} o h f c = one-removed UniqueClass by_kind by_kind-strict d o f c h.by_offset d.unique h.unique
 
--- no two of them have one handle
+-- all objects have different handles
 handles-differ : {format : ℕ} (i : Index) {d : Directory} (at j : ℕ) {o p : Object} → IsDirectory format d
     → slice_get (objects_of i d) at ≡ Some o → j < at → slice_get (objects_of i d) j ≡ Some p
     → handle o.extent ≢ handle p.extent
@@ -203,7 +203,7 @@ handles-differ i {d} at j {o} {p} h f l g e =
     let itself : order_of i o o ≡ true = subst (λ r. order_of i r o ≡ true) (sym same) before in
     false≢true (sym ((order-strict i).asym o o itself) ∙ itself)
 
--- an object goes with the entry that it has
+-- an object is removed with its entry
 pub entry-removed : (i : Index) {d : Directory} (at : ℕ) {o : Object} → IsDirectory current d
     → slice_get (objects_of i d) at ≡ Some o → remove (entries_of i d) at ≡ entries_of i (without_object d o)
 entry-removed i {d} at {o} h e =
@@ -214,7 +214,7 @@ entry-removed i {d} at {o} h e =
     remove-at (objects_of i d) at e (λ j p l g. handles-differ i at j h e l g) ∙ sym (ap handles (objects-less i o h f
     (all-at (λ p. is_class (class_of_index i) p ≡ true) (objects_of i d) at (in-class i d) e)))
 
--- an object of another class goes without an entry
+-- an object of another class is removed without an entry
 pub no-entry-removed : (i : Index) (d : Directory) {o : Object} → object_at d (names.ByHandle (handle o.extent)) ≡ Some
     o → is_class (class_of_index i) o ≡ false → entries_of i (without_object d o) ≡ entries_of i d
 no-entry-removed Named d {o} f e = ap handles (ordered-without NamedClass by_name d o (record { is = f }) e)

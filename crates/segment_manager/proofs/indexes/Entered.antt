@@ -20,12 +20,12 @@ abbrev pub other : Index → Index
 other index.Named = index.Unique
 other index.Unique = index.Named
 
--- an index of a directory is one, and its bytes say so
+-- a directory's index is a legal index, and the bytes encode it
 pub record HasOne (i : Index) (m : Memory) (d : Directory) : Type 0 where
   pub is : IsTrue (is_index (table_of i d) (objects_of i d) (order_of i))
   pub at : IsIndexAt m (place_of i) (table_of i d) (entries_of i d)
 
--- one index and the other are both
+-- a property of one index and of the other is a property of both
 pub has_both : (i : Index) {m : Memory} {d : Directory} → HasOne i m d → HasOne (other i) m d → HasIndexes m d
 has_both index.Named a b = record { named = a.is; unique = b.is; named_at = a.at; unique_at = b.at }
 has_both index.Unique a b = record { named = b.is; unique = a.is; named_at = b.at; unique_at = a.at }
@@ -75,7 +75,7 @@ own-with : (i : Index) {m : Memory} (d : Directory) {t : BackingArray} (o : Obje
 own-with index.Named d o a b = record { is = a; at = b }
 own-with index.Unique d o a b = record { is = a; at = b }
 
--- the index with the object, where its bytes say the entries in a table with places enough
+-- the index with the new object, if the bytes encode the entries in a table with enough capacity
 pub entered-own : {i : Index} {m : Memory} (d : Directory) {t : BackingArray} (o : Object) → o.class ≡ class_of_index i
     → object_at d (key_in i o) ≡ None → IsTrue (is_index (table_of i d) (objects_of i d) (order_of i))
     → IsTrue (has_backing IndexRole 8 t) → length (entries_of i (with_object d o)) ≤ t.capacity
@@ -104,14 +104,14 @@ entered-other i {m} {d} t o c h =
     other-one i d t o (subst (λ os. IsTrue (is_index (table_of (other i) d) os (order_of (other i)))) e h.is)
     (subst (λ os. IsIndexAt m (place_of (other i)) (table_of (other i) d) (handles os)) e h.at)
 
--- ---- what stays beside an index
+-- ---- the blocks outside an index
 
--- what holds of all blocks but the index's own
+-- a property of all blocks except the index's own
 pub record OfRest (i : Index) (P : Extent → Type 0) (d : Directory) : Type 0 where
   pub objects : AllByRecursion P (flat_map extents_of d.objects)
   pub other_table : AllByRecursion P (table_extents (table_of (other i) d))
 
--- what holds of all blocks but the index's holds of the others
+-- a property of all blocks except the index's own holds for the others
 pub of_rest : (i : Index) (P : Extent → Type 0) {d : Directory}
     → AllByRecursion P (live (with_table_of i d no_backing)).extents → OfRest i P d
 of_rest index.Named P {d} h =
@@ -119,7 +119,7 @@ of_rest index.Named P {d} h =
 of_rest index.Unique P {d} h =
     let e = of_each P h in record { objects = e.objects; other_table = e.named }
 
--- what holds of all blocks holds of those beside the index
+-- a property of all blocks holds for all except the index's own
 pub of_all : (i : Index) (P : Extent → Type 0) {d : Directory} → AllByRecursion P (live d).extents → OfRest i P d
 of_all index.Named P {d} h = let e = of_each P h in record { objects = e.objects; other_table = e.unique }
 of_all index.Unique P {d} h = let e = of_each P h in record { objects = e.objects; other_table = e.named }

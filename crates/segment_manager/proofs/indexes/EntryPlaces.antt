@@ -1,4 +1,4 @@
--- Objects in order and their places: which stands where, which one has a key, and where one is put in or taken out.
+-- Objects in order and their places: the object at a place, the object with a key, and inserting or removing an object.
 use Rattle.segment_manager.proofs.Common.{◌≡◌, refl, sym, ap, subst, ◌∙◌, ℕ, zero, suc, ◌+◌, ◌<◌, ◌≤◌, ◌≢◌, Bool, true}
 use Rattle.segment_manager.proofs.Common.{false, Some, None, List, [], ◌∷◌, length, arith, cond, IsTrue, filter, find}
 use Rattle.segment_manager.proofs.Common.{fold, insert, remove, slice_get, AllByRecursion, cond-true, cond-false}
@@ -10,15 +10,15 @@ use Rattle.segment_manager.proofs.{directory.LiveSet.remove-behind}
 use Rattle.segment_manager.proofs.{objects.RankedPairs.Pairwise, blocks.InUse.all-both, blocks.InUse.all-each}
 use Rattle.raw_region.proofs.Facts.{first, second}
 
--- ---- which stands at a place
+-- ---- the object at a place
 
--- what an entry leads to
+-- the object of an entry
 pub record StandsAt (os : List Object) (j g : ℕ) : Type 0 where
   pub object : Object
   pub is : slice_get os j ≡ Some object
   pub handle : g ≡ object.extent.offset + 16
 
--- the object of an entry stands at its index
+-- the object of an entry is at its place
 pub stands-at : (os : List Object) (j : ℕ) {g : ℕ} → slice_get (handles os) j ≡ Some g → StandsAt os j g
 stands-at [] j {g} e = absurd (none-some g e)
 stands-at (o ∷ os) zero {g} e = record { object = o; is = refl; handle = sym (same_Some (handle o.extent) g e) }
@@ -31,14 +31,14 @@ at-handle [] j {o} e = absurd (none-some o e)
 at-handle (p ∷ ps) zero {o} e = ap (λ (q : Object). Some (handle q.extent)) (same_Some p o e)
 at-handle (p ∷ ps) (suc j) e = at-handle ps j e
 
--- what holds of each holds at each place, and the other way round
+-- a property of each object holds at each place, and conversely
 pub all-at : (P : Object → Type 0) (os : List Object) (j : ℕ) {o : Object} → AllByRecursion P os
     → slice_get os j ≡ Some o → P o
 all-at P [] j {o} a e = absurd (none-some o e)
 all-at P (p ∷ ps) zero {o} a e = subst P (same_Some p o e) a.0
 all-at P (p ∷ ps) (suc j) a e = all-at P ps j a.1 e
 
--- what holds at each index holds of all
+-- a property at each place holds for all
 pub at-all : (P : Object → Type 0) (os : List Object) → ((j : ℕ) (o : Object) → slice_get os j ≡ Some o → P o)
     → AllByRecursion P os
 at-all P [] k = tt
@@ -80,10 +80,10 @@ ascends-at R (q ∷ qs) (suc i) (suc j) a l e f = ascends-at R qs i j a.1 (omega
 
 -- ---- the one with a key
 
--- of the class: one that passes is the first that does, where no two do
+-- an object of the class that passes is the first that does, if no two objects pass
 module _ (t : Object → Bool) (lt : Object → Object → Bool) (c : Class)
     (other : (p : Object) → is_class c p ≡ false → t p ≡ false) where
-  -- one that passes is found
+  -- an object that passes is found
   abbrev IsFoundIn : List Object → Object → Type 0
   IsFoundIn os o = t o ≡ true → find t os ≡ Some o
 
@@ -114,7 +114,7 @@ module _ (t : Object → Bool) (lt : Object → Object → Bool) (c : Class)
   none-if p ps fs true e k a = cond-false (t p) (Some p) (find t ps) a.0 ∙ k a.1
   none-if p ps fs false e k a = cond-false (t p) (Some p) (find t ps) (other p e) ∙ k a
 
-  -- where none of the class passes nothing is found
+  -- if no object of the class passes, none is found
   pub none-found : (os : List Object) → AllByRecursion (λ o. t o ≡ false) (filter (is_class c) os) → find t os ≡ None
   none-found [] a = refl
   none-found (p ∷ ps) a = none-if p ps (filter (is_class c) ps) (is_class c p) refl (none-found ps) a
@@ -124,12 +124,12 @@ class-if : (c : Class) (p : Object) (fs : List Object) (b : Bool) → is_class c
 class-if c p fs true e a = (e, a)
 class-if c p fs false e a = a
 
--- those of a class are of it
+-- the objects of a class have this class
 pub of-class : (c : Class) (os : List Object) → AllByRecursion (λ o. is_class c o ≡ true) (filter (is_class c) os)
 of-class c [] = tt
 of-class c (p ∷ ps) = class-if c p (filter (is_class c) ps) (is_class c p) refl (of-class c ps)
 
--- what holds of each in order holds of each that was put in
+-- a property of each object in order holds for each inserted object
 pub all_of-ordered : (P : Object → Type 0) (lt : Object → Object → Bool) (acc os : List Object)
     → AllByRecursion P (fold (λ os o. insert_by lt o os) acc os) → AllByRecursion P acc × AllByRecursion P os
 all_of-ordered P lt acc [] a = (a, tt)
@@ -137,9 +137,9 @@ all_of-ordered P lt acc (o ∷ os) a =
     let rest = all_of-ordered P lt (insert_by lt o acc) os a in
     let one = all_of-insert_by P lt o acc rest.0 in (one.1, (one.0, rest.1))
 
--- ---- one put in at its place, one taken out from it
+-- ---- inserting an object at its place, and removing it
 
--- the place of an object among others: those before it come first
+-- the place of an object among others: the objects before it come first
 abbrev pub IsPlaceOf : (Object → Object → Bool) → Object → List Object → ℕ → Type 0
 IsPlaceOf lt o os i =
     (j : ℕ) (p : Object) → slice_get os j ≡ Some p → (j < i → lt o p ≡ false) × (i ≤ j → lt o p ≡ true)

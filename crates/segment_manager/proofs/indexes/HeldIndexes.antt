@@ -1,4 +1,4 @@
--- Bytes that denote a directory hold its two indexes: each stands in its heap with its block, and its entries lead to
+-- Bytes that denote a directory contain its two indexes: each is in its heap with its block, and its entries lead to
 -- rising keys.
 use Rattle.segment_manager.proofs.Common.{◌≡◌, sym, ◌∙◌, ℕ, ◌+◌, ◌≤◌, ◌%◌, [], ◌∷◌, Less, WindowState, live, subst}
 use Rattle.segment_manager.proofs.Common.{true, Some, List, arith, Memory, handle, Index, Named, Unique, Object, length}
@@ -35,13 +35,13 @@ pub directory-index : {format : ℕ} (i : Index) {d : Directory} → IsDirectory
 directory-index Named h = h.named
 directory-index Unique h = h.unique
 
--- what holds of each object holds of each in an index
+-- a property of each object holds for each in an index
 pub all-in : (P : Object → Type 0) (i : Index) (d : Directory) → AllByRecursion P d.objects
     → AllByRecursion P (objects_of i d)
 all-in P i d a = all-ordered P (class_of_index i) (order_of i) d.objects
     (AllByRecursion-filter P (is_class (class_of_index i)) d.objects a)
 
--- ---- what the bytes hold
+-- ---- the indexes in the bytes
 
 all-handles : (P : ℕ → Type 0) (os : List Object) → AllByRecursion (λ (o : Object). P (handle o.extent)) os
     → AllByRecursion P (handles os)
@@ -66,7 +66,7 @@ stands-in : (i : Index) (c : WindowState) {d : Directory} → Denotes current c.
 stands-in Named c k = k.named
 stands-in Unique c k = k.unique
 
--- the index stands in its heap
+-- the index is in its heap
 pub denotes-index : (i : Index) (c : WindowState) {d : Directory} → Denotes current c.bytes d
     → IsIndexOf c (place_of i) (table_of i d) (entries_of i d)
 denotes-index i c {d} k = record {
@@ -83,7 +83,7 @@ denotes-index i c {d} k = record {
 
 -- ---- each entry leads to a key
 
--- what is known of an object
+-- the facts about an object
 record IsKnown (c : WindowState) (d : Directory) (o : Object) : Type 0 where
   live_block : IsInUse (live d) o.extent
   good : IsTrue (is_object current o)
@@ -115,7 +115,7 @@ key-fits i {m} o good at =
 
 -- ---- and the keys rise
 
--- each entry of an index is what the words of its object say
+-- each entry of an index agrees with the words of its object
 pub entries-in : (i : Index) (c : WindowState) {d : Directory} → Denotes current c.bytes d
     → AllByRecursion (IsEntry (bytes_of c.bytes)) (objects_of i d)
 entries-in i c {d} k = all-in (IsEntry (bytes_of c.bytes)) i d (entries_say_objects current c.bytes d k)

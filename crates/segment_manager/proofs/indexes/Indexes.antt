@@ -1,4 +1,4 @@
--- The two indexes after an object comes or goes, whatever its class.
+-- The two indexes after an object of any class is constructed or destroyed.
 use Rattle.segment_manager.proofs.Common as common
 use common.{◌≡◌, refl, sym, ap, subst, ◌∙◌, ℕ, ◌+◌, ◌<◌, ◌≤◌, ◌≢◌, Bool, true, false, ◌&&◌, Option, Some, None, List}
 use common.{[], ◌∷◌, length, arith, if◌then◌else◌, cond, IsTrue, nat_le, find, filter, AllByRecursion, Ordering, Less}
@@ -21,7 +21,7 @@ use Rattle.seg_types.specs.declared.kinds.Class.TheVariants.{Named, Unique}
 
 -- ---- the two orders
 
--- what is less as a test is `Less`
+-- a comparison that tests as less is `Less`
 pub lt-less : (r : Ordering) → is_lt r ≡ true → r ≡ Less
 lt-less Less e = refl
 lt-less v e = cc
@@ -50,7 +50,7 @@ ranked-by {o} {p} Greater e f =
 pub names-ranked : {o p : Object} → same_bytes o.name p.name ≡ false → IsRanked by_name o p
 names-ranked {o} {p} e = ranked-by (slice_cmp nat_cmp o.name p.name) refl (sym (texts_ties o.name p.name) ∙ e)
 
--- so is the order of kinds
+-- and the order of kinds is strict
 pub by_kind-strict : IsStrict by_kind
 by_kind-strict = record {
   trans = λ o p q e f. lt-ltb (code_of (kind_of o.value)) (code_of (kind_of q.value)) (omega (
@@ -85,7 +85,7 @@ nothing-if : (b : Bool) (p : Object) {rest : Option Object} → cond b (Some p) 
 nothing-if true p e = absurd (cc)
 nothing-if false p e = (refl, e)
 
--- where no object passes a test, each of the class fails it
+-- if no object passes a test, each object of the class fails it
 no-key : (t : Object → Bool) (P : Object → Type 0) (c : Class) → ((q : Object) → is_class c q ≡ true → t q ≡ false
     → P q) → (os : List Object) → find t os ≡ None → AllByRecursion P (filter (is_class c) os)
 no-key t P c each [] e = tt
@@ -107,12 +107,12 @@ new-kind d o e = no-key (has_key (ByKind (kind_of o.value))) (IsRanked by_kind o
 
 -- ---- one entry more
 
--- a named object that is put in stands among the names
+-- a named object that is inserted is among the names
 pub named-more : (d : Directory) (o : Object) → is_class Named o ≡ true → object_at d (ByName o.name) ≡ None
     → named_objects (with_object d o) ≡ insert_by by_name o (named_objects d)
 named-more d o e f = ordered-put Named by_name by_name-strict o d.objects e (new-name d o f)
 
--- a unique object that is put in stands among the kinds
+-- a unique object that is inserted is among the kinds
 pub unique-more : (d : Directory) (o : Object) → is_class Unique o ≡ true → object_at d (ByKind (kind_of o.value))
     ≡ None → unique_objects (with_object d o) ≡ insert_by by_kind o (unique_objects d)
 unique-more d o e f = ordered-put Unique by_kind by_kind-strict o d.objects e (new-kind d o f)
@@ -133,14 +133,14 @@ pub index-from : (t : BackingArray) (os : List Object) (lt : Object → Object �
 index-from t os lt a b c = and_from (has_backing Index 8 t && nat_le (length os) t.capacity) (rises lt os)
     (and_from (has_backing Index 8 t) (nat_le (length os) t.capacity) a (le-leb (length os) t.capacity b)) c
 
--- an index with a place left is one with the entry
+-- an index whose capacity allows one more is an index with the entry
 pub index-more : (lt : Object → Object → Bool) (t : BackingArray) (o : Object) (os : List Object)
     → IsTrue (has_backing Index 8 t)
     → length os < t.capacity → AllRanked lt o os → IsTrue (rises lt os) → IsTrue (is_index t (insert_by lt o os) lt)
 index-more lt t o os a b r h =
     index-from t (insert_by lt o os) lt a (omega (arith, insert_by-length lt o os)) (insert_by-rises lt o os r h)
 
--- the same of the order of a class, of which an object is that is ranked with each of the others
+-- the same for the order of a class, with an object that is ranked with each of the others
 pub ordered-more : (c : Class) (lt : Object → Object → Bool) → IsStrict lt
     → (d : Directory) (t u : BackingArray) (o : Object)
     → is_class c o ≡ true → AllRanked lt o (filter (is_class c) d.objects)
@@ -158,7 +158,7 @@ index-less lt s t o os h =
     let parts = index-parts t (insert_by lt o os) lt h in
     index-from t os lt parts.0 (omega (arith, insert_by-length lt o os, parts.1)) (without-rises lt s o os parts.2)
 
--- the order of a class is that of the others with one put in
+-- the order of a class is the order of the others with one inserted
 pub one-less : (c : Class) (lt : Object → Object → Bool) → IsStrict lt → (d : Directory) (o : Object) → IsIn d o
     → is_class c o ≡ true → (t : BackingArray) → IsTrue (is_index t (ordered c lt d.objects) lt)
     → ordered c lt d.objects ≡ insert_by lt o (ordered c lt (without_object d o).objects)
@@ -193,7 +193,7 @@ directory-less {format} {d} o h f p = record {
 
 -- ---- the entries by their handles
 
--- a list that rises from a place stands above it
+-- a rising list is at or above its first offset
 pub rises-above : (n : ℕ) (os : List Object) → IsTrue (rises_from n os)
     → AllByRecursion (λ (q : Object). n ≤ q.extent.offset) os
 rises-above n [] h = tt
@@ -228,7 +228,7 @@ remove-insert-if : (b : Bool) (o p : Object) {ps : List Object} (qs : List Objec
 remove-insert-if true o p {ps} qs n e = remove-here (handle o.extent) o (p ∷ ps) refl
 remove-insert-if false o p qs n e = remove-behind (handle o.extent) p qs n ∙ ap (λ rs. p ∷ rs) e
 
--- what was put in is taken out again
+-- inserting an object and removing it restores the list
 pub remove-insert_by : (lt : Object → Object → Bool) (o : Object) (os : List Object) → AllByRecursion (λ (q : Object).
     handle o.extent ≢ handle q.extent) os → remove_object (handle o.extent) (insert_by lt o os) ≡ os
 remove-insert_by lt o [] h = remove-here (handle o.extent) o [] refl

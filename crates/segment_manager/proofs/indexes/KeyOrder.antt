@@ -1,5 +1,5 @@
--- How the keys that an index compares stand to the objects of a directory: an order of keys says which object has the
--- key and which comes first.
+-- The keys that an index compares and the objects of a directory: an order of keys determines which object has the key
+-- and which comes first.
 use Rattle.segment_manager.proofs.Common.{◌≡◌, refl, sym, ap, ◌∙◌, ℕ, ◌<◌, ◌≢◌, Bool, true, false, ◌&&◌, ◌==◌, List}
 use Rattle.segment_manager.proofs.Common.{arith, cond, Ordering, Less, Equal, Greater, nat_lt, nat_cmp, is_lt, is_eq}
 use Rattle.segment_manager.proofs.Common.{ordering_reverse, slice_cmp, texts_ties, and_from, and_right, eq-eqb}
@@ -12,13 +12,13 @@ use Rattle.std.specs.{Cmp.Equal-is, Cmp.Lexicographic.nat_list_eq_equiv}
 use Rattle.std.proofs.{lemmas.Cmp.nat_cmp_total, lemmas.Map.Lookups.exact_bytes, lemmas.Map.Lookups.exact_unsigned}
 use Rattle.seg_types.specs.Names as names
 
--- what the order of an object's key to a key says of the object
+-- the order of an object's key to a key determines whether the object has the key
 pub record Says (lt : Object → Object → Bool) (t : Object → Bool) (o : Object) (r : Ordering) : Type 0 where
   -- whether it has the key
   pub equal : r ≡ Equal → t o ≡ true
   pub less : r ≡ Less → t o ≡ false
   pub greater : r ≡ Greater → t o ≡ false
-  -- and whether one that has the key comes before it
+  -- and whether an object with the key comes before it
   pub behind : (q : Object) → t q ≡ true → r ≡ Less → lt q o ≡ false
   pub ahead : (q : Object) → t q ≡ true → r ≡ Greater → lt q o ≡ true
 
@@ -48,7 +48,7 @@ comes : (name : List ℕ) (o q : Object) {r : Ordering} → has_key (names.ByNam
 comes name o q h e = ap is_lt (swapped q.name o.name ∙ ap (λ n. ordering_reverse (slice_cmp nat_cmp o.name n))
     (sym (name-of q h)) ∙ ap ordering_reverse e)
 
--- the order by names says where a name stands
+-- the order by names determines the place of a name
 pub names-say : (name : List ℕ) (o : Object) → is_class NamedClass o ≡ true
     → Says by_name (has_key (names.ByName name)) o (slice_cmp nat_cmp o.name name)
 names-say name o c = record {
@@ -63,7 +63,7 @@ ordered-name : {o p : Object} → IsRanked by_name o p → same_bytes o.name p.n
 ordered-name {o} {p} (before e f) = texts_ties o.name p.name ∙ ap is_eq (lt-less (slice_cmp nat_cmp o.name p.name) e)
 ordered-name {o} {p} (after e f) = test-of o.name p.name (lt-less (slice_cmp nat_cmp p.name o.name) e)
 
--- of two names in order at most one is the name
+-- at most one of two names in order is the given name
 pub names-apart : (name : List ℕ) (o p : Object) → IsRanked by_name o p → has_key (names.ByName name) o ≡ true
     → has_key (names.ByName name) p ≡ false
 names-apart name o p r h = and_right (is_class NamedClass p) (same_bytes name p.name)
@@ -105,7 +105,7 @@ kinds-other : (k : Kind) (o : Object) → code_of k ≢ code_of (kind_of o.value
 kinds-other k o n = and_right (is_class UniqueClass o) (same_kind k (kind_of o.value))
     (ne_eqb (code_of k) (code_of (kind_of o.value)) n)
 
--- the order by kinds says where a kind stands
+-- the order by kinds determines the place of a kind
 pub kinds-say : (k : Kind) (o : Object) → is_class UniqueClass o ≡ true
     → Says by_kind (has_key (names.ByKind k)) o (nat_cmp (code_of (kind_of o.value)) (code_of k))
 kinds-say k o c =
@@ -138,7 +138,7 @@ kinds-class k p e = ap (λ b. b && same_kind k (kind_of p.value)) e
 
 -- ---- rising keys
 
--- names in order, and codes in order, as comparisons say it
+-- names in order, and codes in order, by comparisons
 pub name-less : (o p : Object) → by_name o p ≡ true → slice_cmp nat_cmp o.name p.name ≡ Less
 name-less o p e = lt-less (slice_cmp nat_cmp o.name p.name) e
 

@@ -29,7 +29,7 @@ use Rattle.seg_index.specs.Capacities.{with_cut}
 
 -- ---- an index has another table
 
--- its words and its block say so, and all else stays
+-- the index has this table in its words and its block, and all else stays
 pub record IsTabled (i : Index) (old new : WindowState) (d : Directory) (t : BackingArray) : Type 0 where
   pub laid : EncodesLiveSet current new.bytes (live (with_table_of i d t))
   pub stands : IsIndexOf new (place_of i) t (entries_of i d)
@@ -46,7 +46,7 @@ other-table : (i : Index) {m : Memory} {d : Directory} (t : BackingArray) → Ha
 other-table index.Named t h = record { is = h.is; at = h.at }
 other-table index.Unique t h = record { is = h.is; at = h.at }
 
--- the directory with the table is what the new bytes denote
+-- the new bytes denote the directory with the table
 pub tabled-denotes : {i : Index} {a c : WindowState} {d : Directory} {t : BackingArray} → Denotes current a.bytes d
     → IsTabled i a c d t → Denotes current c.bytes (with_table_of i d t)
 tabled-denotes {i} {a} {c} {d} {t} k e =
@@ -117,7 +117,7 @@ shorter-offset l x n =
     if-offset (nat_lt (room n) x.len && (nat_lt 0 (gap_after l x) || nat_le (room n + 32) x.len)) x (room n)
 
 module _ (i : Index) (d : Directory) (n : ℕ) (proper : IsTrue (is_proper (live d))) where
-  -- the live set and the table, by whether there is a block and any place
+  -- the live set and the table, by whether there is a block, and capacity
   abbrev cut_live : Option Extent → Bool → LiveSet
   cut_live o b =
       elim o as (λ _. LiveSet) [
@@ -194,7 +194,7 @@ less-if P true p ps qs a k = AllByRecursion-behind P (extents_of p) (flat_map ex
 less-if P false p ps qs a k = AllByRecursion-append P (extents_of p) (flat_map extents_of qs)
     (AllByRecursion-front P (extents_of p) (flat_map extents_of ps) a) k
 
--- what holds of the blocks of all objects holds of those of the others
+-- a property of the blocks of all objects holds for the blocks of the others
 all-less : (P : Extent → Type 0) (h : ℕ) (os : List Object) → AllByRecursion P (flat_map extents_of os)
     → AllByRecursion P (flat_map extents_of (remove_object h os))
 all-less P h [] a = a
@@ -203,7 +203,7 @@ all-less P h (p ∷ ps) a = less-if P (h == handle p.extent) p ps (remove_object
 
 -- ---- the two indexes then
 
--- of both indexes of a directory, without an object
+-- the facts about both indexes of a directory without an object
 record BothAt (m : Memory) (d : Directory) (o : Object) : Type 0 where
   pub named : IsIndexAt m 32 d.named (handles (objects_of index.Named (without_object d o)))
   pub unique : IsIndexAt m 56 d.unique (handles (objects_of index.Unique (without_object d o)))
@@ -220,7 +220,7 @@ table-in : (i : Index) (P : Extent → Type 0) (d : Directory) (o : Object) → 
 table-in index.Named P d o e = e.named
 table-in index.Unique P d o e = e.unique
 
--- the directory without the object is what the new bytes denote
+-- the new bytes denote the directory without the object
 pub removed-denotes : {i : Index} {a b c : WindowState} {d : Directory} (o : Object) → Denotes current a.bytes d
     → IsIn d o → o.class ≡ class_of_index i → IsLeft i a b (table_of i d) (entries_of i (without_object d o))
     → IsGone b c (extents_of o) → Denotes current c.bytes (without_object d o)

@@ -1,4 +1,4 @@
--- A look-up in the index of names parts them by the text that is looked up.
+-- A look-up in the index of names splits them by the wanted text.
 use Rattle.segment_manager.proofs.Common as common
 use common.{◌≡◌, sym, ap, subst, ◌∙◌, ℕ, ◌<◌, ◌≤◌, ◌⊎◌, inl, inr, true, false, Some, arith, cases_lt, slice_get}
 use common.{slice_get_within, List, slice_cmp, nat_cmp, is_lt, Equal, same_Some, WindowState, bytes_of, Name, Found}
@@ -20,7 +20,7 @@ module _ (c : WindowState) (d : Directory) (k : Denotes current c.bytes d) (s : 
   compared j {o} f = λ i. slice_cmp nat_cmp
       (sym (all-at (IsEntry (bytes_of c.bytes)) (named_objects d) j (entries-in Named c k) f).name i) s.now
 
-  -- one after the entry of the text, or the entry itself, does not stand before the text
+  -- an entry after that of the text, or the entry itself, does not precede the text
   from-there : (at j : ℕ) {o p : Object} → slice_get (named_objects d) at ≡ Some o → slice_get (named_objects d) j
       ≡ Some p → slice_cmp nat_cmp o.name s.now ≡ Equal → at ≤ j → (at < j) ⊎ (j ≤ at) → is_before s.now p ≡ false
   from-there at j {o} {p} f g e l (inl m) = subst (λ n. is_lt (slice_cmp nat_cmp p.name n) ≡ false)
@@ -55,7 +55,7 @@ module _ (c : WindowState) (d : Directory) (k : Denotes current c.bytes d) (s : 
         from = λ j o f l. from-there at j t.is f equal l (cases_lt at j);
       }
 
--- the same of each directory that the bytes stand for
+-- the same for each directory of the bytes
 pub first-absent : (s : SegmentState) (e : Bor (List ℕ)) (at : ℕ)
     → ForIndex s.cut Named (λ hs. FindsPosition (bytes_of s.cut.bytes) (Name e) hs (Absent at)) → IsFirstFrom s e.now at
 first-absent s e at f = record {

@@ -30,7 +30,7 @@ reserve-effect : (i : Index) (d : Directory) (n : ℕ) {b : Bool} → nat_le n (
 reserve-effect index.Named d n {b} e = ap (λ b. if b then Reply Done d else take_places index.Named d n) e
 reserve-effect index.Unique d n {b} e = ap (λ b. if b then Reply Done d else take_places index.Unique d n) e
 
--- there are this many places, or they are taken
+-- the capacity suffices, or a larger block is allocated
 pub reserves : {s t : SegmentState} (view : s ≡ t) (b : IsSegment s.cut.bytes) {c : WindowState} (i : Index) {n : ℕ}
     → is_read_only t.mode ≡ false → KeepsRoomyIndex s.cut c (place_of i) n → Stepped s t c (reserve_of i n) Done
 reserves {s} {t} view b {c} i {n} may r = stepped s t view b c (reserve_of i n) Done may
@@ -98,7 +98,7 @@ shrinks {s} {t} view g {b} {c} may n u =
       denotes = shrunk-denotes index.Unique (shrunk-denotes index.Named k.denotes n) u;
     })))
 
--- the other index stands still where one is shrunk
+-- the other index stays if one is shrunk
 pub shrunk-index : {a b : WindowState} → IsSegment a.bytes → Shrinks index.Named a b
     → HasIndex b (place_of index.Unique)
 shrunk-index {b} g n =

@@ -19,7 +19,7 @@ use Rattle.segment_manager.proofs.directory.OneObject.{KeepsFront, denotes-put}
 use Rattle.segment_manager.proofs.directory.ExtentOrder.{inserted, live-rises, all_of-inserted}
 use Rattle.seg_index.proofs.Laws.{place_behind}
 
--- ---- the bytes once the entry is there
+-- ---- the bytes with the new entry
 
 -- An index has another table, and the entries with the object's. Its old block is no longer in use. Of an object that
 -- was made before, and of all that the directory had, nothing changed.
@@ -48,12 +48,12 @@ pub has-one : (i : Index) {b : List ℕ} {d : Directory} → Denotes current b d
 has-one index.Named k = record { is = k.directory.named; at = k.named }
 has-one index.Unique k = record { is = k.directory.unique; at = k.unique }
 
--- the words of an index lie below offset 80
+-- the words of an index are below offset 80
 pub place-high : (i : Index) → place_of i + 24 ≤ 80
 place-high index.Named = omega arith
 place-high index.Unique = omega arith
 
--- the directory with the object is what the new bytes denote
+-- the new bytes denote the directory with the object
 pub entered-denotes : {i : Index} (a : WindowState) {b c : WindowState} {d : Directory} {t : BackingArray} {o : Object}
     → Denotes current a.bytes d → KeepsBlocks a b (live d).extents → IsTrue (is_object current o)
     → IsObjectAt (bytes_of b.bytes) o → o.class ≡ class_of_index i → object_at d (key_in i o) ≡ None

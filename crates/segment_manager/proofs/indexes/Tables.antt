@@ -17,13 +17,13 @@ use Rattle.best_fit.proofs.Laws.{insert-comm}
 
 -- ---- one extent in a list
 
--- an extent in the middle of a list is put in last
+-- an extent in the middle of a list is inserted last
 sorted-middle : (front back : List Extent) (x : Extent) → Differs x front
     → sorted (front ++ x ∷ back) ≡ insert x (sorted (front ++ back))
 sorted-middle front back x d = sorted-append front (x ∷ back) ∙ sym (insert-inserted x front (sorted back) d)
     ∙ ap (insert x) (sym (sorted-append front back))
 
--- it differs from those before it
+-- the extent differs from the extents before it
 middle-apart : (front back : List Extent) (y : Extent) → Rising 128 (sorted (front ++ y ∷ back)) → Differs y front
 middle-apart front back y r = differs-flip y front (apart-inserted 128 front (y ∷ []) (sorted back)
     (subst (Rising 128) (sorted-append front (y ∷ back)) r))
@@ -36,7 +36,7 @@ middle-dropped front back y r =
     let f = rising-insert 128 y (sorted (front ++ back)) (subst (Rising 128) e r) in
     ap (others (handle y)) e ∙ others-insert y (sorted (front ++ back)) f.differs
 
--- with one that begins where it begins
+-- with an extent at the same offset
 middle-resized : (front back : List Extent) (x y : Extent) → x.offset ≡ y.offset
     → Rising 128 (sorted (front ++ y ∷ back))
     → insert x (others (handle x) (sorted (front ++ y ∷ back))) ≡ sorted (front ++ x ∷ back)
@@ -50,7 +50,7 @@ middle-resized front back x y e r =
 abbrev pub left_out : Option Extent → List Extent → List Extent
 left_out o zs = elim o as (λ _. List Extent) [ None ↦ zs | Some y ↦ others (handle y) zs ]
 
--- among others that were put in
+-- among other extents that were inserted
 dropped : (front back ys : List Extent) (old : Option Extent)
     → Rising 128 (inserted ys (sorted (front ++ (option_to_list old ++ back))))
     → left_out old (inserted ys (sorted (front ++ (option_to_list old ++ back)))) ≡ inserted ys (sorted (front ++ back))
@@ -65,7 +65,7 @@ dropped front back ys (Some y) h =
     let f = rising-insert 128 y (inserted ys b) (subst (Rising 128) moved h) in
     ap (others (handle y)) moved ∙ others-insert y (inserted ys b) f.differs
 
--- Another block is taken, and then these, and then the old one is left out: the new block stands in its place.
+-- Another block is allocated, then these blocks, and then the old one is freed: the new block replaces it.
 exchanged : (front back ys : List Extent) (old : Option Extent) (x : Extent)
     → Rising 128 (inserted ys (insert x (sorted (front ++ (option_to_list old ++ back)))))
     → left_out old (inserted ys (insert x (sorted (front ++ (option_to_list old ++ back))))) ≡ inserted ys
@@ -124,13 +124,13 @@ pub same-table : (i : Index) {d : Directory} → with_table_of i d (table_of i d
 same-table index.Named = refl
 same-table index.Unique = refl
 
--- of two tables put in, the last stays
+-- if a table is set twice, the last one stays
 pub last-table : (i : Index) (d : Directory) (t u : BackingArray)
     → with_table_of i (with_table_of i d t) u ≡ with_table_of i d u
 last-table index.Named d t u = refl
 last-table index.Unique d t u = refl
 
--- the table that was put in is the index's
+-- the table that was set is the index's
 pub table-of : (i : Index) (d : Directory) {t : BackingArray} → table_of i (with_table_of i d t) ≡ t
 table-of index.Named d = refl
 table-of index.Unique d = refl
@@ -149,7 +149,7 @@ leaving : (d : Directory) (o : Option Extent) (xs : List Extent)
 leaving d None xs = refl
 leaving d (Some y) xs = refl
 
--- all blocks but that of an index, among others that were put in
+-- all blocks except an index's, among other extents that were inserted
 pub index-left_out : (i : Index) (d : Directory) (ys : List Extent) → Rising 128 (inserted ys (live d).extents)
     → left_out (table_of i d).extent (inserted ys (live d).extents) ≡ inserted ys
     (live (with_table_of i d no_backing)).extents
@@ -160,7 +160,7 @@ index-left_out i d ys h =
     ap (λ zs. left_out old (inserted ys zs)) e ∙ dropped f b ys old (subst (λ zs. Rising 128 (inserted ys zs)) e h)
     ∙ ap (inserted ys) (sym ((around i d).all no_backing))
 
--- Another block is taken for an index, and then these, and then the old one is released.
+-- Another block is allocated for an index, then these blocks, and then the old one is freed.
 pub live-moved_index : (i : Index) (d : Directory) (t : BackingArray) (x : Extent) (ys : List Extent)
     → t.extent ≡ Some x → IsTrue (is_proper (adding (added (live d) x) ys))
     → without_link (adding (added (live d) x) ys) (table_link (table_of i d)) ≡ adding (live (with_table_of i d t)) ys
@@ -184,7 +184,7 @@ live-no_index i d t {y} e g h =
     let is = split i d t ∙ ap (λ (o : Option Extent). of_extents d (sorted (f ++ (option_to_list o ++ b)))) g in
     ap (λ l. released l (handle y)) was ∙ ap (of_extents d) (middle-dropped f b y r) ∙ sym is
 
--- it is given another length where it stands
+-- the index's block gets another length in place
 pub live-resized_index : (i : Index) (d : Directory) (t : BackingArray) (x : Extent) {y : Extent}
     → (table_of i d).extent ≡ Some y → t.extent ≡ Some x → x.offset ≡ y.offset → IsTrue (is_proper (live d))
     → resized (live d) x ≡ live (with_table_of i d t)

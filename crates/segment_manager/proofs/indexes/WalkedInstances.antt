@@ -5,7 +5,7 @@ use Rattle.segment_manager.proofs.Common.{named_objects, SaysAt, objects_of, Yie
 use Rattle.segment_manager.proofs.Common.{Walk, AnswersWith, SegmentState, DenotesCurrent}
 use Rattle.segment_manager.specs.indexes.Iterating.{names_of}
 
--- what stands at a place of the list of named objects is the name that is said, and after the last there is none
+-- the name of an object at a place of the list of named objects; after the last there is none
 pub name-said : {s : SegmentState} {at : ℕ} {said : Instance} → SaysAt s named_objects at said
     → AnswersWith s (λ d. slice_get (names_of d) at) (Some said.name.now)
 name-said {at} h = record {
@@ -36,7 +36,7 @@ names-end seen old new e g = record {
   says = name-past old.at (λ d k. subst (λ i. length (objects_of i d) ≤ old.at) e (g.says d k));
 }
 
--- the walk over names goes on with the next one
+-- the walk over names continues with the next one
 pub names-go_on : {A : Type 0} {seen : A → List ℕ} {name : A} (old new : Walk) (said : Instance)
     → seen name ≡ said.name.now → old.index ≡ Named → YieldsInstance old (Some said) new
     → GoesOnNames seen (names_walk old) (Some name) (names_walk new)

@@ -1,4 +1,4 @@
--- Calls on elements whose kind is what the object says: then the step of the kind is the command's own.
+-- Calls on elements of the object's own kind: the step of the kind is the command's own.
 use Rattle.segment_manager.proofs.Common as common
 use Rattle.seg_types.specs.Commands as asked
 use common.{◌≡◌, refl, sym, ap, subst, ◌∙◌, ℕ, ℤ, pos, true, false, Option, Some, None, Result, Ok, Err, List, map}
@@ -18,7 +18,7 @@ use Rattle.segment_manager.proofs.directory.CommandSteps.{open-reading, step-ref
 use Rattle.segment_manager.proofs.directory.CommandSteps.{with-not_found}
 use Rattle.segment_manager.proofs.containers.AnyStorage.{IsOfKindAt, kind-told}
 
--- ---- what an object says of its elements
+-- ---- the elements of an object
 
 abbrev told : Option Object → Result Kind Refusal
 told r = elim r as (λ _. Result Kind Refusal) [ None ↦ Err NotFound | Some o ↦ Ok (kind_of o.value) ]
@@ -41,7 +41,7 @@ has-if (Some o) e f = record { object = o; is = e; elements = sym f }
 pub has-elements : (d : Directory) (key : Key) {k : ScalarKind} → Ok k ≡ elements_at d key → HasElements d key k
 has-elements d key e = has-if (object_at d key) refl e
 
--- or there are none: no object has the key, or its elements are no scalars
+-- or there is no such element: no object has the key, or its elements are not scalars
 data HasNone (d : Directory) (key : Key) (r : Refusal) : Type 0 where
   Nowhere : object_at d key ≡ None → NotFound ≡ r → HasNone d key r
   Other : (o : Object) → object_at d key ≡ Some o → elements_of (kind_of o.value) ≡ Err r → HasNone d key r
@@ -57,7 +57,7 @@ elements-told d key kind e = ap elements_in e.is ∙ ap elements_of e.kind_is
 
 -- ---- reading
 
--- of an object whose elements are no scalars none is read
+-- no element is read of an object whose elements are not scalars
 not_read : (d : Directory) (v : Value) (i : ℕ) {r : Refusal} → elements_of (kind_of v) ≡ Err r
     → (kind_of v ≡ StringsKind → ⊥) → get d v i ≡ Refuse r
 not_read d (Pairs k v ps) i {r} e n = let why : WrongKind ≡ r = cc in ap Refuse why
@@ -86,14 +86,14 @@ abbrev pub HasNoTexts : SegmentState → Key → Type 0
 HasNoTexts s key = (d : Directory) → DenotesCurrent s.cut.bytes d → (o : Object) → object_at d key ≡ Some o
     → kind_of o.value ≡ StringsKind → ⊥
 
--- a call that reads scalars alone answers as the machine where there are no texts
+-- a call that reads only scalars has the machine's answer if the elements are not texts
 pub scalars-replies : (s : SegmentState) (key : Key) (i : ℕ) (answer : Answer) → HasNoTexts s key
     → AnswersWith s (λ d. scalar_reply s.mode d key (asked.Get key i)) answer → AnswersQuery s (asked.Get key i) answer
 scalars-replies s key i answer n r = record {
   answers = λ d l. r.answers d l ∙ machine-if s.mode d key i (elements_at d key) (n d l) refl;
 }
 
--- and where there are scalars
+-- and if they are scalars
 pub any-replies : (s : SegmentState) (key : Key) (k : ScalarKind) (c : Command) (answer : Answer)
     → AnswersWith s (λ d. elements_at d key) (Ok k) → AnswersWith s (λ d. scalar_reply s.mode d key c) answer
     → AnswersQuery s c answer
@@ -101,7 +101,7 @@ any-replies s key k c answer a r = record {
   answers = λ d l. r.answers d l ∙ ap (reply_of s.mode d c) (sym (a.answers d l));
 }
 
--- the object of the key says its kind: the answer of that kind is it
+-- the key's object has the kind, so the answer of this kind is the answer
 pub of_kind-replies : {s : SegmentState} (key : Key) {kind : Kind} {k : ScalarKind} (c : Command) {answer : Answer}
     → AnswersWith s (λ d. kind_at d key) (Ok kind) → elements_of kind ≡ Ok k → AnswersQueryOfKind s key kind c answer
     → AnswersWith s (λ d. scalar_reply s.mode d key c) answer
@@ -124,7 +124,7 @@ located-replies s key o l kind k i answer is f r = of_kind-replies key (asked.Ge
 
 -- ---- writing: the kind of the object
 
--- a vector of which it is known what its elements are
+-- a vector whose element kind is known
 pub vector-kind : (s : SegmentState) (key : Key) (l k : ScalarKind)
     → AnswersWith s (λ d. kind_at d key) (Ok (VectorKind l))
     → AnswersWith s (λ d. elements_at d key) (Ok k) → AnswersWith s (λ d. kind_at d key) (Ok (VectorKind k))
@@ -154,7 +154,7 @@ scalar-kind s key kind k a b t v = record {
 
 -- ---- writing: the literal
 
--- the plan goes by what the literal is read as
+-- the plan by the value of the literal
 abbrev set_with : Directory → Object → Value → ℕ → List ℤ → Result ℤ Refusal → Plan
 set_with d o v i zs r =
     with r (λ z. with (element_at zs i) (λ old. Reply Done (changed d o (with_items v (slice_set zs i z)))))
@@ -186,7 +186,7 @@ any-literal {old} {new} key {k} i l {z} {answer} a f v r =
     let e = has-elements d key (a.answers d w) in
     set-effect i l e f ∙ sym (set-effect i (literal_of k z) e (literal-read k z v))) r
 
--- one that is no value of the kind is refused
+-- a literal that is no value of the kind fails
 pub any-no_value : (s : SegmentState) (key : Key) (k : ScalarKind) (i : ℕ) (l : Literal) (r : Refusal)
     → AnswersWith s (λ d. elements_at d key) (Ok k) → is_read_only s.mode ≡ false → value_of_literal k l ≡ Err r
     → TakesStep s s (asked.Set key i l) (Refused r)
@@ -195,7 +195,7 @@ any-no_value s key k i l r a writing f = refused-steps s (asked.Set key i l) r w
 
 -- ---- objects of other kinds than texts
 
--- the object of the key says another kind
+-- the key's object has another kind
 pub kind-no_texts : (s : SegmentState) (key : Key) (kind : Kind) → AnswersWith s (λ d. kind_at d key) (Ok kind)
     → (kind ≡ StringsKind → ⊥) → HasNoTexts s key
 kind-no_texts s key kind a n d l o e =
@@ -204,7 +204,7 @@ kind-no_texts s key kind a n d l o e =
 
 -- ---- writing: the bytes
 
--- where an element stands in the object that a key has, or why there is none
+-- the place of an element in the key's object, or an error
 abbrev place_by : Object → Result ℕ Refusal → Result Place Refusal
 place_by o r = elim r as (λ _. Result Place Refusal) [
   | Ok at ↦ Ok (record { handle = handle o.extent; at = at })
@@ -215,7 +215,7 @@ abbrev place_of : Option Object → ScalarKind → ℕ → Result Place Refusal
 place_of r k i =
     elim r as (λ _. Result Place Refusal) [ None ↦ Err NotFound | Some o ↦ place_by o (place_in o k i) ]
 
--- a kind whose code is above those of scalars is none of them
+-- a code above those of scalars is no code of a scalar kind
 above-scalars : (k : ScalarKind) (n : ℕ) → 6 ≤ n → (scalar_code k == n) ≡ false
 above-scalars k n high = ne_eqb (scalar_code k) n (λ e. let small = scalar-small k in omega arith)
 
@@ -254,12 +254,12 @@ element-by_key old new key o l k i m = λ d w.
     subst (λ (r : Option Object). IfOk (place_of r k i) (λ (p : Place). SameBytesExcept (bytes_of old.cut.bytes)
     (bytes_of new.cut.bytes) (p.handle + p.at) (size_of k))) (sym (same-object old key o l d w)) (m d w)
 
--- what holds anyway holds of a success
+-- a property that always holds holds after a success
 pub on_ok : {A : Type 0} {P : Type 0} (r : Result A Refusal) → P → OnOk r P
 on_ok (Ok a) p = p
 on_ok (Err why) p = tt
 
--- what follows of a success, if more follows
+-- a property of a success implies another
 pub on_ok-map : {A : Type 0} {P Q : Type 0} (r : Result A Refusal) → (P → Q) → OnOk r P → OnOk r Q
 on_ok-map (Ok a) f p = f p
 on_ok-map (Err why) f p = tt

@@ -1,4 +1,4 @@
--- An array that is made of items: the call takes all of them, or none.
+-- An array made of items: the call takes all of them, or none.
 use Rattle.segment_manager.proofs.Common as common
 use Rattle.seg_types.specs.Commands as asked
 use common.{◌≡◌, refl, sym, ap, subst, ◌∙◌, ℕ, ◌+◌, ◌*◌, ◌≤◌, ℤ, Bool, true, false, if◌then◌else◌, Option, Some, None}
@@ -22,23 +22,23 @@ no_more [] e = refl
 no_more (x ∷ xs) e = absurd (omega arith)
 
 module _ {S A : Type 0} (items : S → List A) where
-  -- what was taken is the front of what there was
+  -- the items taken are the front of the items that there were
   pub taken-front : (w t : S) (xs : List A) → Yields (YieldsFirst items) w xs t → items w ≡ xs ++ items t
   taken-front w t [] h = ap items h
   taken-front w t (x ∷ xs) h = h.1 ∙ ap (λ l. x ∷ l) (taken-front h.0 t xs h.2)
 
-  -- where as many are taken as there are, all are
+  -- if as many items are taken as there are, all are
   taken-all : (w t : S) {xs : List A} → Yields (YieldsFirst items) w xs t → length xs ≡ length (items w) → xs ≡ items w
   taken-all w t {xs} h long =
       let parts = taken-front w t xs h in
       let both : length (items w) ≡ length xs + length (items t) = ap length parts ∙ length-append xs (items t) in
       sym (parts ∙ ap (λ l. xs ++ l) (no_more (items t) (omega arith)) ∙ append-nil xs)
 
-  -- where no more come, all were taken
+  -- if no more items come, all were taken
   taken-until : (w t : S) (xs : List A) → YieldsThen (YieldsFirst items) w xs None t → length xs ≡ length (items w)
   taken-until w t xs h = ap length (sym ((taken-front w h.0 xs h.1) ∙ ap (λ l. xs ++ l) h.2.0 ∙ append-nil xs))
 
--- what the plan is where there are too few items, or enough
+-- the plan if there are too few items, or enough
 abbrev pub by-items : Directory → Key → ScalarKind → ℕ → List ℤ → Bool → Plan
 by-items d key k count zs few =
     if few then with_new_object d key (asked.Numbers k (replicate count (pos 0))) (λ o e. Reply (Refused OutOfRange) d)
@@ -49,10 +49,10 @@ abbrev pub from-items : Directory → Key → ScalarKind → ℕ → List ℤ �
 from-items d key k count zs found =
     elim found as (λ _. Plan) [ Some o ↦ Refuse Exists | None ↦ by-items d key k count zs (nat_lt (length zs) count) ]
 
--- ---- a call that is refused before items are taken is refused whatever they are
+-- ---- a call that fails before items are taken fails for any items
 
 module _ (r : Refusal) (other : r ≡ OutOfRange → ⊥) where
-  -- where the one is refused for this reason, so is the other
+  -- if one step fails with this error, so does the other
   abbrev IsSame : Answer × Directory → Answer × Directory → Type 0
   IsSame p q = Refused r ≡ p.0 → q ≡ p
 
@@ -141,7 +141,7 @@ module _ {S A : Type 0} (items : S → List A) {whole : A
     {w t : S} {result : Result ℕ Refusal}
     (takes : ConstructsFromItems (YieldsFirst items) whole old new key k n w t result)
     (long : length (items w) ≡ n) where
-  -- it is refused before an item is taken
+  -- the call fails before an item is taken
   early : {xs : List A} (r : Refusal) → (r ≡ OutOfRange → ⊥) → TakesUntil (YieldsFirst items) n w xs t r → xs ≡ []
   early OutOfRange other h = absurd (other refl)
   early r other h = h.0
@@ -151,7 +151,7 @@ module _ {S A : Type 0} (items : S → List A) {whole : A
   kept NoSpace other h e = absurd (cc)
   kept r other h e = h
 
-  -- there are as many as are wanted
+  -- there are enough items
   enough : (xs : List A) (r : Refusal) → TakesUntil (YieldsFirst items) n w xs t r → r ≡ OutOfRange → ⊥
   enough xs r h e =
       let until : TakesUntil (YieldsFirst items) n w xs t OutOfRange =

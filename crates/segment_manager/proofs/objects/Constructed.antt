@@ -1,4 +1,4 @@
--- An object made under a key with an entry: what the bytes denote, and what the machine does.
+-- An object constructed under a key with an entry: the directory of the bytes, and the step of the machine.
 use Rattle.segment_manager.proofs.Common as common
 use Rattle.seg_types.specs.Names as names
 use Rattle.seg_types.specs.Commands as asked
@@ -25,7 +25,7 @@ use Rattle.seg_index.specs.{declared.keys.Entry.Entry, Growth.grown_live}
 use Rattle.segment_manager.specs.objects.NewObjects.{FindsNone}
 use Rattle.seg_index.proofs.Laws.{place_behind, place_small}
 
--- what is made is the object, in a directory that the new bytes denote; and so the machine goes on
+-- the new object is in a directory that the new bytes denote, and the machine continues with it
 pub record IsNewObject (new : WindowState) (d : Directory) (key : names.Key) (content : Content) (h : ℕ) : Type 0 where
   pub object : Object
   pub after : Directory
@@ -50,7 +50,7 @@ pub record IsMet (d : Directory) (key : names.Key) (content : Content) : Type 0 
   pub met : (next : Object → Directory → Plan)
       → perform d (live d) (with_new_object d key content next) ≡ perform d left (next object after)
 
--- the same blocks are in use, and nothing in them changed: the bytes denote the same directory
+-- the same blocks are in use with the same bytes, so the bytes denote the same directory
 pub restored-denotes : (a c : WindowState) (d : Directory) → Denotes current a.bytes d → RestoresBlocks a c
     → Denotes current c.bytes d
 restored-denotes a c d said r =
@@ -59,7 +59,7 @@ restored-denotes a c d said r =
 
 -- ---- the index grows, or not
 
--- the directory where its index has what it grew into
+-- the directory after its index grew
 abbrev pub grown : (i : Index) (d : Directory) (a b : WindowState) (g : Option ℕ) → PreparesOk a b (place_of i) g
     → Directory
 grown i d a b None h = d
@@ -88,7 +88,7 @@ grows-performs i a b {d} (Some g) next k h =
     (ap (λ l. added l h.1.extent) (sym (denotes-live current a.bytes d k))
     ∙ sym (allocated-live current a b (grown_bytes a (place_of i)) IndexRole g h.1))
 
--- what the directory had stays while the index takes its block and the object is made
+-- the blocks of the directory stay while the index gets its block and the object is made
 pub keeps-front : (b c : WindowState) (x : Extent) (l : LiveSet) → KeepsBlocks b c (added l x).extents
     → KeepsBlocks b c l.extents
 keeps-front b c x l k = record {
@@ -109,7 +109,7 @@ grows-keeps i a b c {d} (Some g) k h keeps =
     (subst (λ (l : LiveSet). KeepsBlocks b c l.extents)
     (allocated-live current a b (grown_bytes a (place_of i)) IndexRole g h.1) keeps)))
 
--- ---- the entry is there
+-- ---- the entry is added
 
 -- the table that the index has then
 abbrev table_then : (i : Index) (d : Directory) (a b : WindowState) (g : Option ℕ) → PreparesOk a b (place_of i) g
@@ -133,14 +133,14 @@ entered a b {c} {o} at None k h made x same adds laid keeps =
     entered-none a at k (subst (λ (s : WindowState). IsMade s c o) h.1 made) x same adds laid keeps
 entered a b at (Some g) k h made x same adds laid keeps = entered-some at k h.1 made x same adds laid keeps
 
--- ---- what the machine does
+-- ---- the step of the machine
 
 -- the value, and then the object in its block
 abbrev value_plan : Index → List ℕ → Content → (Object → Directory → Plan) → Directory → Extent → Plan
 value_plan i name content next e x =
     with_value content (λ v. next (object_of i name v x) (with_object e (object_of i name v x)))
 
--- the object's block is asked for, once the index has a place
+-- the object's block is allocated after the index has capacity
 abbrev object_plan : Index → List ℕ → Content → (Object → Directory → Plan) → Directory → Plan
 object_plan i name content next e =
     Request (New ObjectRole (object_len name (bare content))) (value_plan i name content next e)
@@ -156,7 +156,7 @@ content-plan i d key {name} content next e f = λ j.
 
 -- ---- both together
 
--- an entry that leads to a handle was made in an index
+-- an entry that leads to a handle was added to an index
 pub record IsLed (i : Index) (w c : WindowState) (at h : ℕ) (g : Option ℕ) : Type 0 where
   pub adds : (t : BackingArray) (hs : List ℕ) → IsIndexOf w (place_of i) t hs
       → AddsEntry w c (place_of i) t (insert hs at h) g

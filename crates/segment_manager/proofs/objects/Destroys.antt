@@ -1,4 +1,4 @@
--- The object of a handle and its own entry, and what it is to destroy an object.
+-- The object of a handle and its own entry, and the destruction of an object.
 use Rattle.segment_manager.proofs.Common as common
 use Rattle.seg_types.specs.declared.kinds.Class.TheVariants as class
 use Rattle.seg_types.specs.Names as names
@@ -40,7 +40,7 @@ entry-class i d at {o} e = class-is i o.class (all-at (λ p. is_class (class_of_
     (all-ordered (λ p. is_class (class_of_index i) p ≡ true) (class_of_index i) (order_of i) d.objects
     (of-class (class_of_index i) d.objects)) e)
 
--- it stands in the heap with the other entries
+-- the index is in the heap with the other entries
 pub entry-index : {c : WindowState} {i : Index} {at : ℕ} → HoldsEntry c.bytes i at → HasIndex c (place_of i)
 entry-index {c} {i} x = record {
   table = table_of i x.directory;
@@ -48,7 +48,7 @@ entry-index {c} {i} x = record {
   index = denotes-index i c x.stands.denotes;
 }
 
--- an entry stands below the count
+-- an entry is below the count
 pub entry-below : (c : WindowState) {i : Index} {at : ℕ} → HoldsEntry c.bytes i at → at < entry_count c (place_of i)
 entry-below c {i} {at} x =
     let d : Directory = x.directory in
@@ -58,7 +58,7 @@ entry-below c {i} {at} x =
       (denotes-index i c x.stands.denotes).stands.count,
     )
 
--- a handle that stands at the entry
+-- the handle of the entry
 abbrev pub LeadsTo : WindowState → Index → ℕ → ℕ → Type 0
 LeadsTo c i at h = (t : BackingArray) (hs : List ℕ) → IsIndexOf c (place_of i) t hs → slice_get hs at ≡ Some h
 
@@ -70,7 +70,7 @@ module _ {a : WindowState} (i : Index) (at : ℕ) {h : ℕ} (leads : LeadsTo a i
       (all-at (λ (p : Object). object_at d (names.ByHandle (handle p.extent)) ≡ Some p) (objects_of i d) at
       (in-handles i k.directory) e)
 
-  -- the object of an entry is there
+  -- the object of an entry exists
   pub entry-object : HoldsEntry a.bytes i at → HoldsObject a.bytes h
   entry-object x = record {
     directory = x.directory;
@@ -119,7 +119,7 @@ module _ {a b : WindowState} (h : ℕ) (empties : Empties a b h) {d : Directory}
   emptied-index i = subst (IsIndexOf b (place_of i) (table_of i emptied_directory))
       (changed-entries d o is-in i (emptied o.value) (emptied-is o.value).kind) (denotes-index i b emptied-denotes)
 
-  -- where its own block was released and nothing else, and it has no key
+  -- only the object's own block was freed, and it is anonymous
   pub anonymous-gone : {c : WindowState} → o.class ≡ class.Anonymous → Deallocates current b c h
       → Becomes a c (without_object d o)
   anonymous-gone {c} is r = record {
@@ -129,7 +129,7 @@ module _ {a b : WindowState} (h : ℕ) (empties : Empties a b h) {d : Directory}
         (subst (Deallocates current b c) (found-handle h d.objects o (record { is = e })) r));
   }
 
-  -- where an entry was removed that it has, and then its own block was released
+  -- the object's entry was removed, and then its own block was freed
   entry-gone : {c f : WindowState} {i : Index} {at : ℕ} → slice_get (objects_of i d) at ≡ Some o → IsUnlisted i b c at
       → Deallocates current c f h → Becomes a f (without_object d o)
   entry-gone {c} {f} {i} {at} there u r =
@@ -152,13 +152,13 @@ module _ {a b : WindowState} (h : ℕ) (empties : Empties a b h) {d : Directory}
             (subst (IsGone c f) (ap (λ xs. o.extent ∷ xs) (sym (emptied-is o.value).alone)) none));
       }
 
--- the same of the object that an entry leads to
+-- the same for the object of an entry
 module _ {a b : WindowState} {i : Index} {at h : ℕ} (leads : LeadsTo a i at h) (empties : Empties a b h) where
   module _ (x : HoldsEntry a.bytes i at) where
     abbrev held : object_at x.directory (names.ByHandle h) ≡ Some x.object
     held = entry-found i at leads x.stands.denotes x.is
 
-    -- the index stands still
+    -- the index stays
     pub index-still : HasIndex b (place_of i)
     index-still = record {
       table = table_of i (changed x.directory x.object (emptied x.object.value));
@@ -166,7 +166,7 @@ module _ {a b : WindowState} {i : Index} {at h : ℕ} (leads : LeadsTo a i at h)
       index = emptied-index h empties x.stands held i;
     }
 
-    -- the entry stands below the count still
+    -- the entry is still below the count
     pub below-still : at < entry_count b (place_of i)
     below-still = omega (
       arith,
@@ -187,7 +187,7 @@ module _ {a b : WindowState} {i : Index} {at h : ℕ} (leads : LeadsTo a i at h)
 
 -- ---- destroying by a key with an entry
 
--- what a look-up ends with in the index of a heap
+-- the result of a look-up in the index of a heap
 abbrev pub Ends : WindowState → Index → Entry → Lookup → Type 0
 Ends c i e r = (t : BackingArray) (hs : List ℕ) → IsIndexOf c (place_of i) t hs
     → FindsPosition (bytes_of c.bytes) e hs r
@@ -223,7 +223,7 @@ destroys-entered {s} {t} view b {c} i e key at may q p r =
       denotes = (r d there.object k there.stands).denotes;
     })))
 
--- or there is none
+-- or there is no such object
 pub destroys-none : {s t : SegmentState} (view : s ≡ t) (i : Index) (e : Entry) (key : names.Key) (at : ℕ)
     → is_read_only t.mode
     ≡ false → Seeks i e key → Ends s.cut i e (Absent at) → TakesStep t t (asked.Destroy key) (Truth false)
@@ -265,7 +265,7 @@ module _ {s t : SegmentState} (view : s ≡ t) {h : ℕ} {i : Index} {at : ℕ} 
       let l = seen-entry listed in
       let x = l.leads b.0 b.1 in found-entry s.cut b i l.entry x.key at x.seeks l.found
 
-  -- it went with its entry
+  -- the object was removed with its entry
   pub destroys-ptr : (b : IsSegment s.cut.bytes) {c : WindowState} → is_read_only t.mode ≡ false → IsEntryAt t h i at
       → RemovesEntry s.cut c i at → Stepped s t c (asked.DestroyPtr h) (Truth true)
   destroys-ptr b {c} may listed r =

@@ -51,10 +51,10 @@ no_vector-if (Elements k zs t) n m = absurd (n k refl)
 no_vector-if (Texts ps t) n m = absurd (m refl)
 no_vector-if v n m = refl
 
--- ---- no object that may be changed has the key
+-- ---- there is no object with the key that can be changed
 
 module _ {s : SegmentState} {key : Key} {why : Refusal} (h : IsUnchangeable s key why) where
-  -- an object that may not be changed takes no element
+  -- an object that cannot be changed takes no element
   pub unchangeable-element : (l : Literal) → IsNoElement s key l why
   unchangeable-element l = record {
     push = h.refuses (asked.Push key l) refl (λ d n. with-not_found d key (λ o. step.push d o o.value l) n);
@@ -62,28 +62,28 @@ module _ {s : SegmentState} {key : Key} {why : Refusal} (h : IsUnchangeable s ke
         (λ d n. with-not_found d key (λ o. step.insert_at d o o.value i l) n);
   }
 
-  -- `pop` from an object that may not be changed is refused
+  -- `pop` from an object that cannot be changed fails
   pub pop-unchangeable : TakesStep s s (asked.Pop key) (Refused why)
   pop-unchangeable = h.refuses (asked.Pop key) refl (λ d n. with-not_found d key (λ o. step.pop d o o.value) n)
 
-  -- `erase` from an object that may not be changed is refused
+  -- `erase` from an object that cannot be changed fails
   pub erase-unchangeable : (i : ℕ) → TakesStep s s (asked.Erase key i) (Refused why)
   erase-unchangeable i =
       h.refuses (asked.Erase key i) refl (λ d n. with-not_found d key (λ o. step.erase d o o.value i) n)
 
-  -- `assign` to an object that may not be changed is refused
+  -- `assign` to an object that cannot be changed fails
   pub assign-unchangeable : (ls : List Literal) → TakesStep s s (asked.Assign key ls) (Refused why)
   assign-unchangeable ls =
       h.refuses (asked.Assign key ls) refl (λ d n. with-not_found d key (λ o. step.assign d o o.value ls) n)
 
-  -- `set` of an object that may not be changed is refused
+  -- `set` of an object that cannot be changed fails
   pub set-unchangeable : (i : ℕ) (l : Literal) → TakesStep s s (asked.Set key i l) (Refused why)
   set-unchangeable i l =
       h.refuses (asked.Set key i l) refl (λ d n. with-not_found d key (λ o. step.set d o o.value i l) n)
 
 -- ---- the object of the key is no vector
 
--- the kind that was told is the object's
+-- the kind in the result is the object's
 pub told : {s : SegmentState} {key : Key} {kind : Kind} → AnswersWith s (λ d. kind_at d key) (Ok kind) → (d : Directory)
     → DenotesCurrent s.cut.bytes d → IsOfKindAt d key kind
 told {s} {key} {kind} a d st = kind-told d key kind (a.answers d st)
@@ -144,7 +144,7 @@ module _ {s : SegmentState} (key : Key) (k : ScalarKind) (a : AnswersWith s (λ 
       ∙ sym (insert-plan d key f.object k h.numbers h.table f.is h.is i (literal_of k z) (Ok z) outside
       (literal-read k z v) refl)) (of_kind-steps s new key (Vector k) (asked.Insert key i (literal_of k z)) answer a r)
 
-  -- one that is no value of the kind is refused
+  -- a literal that is no value of the kind fails
   refused-element : {l : Literal} {why : Refusal} → is_read_only s.mode ≡ false → value_of_literal k l ≡ Err why
       → IsNoElement s key l why
   refused-element {l} {why} writing e = record {
@@ -155,7 +155,7 @@ module _ {s : SegmentState} (key : Key) (k : ScalarKind) (a : AnswersWith s (λ 
         (held st).is i l (Err why) (nat_lt (length (held st).numbers) i) e refl);
   }
 
--- what the literal is for it
+-- the literal as a value of the object's elements
 module _ {s : SegmentState} {key : Key} {o : Located} (h : IsChangeableObject s key o) {k : ScalarKind} (is : o.kind
     ≡ Vector k) where
   -- a literal that is a value is an element
@@ -173,7 +173,7 @@ module _ {s : SegmentState} {key : Key} {o : Located} (h : IsChangeableObject s 
 abbrev own : ScalarValue → Literal
 own v = literal_of (kind_of_scalar v) (value_of_scalar v)
 
--- a new element, put there under the handle of the vector
+-- a new element, inserted for the handle of the vector
 module _ {s : SegmentState} {key : Key} {o : Located} (located : IsLocated s key o) {l : Literal} {v : ScalarValue}
     (e : IsElement s key l v) {new : SegmentState} {answer : Answer} where
   -- a pushed element is the step of the command
@@ -240,14 +240,14 @@ abbrev elements_of_object : Option Object → Result ScalarKind Refusal
 elements_of_object r =
     elim r as (λ _. Result ScalarKind Refusal) [ None ↦ Err NotFound | Some o ↦ elements_of (kind_of o.value) ]
 
--- the elements that were told are the object's
+-- the elements in the result are the object's
 pub elements-told : {s : SegmentState} {key : Key} {kind : Kind} {k : ScalarKind} → IsChangeable s key kind
     → elements_of kind ≡ Ok k → AnswersWith s (λ d. elements_at d key) (Ok k)
 elements-told h e = record {
   answers = λ d st. let f = told h.is d st in sym (ap elements_of_object f.is ∙ ap elements_of f.kind_is ∙ e);
 }
 
--- of scalars, or of a vector of them
+-- an array of scalars, or a vector of them
 pub elements-either : {s : SegmentState} {key : Key} {kind : Kind} {k : ScalarKind} → IsChangeable s key kind
     → (kind ≡ Scalar k) ⊎ (kind ≡ Vector k) → AnswersWith s (λ d. elements_at d key) (Ok k)
 elements-either h (inl e) = elements-told h (ap elements_of e)
@@ -261,7 +261,7 @@ pub set-step : {old new : SegmentState} (key : Key) {k : ScalarKind} (i : ℕ) (
 set-step {old} {new} key {k} i l v {answer} a (same, value, range) h = any-literal key i l a value range
     (subst (λ j. TakesStep old new (asked.Set key i (literal_of j (value_of_scalar v))) answer) same h)
 
--- a map has none
+-- a map has no elements
 no_map_set : (d : Directory) (o : Object) (v : Value) (i : ℕ) (l : Literal) (k m : ScalarKind) → kind_of v ≡ MapKind k m
     → step.set d o v i l ≡ Refuse WrongKind
 no_map_set d o (Pairs j n ps) i l k m e = refl

@@ -1,4 +1,4 @@
--- The elements of the object of a key, one after another: what a reading of one says of the list, and how long it is.
+-- The elements of a key's object, one after another: the result of reading one, and their number.
 use Rattle.segment_manager.proofs.Common as common
 use common.{◌≡◌, refl, sym, ap, ◌∙◌, ℕ, zero, suc, ℤ, Bool, true, false, Option, Some, None, Result, Ok, Err, List, []}
 use common.{◌∷◌, length, map, if◌then◌else◌, option_map, slice_get, Kind, ScalarOf, StringsKind, ScalarKind, Refusal}
@@ -16,14 +16,14 @@ use Rattle.segment_manager.specs.objects.ElementLists.{array_at, array_length_at
 use Rattle.segment_manager.specs.objects.ElementLists.{texts_in, vector_at}
 use Rattle.seg_types.specs.Commands as asked
 
--- what was read, if it was
+-- the element that was read, if it was
 abbrev pub got : {A : Type 0} → Result A Refusal → Option A
 got (Ok a) = Some a
 got (Err why) = None
 
--- ---- where there is no such object, nothing is listed
+-- ---- without such an object the list is empty
 
--- an object that is not there has no elements
+-- an object that does not exist has no elements
 pub none-listed : {A : Type 0} (items : Value → List A) (d : Directory) (key : Key) (kind : Kind)
     → object_at d key ≡ None → list_at items d key kind ≡ []
 none-listed {A} items d key kind e = ap (λ (r : Option Object).
@@ -39,11 +39,11 @@ list-of {A} items d key kind o b e f = ap (λ (r : Option Object).
 
 -- ---- one element
 
--- what is answered for an element, or where there is none
+-- the answer for an element, or if there is none
 abbrev told : {A : Type 0} → (A → Answer) → Option A → Answer
 told says p = elim p as (λ _. Answer) [ None ↦ Refused OutOfRange | Some a ↦ says a ]
 
--- an object of the kind is read so, where an answer is no refusal and says which element it is of
+-- elements of an object of the kind are read this way, if an answer is no error and determines its element
 module _ {A : Type 0} (says : A → Answer) (one : (a b : A) → says a ≡ says b → a ≡ b)
     (some : (a : A) (why : Refusal) → says a ≡ Refused why → ⊥) (items : Value → List A) where
   not-got : (r : Result A Refusal) (why : Refusal) → answer_of says r ≡ Refused why → got r ≡ None
@@ -142,9 +142,9 @@ pub text-read : (mode : Mode) (d : Directory) (key : Key) (i : ℕ) (r : Result 
 text-read mode d key i r f = item-at TextElement (λ a b e. cc) (λ a why e. absurd (cc)) texts_in mode d key StringsKind
     i (texts-gets d i) r (object_at d key) refl f
 
--- ---- how many
+-- ---- their number
 
--- what is said of the object of a key, an object of a kind
+-- a function of a key's object of a kind
 abbrev of_kind_at : {A : Type 0} → (Value → Result A Refusal) → Directory → Key → Kind → Result A Refusal
 of_kind_at say d key kind =
     elim (object_at d key) [
@@ -170,7 +170,7 @@ module _ {A : Type 0} (items : Value → List A) (say : Value → Result ℕ Ref
   many-at : number_or_none (of_kind_at say d key kind) ≡ length (list_at items d key kind)
   many-at = many-in (object_at d key)
 
--- of the sizes of a container the first
+-- the first of the sizes of a container
 sizes-first : (b : Bool) (v : Value)
     → first_size (if b then sizes_of v else Err WrongKind) ≡ (if b then first_size (sizes_of v) else Err WrongKind)
 sizes-first true v = refl
@@ -198,19 +198,19 @@ array-many : (k : ScalarKind) (v : Value) → same_kind (ScalarOf k) (kind_of v)
 array-many k v e =
     let is = numbers-only k v e in ap array_size is.1 ∙ sym (ap (λ (w : Value). Ok (length (numbers_in w))) is.1)
 
--- of a container of a kind as many as are listed of it
+-- the length of a container of a kind is the number of its listed elements
 pub listed-length : {A : Type 0} (items : Value → List A) (d : Directory) (key : Key) (kind : Kind)
     → ((v : Value) → same_kind kind (kind_of v) ≡ true → first_size (sizes_of v) ≡ Ok (length (items v)))
     → (r : Result ℕ Refusal) → r ≡ length_at_kind d key kind → number_or_none r ≡ length (list_at items d key kind)
 listed-length items d key kind only r e = ap number_or_none (e ∙ length-first kind (object_at d key))
     ∙ many-at items (λ v. first_size (sizes_of v)) d key kind only
 
--- the length that was told is the vector's
+-- the length in the result is the vector's
 pub vector-length : (d : Directory) (key : Key) (k : ScalarKind) (r : Result ℕ Refusal)
     → r ≡ length_at_kind d key (VectorOf k) → number_or_none r ≡ length (vector_at d key k)
 vector-length d key k r e = listed-length numbers_in d key (VectorOf k) (vector-many k) r e
 
--- the length that was told is the array's
+-- the length in the result is the array's
 pub array-length : (d : Directory) (key : Key) (k : ScalarKind) (r : Result ℕ Refusal) → r ≡ array_length_at d key k
     → number_or_none r ≡ length (array_at d key k)
 array-length d key k r e = ap number_or_none e ∙ many-at numbers_in array_size d key (ScalarOf k) (array-many k)

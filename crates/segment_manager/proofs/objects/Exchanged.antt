@@ -22,27 +22,27 @@ use Rattle.best_fit.specs.Fit.{insert}
 
 -- ---- extents among others
 
--- an extent before those that are put in, or after them
+-- an extent before the inserted ones, or after them
 put-last : (x : Extent) (ys zs : List Extent) → Rising 128 (insert x (inserted ys zs))
     → insert x (inserted ys zs) ≡ inserted ys (insert x zs)
 put-last x ys zs r =
     let f = rising-insert 128 x (inserted ys zs) r in
     insert-inserted x ys zs (all_of-inserted (λ (y : Extent). x.offset ≢ y.offset) ys zs f.differs).0
 
--- an extent put in before the others is the first
+-- an extent inserted before the others is the first
 pub put-first : (x : Extent) (ys zs : List Extent) → Rising 128 (inserted ys (insert x zs))
     → inserted ys (insert x zs) ≡ insert x (inserted ys zs)
 put-first x ys zs r = sym (insert-inserted x ys zs (differs-flip x ys (apart-inserted 128 ys (x ∷ []) zs r)))
 
 -- ---- the live set
 
--- An object and the one in its place: some blocks of the value are gone, others came, and the others are the same.
+-- An object and its replacement: some blocks of the value are freed, others allocated, and the others are the same.
 pub record Exchange (o o' : Object) (gone come : List Extent) : Type 0 where
   pub same : List Extent
   pub was : SameSpread (value_extents o.value) (gone ++ same)
   pub is : SameSpread (come ++ same) (value_extents o'.value)
 
--- they stand between the others
+-- they are between the others
 pub between : (o o' : Object) (front gone come back : List Extent) → value_extents o.value ≡ front ++ (gone ++ back)
     → value_extents o'.value ≡ front ++ (come ++ back) → Exchange o o' gone come
 between o o' front gone come back e f = record {
@@ -88,7 +88,7 @@ live-exchanged d o o' gone come p x h =
     let v = e ∙ ap (of_extents d o') own in
     live-changed d o o' p.found (subst (λ l. IsTrue (is_proper l)) v h) ∙ sym v
 
--- ---- what stays
+-- ---- the blocks that stay
 
 but-beside : {m m' : Memory} {from n : ℕ} {x y : Extent} → handle x ≤ from → from + n ≤ end_of x → LiesBeside x y
     → SameBlockExcept m m' from n y → SameBlock m m' y
@@ -101,15 +101,15 @@ but-beside f g (below h) s = record {
   colour = s.colour;
 }
 
--- blocks beside a written one stay but for its range
+-- blocks apart from a written one stay, except its range
 pub all-but-beside : (m m' : Memory) (from n : ℕ) (x : Extent) (ys : List Extent) → handle x ≤ from
     → from + n ≤ end_of x → AllByRecursion (LiesBeside x) ys → AllByRecursion (SameBlockExcept m m' from n) ys
     → AllByRecursion (SameBlock m m') ys
 all-but-beside m m' from n x [] f g h s = tt
 all-but-beside m m' from n x (y ∷ ys) f g h s = (but-beside f g h.0 s.0, all-but-beside m m' from n x ys f g h.1 s.1)
 
--- what is said of all blocks that stay is said of the object's own, of those of its value that are the same, and of
--- those of the others
+-- a property of all blocks that stay holds for the object's own block, for the equal blocks of its value, and for the
+-- blocks of the others
 pub record Kept (P : Extent → Type 0) (d : Directory) (o o' : Object) (same : List Extent) : Type 0 where
   pub own : P o.extent
   pub value : AllByRecursion P same
@@ -121,7 +121,7 @@ kept-each P {d} {o} {o'} p x blocks =
     let both = all_of-inserted P (o.extent ∷ x.same) (rest d o') (subst (AllByRecursion P) (live-kept p x) blocks) in
     record { own = both.0.0; value = both.0.1; rest = both.1 }
 
--- the blocks of the other objects lie beside the object's own
+-- the blocks of the other objects are apart from the object's own
 pub others-beside : (d : Directory) (o o' : Object) → InPlace d o o' → AllByRecursion (LiesBeside o.extent) (rest d o')
 others-beside d o o' p =
     let e = live-split d o (subst (λ (e : Extent). IsFound (handle e) d.objects o) p.extent p.found) p.proper

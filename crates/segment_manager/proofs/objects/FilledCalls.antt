@@ -1,4 +1,4 @@
--- Calls that construct an object, of what fills it or of numbers from items, as the code makes them.
+-- Calls that construct an object from its contents or from items, as in the code.
 use Rattle.segment_manager.proofs.Common as common
 use Rattle.seg_types.specs.Names as names
 use Rattle.seg_types.specs.Commands as asked
@@ -25,7 +25,7 @@ use Rattle.seg_index.specs.declared.keys.Entry.{Entry}
 
 -- ---- begun
 
--- what the shape says of an object that was begun is what the content says
+-- the shape of a pending object is the shape of its contents
 pub begun-for : (old new : WindowState) (key : names.Key) {content : Content} {s : ObjectShape}
     (r : Result PendingObject Refusal) → IsShapeOf content s → BeginsObject old new key s.kind s.count s.len r
     → BeginsObject old new key (kind_of (bare content)) (count_of (bare content)) (value_len (bare content)) r
@@ -42,7 +42,7 @@ has-begun old new key r b is g = (old, (b, (key, begun-for old new key (Ok r) is
 -- ---- filled
 
 module _ (content : Content) where
-  -- what the end wants of a value that was made, or was refused its blocks
+  -- the conditions of the end for a value that was made, or whose blocks had no space
   pub ending : (a m : WindowState) (b : IsSegment a.bytes) (key : names.Key) (h at : ℕ)
       (entry : Option PendingEntry) (w : WindowState)
       (r : Result (Unit {0}) Refusal) → BeginsObjectFor a m key content h at entry
@@ -50,7 +50,7 @@ module _ (content : Content) where
   ending a m b key h at entry w (Ok u) g r = value-ready content a b key h at entry g r
   ending a m b key h at entry w (Err why) g r = (a, value-loose content a b key h at entry w why g r)
 
-  -- the value is made, and then the object gets its entry; or all is given back
+  -- the value is made, and then the object gets its entry; or all blocks are freed
   pub builds : (m w c : WindowState) (h at : ℕ) (entry : Option PendingEntry) (filled : Result (Unit {0}) Refusal)
       (result : Result ℕ Refusal) → MakesValue content m w (record { handle = h; at = at }) filled
       → Ends w c h entry filled result → FillsObject m c h at entry content result
@@ -92,7 +92,7 @@ module _ {a : WindowState} (b : IsSegment a.bytes) (key : names.Key) (content : 
         → FillsObject m c h at entry content (let r = Err why in r) → IsMadeNever a c key content
     made-never why g r = value-not_built content b h at entry g r.none r.back
 
-    -- what was begun is built, or is refused its blocks
+    -- a pending object is built, or its blocks had no space
     pub construct-built : (r : Result ℕ Refusal) → BeginsObjectFor a m key content h at entry
         → FillsObject m c h at entry content r → Constructs a c (asked.Construct key content) handle_answer r
     construct-built (Ok n) g r =
@@ -118,7 +118,7 @@ module _ {a : WindowState} (b : IsSegment a.bytes) (key : names.Key) (content : 
         }
     found-built (Err why) g r = none-found c why r.none.refusal (made-never why g r)
 
-  -- it is not begun
+  -- the object is not pending
   pub construct-not_begun : (why : Refusal) (c : WindowState) → BeginsObjectErr a c key (kind_of (bare content))
       (value_len (bare content)) why → Constructs a c (asked.Construct key content) handle_answer (Err why)
   construct-not_begun Exists c t = record {
@@ -130,7 +130,7 @@ module _ {a : WindowState} (b : IsSegment a.bytes) (key : names.Key) (content : 
   construct-not_begun NoSpace c t = none-constructed c NoSpace refl (value-not_begun key content t)
   construct-not_begun why c t = absurd t
 
-  -- where no object has the key
+  -- the case in which no object has the key
   pub found-not_begun : (why : Refusal) {c : WindowState} → object_at b.0 key ≡ None
       → BeginsObjectErr a c key (kind_of (bare content)) (value_len (bare content)) why
       → Constructs a c (asked.FindOrConstruct key content) found_object_answer (Err why)
@@ -162,7 +162,7 @@ pub no-object : {a : WindowState} (b : IsSegment a.bytes) (i : Index) (e : Entry
 no-object {a} b i e at key name kind new away =
     (lookup-absent i a e key b.1.denotes (key-seeks i e key name kind new) (away-in i e at b.1.denotes away)).none
 
--- and so nothing is said of one
+-- and so there is no object
 pub found-absent : {a c : WindowState} (i : Index) (e : Entry) (at : ℕ) {key : names.Key} (name : List ℕ) (kind : Kind)
     {content : Content} {r : Result (ℕ × ℕ) Refusal} → IsNewKeyOf i e key name kind → IsAbsentAt a i e at
     → Constructs a c (asked.FindOrConstruct key content) found_object_answer r → FindsOrConstructs a c key content r

@@ -17,7 +17,7 @@ pub yields-more : {S A : Type 0} (steps : S → Option A → S → Type 0) (s t 
 yields-more steps s t u [] x e f = (u, subst (λ r. steps r (Some x) u) (sym e) f, refl)
 yields-more steps s t u (y ∷ ys) x h f = (h.0, h.1, yields-more steps h.0 t u ys x h.2 f)
 
--- what holds of all items that may come holds of the last one
+-- a property of all possible items holds for the last one
 pub last-holds : {S A : Type 0} (steps : S → Option A → S → Type 0) (P : A → Type 0) (s t u : S) (xs : List A) (x : A)
     → HoldsAlong steps s (AllByRecursion P) → Yields steps s xs t → steps t (Some x) u → P x
 last-holds steps P s t u xs x all h f =
@@ -32,7 +32,7 @@ all-more t (y ∷ ys) z h e = and_from (t y) (list_all t (ys ++ z ∷ [])) (firs
 
 -- ---- this many items were written
 
--- an object that is being filled: what was given so far, and what stands
+-- an object that is being filled: the items so far, and the bytes
 pub record IsFilling {S A : Type 0} (gives : S → Option A → S → Type 0) (can : S → Type 0) (whole : A → ℤ)
     (old now : WindowState) (k : ScalarKind) (from i : ℕ) (before at : S) : Type 0 where
   pub items : List A
@@ -72,7 +72,7 @@ module _ (S : Type 0) {A : Type 0} {gives : S → Option A → S → Type 0} {ca
             (subst (λ p. HasBytesAt (bytes_of c.bytes) p bytes) place w.content));
       }
 
--- what holds of each item holds of those that may come
+-- a property of each item holds for the possible ones
 pub always-holds : {S A : Type 0} (steps : S → Option A → S → Type 0) (P : A → Type 0) (s : S) → ((x : A) → P x)
     → HoldsAlong steps s (AllByRecursion P)
 always-holds {S = S} {A = A} steps P s each xs t ran = every xs where

@@ -1,4 +1,4 @@
--- An object found under a key, or constructed where there is none, as a step of the machine.
+-- An object found under a key, or constructed if there is none, as a step of the machine.
 use Rattle.seg_types.specs.Commands as asked
 use Rattle.segment_manager.proofs.Common.{◌≡◌, sym, ap, ◌∙◌, ℕ, None, WindowState, Key, Made, Plan, Reply, bare}
 use Rattle.segment_manager.proofs.Common.{SegmentState, found, refl, if◌then◌else◌, found_object_answer}
@@ -14,7 +14,7 @@ use Rattle.segment_manager.proofs.{objects.Here.here, objects.KeyCalls.kind-step
 
 -- ---- an object that is constructed
 
--- what the plan is for what is found: that of a new object, or that there is one
+-- the plan after a look-up: the plan of a new object, or an error because one exists
 abbrev pub made_for : Directory → Key → Content → Option Object → Plan
 made_for d key content r =
     elim r as (λ _. Plan) [
@@ -25,7 +25,7 @@ made_for d key content r =
 module _ {old : SegmentState} {new : WindowState} {key : Key} {content : Content} (c : Command) (say : Object → Answer)
     (writing : is_read_only old.mode ≡ false) (place : SameSurroundings old.cut new) (asks : ((d : Directory)
     → object_at d key ≡ None → effect d c ≡ with_new_object d key content (λ o e. Reply (say o) e))) where
-  -- A command asks for a new object where no object has the key, and says this of it: it is made.
+  -- A command that makes a new object if no object has the key: the object is made.
   pub makes : {h : ℕ} {answer : Answer} → ((d : Directory) → (n : IsNewObject new d key content h)
       → say n.object ≡ answer) → ((d : Directory) → DenotesCurrent old.cut.bytes d → (object_at d key ≡ None)
       × IsNewObject new d key content h) → TakesStep old (record old { cut = new }) c answer
@@ -58,7 +58,7 @@ constructs-exists {s} key content writing each = by_no_change s (asked.Construct
     step-refuse s.mode d (asked.Construct key content) Exists
     (open-writing s.mode (asked.Construct key content) writing) (ap (made_for d key content) (each d k).1))
 
--- what the plan is for what is found
+-- the plan after a look-up
 abbrev pub finds : Directory → Key → Content → Option Object → Plan
 finds d key content r = elim r as (λ _. Plan) [
   | None ↦ with_new_object d key content (λ o e. Reply (found o) e)
@@ -67,7 +67,7 @@ finds d key content r = elim r as (λ _. Plan) [
 
 -- ---- an object has the key
 
--- it is answered where it is of the kind
+-- the object is returned if it has the kind
 pub found-there : {s : SegmentState} (key : Key) (content : Content) {h : ℕ} {result : Result (ℕ × ℕ) Refusal}
     → is_read_only s.mode ≡ false → AnswersWith s (λ d. handle_at d key) (Some h)
     → ((o : Object) → IsObjectInBlock s.cut.bytes h o → result ≡ pair_of_kind o (kind_of (bare content)))

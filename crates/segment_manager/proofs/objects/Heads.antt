@@ -1,4 +1,4 @@
--- What the words of an index entry are of an object that stands in its block.
+-- The words of an index entry, for an object in its block.
 use Rattle.segment_manager.proofs.Common as common
 use common.{◌≡◌, ap, ◌∙◌, ℕ, zero, suc, ◌+◌, ◌*◌, ◌-◌, ◌<◌, ◌≤◌, Bool, true, false, ◌&&◌, not, List, [], ◌∷◌, ◌++◌}
 use common.{length, replicate, ◌==◌, if◌then◌else◌, arith, IsTrue, nat_le, AllByRecursion, list_all, is_utf8, chars}
@@ -102,6 +102,6 @@ entries format m (o ∷ os) h a = (
   entries format m os (second (is_object format o) (list_all (is_object format) os) h) a.1,
 )
 
--- law: entries say their objects
+-- law: entries have the properties of their objects
 pub entries_say_objects : EntriesSayObjects
 entries_say_objects format b d h = entries format (bytes_of b) d.objects h.directory.objects h.objects

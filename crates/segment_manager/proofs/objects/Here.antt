@@ -1,4 +1,4 @@
--- The object of a key as it stands in its block, and what is said of it.
+-- The object of a key in its block, and functions of it.
 use Rattle.segment_manager.proofs.Common.{◌≡◌, sym, ap, ◌∙◌, ℕ, ◌+◌, Some, None, Ok, Err, List, Key, SegmentState, Head}
 use Rattle.segment_manager.proofs.Common.{refl, subst, Option, Result, IsTrue, le-leb, handle, Object, Denotes}
 use Rattle.segment_manager.proofs.Common.{AnswersWith, option_map, Directory, is_object, object_at, object_len}
@@ -11,7 +11,7 @@ use Rattle.segment_manager.specs.Calls.{told_at}
 
 -- ---- the object of a key
 
--- it stands in its block
+-- the object is in its block
 pub standing : (b : List ℕ) (d : Directory) (key : Key) (o : Object) → Denotes current b d → object_at d key ≡ Some o
     → IsObjectInBlock b (handle o.extent) o
 standing b d key o k e =
@@ -27,7 +27,7 @@ standing b d key o k e =
       said = object-at current b d (handle o.extent) o k f;
     }
 
--- a head was read of each object that stands at a handle
+-- a head was read of each object at a handle
 abbrev pub IsReadAt : List ℕ → ℕ → Head → Type 0
 IsReadAt b h head = (o : Object) → IsObjectInBlock b h o → IsHeadOf o head
 
@@ -44,7 +44,7 @@ here-if {b} {d} {key} {h} (Some o) k e f =
     let same : handle o.extent ≡ h = cc in
     record { object = o; is = e; stands = subst (λ g. IsObjectInBlock b g o) same (standing b d key o k e) }
 
--- the object of a handle is there
+-- the object of a handle exists
 pub here : (b : List ℕ) (d : Directory) (key : Key) (h : ℕ) → Denotes current b d → Some h ≡ handle_at d key
     → IsHere b d key h
 here b d key h k e = here-if (object_at d key) k refl e
@@ -54,14 +54,14 @@ pub nothing-if : (r : Option Object) → None ≡ option_map (λ (o : Object). h
 nothing-if None e = refl
 nothing-if (Some o) e = absurd (cc)
 
--- some object stands at the handle that was found
+-- there is an object at the handle that was found
 pub has-object : {s : SegmentState} (key : Key) {h : ℕ}
     → IsSegment s.cut.bytes → AnswersWith s (λ d. handle_at d key) (Some h) → HasObject s.cut.bytes h
 has-object {s} key {h} i a =
     let o = here s.cut.bytes i.0 key h i.1.denotes (a.answers i.0 i.1) in
     (o.object, o.stands)
 
--- what is said of each object that stands there is said of the key's
+-- a function of each object in the block is the function of the key's object
 pub tells : {A : Type 0} {s : SegmentState} (key : Key) {h : ℕ} (say : Object → A) {x : A}
     → AnswersWith s (λ d. handle_at d key) (Some h)
     → ((o : Object) → IsObjectInBlock s.cut.bytes h o → x ≡ say o) → AnswersWith s (λ d. told_at d key say) (Ok x)
@@ -74,17 +74,17 @@ tells {A} {s} key {h} say a each = record {
 
 -- ---- the same, as the view of the segment is named
 
--- where a look-up ended, there it ended in the view
+-- the result of a look-up is its result in the view
 pub seen-handle : (s t : SegmentState) (view : s ≡ t) (key : Key) (r : Option ℕ)
     → AnswersWith t (λ d. handle_at d key) r → AnswersWith s (λ d. handle_at d key) r
 seen-handle s t view key r = subst (λ (u : SegmentState). AnswersWith u (λ d. handle_at d key) r) (sym view)
 
--- the object of a handle that was told is there
+-- the object of a handle in a result is in its block
 pub seen-object : (s t : SegmentState) (view : s ≡ t) (key : Key) (h : ℕ) → IsSegment s.cut.bytes
     → AnswersWith t (λ d. handle_at d key) (Some h) → HasObject s.cut.bytes h
 seen-object s t view key h i a = has-object key i (seen-handle s t view key (Some h) a)
 
--- what is told of the handle's object is the directory's
+-- a function of the handle's object is the directory's
 pub seen-tells : {A : Type 0} {s t : SegmentState} (view : s ≡ t) (key : Key) {h : ℕ} (say : Object → A) {x : A}
     → AnswersWith t (λ d. handle_at d key) (Some h) → ((o : Object) → IsObjectInBlock s.cut.bytes h o → x ≡ say o)
     → AnswersWith t (λ d. told_at d key say) (Ok x)

@@ -1,4 +1,4 @@
--- Calls that construct an object of numbers from items, as the code makes them.
+-- Calls that construct an array of numbers from items, as in the code.
 use Rattle.segment_manager.proofs.Common as common
 use Rattle.seg_types.specs.Names as names
 use Rattle.seg_types.specs.Commands as asked
@@ -30,7 +30,7 @@ use Rattle.segment_manager.specs.objects.Items.{FindsOrTakes, FindsOrTakesIn, Ta
 use Rattle.segment_manager.specs.containers.Filled.{MakesValueOk, numbers_shape}
 use Rattle.segment_manager.specs.declared.containers.fillings.ObjectShape.{ObjectShape}
 
--- the numbers that the machine asks blocks for: those that are taken, or as many zeros where there are too few
+-- the numbers for which the machine allocates blocks: the items taken, or zeros if there are too few
 abbrev pub asked_for : ℕ → List ℤ → List ℤ
 asked_for count zs = if nat_lt (length zs) count then replicate count (pos 0) else take count zs
 
@@ -49,14 +49,14 @@ module _ (old : SegmentState) (key : names.Key) (k : ScalarKind) (count : ℕ) (
   items-exists each = by_no_change old c (Refused Exists) (λ d st. step-refuse old.mode d c Exists (open-writing
       old.mode c writing) (ap (from-items d key k count zs) (each d st).1))
 
-  -- there are enough, and the object is made of them
+  -- there are enough items, and the object is made of them
   pub items-made : {new : WindowState} (h : ℕ) → SameSurroundings old.cut new → count ≤ length zs
       → ((d : Directory) → DenotesCurrent old.cut.bytes d → (object_at d key ≡ None)
       × IsNewObject new d key (asked.Numbers k (take count zs)) h) → TakesStep old (record old { cut = new }) c (Made h)
   items-made h place enough each = makes c made_handle writing place
       (λ d e. plan-of d e (le-ltb (length zs) count enough)) (λ d n. ap Made (sym n.at)) each
 
-  -- there are too few: what was taken is given back
+  -- there are too few items, and all blocks are freed
   pub items-few : {new : WindowState} → SameSurroundings old.cut new → length zs < count
       → ((d : Directory) → DenotesCurrent old.cut.bytes d
       → (object_at d key ≡ None) × IsMet d key (asked.Numbers k (replicate count (pos 0)))
@@ -78,7 +78,7 @@ module _ (old : SegmentState) (key : names.Key) (k : ScalarKind) (count : ℕ) (
   none-if d false e f none = step-plan old.mode d c (open-writing old.mode c writing) (plan-of d e f)
       ∙ none (λ o e. Reply (Made (handle o.extent)) e)
 
-  -- a request is refused, and no item is taken
+  -- an allocation fails, and no item is taken
   pub items-none : {new : WindowState} → SameSurroundings old.cut new
       → ((d : Directory) → DenotesCurrent old.cut.bytes d
       → (object_at d key ≡ None) × IsNoObject new d key (asked.Numbers k (asked_for count zs)))
@@ -88,12 +88,12 @@ module _ (old : SegmentState) (key : names.Key) (k : ScalarKind) (count : ℕ) (
       lands d
       (record { is = none-if d (nat_lt (length zs) count) both.0 refl both.1.refused; denotes = both.1.denotes }))
 
--- this many equal numbers need as many bytes as the machine says
+-- this many equal numbers need as many bytes as in the machine
 equal-len : (k : ScalarKind) (name : List ℕ) (count : ℕ) (z : ℤ)
     → room_for name (size_of k * count) ≡ object_len name (Numbers k (replicate count z))
 equal-len k name count z = ap (λ m. head_len + padded (length name) + size_of k * m) (sym (length-replicate count z))
 
--- where no item was taken, zeros are asked for
+-- if no item was taken, the machine allocates for zeros
 asked-long : {count : ℕ} → 1 ≤ count → length (asked_for count []) ≡ count
 asked-long {count} low = ap (λ (b : Bool). length (if b then replicate count (pos 0) else take count []))
     (lt-ltb 0 count low) ∙ length-replicate count (pos 0)
@@ -176,7 +176,7 @@ module _ (S : Type 0) {A : Type 0} (gives : S → Option A → S → Type 0) (wh
         (equal-len k g.name count (pos 0)) g.requested,
   )
 
-  -- its blocks are given back
+  -- its blocks are freed
   steps-few : (entry : Option PendingEntry) {why : Refusal} {m w c : WindowState} (h at : ℕ)
       → BeginsObjectOk s.cut m key (Scalar k) count (size_of k * count) h at entry
       → (f : Fills gives whole m w k (h + at) count before after (Err why)) → RestoresBlocks s.cut c
@@ -186,7 +186,7 @@ module _ (S : Type 0) {A : Type 0} (gives : S → Option A → S → Type 0) (wh
       let few = f.taken.2 in omega arith)
       (λ d st. let met = begun-met entry m h at g st in (met.0, met.1, restored-denotes s.cut c d st.denotes back))
 
-  -- ---- what is loose
+  -- ---- the pending object
 
   most : (filled : Result (Unit {0}) Refusal) {m w : WindowState} {from : ℕ}
       → (f : Fills gives whole m w k from count before after filled) → size_of k * length f.items ≤ size_of k * count
@@ -212,7 +212,7 @@ module _ (S : Type 0) {A : Type 0} (gives : S → Option A → S → Type 0) (wh
 
   -- ---- all together
 
-  -- where it is filled an entry may lead to it, and where not all can be given back
+  -- if the object is filled an entry can lead to it, and if not its blocks can be freed
   pub fills-ending : (entry : Option PendingEntry) (filled : Result (Unit {0}) Refusal) {m w : WindowState} (h at : ℕ)
       → BeginsObjectOk s.cut m key (Scalar k) count (size_of k * count) h at entry
       → Fills gives whole m w k (h + at) count before after filled → IsEnding w h entry filled
@@ -220,7 +220,7 @@ module _ (S : Type 0) {A : Type 0} (gives : S → Option A → S → Type 0) (wh
       (begun-items entry m h at f.items f.taken.1 g) (made-items h at f)
   fills-ending entry (Err why) {m} {w} h at g f = (s.cut, loose entry (Err why) m w h at g f)
 
-  -- it is filled, and then made or given back
+  -- the object is filled, and then its entry is added or its blocks are freed
   pub takes : (entry : Option PendingEntry) (filled : Result (Unit {0}) Refusal) (m w c : WindowState) (h at : ℕ)
       (result : Result ℕ Refusal) → BeginsObjectOk s.cut m key (Scalar k) count (size_of k * count) h at entry
       → Fills gives whole m w k (h + at) count before after filled → Ends w c h entry filled result
@@ -236,7 +236,7 @@ module _ (S : Type 0) {A : Type 0} (gives : S → Option A → S → Type 0) (wh
         unchanged = tt;
       })
 
--- ---- it is refused before an item is taken
+-- ---- the call fails before an item is taken
 
 module _ (S : Type 0) {A : Type 0} (gives : S → Option A → S → Type 0) (whole : A
     → ℤ) {s : SegmentState} (key : names.Key) (k : ScalarKind) (count : ℕ) (at : S) where
@@ -357,7 +357,7 @@ module _ (S : Type 0) {A : Type 0} (gives : S → Option A → S → Type 0) (wh
     stays = record { segment = refl; items = refl };
   }))
 
-  -- none has: one is made, or refused
+  -- no object has the key: one is made, or the call fails
   pub made-items_or_none : {c : WindowState} {after : S} (r : Result ℕ Refusal)
       → ((d : Directory) → DenotesCurrent a.bytes d
       → object_at d key ≡ None) → TakesItemsIn gives whole a c key k count before after r
@@ -367,7 +367,7 @@ module _ (S : Type 0) {A : Type 0} (gives : S → Option A → S → Type 0) (wh
   made-items_or_none (Err why) none done mode writing =
       inr (inr (record { writing = writing; missing = none; takes = done mode writing; counted = tt }))
 
-  -- it is not begun, with a shape of this many numbers
+  -- the object is not pending, with the shape of this many numbers
   pub none-items : {c : WindowState} {shape : ObjectShape} {j : ScalarKind} {why : Refusal}
       → shape ≡ numbers_shape j count → j ≡ k → 1 ≤ count
       → BeginsObjectErr a c key shape.kind shape.len why
@@ -384,7 +384,7 @@ pub shaped-key : (i : Index) (e : Entry) (key : names.Key) (name : List ℕ) {sh
 shaped-key i e key name same is new =
     subst (IsNewKeyOf i e key name) (sym (ap (λ (q : ObjectShape). q.kind) same ∙ ap Scalar is)) new
 
--- no object has the key of an entry that is not there
+-- no object has the key of an entry that does not exist
 pub no-objects : {a : WindowState} (i : Index) (e : Entry) (at : ℕ) (key : names.Key) (name : List ℕ) (kind : Kind)
     → IsNewKeyOf i e key name kind → IsAbsentAt a i e at → (d : Directory) → DenotesCurrent a.bytes d
     → object_at d key ≡ None

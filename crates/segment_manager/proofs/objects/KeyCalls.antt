@@ -1,4 +1,4 @@
--- What calls that look a key up find, and what they say of it, for each directory that the bytes stand for.
+-- The results of calls that look a key up, for each directory that the bytes denote.
 use Rattle.segment_manager.proofs.Common as common
 use Rattle.seg_types.specs.Commands as asked
 use common.{◌≡◌, Option, ne_eqb, Extent, handle, Absent, Object, length, Unique, IsBelow, AnswersQuery, Command}
@@ -28,12 +28,12 @@ use Rattle.segment_manager.specs.Answers.{Absent}
 
 -- ---- a handle from outside
 
--- whether a block passes, if there is one
+-- whether a block passes the test, if there is one
 abbrev pub passes : (Extent → Bool) → Option Extent → Bool
 passes t None = false
 passes t (Some x) = t x
 
--- what is looked for by its handle
+-- the extent that is found by its handle
 abbrev first_of : ℕ → List Extent → Option Extent
 first_of h xs = find (λ (x : Extent). handle x == h) xs
 
@@ -50,7 +50,7 @@ any-first-if t h x xs true e r k = or-none (t x) (list_any (λ (x : Extent). (ha
     (none-behind t h (x.offset + 1) xs (omega (arith, eqb-true (handle x) h e)) r)
 any-first-if t h x xs false e r k = k
 
--- of extents that rise the first of a handle is the only one
+-- the first of rising extents with a handle is the only one
 any-first : (t : Extent → Bool) (h n : ℕ) (xs : List Extent) → Rising n xs
     → list_any (λ (x : Extent). (handle x == h) && t x) xs ≡ passes t (first_of h xs)
 any-first t h n [] r = refl
@@ -77,7 +77,7 @@ object-passes {b} {d} h k = sym (handle-is-object h k.directory)
     ∙ any-first for_object h 128 (live d).extents (live-rises (live d) k.directory.proper)
     ∙ ap (λ l. passes for_object (extent_at l h)) (sym (denotes-live current b d k))
 
--- whether a role is that of objects, as both tests say it
+-- whether a role is that of objects, by both tests
 pub same-test : (r : Role) → sameb the_type r ObjectRole ≡ same_role r ObjectRole
 same-test ObjectRole = refl
 same-test role = refl
@@ -111,23 +111,23 @@ pub segment-index : {c : WindowState} (i : Index) → IsSegment c.bytes → HasI
 segment-index {c} i s =
     record { table = table_of i s.0; handles = entries_of i s.0; index = denotes-index i c s.1.denotes }
 
--- what an index's call says of each table and handles that stand there
+-- a property of each table and handles of an index
 abbrev pub ForIndex : WindowState → Index → (List ℕ → Type 0) → Type 0
 ForIndex c i P = (t : BackingArray) (hs : List ℕ) → IsIndexOf c (place_of i) t hs → P hs
 
--- what holds of an index holds of the directory's entries
+-- a property of an index holds for the directory's entries
 pub of-directory : (s : SegmentState) (i : Index) (P : List ℕ → Type 0) {d : Directory} → DenotesCurrent s.cut.bytes d
     → ForIndex s.cut i P → P (entries_of i d)
 of-directory s i P {d} k f = f (table_of i d) (entries_of i d) (denotes-index i s.cut k.denotes)
 
--- an entry that was found is one of the index
+-- an entry that was found is an entry of the index
 pub place-below : {c : WindowState} (i : Index) (e : Entry) (place : ℕ) → IsSegment c.bytes
     → ForIndex c i (λ hs. FindsPosition (bytes_of c.bytes) e hs (Found place)) → place < entry_count c (place_of i)
 place-below {c} i e place s f =
     let stands = denotes-index i c s.1.denotes in let at = f (table_of i s.0) (entries_of i s.0) stands in
     omega (arith, slice_get_within (entries_of i s.0) place at.0 at.1, stands.stands.count)
 
--- the object's handle is what the entry leads to
+-- the object's handle is the entry's
 pub found-answers : (s : SegmentState) (i : Index) (e : Entry) (place : ℕ) {h : ℕ}
     → ForIndex s.cut i (λ hs. FindsPosition
     (bytes_of s.cut.bytes) e hs (Found place)) → ForIndex s.cut i (λ hs. slice_get hs place ≡ Some h) → (key : Key)
@@ -151,13 +151,13 @@ absent-answers {s} i e place f key q = record {
 
 -- ---- any key
 
--- the handle of an object, if it is there
+-- the handle of an object, if it exists
 pub handle-if : (h : ℕ) (d : Directory) (r : Option Object) → object_at d (ByHandle h) ≡ r
     → then_some (is_some r) h ≡ option_map (λ (o : Object). handle o.extent) r
 handle-if h d None e = refl
 handle-if h d (Some o) e = ap Some (found-handle h d.objects o (record { is = e }))
 
--- a handle means itself, where it is an object's
+-- a handle stands for itself if it is an object's
 pub handle-answers : {s : SegmentState} (h : ℕ) {b : Bool} → AnswersWith s (λ d. is_object_at d h) b
     → AnswersWith s (λ d. handle_at d (ByHandle h)) (then_some b h)
 handle-answers h a = record {
@@ -176,7 +176,7 @@ anonymous-answers = record {
 
 -- ---- an object of a kind
 
--- what the plan is for what is found
+-- the plan after a look-up
 abbrev finds : Directory → Kind → Option Object → Plan
 finds d kind r =
     elim r as (λ _. Plan) [
@@ -193,7 +193,7 @@ find-absent {s} key kind a = record {
       (ap (finds d kind) (nothing-if (object_at d key) (a.answers d k)))));
 }
 
--- A command that asks of which kind an object is: it is found, or of another kind.
+-- A command that asks for the kind of an object: the object has the kind, or another kind.
 kind-if : (mode : Mode) (d : Directory) (c : Command) (o : Object) (b : Bool) → IsOpenFor mode c
     → effect d c ≡ (if b then Reply (found o) d else Refuse WrongKind)
     → step mode d c ≡ (found_object_answer (if b then Ok (handle o.extent, count_of o.value) else Err WrongKind), d)
@@ -222,12 +222,12 @@ find-there {t} view key kind {h} a each = record {
 
 -- ---- the entries of the indexes
 
--- how many an index has
+-- the number of objects of an index
 pub index-counts : (s : SegmentState) (i : Index) {n : ℕ} → ForIndex s.cut i (λ hs. n ≡ length hs) → (d : Directory)
     → DenotesCurrent s.cut.bytes d → n ≡ length (objects_of i d)
 index-counts s i {n} f d k = of-directory s i (λ hs. n ≡ length hs) k f ∙ handles-length (objects_of i d)
 
--- the command that asks for it
+-- the command that returns this number
 abbrev num_command : Index → Command
 num_command Named = asked.NumNamed
 num_command Unique = asked.NumUnique
@@ -255,7 +255,7 @@ below-count {s} view i {n} g b =
     let below = subst (λ (u : SegmentState). IsBelow u (λ d. length (objects_of i d)) n) (sym view) b in
     omega (arith, below.below g.0 g.1, stands.stands.count, handles-length (objects_of i g.0))
 
--- and what stands there is an entry of the directory
+-- the entry that is read is an entry of the directory
 pub at-answers : {s t : SegmentState} (view : s ≡ t) (i : Index) (n : ℕ) {h : ℕ}
     → ForIndex s.cut i (λ hs. slice_get hs n ≡ Some h) → AnswersWith t (λ d. slice_get (entries_of i d) n) (Some h)
 at-answers {s} view i n {h} f =
@@ -277,7 +277,7 @@ pub named-below : (s : SegmentState) (n i : ℕ) → AnswersQuery s asked.NumNam
     → IsBelow s (λ d. length (named_objects d)) i
 named-below s n i h l = below-number Named n h l
 
--- an index below the number of unique objects is one's
+-- an index below the number of unique objects is the place of one
 pub unique-below : (s : SegmentState) (n i : ℕ) → AnswersQuery s asked.NumUnique (Number n) → i < n
     → IsBelow s (λ d. length (unique_objects d)) i
 unique-below s n i h l = below-number Unique n h l
@@ -300,12 +300,12 @@ entered s {i} {n} {h} f {d} k =
           ≡ Some p) (objects_of i d) n (in-handles i k.denotes.directory) at.is));
     }
 
--- some object stands there
+-- there is an object in the block
 pub entered-object : (s : SegmentState) (i : Index) (n h : ℕ) → IsSegment s.cut.bytes
     → ForIndex s.cut i (λ hs. slice_get hs n ≡ Some h) → HasObject s.cut.bytes h
 entered-object s i n h g f = let o = entered s f g.1 in (o.object, o.stands)
 
--- what was read is said of it
+-- the instance has the properties of the entry's object
 pub entered-says : {s : SegmentState} (i : Index) {n h : ℕ} {said : Instance}
     → ForIndex s.cut i (λ hs. slice_get hs n ≡ Some
     h) → ((o : Object) → IsObjectInBlock s.cut.bytes h o → IsInstance o said) → SaysAt s (objects_of i) n said
@@ -313,7 +313,7 @@ entered-says {s} i {n} {h} f each = record {
   says = λ d k. let o = entered s f k in (o.object, o.is, each o.object o.stands);
 }
 
--- the same of the object of a key
+-- the same for the object of a key
 pub key-says : {s : SegmentState} {key : Key} {h : ℕ} {said : Instance} → AnswersWith s (λ d. handle_at d key) (Some h)
     → ((o : Object) → IsObjectInBlock s.cut.bytes h o → IsInstance o said) → SaysOf s key said
 key-says {s} {key} {h} a each = record {

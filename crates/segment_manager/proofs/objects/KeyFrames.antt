@@ -1,4 +1,4 @@
--- What calls on keys leave to the last byte, as the code makes them.
+-- The bytes that calls on keys keep, as in the code.
 use Rattle.segment_manager.proofs.Common.{◌≡◌, sym, subst, ◌∙◌, ℕ, none-some, Key, Index, Entry, Found, Seeks}
 use Rattle.segment_manager.proofs.Common.{entries_of, table_of, UnchangedWhere, LacksKey}
 use Rattle.segment_manager.proofs.{Common.SegmentState, indexes.Bridge.lookup-found, objects.Destroys.Ends}

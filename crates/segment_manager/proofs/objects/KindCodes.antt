@@ -21,7 +21,7 @@ numbers-if : (k : ScalarKind) (v : Value) → scalar_code k ≡ code_of (kind_of
 numbers-if k (Numbers l zs) e = (zs, λ i. Numbers (same-scalar l k (sym e) i) zs)
 numbers-if k v e = let small = scalar-small k in absurd (omega arith)
 
--- what is of the kind of a scalar is numbers of it
+-- a value of a scalar kind is numbers of this kind
 pub numbers-only : (k : ScalarKind) (v : Value) → same_kind (Scalar k) (kind_of v) ≡ true
     → (zs : List ℤ) × (v ≡ Numbers k zs)
 numbers-only k v e = numbers-if k v (eqb-true (scalar_code k) (code_of (kind_of v)) e)

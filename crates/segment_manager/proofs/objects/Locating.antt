@@ -1,4 +1,4 @@
--- An object that was located: it is that of the key, and what a command does under its handle it does under the key.
+-- A located object: it is the key's object, and a command for its handle is the command for the key.
 use Rattle.segment_manager.proofs.Common as common
 use common.{◌≡◌, refl, sym, ap, subst, ◌∙◌, ℕ, ◌&&◌, Option, Some, None, Result, Ok, Err, if◌then◌else◌}
 use common.{option_map, same_Some, Kind, Refusal, NotFound, ReadOnly, WrongKind, same_kind, Key, ByHandle, Command}
@@ -16,7 +16,7 @@ use Rattle.seg_types.specs.Commands as asked
 
 -- ---- the object
 
--- the object of the key, of which this is said
+-- the object of the key has these properties
 pub record IsSaidAt (d : Directory) (key : Key) (o : Located) : Type 0 where
   pub object : Object
   pub is : object_at d key ≡ Some object
@@ -30,7 +30,7 @@ said-if {o} (Some p) e f = record { object = p; is = e; said = same_Some o (loca
 located-said : (d : Directory) (key : Key) {o : Located} → Some o ≡ located_at d key → IsSaidAt d key o
 located-said d key e = said-if (object_at d key) refl e
 
--- it is located by its handle
+-- the object is located by its handle
 pub locates : {s : SegmentState} {key : Key} {o : Located} → AnswersWith s (λ d. located_at d key) (Some o)
     → IsLocated s key o
 locates {s} {key} {o} a = record {
@@ -52,7 +52,7 @@ handle-located key a = record {
       ap (λ (q : Located). Some q.handle) p.said ∙ sym (ap (option_map (λ (o : Object). handle o.extent)) p.is);
 }
 
--- what the head of the object at the handle says is what is located, as the view before the call names the segment
+-- the head of the object at the handle gives the located object, for the view before the call
 pub head-located : {s t : SegmentState} (view : s ≡ t) (key : Key) {h : ℕ} {q : Located}
     → AnswersWith t (λ d. handle_at d key) (Some h) → ((o : Object) → IsObjectInBlock s.cut.bytes h o → q ≡ located o)
     → AnswersWith t (λ d. located_at d key) (Some q)
@@ -63,7 +63,7 @@ head-located {s} {t} view key {h} {q} a each =
           ap Some (each o.object o.stands) ∙ sym (ap (option_map located) o.is);
     })
 
--- and of whatever stands at that handle
+-- and this holds for each object at that handle
 pub located-there : {s t : SegmentState} (view : s ≡ t) (key : Key) {q : Located} → IsSegment s.cut.bytes
     → AnswersWith t (λ d. located_at d key) (Some q) → (o : Object) → IsObjectInBlock s.cut.bytes q.handle o
     → q ≡ located o
@@ -73,7 +73,7 @@ located-there {s} {t} view key {q} g a o stands =
     let there = here s.cut.bytes g.0 key q.handle g.1.denotes ((handle-located key b).answers g.0 g.1) in
     p.said ∙ ap located (same_Some p.object there.object (sym p.is ∙ there.is)) ∙ alike there.stands stands
 
--- the located object is what the directory says
+-- the located object has the properties in the directory
 pub said-at : (s : SegmentState) (key : Key) (o : Located)
     → IsLocated s key o → (d : Directory) → DenotesCurrent s.cut.bytes d → IsSaidAt d key o
 said-at s key o l d k = said-if (object_at d key) refl (l.at.answers d k)
@@ -126,20 +126,20 @@ keys_of_kind-same mode d key other kind c e =
     λ i. perform d (live d) (if is_read_only mode && changing-same key other c i then Refuse ReadOnly else
     going_on (λ o. if same_kind kind (kind_of o.value) then effect-same d key other c e i else Refuse WrongKind) (e i))
 
--- ---- a call by the handle is one by the key
+-- ---- a call for the handle is a call for the key
 
 module _ (old : SegmentState) (key : Key) (o : Located) (l : IsLocated old key o) where
   abbrev same : (d : Directory) → DenotesCurrent old.cut.bytes d → object_at d (ByHandle o.handle) ≡ object_at d key
   same d k = sym (same-object old key o l d k)
 
-  -- it is located by its handle too
+  -- the object is located by its handle too
   pub located-here : IsLocated old (ByHandle o.handle) o
   located-here = record {
     at = record { answers = λ d k. l.at.answers d k ∙ sym (ap (option_map located) (same d k)) };
     here = l.here;
   }
 
-  -- what is said of the object
+  -- a function of the object
   pub told-by_key : {A : Type 0} (say : Directory → Option Object → A) (r : A)
       → AnswersWith old (λ d. say d (object_at d (ByHandle o.handle))) r
       → AnswersWith old (λ d. say d (object_at d key)) r
@@ -154,18 +154,18 @@ module _ (old : SegmentState) (key : Key) (o : Located) (l : IsLocated old key o
         elim r as (λ _. Result Kind Refusal) [ None ↦ Err NotFound | Some q ↦ Ok (kind_of q.value) ]) p.is);
   }
 
-  -- a step under the handle is one under the key, in each directory
+  -- a step for the handle is a step for the key, in each directory
   pub step-same : (c : Command) (d : Directory) → DenotesCurrent old.cut.bytes d
       → step old.mode d (at_key (ByHandle o.handle) c) ≡ step old.mode d (at_key key c)
   step-same c d k = keys-same old.mode d (ByHandle o.handle) key c (same d k)
 
-  -- a step under the handle is one under the key
+  -- a step for the handle is a step for the key
   pub step-by_key : (new : SegmentState) (c : Command) (answer : Answer)
       → TakesStep old new (at_key (ByHandle o.handle) c) answer → TakesStep old new (at_key key c) answer
   step-by_key new c answer m = moves-same old new answer (λ d. step old.mode d (at_key (ByHandle o.handle) c))
       (λ d. step old.mode d (at_key key c)) (step-same c) m
 
-  -- a step for a kind under the handle is one under the key
+  -- a step of a kind for the handle is a step for the key
   pub step_of_kind-by_key : (new : SegmentState) (kind : Kind) (c : Command) (answer : Answer)
       → TakesStepOfKind old new (ByHandle o.handle) kind (at_key (ByHandle o.handle) c) answer
       → TakesStepOfKind old new key kind (at_key key c) answer
@@ -173,7 +173,7 @@ module _ (old : SegmentState) (key : Key) (o : Located) (l : IsLocated old key o
       kind (at_key (ByHandle o.handle) c)) (λ d. step_of_kind old.mode d key kind (at_key key c))
       (λ d k. keys_of_kind-same old.mode d (ByHandle o.handle) key kind c (same d k)) m
 
-  -- an answer for a kind under the handle is one under the key
+  -- an answer of a kind for the handle is an answer for the key
   pub reply_of_kind-by_key : (kind : Kind) (c : Command) (answer : Answer)
       → AnswersQueryOfKind old (ByHandle o.handle) kind
       (at_key (ByHandle o.handle) c) answer → AnswersQueryOfKind old key kind (at_key key c) answer
@@ -182,9 +182,9 @@ module _ (old : SegmentState) (key : Key) (o : Located) (l : IsLocated old key o
         (keys_of_kind-same old.mode d (ByHandle o.handle) key kind c (same d k));
   }
 
-  -- ---- it says of which kind it is
+  -- ---- the kind of the located object
 
-  -- a step under the handle is one of the located object
+  -- a step for the handle is a step of the located object
   pub located-steps : (new : SegmentState) (kind : Kind) (c : Command) (answer : Answer) → o.kind ≡ kind
       → TakesStepOfKind old new
       (ByHandle o.handle) kind (at_key (ByHandle o.handle) c) answer → TakesStep old new (at_key key c) answer
@@ -192,14 +192,14 @@ module _ (old : SegmentState) (key : Key) (o : Located) (l : IsLocated old key o
       (subst (λ (n : Kind). AnswersWith old (λ d. kind_at d key) (Ok n)) is kind-by_key)
       (step_of_kind-by_key new kind c answer m)
 
-  -- sizes under the handle are those of the located object
+  -- sizes for the handle are the sizes of the located object
   pub located-measures : (kind : Kind) (r : Result (ℕ × ℕ) Refusal) → o.kind ≡ kind
       → AnswersWith old (λ d. sizes_at_kind d (ByHandle o.handle) kind) r → AnswersWith old (λ d. sizes_at d key) r
   located-measures kind r is m = measures-kind old key kind r (subst (λ (n : Kind). AnswersWith old (λ d. kind_at d key)
       (Ok n)) is kind-by_key) (told-by_key (λ d q. elim q as (λ _. Result (ℕ × ℕ) Refusal)
       [ None ↦ Err NotFound | Some p ↦ sizes_of_kind p kind ]) r m)
 
-  -- what is left as it is where there are this many places
+  -- nothing changes if the capacity suffices
   places-by_key : {new : SegmentState} (n : ℕ) → UnchangedWhere old new (HasPlaces (ByHandle o.handle) n)
       → UnchangedWhere old new (HasPlaces key n)
   places-by_key n m = λ d k p. m d k (record {
@@ -211,9 +211,9 @@ module _ (old : SegmentState) (key : Key) (o : Located) (l : IsLocated old key o
     enough = p.enough;
   })
 
-  -- ---- the same of what is done with storage, whichever change it is
+  -- ---- the same for each change of storage
 
-  -- a change of storage under the handle is one of the located object
+  -- a change of storage for the handle is a change of the located object
   pub located-changes : (change : Change) (new : SegmentState) (kind : Kind) (answer : Answer) → o.kind ≡ kind
       → TakesStepOfKind old new (ByHandle o.handle) kind (command_of change (ByHandle o.handle)) answer
       → TakesStep old new (command_of change key) answer

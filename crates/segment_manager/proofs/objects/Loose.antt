@@ -1,4 +1,4 @@
--- The blocks of an object that no entry leads to yet: what an index wants to lead there, and how they are given back.
+-- The blocks of an object without an entry: the conditions for adding its entry, and freeing them.
 use Rattle.segment_manager.proofs.Common.{sym, subst, ◌+◌, Some, None, List, arith, IsTrue, WindowState, IsHeap, Kind}
 use Rattle.segment_manager.proofs.Common.{Class, Key, Role, ℕ, Option, IfSome, current, LiveSet, live_of}
 use Rattle.segment_manager.proofs.Common.{BeginsObjectOk, WritesObjectHeader, WritesUnindexedObject, room_for}
@@ -33,22 +33,22 @@ pub begun-heap : (entry : Option PendingEntry) (a m : WindowState) (key : Key) (
 begun-heap None a m key kind count body h at g = changed-heap g.headed.change
 begun-heap (Some e) a m key kind count body h at g = changed-heap g.headed.change
 
--- ---- all is given back
+-- ---- all blocks are freed
 
--- a block that was put in use and goes leaves the blocks that were in use before
+-- allocating a block and freeing it restores the blocks in use
 back-again : {a b c : WindowState} {n : ℕ} {role : Role} {h : ℕ}
     → AllocatesOk current a b n role h → Deallocates current b c h → RestoresBlocks a c
 back-again {a} {b} {c} {n} {role} {h} took gone =
     let r = taken-back a b c n h role took gone in record { laid = r.laid; keeps = r.keeps }
 
--- what an index took to grow into goes back, after what was taken after it
+-- the block that the index would grow into is freed, after the blocks allocated after it
 growth-back : {a : WindowState} {b c : WindowState} {e : WindowState} (at : ℕ) (g : Option ℕ)
     → PreparesOk a b at g → RestoresBlocks b c → FreesGrowth c e g → RestoresBlocks a e
 growth-back {a} {c} at None grows r back =
     subst (RestoresBlocks a) (sym back) (subst (λ (s : WindowState). RestoresBlocks s c) grows.1 r)
 growth-back at (Some h) grows r back = back-again (restored-taken grows.1 r) back
 
--- the object's block is in use, with an entry to come or without
+-- the object's block is in use, with a pending entry or anonymous
 alone-taken : {old now : WindowState} {h : ℕ} → (l : WritesUnindexedAlone old now h)
     → AllocatesOk current old now l.len ObjectRole h
 alone-taken l = written-taken l.takes l.change
@@ -70,7 +70,7 @@ alone-back l gone = back-again (alone-taken l) gone
 
 module _ {old now new : WindowState} {h : ℕ} {e : PendingEntry} (l : WritesUnindexedForEntry old now h e)
     (gone : Deallocates current now new h) where
-  -- once it is given back, what the index took is in use still
+  -- after the object's block is freed, the index's new block is still in use
   object-back : RestoresBlocks l.requested.between new
   object-back = back-again (entry-taken l) gone
 

@@ -1,4 +1,4 @@
--- An object whose handle is answered when it is made is there.
+-- The object of a handle that a construction returns exists.
 use Rattle.segment_manager.proofs.Common as common
 use Rattle.seg_types.specs.Commands as asked
 use common.{◌≡◌, ◌&&◌, refl, sym, ap, ◌∙◌, ℕ, ◌==◌, Bool, true, false, Option, Some, None, List, [], ◌∷◌, length, cond}
@@ -15,7 +15,7 @@ use Rattle.seg_types.specs.declared.kinds.Class.TheVariants.{Named, Unique}
 abbrev IsMadeHere : Answer → Directory → Type 0
 IsMadeHere a d = (h : ℕ) → a ≡ Made h → is_object_at d h ≡ true
 
--- so it is of each reply of a plan
+-- the same for each reply of a plan
 data MakesHere : Plan → Type 0 where
   by_refusal : {r : Refusal} → MakesHere (Refuse r)
   by_request : {need : Need} {next : Extent → Plan} → ((x : Extent) → MakesHere (next x))
@@ -114,7 +114,7 @@ unfolding step
 step-here mode d key c = perform-here d (live d) (plan mode d (asked.Construct key c))
     (if-here (is_read_only mode && true) _ _ by_refusal (effect-here d key c (object_at d key)))
 
--- an object that was made is there
+-- an object that was constructed exists
 pub made-here : {old new : SegmentState} (key : Key) (c : Content) (h : ℕ) → IsSegment old.cut.bytes
     → TakesStep old new (asked.Construct key c) (Made h) → AnswersWith new (λ d. is_object_at d h) true
 made-here {old} key c h g m = record {

@@ -1,5 +1,4 @@
--- A value made in the block of a new object, by the heap's contracts: its blocks are taken and written, and it stands
--- there.
+-- A value made in the block of a new object, by the heap's contracts: its blocks are allocated and written.
 use Rattle.segment_manager.proofs.Common as common
 use common.{◌≡◌, HasBytesAt-same, ChangesBytes, no_backing, same_role, WritesObjectHeader, IsValueAt, Directory, refl}
 use common.{zero, Some, None, List, arith, holds, added, place, BackingArray, Class, Value, sym, ◌∙◌, suc, ◌+◌, ◌*◌}
@@ -19,9 +18,9 @@ use Rattle.segment_manager.proofs.directory.Frame.{padded_name-length}
 use Rattle.raw_region.proofs.{Facts.second, Facts.no_more, Laws.SameBytesExcept-wider}
 use Rattle.best_fit.specs.Fit.{insert}
 
--- ---- storage that is asked for
+-- ---- storage that is allocated
 
--- the live set once there is storage
+-- the live set with the storage
 abbrev pub stored : LiveSet → BackingArray → LiveSet
 stored l t = elim t.extent [ None ↦ l | Some x ↦ resized l x ]
 
@@ -48,7 +47,7 @@ more-asked : (each n : ℕ) (next : BackingArray → Plan)
 more-asked each n next = ap (λ b. if b then next no_backing else Request (New Storage (each * suc n))
     (λ x. next (with_extent (suc n) x))) (ne_eqb (suc n) 0 (λ e. omega (arith, e)))
 
--- it is there
+-- the storage is allocated
 pub storage-met : (d : Directory) (l : LiveSet) (each len : ℕ) (t : BackingArray) (next : BackingArray → Plan)
     → grown_backing l each
     len no_backing ≡ Some t → perform d l (with_storage each len next) ≡ perform d (stored l t) (next t)
@@ -80,7 +79,7 @@ storage-none d l each (suc n) next e = ap (perform d l) (more-asked each n next)
 abbrev with_live : LiveSet → List Extent → LiveSet
 with_live l xs = record l { extents = xs }
 
--- what stays of a block that was taken, and of those that were there
+-- the bytes that stay of a new block, and of the blocks that were there
 pub record StaysBut (a b c : WindowState) (x : Extent) (from n : ℕ) : Type 0 where
   pub own : SameBlockExcept (bytes_of b.bytes) (bytes_of c.bytes) from n x
   pub others : AllByRecursion (SameBlockExcept (bytes_of b.bytes) (bytes_of c.bytes) from n) (live_of a.bytes).extents
@@ -93,7 +92,7 @@ stays-but {a} {b} {c} {x} {from} {n} m r =
     (taken-live a b (x ∷ []) m) r.blocks) in
     record { own = both.0; others = both.1 }
 
--- a block was taken; then n of its bytes are written, and more blocks are taken
+-- a block was allocated; then n of its bytes are written, and more blocks are allocated
 pub taken-more : (a : WindowState) {b c : WindowState} (x : Extent) {from n : ℕ} {come : List Extent}
     → IsTaken a b (x ∷ [])
     → handle x ≤ from → from + n ≤ end_of x → ExchangesBlocks current b c from n [] come → IsTaken a c (x ∷ come)
@@ -134,7 +133,7 @@ changed-wider {a} {b} {from} {m} {n} l c = record {
   rest = SameBytesExcept-wider (bytes_of a.bytes) (bytes_of b.bytes) from m from n c.rest (omega arith) (omega arith);
 }
 
--- what was written after the head stands in the payload
+-- the bytes written after the head are in the payload
 pub headed-change : {a b c : WindowState} {kind : Kind} {class : Class} {name : List ℕ} {count : ℕ} (body : ℕ)
     {h at n : ℕ} → WritesObjectHeader a b kind class name count h at
     → ChangesBytes current b c (h + at) n → n ≤ body → ChangesBytes current a c h (room_for name body)
@@ -142,13 +141,13 @@ headed-change {b} {c} {name} body {h} {at} {n} hd change l =
     changed-wider (omega arith) (changed-trans hd.change
     (subst (λ p. ChangesBytes current b c (h + p) n) hd.start change))
 
--- the block was taken, its head written, and then the n bytes after it
+-- the block was allocated, its head written, and then the n bytes after it
 pub empty-taken : {a t m e : WindowState} {kind : Kind} {class : Class} {name : List ℕ} {count n h at : ℕ}
     → AllocatesOk current a t (room_for name n) ObjectRole h → WritesObjectHeader t m kind class name count h at
     → ChangesBytes current m e (h + at) n → AllocatesOk current a e (room_for name n) ObjectRole h
 empty-taken {n} take headed change = written-taken take (headed-change n headed change (omega arith))
 
--- the bytes stand in the block
+-- the bytes are in the block
 pub record IsInside (x : Extent) (from n : ℕ) : Type 0 where
   pub low : handle x ≤ from
   pub high : from + n ≤ end_of x
@@ -184,7 +183,7 @@ headed-object {m} {m'} {h} {at} {class} {name} v x is start head s w = record {
   value = subst (λ p. IsValueAt m' p v) (omega arith) w;
 }
 
--- the object stands there with its value
+-- the object is in its block, with its value
 pub made-object : {a t m e w : WindowState} {class : Class} {name : List ℕ} {n h at : ℕ} (v : Value)
     {come : List Extent} → (took : AllocatesOk current a e (room_for name n) ObjectRole h)
     → WritesObjectHeader t m (kind_of v) class name (count_of v) h at → ChangesBytes current m e (h + at) n

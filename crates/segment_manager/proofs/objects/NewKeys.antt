@@ -18,7 +18,7 @@ all-replicate : (t : ℤ → Bool) (n : ℕ) (z : ℤ) → IsTrue (t z) → IsTr
 all-replicate t zero z h = refl
 all-replicate t (suc n) z h = and_from (t z) (list_all t (replicate n z)) h (all-replicate t n z h)
 
--- as many numbers of the kind as an object may have
+-- as many numbers of the kind as an object can have
 pub numbers-value : (k : ScalarKind) (zs : List ℤ) → 1 ≤ length zs → length zs ≤ 1048576
     → IsTrue (list_all (is_value k) zs) → IsTrue (is_good_value (Numbers k zs))
 numbers-value k zs low high all = and_from (nat_le 1 (length zs) && nat_le (length zs) 1048576) (list_all (is_value k)
@@ -32,12 +32,12 @@ equal-good k n z low high h =
     let long = length-replicate n z in
     numbers-value k (replicate n z) (omega (arith, long)) (omega (arith, long)) (all-replicate (is_value k) n z h)
 
--- the names that keys hold are those of the format
+-- the names in keys are names of the format
 pub text-is_name : (name : List ℕ) → is_text_name name ≡ true → IsTrue (is_name current name)
 unfolding current
 text-is_name name h = h
 
--- ---- what the key says
+-- ---- the parts of a key
 
 -- an object of a value under a name, of the class of an index
 abbrev pub object_of : Index → List ℕ → Value → Extent → Object
@@ -57,7 +57,7 @@ key-name Named (Name s) (names.ByName n) kind h = sym h.1
 key-name Unique (Code c) (names.ByKind u) kind h = sym h.1
 key-name i e key kind h = absurd h
 
--- a new key is looked for in its index
+-- a new key is searched for in its index
 pub key-seeks : (i : Index) (e : Entry) (key : names.Key) (name : List ℕ) (kind : Kind) → IsNewKeyOf i e key name kind
     → Seeks i e key
 key-seeks Named (Name s) (names.ByName n) name kind h = h.0

@@ -15,7 +15,7 @@ all-stay : (m : Memory) (from n : ℕ) (xs : List Extent) → AllByRecursion (Sa
 all-stay m from n [] = tt
 all-stay m from n (x ∷ xs) = (record { payload = λ k f g h. refl; colour = refl }, all-stay m from n xs)
 
--- no block is taken
+-- no block is allocated
 nothing-exchanged : {c : WindowState} {from n : ℕ} → EncodesLiveSet current c.bytes (live_of c.bytes)
     → ExchangesBlocks current c c from n [] []
 nothing-exchanged {c} {from} {n} laid = record {
@@ -67,7 +67,7 @@ no-root m (fork red left n right) k e = absurd (not-empty (nodes_of left) n (nod
     not-empty [] n ys f = cc
     not-empty (x ∷ xs) n ys f = cc
 
--- it is one of any types
+-- an empty map is a map of any types
 pub map-made : {K V : Type 0} (k v : ScalarKind) (kp : Plain K) (vp : Plain V) {old new : WindowState} {p : Place}
     → InitsMap kp vp old new p.handle p.at → MakesValueOk (asked.NoPairs k v) old new p
 map-made k v kp vp {new} r =

@@ -44,14 +44,14 @@ pub no_key-none : (os : List Object) → find (has_key names.NoKey) os ≡ None
 no_key-none [] = refl
 no_key-none (o ∷ os) = no_key-none os
 
--- what a look-up that finds no entry says of each directory
+-- a look-up that finds no entry, for each directory
 pub away-in : (i : Index) {a : WindowState} {d : Directory} (e : Entry) (at : ℕ)
     → Denotes current a.bytes d → IsAbsentAt a i e at → FindsPosition (bytes_of a.bytes) e (entries_of i d) (Absent at)
 away-in i {a} {d} e at said away = away (table_of i d) (entries_of i d) (denotes-index i a said)
 
 -- ---- all directories
 
--- the object is there, for each directory that the old bytes denote
+-- the object exists, for each directory of the old bytes
 pub record IsMadeNow (a c : WindowState) (key : names.Key) (content : Content) (h : ℕ) : Type 0 where
   pub place : SameSurroundings a c
   pub each : (d : Directory) → DenotesCurrent a.bytes d → (object_at d key ≡ None) × IsNewObject c d key content h
@@ -201,7 +201,7 @@ module _ (content : Content) where
           denotes = restored-denotes a c d said back;
         }
 
-  -- ---- an entry is to lead there, or all is given back
+  -- ---- an entry is added, or all blocks are freed
 
   module _ (a : WindowState) {m : WindowState} (b : IsSegment a.bytes) (key : names.Key) (h at : ℕ) where
     entry-taken : {w : WindowState} {e : PendingEntry} → (g : BeginsEntryOk a m key kind many long h at e)
@@ -211,7 +211,7 @@ module _ (content : Content) where
     entry-taken {w} {e} g r =
         both-taken g.requested.between g.taken m w (class_of_index e.index) g.name h at g.requested.takes g.headed r
 
-    -- what the index wants is there
+    -- the conditions for adding the entry hold
     entry-wanted : {w : WindowState} {e : PendingEntry} → BeginsEntryOk a m key kind many long h at e
         → MakesValueOk content m w (record { handle = h; at = at }) → IsReadyForEntry w h e
     entry-wanted {w} {e} g r =
@@ -286,7 +286,7 @@ module _ (content : Content) where
           (SameSurroundings-trans mid w c (entry-taken g r).keeps.place
           (keeps-place (place_of i) q.table e.growth.block (added.keeps q.table q.handles q.index.index)))
 
-      -- it is made
+      -- the value is made
       value-made : MakesValueOk content m w (record { handle = h; at = at }) → AddsPendingEntry w c h e
           → IsMadeNow a c key content h
       value-made r added = record {
@@ -301,7 +301,7 @@ module _ (content : Content) where
         each = λ d st. (absent g st.denotes, entry-denied g st.denotes r back);
       }
 
-  -- the same of an object without a key
+  -- the same for an anonymous object
   module _ {a m : WindowState} (h at : ℕ) (g : BeginsAnonymous a m names.NoKey kind many long h at) where
     alone-made : {w : WindowState} → MakesValueOk content m w (record { handle = h; at = at })
         → IsMadeNow a w names.NoKey content h
@@ -317,7 +317,7 @@ module _ (content : Content) where
       each = λ d st. (no_key-none d.objects, alone-denied a m h at g d st.denotes r back);
     }
 
-  -- the same whatever the key
+  -- the same for each key
   module _ {a m : WindowState} (b : IsSegment a.bytes) {key : names.Key} (h at : ℕ) where
     -- a made value: the object is constructed
     pub value-built : (entry : Option PendingEntry) {w : WindowState} {c : WindowState}

@@ -1,4 +1,4 @@
--- An object that is not begun: why, and what the directory is then.
+-- An object that is not pending: the error, and the directory after it.
 use Rattle.seg_types.specs.Names as names
 use Rattle.segment_manager.proofs.Common.{◌≡◌, sym, ap, subst, ◌∙◌, inl, inr, Some, [], WindowState, place, Object}
 use Rattle.segment_manager.proofs.Common.{live, bare, refl, ObjectRole, BeginsObjectErr, RefusesKey, object_len}

@@ -30,7 +30,7 @@ pub seen-there : {s t : SegmentState} (view : s ≡ t) (h : ℕ) → AnswersWith
     → AnswersWith s (λ d. is_object_at d h) true
 seen-there view h = subst (λ (u : SegmentState). AnswersWith u (λ d. is_object_at d h) true) (sym view)
 
--- the object of a handle is there
+-- the object of a handle exists
 pub has-own_object : {s t : SegmentState} (view : s ≡ t) (h : ℕ) → IsSegment s.cut.bytes
     → AnswersWith t (λ d. is_object_at d h) true → HasObject s.cut.bytes h
 has-own_object view h i a = has-object (names.ByHandle h) i (itself (seen-there view h a))
@@ -44,7 +44,7 @@ pub no-object : {s : SegmentState} (h : ℕ) → AnswersWith s (λ d. is_object_
     → DenotesCurrent s.cut.bytes d → object_at d (names.ByHandle h) ≡ None
 no-object h a d k = none-if (object_at d (names.ByHandle h)) (a.answers d k)
 
--- ---- what its head says of its entry
+-- ---- the entry of an object, by its head
 
 own-class : {c : Class} (o : Object) → o.class ≡ c → (class_code c == class_code c) ≡ true → is_class c o ≡ true
 own-class {c} o e f = ap (λ b. class_code c == class_code b) e ∙ f
@@ -63,13 +63,13 @@ module _ {s t : SegmentState} (view : s ≡ t) {h : ℕ} {head : Head} (a : Answ
   here-in : (d : Directory) → DenotesCurrent s.cut.bytes d → IsHere s.cut.bytes d (names.ByHandle h) h
   here-in = object-here (seen-there view h a)
 
-  -- it has no key
+  -- the object is anonymous
   pub listed-none : head.class ≡ class.Anonymous → IsAnonymousAt t h
   listed-none e = subst (λ (u : SegmentState). IsAnonymousAt u h) view (λ d k.
       let o = here-in d k in
       (o.object, o.is, sym (r o.object o.stands).class ∙ e))
 
-  -- it has a name
+  -- the object has a name
   pub listed-name : (e : Entry) → head.class ≡ class.Named
       → ((o : Object) → IsObjectInBlock s.cut.bytes h o → IsNamed e o.name) → HasEntries t index.Named e h
   listed-name (entry.Name bytes) e n =
@@ -86,7 +86,7 @@ module _ {s t : SegmentState} (view : s ≡ t) {h : ℕ} {head : Head} (a : Answ
   listed-name (entry.Code n) e m = subst (λ (u : SegmentState). HasEntries u index.Named (entry.Code n) h) view
       (λ d k. absurd (m (here-in d k).object (here-in d k).stands))
 
-  -- it is the only one of its kind
+  -- the object is unique
   pub listed-kind : {n : ℕ} → head.class ≡ class.Unique → n ≡ code_of head.kind
       → HasEntries t index.Unique (entry.Code n) h
   listed-kind {n} e f = subst (λ (u : SegmentState). HasEntries u index.Unique (entry.Code n) h) view (λ d k.

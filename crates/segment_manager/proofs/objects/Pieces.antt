@@ -21,9 +21,9 @@ use Rattle.std.proofs.lemmas.List.{take-replicate}
 pub room-live : (l : LiveSet) (h n : ℕ) → IsTrue (has_room l h n) → IsTrue (is_live_in l h)
 room-live l h n t = live-if h n l.extents t
 
--- ---- what a block lends
+-- ---- the bytes that a block lends
 
--- of its payload p, the first n bytes are those of the heap, and all offsets are small
+-- the first n bytes of the payload p are the heap's, and all offsets are small
 pub record Lent (c : WindowState) (h n : ℕ) (p : List ℕ) : Type 0 where
   pub long : n ≤ length p
   pub content : (at len : ℕ) → at + len ≤ n → part p at len ≡ read (bytes_of c.bytes) (h + at) len
@@ -57,7 +57,7 @@ pub changed-heap : {a b : WindowState} {from n : ℕ} → ChangesBytes current a
 changed-heap {a} {b} {from} {n} c =
     subst (EncodesLiveSet current b.bytes) (sym (changed-live current a b from n c)) c.live
 
--- ---- what stays in front of a change
+-- ---- the bytes before a change stay
 
 -- a word stays where bytes after it change
 pub word-stays : {a b : WindowState} (at : ℕ) {from n : ℕ} → ChangesBytes current a b from n → at + 8 ≤ from
@@ -65,7 +65,7 @@ pub word-stays : {a b : WindowState} (at : ℕ) {from n : ℕ} → ChangesBytes 
 word-stays {a} {b} at c f = SameBytes-word (bytes_of a.bytes) (bytes_of b.bytes) at (at + 8) at
     (record { at = λ k l h. c.rest.at k (inl (omega arith)) }) (omega arith) (omega arith)
 
--- bytes stay where others after them change
+-- bytes stay if only bytes after them change
 pub bytes-stay : {a b : WindowState} (at : ℕ) {from n : ℕ} (bytes : List ℕ) → ChangesBytes current a b from n
     → at + length bytes ≤ from → HasBytesAt (bytes_of a.bytes) at bytes → HasBytesAt (bytes_of b.bytes) at bytes
 bytes-stay {a} {b} at {from} {n} bytes c f h =
@@ -74,7 +74,7 @@ bytes-stay {a} {b} at {from} {n} bytes c f h =
 
 -- ---- the same bytes several times
 
--- what is left is enough for once more
+-- there is room for one more copy
 pub room-once_more : {a b : WindowState} (h at len i n : ℕ) → i < n
     → IsTrue (has_room (live_of a.bytes) h (at + len * n))
     → ChangesBytes current a b (h + at) (len * i) → IsTrue (has_room (live_of b.bytes) h (at + len * i + len))
@@ -96,7 +96,7 @@ pub record Repeats (a b : WindowState) (from i : ℕ) (bytes : List ℕ) : Type 
   pub change : ChangesBytes current a b from (length bytes * i)
   pub content : HasBytesAt (bytes_of b.bytes) from (repeated i bytes)
 
--- one repetition more is written
+-- one more copy is written
 pub repeats-more : {a b c : WindowState} (h at : ℕ) {i : ℕ} {bytes : List ℕ} → Repeats a b (h + at) i bytes
     → ChangesBytes current b c (h + (at + length bytes * i)) (length bytes)
     → HasBytesAt (bytes_of c.bytes) (h + (at + length bytes * i)) bytes → Repeats a c (h + at) (i + 1) bytes

@@ -1,4 +1,4 @@
--- What is ranked, each two: what rises, with one more or less.
+-- Lists in which each two objects are ranked: rising lists, with one object more or less.
 use Rattle.segment_manager.proofs.Common.{◌≡◌, refl, sym, subst, ◌∙◌, ℕ, suc, Bool, true, false, ◌&&◌, List, [], ◌∷◌}
 use Rattle.segment_manager.proofs.Common.{cond, Class, Object, rises, ap, length, if◌then◌else◌, IsTrue, filter}
 use Rattle.segment_manager.proofs.Common.{AllByRecursion, and_from, is_class, remove_object, insert_by}
@@ -9,7 +9,7 @@ use Rattle.segment_manager.proofs.{directory.LiveSet.remove-behind, objects.Rank
 use Rattle.segment_manager.proofs.{directory.IndexedParts.ordered}
 use Rattle.raw_region.proofs.Facts.{first, second}
 
--- ---- what rises is ranked, each two
+-- ---- in a rising list each two objects are ranked
 
 -- each two are ranked
 abbrev pub Pairwise : (Object → Object → Bool) → List Object → Type 0
@@ -48,7 +48,7 @@ pairwise-insert_by lt o [] h = (tt, tt)
 pairwise-insert_by lt o (p ∷ ps) h = pairwise-insert_by-if (lt o p) ps (insert_by lt o ps)
     (all_of-insert_by (IsRanked lt p) lt o ps) (pairwise-insert_by lt o ps) h
 
--- two lists, each two of all of them
+-- each object of one list is ranked with each of another
 pub record Across (lt : Object → Object → Bool) (acc os : List Object) : Type 0 where
   pub front : Pairwise lt acc
   pub rest : Pairwise lt os
@@ -93,7 +93,7 @@ found-filter-place P c {p} {ps} (here e f) g k a =
     subst P f (filter-first P p (filter (is_class c) ps) (ap (is_class c) f ∙ g) a)
 found-filter-place P c {p} {ps} (behind e f) g k a = k f (found-filter-if P (is_class c p) p (filter (is_class c) ps) a)
 
--- what holds of each of the class holds of one of the class that is found
+-- a property of each object of the class holds for one of the class that is found
 pub found-filter : (P : Object → Type 0) (c : Class) (h : ℕ) (os : List Object) (o : Object) → IsFound h os o
     → is_class c o ≡ true → AllByRecursion P (filter (is_class c) os) → P o
 found-filter P c h [] o f g a = absurd (found-nothing h o f)
@@ -118,7 +118,7 @@ pairwise-place lt c {h} {p} {ps} {o} (behind e f) g k w = subst (λ qs. AllRanke
     (sym (remove-behind h p ps e)) (pairwise-behind (is_class c p) (filter (is_class c) ps) (filter (is_class c)
     (remove_object h ps)) (found-filter (IsRanked lt p) c h ps o f g) (k f) w)
 
--- one that is found is ranked with each of the others
+-- an object that is found is ranked with each of the others
 pub pairwise-remove : (lt : Object → Object → Bool) (c : Class) (h : ℕ) (os : List Object) (o : Object) → IsFound h os o
     → is_class c o ≡ true → Pairwise lt (filter (is_class c) os)
     → AllRanked lt o (filter (is_class c) (remove_object h os))
@@ -151,7 +151,7 @@ rises-first-if ps qs (before g g') h k false f = cc
 rises-first-if ps qs (after g g') h k false f = k g
 
 module _ (lt : Object → Object → Bool) where
-  -- what rises does so with one more
+  -- a rising list rises with one more object
   pub insert_by-rises : (o : Object) (os : List Object) → AllRanked lt o os → IsTrue (rises lt os)
       → IsTrue (rises lt (insert_by lt o os))
   insert_by-rises o [] r h = refl
@@ -194,7 +194,7 @@ insert_by-length-if : (b : Bool) (o p : Object) (ps qs : List Object) → length
 insert_by-length-if true o p ps qs e = refl
 insert_by-length-if false o p ps qs e = ap suc e
 
--- there is one more
+-- the list is longer by one
 pub insert_by-length : (lt : Object → Object → Bool) (o : Object) (os : List Object)
     → length (insert_by lt o os) ≡ suc (length os)
 insert_by-length lt o [] = refl

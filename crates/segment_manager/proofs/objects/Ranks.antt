@@ -1,4 +1,4 @@
--- Objects put in by an order: the order of the puts does not matter where each two of them have an order.
+-- Objects inserted by an order: the order of insertions does not matter if each two objects have an order.
 use Rattle.segment_manager.proofs.Common.{◌≡◌, refl, sym, ap, subst, ◌∙◌, ℕ, Bool, true, false, List, [], ◌∷◌}
 use Rattle.segment_manager.proofs.Common.{if◌then◌else◌, cond, nat_lt, filter, fold, AllByRecursion, Class, Object}
 use Rattle.segment_manager.proofs.Common.{is_class, put_object, remove_object, insert_by}
@@ -12,7 +12,7 @@ pub record IsStrict (lt : Object → Object → Bool) : Type 0 where
   pub trans : (o p q : Object) → lt o p ≡ true → lt p q ≡ true → lt o q ≡ true
   pub asym : (o p : Object) → lt o p ≡ true → lt p o ≡ false
 
--- one of the two comes first
+-- one of the two objects precedes the other
 pub data IsRanked (lt : Object → Object → Bool) (o p : Object) : Type 0 where
   -- an object before another is ranked
   before : lt o p ≡ true → lt p o ≡ false → IsRanked lt o p
@@ -24,23 +24,23 @@ pub ranked-sym : (lt : Object → Object → Bool) (o p : Object) → IsRanked l
 ranked-sym lt o p (before e f) = after e f
 ranked-sym lt o p (after e f) = before e f
 
--- ranked with each of these
+-- the object is ranked with each of the list
 abbrev pub AllRanked : (Object → Object → Bool) → Object → List Object → Type 0
 AllRanked lt o = AllByRecursion (IsRanked lt o)
 
--- ---- one put in
+-- ---- one insertion
 
--- an object before the first is put in front
+-- an object before the first is inserted at the front
 pub insert_by-front : (lt : Object → Object → Bool) (o p : Object) (ps : List Object) → lt o p ≡ true
     → insert_by lt o (p ∷ ps) ≡ o ∷ p ∷ ps
 insert_by-front lt o p ps e = ap (λ b. if b then o ∷ p ∷ ps else p ∷ insert_by lt o ps) e
 
--- an object not before the first is put after it
+-- an object not before the first is inserted after it
 pub insert_by-behind : (lt : Object → Object → Bool) (o p : Object) (ps : List Object) → lt o p ≡ false
     → insert_by lt o (p ∷ ps) ≡ p ∷ insert_by lt o ps
 insert_by-behind lt o p ps e = ap (λ b. if b then o ∷ p ∷ ps else p ∷ insert_by lt o ps) e
 
--- ---- two put in
+-- ---- two insertions
 
 abbrev Commute : (Object → Object → Bool) → Object → Object → List Object → Type 0
 Commute lt a b zs = insert_by lt a (insert_by lt b zs) ≡ insert_by lt b (insert_by lt a zs)
@@ -70,7 +70,7 @@ pub insert_by-comm : {lt : Object → Object → Bool} → IsStrict lt → {a b 
 insert_by-comm {lt} s {a} {b} (before e f) zs = comm-before lt s a b e f zs
 insert_by-comm {lt} s {a} {b} (after e f) zs = sym (comm-before lt s b a e f zs)
 
--- ---- all put in
+-- ---- all insertions
 
 -- all of a list put into another
 abbrev pub put_all : (Object → Object → Bool) → List Object → List Object → List Object
@@ -115,7 +115,7 @@ put-more lt s c o [] e r = more-here lt s o [] e tt
 put-more lt s c o (p ∷ ps) e r = put-more-if lt s c o p ps (put_object o ps) e r (nat_lt o.extent.offset
     p.extent.offset) (put-more lt s c o ps e (ranked-rest lt o (is_class c p) p (filter (is_class c) ps) r))
 
--- an object that is put among the others stands in the order of its class
+-- an object that is inserted among the others is in the order of its class
 pub ordered-put : (c : Class) (lt : Object → Object → Bool) → IsStrict lt → (o : Object) (os : List Object)
     → is_class c o ≡ true → AllRanked lt o (filter (is_class c) os)
     → ordered c lt (put_object o os) ≡ insert_by lt o (ordered c lt os)
@@ -138,7 +138,7 @@ remove-more-place lt s c {h} {p} {ps} {o} (behind e f) g r k =
     (k f (ranked-rest lt o (is_class c p) p (filter (is_class c) (remove_object h ps))
     (subst (λ qs. AllRanked lt o (filter (is_class c) qs)) same r))))
 
--- the order of a class is that of the others with one put in, whatever stands there already
+-- the order of a class is the order of the others with one inserted, into any list
 pub remove-more : (lt : Object → Object → Bool) → IsStrict lt → (c : Class) (h : ℕ) (os : List Object) (o : Object)
     → IsFound h os o → is_class c o ≡ true → AllRanked lt o (filter (is_class c) (remove_object h os))
     → HasMore lt o (filter (is_class c) os) (filter (is_class c) (remove_object h os))
@@ -146,9 +146,9 @@ remove-more lt s c h [] o f g r = absurd (found-nothing h o f)
 remove-more lt s c h (p ∷ ps) o f g r =
     remove-more-place lt s c (found-place h p ps o f) g r (λ f' r'. remove-more lt s c h ps o f' g r')
 
--- ---- what holds of each
+-- ---- properties of each object
 
--- what holds of an object and of each of the others
+-- a property of an object and of each of the others
 pub all-insert_by : (P : Object → Type 0) (lt : Object → Object → Bool) (o : Object) (ps : List Object) → P o
     → AllByRecursion P ps → AllByRecursion P (insert_by lt o ps)
 all-insert_by P lt o [] h a = (h, tt)
@@ -159,7 +159,7 @@ all_of-insert_by-if : (P : Object → Type 0) (b : Bool) (o p : Object) (ps qs :
 all_of-insert_by-if P true o p ps qs k a = (a.0, a.1)
 all_of-insert_by-if P false o p ps qs k a = ((k a.1).0, (a.0, (k a.1).1))
 
--- the other way round
+-- and conversely
 pub all_of-insert_by : (P : Object → Type 0) (lt : Object → Object → Bool) (o : Object) (ps : List Object)
     → AllByRecursion P (insert_by lt o ps) → P o × AllByRecursion P ps
 all_of-insert_by P lt o [] a = a
@@ -171,7 +171,7 @@ all-put_all : (P : Object → Type 0) (lt : Object → Object → Bool) (acc os 
 all-put_all P lt acc [] a b = a
 all-put_all P lt acc (o ∷ os) a b = all-put_all P lt (insert_by lt o acc) os (all-insert_by P lt o acc b.0 a) b.1
 
--- what holds of each of a class holds of each in its order
+-- a property of each object of a class holds for each in its order
 pub all-ordered : (P : Object → Type 0) (c : Class) (lt : Object → Object → Bool) (os : List Object)
     → AllByRecursion P (filter (is_class c) os) → AllByRecursion P (ordered c lt os)
 all-ordered P c lt os a = all-put_all P lt [] (filter (is_class c) os) tt a

@@ -5,20 +5,20 @@ use Rattle.segment_manager.proofs.{directory.LiveSet.adding, directory.LiveSet.I
 
 -- ---- one extent among others
 
--- a block that differs from all, seen from them
+-- if a block differs from each of a list, each of the list differs from it
 pub differs-flip : (x : Extent) (ys : List Extent) → AllByRecursion (λ y. Differs y (x ∷ [])) ys → Differs x ys
 differs-flip x [] h = tt
 differs-flip x (y ∷ ys) h = ((λ e. h.0.0 (sym e)), differs-flip x ys h.1)
 
 -- ---- the extents of an object and of one in its place
 
--- what is the same of the two: the block of their own, and so the others
+-- the two objects have the same own block, and so the same others
 pub record InPlace (d : Directory) (o o' : Object) : Type 0 where
   pub found : IsFound (handle o'.extent) d.objects o
   pub extent : o'.extent ≡ o.extent
   pub proper : IsTrue (is_proper (live d))
 
--- all extents but those of the object
+-- all extents except the object's
 abbrev pub rest : Directory → Object → List Extent
 rest d o = (live (without_object d o)).extents
 

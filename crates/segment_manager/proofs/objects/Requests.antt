@@ -1,4 +1,4 @@
--- What a construction asks for, in order: a place in an index, and then the object's own block.
+-- The allocations of a construction, in order: the index's new block, and then the object's own block.
 use Rattle.segment_manager.proofs.Common.{◌≡◌, refl, ap, ◌∙◌, ℕ, ◌*◌, ◌<◌, ◌≤◌, Some, None, length, if◌then◌else◌}
 use Rattle.segment_manager.proofs.Common.{IsTrue, lt-ltb, le-ltb, Role, IndexRole, Extent, LiveSet, is_proper, added}
 use Rattle.segment_manager.proofs.Common.{place, resized, placed_is_proper, NoSpace, Index, grown_capacity, Refused}
@@ -24,7 +24,7 @@ entry-of index.Unique d next = refl
 abbrev grows : Index → Directory → (Directory → Plan) → Plan
 grows i d next = with_new_index (grown_capacity (table_of i d).capacity) (λ t. next (with_table_of i d t))
 
--- there is a place left
+-- the capacity of the index allows one more
 pub entry-room : (i : Index) (d : Directory) (next : Directory → Plan)
     → length (objects_of i d) < (table_of i d).capacity → with_entry d (class_of_index i) next ≡ next d
 entry-room i d next h = entry-of i d next ∙ ap (λ b. if b then next (with_table_of i d (table_of i d)) else grows i d
@@ -41,11 +41,11 @@ pub placed-added : (l : LiveSet) (n : ℕ) (role : Role) {x : Extent} → IsTrue
 placed-added l n role {x} h e =
     resized-fresh l x (rising-insert 128 x l.extents (live-rises (added l x) (placed_is_proper l n role x h e))).differs
 
--- the bytes that a full index asks for
+-- the number of bytes that a full index allocates
 abbrev pub growth_bytes : Index → Directory → ℕ
 growth_bytes i d = 8 * grown_capacity (table_of i d).capacity
 
--- there is none, and a block for more of them is there
+-- the index is full, and there is space for its larger block
 pub entry-grows : (i : Index) (d : Directory) (next : Directory → Plan) {x : Extent} → IsTrue (is_proper (live d))
     → (table_of i d).capacity ≤ length (objects_of i d) → place (live d) (growth_bytes i d) IndexRole ≡ Some x
     → perform d (live d) (with_entry d (class_of_index i) next) ≡ perform d (added (live d) x)

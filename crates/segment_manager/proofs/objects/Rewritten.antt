@@ -1,14 +1,14 @@
--- An object with another value: where the value stands, and that its head and name stay.
+-- An object with another value: the offset of the value, and its head and name, which stay.
 use Rattle.segment_manager.proofs.Common.{◌≡◌, sym, ◌∙◌, ℕ, ◌+◌, length, arith, Memory, SameBytes, handle, code_of}
 use Rattle.segment_manager.proofs.Common.{Value, Object, count_of, kind_of, padded, IsObjectAt, IsValueAt, padded_name}
 use Rattle.segment_manager.proofs.Common.{two_halves, HasBytesAt-same, SameBytes-word}
 use Rattle.segment_manager.proofs.directory.Frame.{padded_name-length}
 
--- where the value of an object stands
+-- the offset of an object's value
 abbrev pub value_start : Object → ℕ
 value_start o = handle o.extent + 16 + padded (length o.name)
 
--- the same object with another value
+-- the object with another value
 abbrev pub with_value : Object → Value → Object
 with_value o v = record o { value = v }
 

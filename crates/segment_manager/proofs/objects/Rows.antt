@@ -27,11 +27,11 @@ module _ {X : Type 0} (f : X → List ℕ) {n : ℕ} (each : (x : X) → length 
   flat-length [] = omega arith
   flat-length (x ∷ xs) = omega (arith, length-append (f x) (flat_map f xs), each x, flat-length xs)
 
-  -- what is said at two spellings of one offset
+  -- the same bytes at an equal offset
   moved : (m : Memory) (at to : ℕ) (bytes : List ℕ) → at ≡ to → HasBytesAt m at bytes → HasBytesAt m to bytes
   moved m at to bytes e h = subst (λ a. HasBytesAt m a bytes) e h
 
-  -- each element stands in its place
+  -- each element is at its place
   pub HasBytesAt-element : (m : Memory) (at : ℕ) (xs : List X) (i : ℕ) {x : X} → HasBytesAt m at (flat_map f xs)
       → slice_get xs i ≡ Some x → HasBytesAt m (at + n * i) (f x)
   HasBytesAt-element m at [] i h e = absurd (cc)
@@ -44,7 +44,7 @@ module _ {X : Type 0} (f : X → List ℕ) {n : ℕ} (each : (x : X) → length 
       moved m (at + length (f y) + n * i) (at + n * suc i) (f x) (omega arith)
       (HasBytesAt-element m (at + length (f y)) ys i (HasBytesAt-behind m at (f y) (flat_map f ys) h) e)
 
-  -- one element is written in its place
+  -- one element is written at its place
   pub HasBytesAt-set : {m m' : Memory} (at : ℕ) (xs : List X) (i : ℕ) (x : X)
       → HasBytesAt m at (flat_map f xs) → i < length xs → SameBytesExcept m m' (at + n * i) n
       → HasBytesAt m' (at + n * i) (f x) → HasBytesAt m' at (flat_map f (slice_set xs i x))
@@ -62,7 +62,7 @@ pub repeated-length : (n : ℕ) (bytes : List ℕ) → length (repeated n bytes)
 repeated-length zero bytes = omega arith
 repeated-length (suc n) bytes = omega (arith, length-append bytes (repeated n bytes), repeated-length n bytes)
 
--- once more
+-- one more copy
 pub repeated-more : (n : ℕ) (bytes : List ℕ) → repeated n bytes ++ bytes ≡ repeated (n + 1) bytes
 repeated-more n bytes = flat_map_more (λ (each : List ℕ). each) [] (replicate n bytes) bytes
     ∙ ap (flat_map (λ (each : List ℕ). each)) (replicate_more n bytes)

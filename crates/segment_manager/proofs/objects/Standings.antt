@@ -1,4 +1,4 @@
--- What is known of an object that stands in its block.
+-- The facts about an object in its block.
 use Rattle.segment_manager.proofs.Common.{◌≡◌, ap, ◌∙◌, ◌+◌, ◌-◌, ◌*◌, ◌/◌, ◌%◌, ◌≤◌, List, arith, read, Object, padded}
 use Rattle.segment_manager.proofs.Common.{ℕ, replicate, bytes_of, has_room, class_code, count_of, object_len, value_len}
 use Rattle.segment_manager.proofs.Common.{length, IsTrue, current, word_at, handle, live_of, code_of, kind_of}
@@ -36,7 +36,7 @@ head-words {b} {h} {o} s =
 one-kind : {k l : Kind} → code_of k ≡ code_of l → k ≡ l
 one-kind {k} {l} e = same_Some k l (sym (code-read k) ∙ ap kind_of_code e ∙ code-read l)
 
--- so the same is said of all that stands there
+-- so two objects in one block are equal in all parts
 pub alike : {b : List ℕ} {h : ℕ} {o p : Object} → IsObjectInBlock b h o → IsObjectInBlock b h p → located o ≡ located p
 alike s t =
     let u = head-words s in let v = head-words t in let kind = one-kind (sym u.code ∙ v.code) in λ i. record {
@@ -51,7 +51,7 @@ pub standing-room : (b : List ℕ) (h n : ℕ) (o : Object) → IsObjectInBlock 
     → n ≤ 16 + padded (length o.name) + value_len o.value → IsTrue (has_room (live_of b) h n)
 standing-room b h n o s l = room-less (live_of b) h (object_len o.name o.value) n l s.room
 
--- its name stands after the two words
+-- its name follows the two words
 pub standing-name : {b : List ℕ} {h : ℕ} {o : Object} → IsObjectInBlock b h o
     → read (bytes_of b) (h + 16) (length o.name) ≡ o.name
 standing-name {b} {o} s =

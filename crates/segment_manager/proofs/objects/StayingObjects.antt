@@ -1,4 +1,4 @@
--- What destroys no object leaves what is said of each.
+-- A command that destroys no object keeps the properties of each.
 use Rattle.segment_manager.proofs.Common as common
 use common.{◌≡◌, sym, not, ◌∙◌, ℕ, None, List, [], ◌∷◌, find, cond, Kind, Key, Mode, live, Plan, met, plan, step, refl}
 use common.{◌==◌, Bool, true, false, Option, Some, Extent, handle, Object, Answer, Refused, perform, Transitions}
@@ -20,7 +20,7 @@ use Rattle.std.specs.Bool.{then_some}
 
 -- ---- an object of another value
 
--- what is said of the object of a handle among some
+-- the located object of a handle in a list
 abbrev said : ℕ → List Object → Option Located
 said h os = option_map located (find (has_key (ByHandle h)) os)
 
@@ -64,7 +64,7 @@ module _ {format : ℕ} (d : Directory) (is : IsDirectory format d) (h : ℕ) (q
   change-keeps o a = replace-says h o a.was d.objects a.same
       (ap (λ (p : Located). object_at d (ByHandle p.handle)) a.same ∙ by-handle a.key is a.is) ∙ here
 
-  -- a plan that leaves the directory, or one of its objects another value, keeps what is said of each object
+  -- a plan that keeps the directory, or changes the value of one of its objects, keeps the properties of each object
   perform-keeps : (changing : Bool) {other : Bool} → other ≡ false → (l : LiveSet) (p : Plan)
       → Leaves d changing other p → located_at (perform d l p).1 (ByHandle h) ≡ Some q
   perform-keeps changing e l p by_refusal = here
@@ -86,7 +86,7 @@ module _ {format : ℕ} (d : Directory) (is : IsDirectory format d) (h : ℕ) (q
 
   -- ---- ranges
 
-  -- values that are put after the last of a vector
+  -- values that are appended to a vector
   extended-keeps : (mode : Mode) (key : Key) (k : ScalarKind) (more : List ℤ)
       → located_at (extended mode d key k more).1 (ByHandle h) ≡ Some q
   extended-keeps mode key k more = perform-keeps true refl (live d) _ (extended-leaves mode d key k more)
@@ -153,7 +153,7 @@ is-some (Some o) q e = refl
 own-handle : (d : Directory) (h : ℕ) → is_object_at d h ≡ true → Some h ≡ handle_at d (ByHandle h)
 own-handle d h e = ap (λ (b : Bool). then_some b h) (sym e) ∙ handle-if h d (object_at d (ByHandle h)) refl
 
--- two directories of the same bytes say the same of it
+-- two directories of the same bytes agree on the object
 one-said : {b : List ℕ} {d e : Directory} (h : ℕ) (q : Located) → Denotes current b d → Denotes current b e
     → located_at d (ByHandle h) ≡ Some q → located_at e (ByHandle h) ≡ Some q
 one-said {b} {d} {e} h q k l f =
@@ -179,7 +179,7 @@ objects_stay = record {
       (λ d is h q here. step_of_kind-keeps d is h q here old.mode key kind c e);
 }
 
--- the same of a call that answers less than the machine
+-- the same for a call that returns less than the machine's answer
 pub leads_on-stay : (old new : SegmentState) (key : Key) (kind : Kind) (c : Command) (why : Option Refusal)
     → IsSegment old.cut.bytes → is_elementwise c ≡ true → LeadsOnOfKind old new key kind c why → KeepsObjects old new
 leads_on-stay old new key kind c why g e m =

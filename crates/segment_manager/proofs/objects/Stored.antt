@@ -1,4 +1,4 @@
--- The elements of the object of a key: where each stands and its number, what reading one answers, and writing one.
+-- The elements of a key's object: the place and the number of each, the result of reading one, and writing one.
 use Rattle.segment_manager.proofs.Common as common
 use Rattle.seg_types.specs.Commands as asked
 use common.{◌≡◌, Option, Result, length, IsTrue, nat_lt, handle, Scalar, Object, padded, eq-eqb, Answer, Refuse, effect}
@@ -30,7 +30,7 @@ use Rattle.std.proofs.Common.{negsuc}
 
 -- ---- an element
 
--- where a place in an object is, and in the object of a key
+-- a place in an object, as a place in the key's object
 abbrev placed : ℕ → Result ℕ Refusal → Result Place Refusal
 placed h q = elim q as (λ _. Result Place Refusal) [ Ok at ↦ Ok (record { handle = h; at = at }) | Err r ↦ Err r ]
 
@@ -40,7 +40,7 @@ in_object o q = placed (handle o.extent) q
 abbrev in_any : ScalarKind → ℕ → Option Object → Result Place Refusal
 in_any k i r = elim r as (λ _. Result Place Refusal) [ None ↦ Err NotFound | Some o ↦ in_object o (place_in o k i) ]
 
--- there it stands, or the reason why it does not
+-- the place, or the error
 placed-if : (s t : Bool) {at : ℕ} (n : ℕ) → Ok at ≡ (if s then (if t then Ok n else Err OutOfRange) else Err WrongKind)
     → (s ≡ true) × (t ≡ true) × (at ≡ n)
 placed-if true true n e = (refl, refl, cc)
@@ -59,7 +59,7 @@ lacks-if o k i n true true e f g = absurd (cc)
 lacks-if o k i n true false e f g = Past e f (cc)
 lacks-if o k i n false t e f g = Other e (cc)
 
--- an element of the object of a key, where it stands, and its number
+-- an element of a key's object, its place, and its number
 pub record ElementAt (b : List ℕ) (d : Directory) (key : Key) (k : ScalarKind) (i : ℕ) (p : Place) : Type 0 where
   pub object : Object
   pub is : object_at d key ≡ Some object
@@ -71,7 +71,7 @@ pub record ElementAt (b : List ℕ) (d : Directory) (key : Key) (k : ScalarKind)
   pub there : slice_get numbers i ≡ Some number
   pub in_range : IsTrue (is_value k number)
 
--- what holds of all holds of the one at an index
+-- a property of all elements holds for the one at an index
 all-at : (t : ℤ → Bool) (zs : List ℤ) (i : ℕ) {z : ℤ} → IsTrue (list_all t zs) → slice_get zs i ≡ Some z → IsTrue (t z)
 all-at t [] i h e = absurd (cc)
 all-at t (y ∷ ys) zero {z} h e = let same : y ≡ z = cc in subst (λ x. IsTrue (t x)) same (first (t y) (list_all t ys) h)
@@ -123,7 +123,7 @@ module _ {b : List ℕ} {d : Directory} {key : Key} {k : ScalarKind} {i : ℕ} {
 
 -- ---- no such element
 
--- why there is none
+-- the error if there is no such element
 pub data Missing (d : Directory) (key : Key) (k : ScalarKind) (i : ℕ) (r : Refusal) : Type 0 where
   Nowhere : object_at d key ≡ None → r ≡ NotFound → Missing d key k i r
   Within : (o : Object) → object_at d key ≡ Some o → Lacks o k i r → Missing d key k i r
@@ -141,7 +141,7 @@ missing-if : {d : Directory} {key : Key} {k : ScalarKind} {i : ℕ} {r : Refusal
 missing-if None e f = Nowhere e (cc)
 missing-if {k} {i} (Some o) e f = Within o e (within-if o k i (place_in o k i) refl f)
 
--- an element that is not there, and why
+-- an element that does not exist, and the error
 pub element-missing : {d : Directory} {key : Key} {k : ScalarKind} {i : ℕ} {r : Refusal} → Err r ≡ place_at d key k i
     → Missing d key k i r
 element-missing {d} {key} e = missing-if (object_at d key) refl e
@@ -150,7 +150,7 @@ element-missing {d} {key} e = missing-if (object_at d key) refl e
 
 module _ (b : List ℕ) (d : Directory) (key : Key) (k : ScalarKind) (i : ℕ) (p : Place)
     (e : ElementAt b d key k i p) where
-  -- all numbers stand after the head and the name
+  -- all numbers follow the head and the name
   pub numbers-stand : HasBytesAt (bytes_of b) (p.handle + (16 + padded (length e.object.name))) (spelled k e.numbers)
   numbers-stand =
       let at : handle e.object.extent + 16 + padded
@@ -160,7 +160,7 @@ module _ (b : List ℕ) (d : Directory) (key : Key) (k : ScalarKind) (i : ℕ) (
       subst (λ a. HasBytesAt (bytes_of b) a (spelled k e.numbers)) at (subst (λ v. IsValueAt (bytes_of b)
       (handle e.object.extent + 16 + padded (length e.object.name)) v) e.value e.stands.said.value)
 
-  -- an element stands in its place
+  -- an element is at its place
   pub element-read : read (bytes_of b) (p.handle + p.at) (size_of k) ≡ spelling k e.number
   element-read =
       let at : p.handle + p.at ≡ p.handle + (16 + padded (length e.object.name)) + size_of k * i = let f = e.at in
@@ -196,14 +196,14 @@ same-place k i None = refl
 same-place k i (Some o) = same-spot (handle o.extent) (element_at k o.name i) (same_kind (Scalar k) (kind_of o.value))
     (nat_lt i (count_of o.value))
 
--- the place in the object that is found is the place of the key, and why there is none in it is why the key has none
+-- the place in the object that is found is the key's place, and its error is the key's error
 pub places : {s : SegmentState} (key : Key) (k : ScalarKind) (i : ℕ) {r : Option Located} {q : Result Place Refusal}
     → AnswersWith s (λ d. located_at d key) r → q ≡ element_of k i r → AnswersWith s (λ d. place_at d key k i) q
 places key k i a e = record {
   answers = λ d l. e ∙ ap (element_of k i) (a.answers d l) ∙ same-place k i (object_at d key);
 }
 
--- ---- what the plans are
+-- ---- the plans
 
 -- reading in an object of numbers, and writing
 get-effect : (d : Directory) (key : Key) {o : Object} (k : ScalarKind) (zs : List ℤ) (i : ℕ) (r : Option ℤ)
@@ -221,7 +221,7 @@ set-effect d key {o} k zs i l {z} r e f g h =
     with-found d key o (λ o. set_element d o o.value i l) e ∙ ap (λ v. set_element d o v i l) f
     ∙ (λ j. with (g j) (λ z. with (of_slice (h j)) (λ old. Reply Done (changed d o (Numbers k (slice_set zs i z))))))
 
--- ---- what the step is
+-- ---- the step
 
 -- the object of an element is of its kind
 pub element-kind : {b : List ℕ} {d : Directory} {key : Key} {k : ScalarKind} {i : ℕ} {p : Place}
@@ -236,7 +236,7 @@ got mode b d key k i p e =
     step_of_kind-found mode d key (Scalar k) (asked.Get key i) e.object (open-reading mode (asked.Get key i) refl) e.is
     (element-kind e) ∙ ap (perform d (live d)) (get-effect d key k e.numbers i (Some e.number) e.is e.value e.there)
 
--- or it is refused, for the reason why there is none
+-- or the step fails with the same error
 lacking : (mode : Mode) (d : Directory) (key : Key) (k : ScalarKind) (i : ℕ) (r : Refusal) (c : Command) {o : Object}
     → IsOpenFor mode c → ((zs : List ℤ) → o.value ≡ Numbers k zs → slice_get zs i ≡ None → effect d c ≡ Refuse
     OutOfRange) → object_at d key ≡ Some o → Lacks o k i r → step_of_kind mode d key (Scalar k) c ≡ (Refused r, d)
@@ -248,7 +248,7 @@ lacking mode d key k i r c {o} may past e (Past s t f) =
     step_of_kind-found mode d key (Scalar k) c o may e s
     ∙ ap (perform d (live d)) (past n.0 n.1 (slice_get_past n.0 i behind)) ∙ (λ j. (Refused (sym f j), d))
 
--- a command on an element that is not there is refused
+-- a command on an element that does not exist fails
 pub missing-steps : (mode : Mode) {d : Directory} {key : Key} {k : ScalarKind} {i : ℕ} {r : Refusal} (c : Command)
     → IsOpenFor mode c → ((o : Object) (zs : List ℤ) → object_at d key ≡ Some o → o.value ≡ Numbers k zs
     → slice_get zs i ≡ None → effect d c ≡ Refuse OutOfRange) → Missing d key k i r
@@ -261,7 +261,7 @@ missing-steps mode {d} {key} {k} {i} {r} c may past (Within o e l) =
 -- ---- the call
 
 module _ {t : SegmentState} (key : Key) {l k : ScalarKind} (kinds : l ≡ k) (i : ℕ) where
-  -- where no element is found, the step says why
+  -- if no element is found, the step has the same error
   pub replies-missing : {r : Refusal} → AnswersWith t (λ d. place_at d key l i) (Err r)
       → AnswersQueryOfKind t key (Scalar k) (asked.Get key i) (Refused r)
   replies-missing {r} a = record {
@@ -270,7 +270,7 @@ module _ {t : SegmentState} (key : Key) {l k : ScalarKind} (kinds : l ≡ k) (i 
         ((subst (λ (m : ScalarKind). AnswersWith t (λ d. place_at d key m i) (Err r)) kinds a).answers d l))));
   }
 
-  -- one is found, as the view before the call names the segment
+  -- an element is found, for the view before the call
   module _ {s : SegmentState} (view : s ≡ t) {p : Place} {n : ℕ} (long : n ≡ size_of k)
       (there : AnswersWith t (λ d. place_at d key l i) (Ok p)) where
     pub seen-place : AnswersWith s (λ d. place_at d key k i) (Ok p)
@@ -282,7 +282,7 @@ module _ {t : SegmentState} (key : Key) {l k : ScalarKind} (kinds : l ≡ k) (i 
     place-room b = subst (λ m. IsTrue (has_room (live_of s.cut.bytes) p.handle (p.at + m))) (sym long)
         (element-room s.cut.bytes b.0 key k i p (element-found b.1.denotes (seen-place.answers b.0 b.1)))
 
-    -- what its bytes are read as is the step's answer
+    -- the value of the bytes is the step's answer
     pub replies-found : {answer : Answer} {bytes : List ℕ} → bytes ≡ read (bytes_of s.cut.bytes) (p.handle + p.at) n
         → ((z : ℤ) → IsTrue (is_value k z) → bytes ≡ spelling k z → answer ≡ Element k z)
         → AnswersQueryOfKind t key (Scalar k) (asked.Get key i) answer
@@ -295,9 +295,9 @@ module _ {t : SegmentState} (key : Key) {l k : ScalarKind} (kinds : l ≡ k) (i 
               ∙ sym (ap (λ (n : Answer × Directory). n.0) (got s.mode s.cut.bytes d key k i p e));
         })
 
--- ---- what is read
+-- ---- the value that is read
 
--- a value of a type whose number is the one that the bytes spell
+-- a value of a type with the number that the bytes encode
 pub number-answer : {T : Type 0} (k : ScalarKind) (z : ℤ) (whole : T
     → ℤ) {bytes : List ℕ} (q : Option T) {r : Result T Refusal} → r ≡ ok_or q WrongKind → IsTrue (is_value k z)
     → bytes ≡ spelling k z → MatchOption q (is_spelling k bytes ≡ false) (λ x. (is_spelling k bytes ≡ true)
@@ -308,7 +308,7 @@ number-answer k z whole (Some x) f v e h = ap (answer_of (λ x. Element k (whole
 
 -- ---- the literal of a value
 
--- it is read as the value
+-- the literal is read as the value
 pub literal-read : (k : ScalarKind) (z : ℤ) → is_value k z ≡ true → value_of_literal k (literal_of k z) ≡ Ok z
 literal-read BoolKind (pos zero) h = refl
 literal-read BoolKind (pos (suc zero)) h = refl
@@ -316,7 +316,7 @@ literal-read BoolKind (pos (suc (suc n))) h = absurd (grind arith)
 literal-read BoolKind (negsuc n) h = absurd (cc)
 literal-read k z h = ap (λ (b : Bool). let r : Result ℤ Refusal = if b then Ok z else Err OutOfRange in r) h
 
--- the literals of values are read as them
+-- the literals of values are read back as the values
 pub literals-read : (k : ScalarKind) (zs : List ℤ) → IsTrue (list_all (is_value k) zs)
     → values_of k (map (literal_of k) zs) ≡ Ok zs
 literals-read k [] h = refl

@@ -1,5 +1,5 @@
--- The blocks of a new object: they are taken, and written whatever its value, so that the indexes stay; or given back
--- where one of them is refused.
+-- The blocks of a new object: they are allocated and written for any value, so the indexes stay; or they are freed if
+-- one has no fit.
 use Rattle.segment_manager.proofs.Common as common
 use common.{◌≡◌, sym, ap, subst, ◌∙◌, ℕ, ◌+◌, ◌-◌, ◌/◌, ◌%◌, ◌==◌, inr, Some, None, Option, List, arith, Role, LiveSet}
 use common.{SameBlock, allocated-live, bytes_of, keeps-trans, word_at, IfSome, IsTrue, WindowState, current, ObjectRole}
@@ -16,12 +16,12 @@ use Rattle.seg_index.proofs.Laws.{Around-kept, stays}
 use Rattle.seg_index.specs.{Sorted.HasSortKey, Growth.IsBlockFor}
 use Rattle.best_fit.specs.Fit.{insert}
 
--- These blocks are in use, too, and may be written. Nothing else changed.
+-- These blocks are in use, too, and can be written. Nothing else changed.
 pub record IsTaken (old new : WindowState) (xs : List Extent) : Type 0 where
   pub live : EncodesLiveSet current new.bytes (adding (live_of old.bytes) xs)
   pub keeps : KeepsBlocks old new (live_of old.bytes).extents
 
--- An object that was none has all its blocks in use and written.
+-- All blocks of a new object are in use and written.
 pub record IsMade (old new : WindowState) (o : Object) : Type 0 where
   pub good : IsTrue (is_object current o)
   pub taken : IsTaken old new (extents_of o)
@@ -41,14 +41,14 @@ allocated-found {old} {new} {h} a = ap (λ (l : LiveSet). find (has_handle h) l.
     (live_of old.bytes).extents)) a.at ∙ found-new a.extent (live_of old.bytes).extents (rising-insert 128 a.extent
     (live_of old.bytes).extents (live-rises (added (live_of old.bytes) a.extent) a.live.proper)).differs
 
--- ---- after blocks are taken
+-- ---- after blocks are allocated
 
--- blocks that were taken are in the live set
+-- blocks that were allocated are in the live set
 pub taken-live : (old new : WindowState) (xs : List Extent) → IsTaken old new xs
     → live_of new.bytes ≡ adding (live_of old.bytes) xs
 taken-live old new xs m = lay_out_one current new.bytes (adding (live_of old.bytes) xs) m.live
 
--- a block in use is found after others were taken
+-- a block in use is still found after others were allocated
 pub taken-found : (old new : WindowState) (xs : List Extent) (h : ℕ) {x : Extent} → IsTaken old new xs
     → extent_at (live_of old.bytes) h ≡ Some x → extent_at (live_of new.bytes) h ≡ Some x
 taken-found old new xs h {x} m e =
@@ -67,7 +67,7 @@ taken-index {old} {new} xs {at} {t} {hs} m low high i = stays old new at t hs i
     subst (λ (s : Option Extent). IfSome s (λ y. extent_at (live_of old.bytes) (handle y) ≡ Some y)) e i.held in
     (f, taken-found old new xs (handle x) m f)))
 
--- so does what it grows into
+-- and the block that the index grows into is still found
 pub taken-growth : (old new : WindowState) (xs : List Extent) (at : ℕ) (g : Option ℕ) → IsTaken old new xs → 32 ≤ at
     → at + 24 ≤ 128 → CanGrow old at g → CanGrow new at g
 taken-growth old new xs at None m low high c = omega (
@@ -87,14 +87,14 @@ taken-growth old new xs at (Some h) m low high c =
       λ e. c.1 (sym link ∙ e),
     )
 
--- one block is taken by a request
+-- one block is allocated by a request
 pub requested-taken : {old new : WindowState} {n : ℕ} {role : Role} {h : ℕ} → (a : AllocatesOk current old new n role h)
     → IsTaken old new (a.extent ∷ [])
 requested-taken a = record { live = a.live; keeps = a.keeps }
 
 -- ---- a request
 
--- what an index has taken to grow into is in use
+-- the block that an index grows into is in use
 pub growth-held : (a b : WindowState) (at : ℕ) (g : Option ℕ) → PreparesOk a b at g
     → IfSome g (λ h. IsTrue (is_live_in (live_of b.bytes) h))
 growth-held a b at None h = tt
@@ -104,7 +104,7 @@ unchanged : {a b : WindowState} → IsHeap current a.bytes → b ≡ a → Resto
 unchanged {a} heap e =
     subst (RestoresBlocks a) (sym e) (record { laid = heap; keeps = keeps-refl a (live_of a.bytes).extents })
 
--- what was taken before a refusal is given back
+-- a block that was allocated before a failure is freed
 pub request-unmet : (a b c d : WindowState) (at n : ℕ) (g : Option ℕ) → IsHeap current a.bytes → PreparesOk a b at g
     → AllocatesNoSpace b c n ObjectRole → FreesGrowth c d g
     → IfSome g (λ h. (before : WindowState) (n : ℕ) → AllocatesOk current before c n IndexRole h
@@ -121,13 +121,13 @@ request-unmet a b c d at n (Some h) heap grows refused back restored =
 
 -- ---- an index while an object is made
 
--- the index stays while it may grow
+-- the index stays while it can grow
 pub growth-index : (i : Index) {a : WindowState} {b : WindowState} (g : Option ℕ) {t : BackingArray} {hs : List ℕ}
     → PreparesOk a b (place_of i) g → IsIndexOf a (place_of i) t hs → IsIndexOf b (place_of i) t hs
 growth-index i None {t} {hs} g x = subst (λ (c : WindowState). IsIndexOf c (place_of i) t hs) (sym g.1) x
 growth-index i (Some h) g x = taken-index _ (requested-taken g.1) (place_behind i) (place_small i) x
 
--- the block is requested, and written where it was asked for
+-- the block is allocated and written
 pub written-taken : {a m b : WindowState} {n h : ℕ}
     → AllocatesOk current a m n ObjectRole h → ChangesBytes current m b h n → AllocatesOk current a b n ObjectRole h
 written-taken {a} {m} {b} {n} {h} take change = still_allocated-block current a m b n ObjectRole h h n n take change
@@ -138,12 +138,12 @@ pub meant : {a b : WindowState} {at m n : ℕ} {g : Option ℕ} {h : ℕ} → m 
     → RequestsBlocksOk a b at n g h
 meant {a} {b} {at} {g} {h} e r = subst (λ (k : ℕ). RequestsBlocksOk a b at k g h) e r
 
--- the objects stay where the index takes its block, and where the object's own are taken
+-- the objects stay if the index's block is allocated, and if the object's own blocks are
 pub growth-stays : {a b : WindowState} (at : ℕ) (g : Option ℕ) → PreparesOk a b at g → (h : ℕ) → ObjectStays a b h
 growth-stays {a} at None g h = subst (λ (c : WindowState). ObjectStays a c h) (sym g.1) (stays-itself {a = a} h)
 growth-stays at (Some k) g h = taken-stays g.1 h
 
--- objects stay while blocks are taken
+-- objects stay while blocks are allocated
 pub made-stays : {a b : WindowState} (xs : List Extent) → IsTaken a b xs → (h : ℕ) → ObjectStays a b h
 made-stays {a} {b} xs m h = record {
   each = λ x e role. (
@@ -166,7 +166,7 @@ made-key i {a} {b} {o} m =
 
 -- ---- blocks as they were
 
--- a block that was taken is taken still
+-- a block that was allocated is still in use
 pub restored-taken : {a m w : WindowState} {n : ℕ} {role : Role} {h : ℕ}
     → AllocatesOk current a m n role h → RestoresBlocks m w → AllocatesOk current a w n role h
 restored-taken {a} {m} {w} {n} {role} {h} t r =

@@ -26,7 +26,7 @@ module _ {T : Type 0} (w : T → ℤ) where
 
 -- ---- spellings
 
--- what a type's laws say of its values and their numbers
+-- the laws of a type for its values and their numbers
 pub record IsOfKind {T : Type 0} (k : ScalarKind) (w : T → ℤ) (size : ℕ) (test : T → Bool)
     (sp : T → List ℕ) : Type 0 where
   pub long : size ≡ size_of k
@@ -46,7 +46,7 @@ module _ {T : Type 0} (k : ScalarKind) (w : T → ℤ) (size : ℕ) (test : T �
   whole-values [] = refl
   whole-values (x ∷ xs) = λ i. law.values x i && whole-values xs i
 
-  -- numbers of the kind are those of values
+  -- numbers of the kind are the numbers of values
   pub whole-reached : (zs : List ℤ) → IsTrue (list_all (is_value k) zs) → (xs : List T) × (map w xs ≡ zs)
   whole-reached [] h = ([], refl)
   whole-reached (z ∷ zs) h =

@@ -1,4 +1,4 @@
--- A number of the object of a key is written: what the bytes denote then, and that it is the step.
+-- A number of a key's object is written: the directory of the bytes after it is the step's.
 use Rattle.segment_manager.specs.Keeping.{ChangesElement}
 use Rattle.std.specs.Prelude.{IfOk}
 use Rattle.segment_manager.proofs.Common as common
@@ -24,7 +24,7 @@ use Rattle.best_fit.specs.declared.places.Place.{Place}
 use Rattle.segment_manager.specs.objects.Standing.{place_at}
 use Rattle.std.proofs.{Common.set, lemmas.List.length-set}
 
--- ---- the numbers with another among them
+-- ---- the numbers with one replaced
 
 list_all-set : (t : ℤ → Bool) (zs : List ℤ) (i : ℕ) (z : ℤ) → IsTrue (list_all t zs) → IsTrue (t z)
     → IsTrue (list_all t (set zs i z))
@@ -61,7 +61,7 @@ module _ (old new : WindowState) (d : Directory) (key : Key) (k : ScalarKind) (i
   abbrev pub with_number : ℤ → Object
   with_number z = with_value e.object (Numbers k (set e.numbers i z))
 
-  -- where its numbers stand, and where the one does
+  -- the offset of the array's numbers, and of one number
   start : value_start e.object ≡ p.handle + (16 + padded (length e.object.name))
   start = let s = e.stands.at in omega arith
 
@@ -75,7 +75,7 @@ module _ (old new : WindowState) (d : Directory) (key : Key) (k : ScalarKind) (i
   good z v = numbers-object e.object k e.numbers (set e.numbers i z) e.stands.good e.value (length-set e.numbers i z)
       (list_all-set (is_value k) e.numbers i z (numbers-good e.object k e.numbers e.stands.good e.value) v)
 
-  -- the numbers stand there
+  -- memory has the numbers
   written : (z : ℤ) → SameBytesExcept (bytes_of old.bytes) (bytes_of new.bytes) (p.handle + p.at) (size_of k)
       → HasBytesAt (bytes_of new.bytes) (p.handle + p.at) (spelling k z)
       → IsValueAt (bytes_of new.bytes) (value_start e.object) (Numbers k (set e.numbers i z))
@@ -100,7 +100,7 @@ module _ (old new : WindowState) (d : Directory) (key : Key) (k : ScalarKind) (i
       (length-set e.numbers i z ∙ ap count_of (sym e.value)) (ap value_extents (sym e.value)) (good z v) (omega arith)
       (omega arith) c (written z c.rest w)
 
--- ---- what the step is
+-- ---- the step
 
 -- an element is set
 stored : (mode : Mode) {b : List ℕ} {d : Directory} {key : Key} {k : ScalarKind} {i : ℕ} {p : Place} (l : Literal)
@@ -113,7 +113,7 @@ stored mode {d} {key} {k} {i} l e writing f = step_of_kind-found mode d key (Sca
 
 -- ---- the call
 
--- where no element is found, the step says why
+-- if no element is found, the step has the same error
 pub stores-nothing : {s : SegmentState} (key : Key) (k : ScalarKind) (i : ℕ) (z : ℤ) {r : Refusal}
     → is_read_only s.mode ≡ false → is_value k z ≡ true → AnswersWith s (λ d. place_at d key k i) (Err r)
     → TakesStepOfKind s s key (Scalar k) (asked.Set key i (literal_of k z)) (Refused r)
@@ -142,7 +142,7 @@ stores-number {s} {t} view b {new} {key} k i {p} z may v f there c w = answered 
           (subst (HasBytesAt (bytes_of new.bytes) (p.handle + p.at)) f w);
     }))))
 
--- no byte changes but those of the element that is found
+-- only the bytes of the element that is found change
 pub changes-element : {s t : SegmentState} (view : s ≡ t) {new : WindowState} (key : Key) (k : ScalarKind) (i : ℕ)
     {p : Place} {n : ℕ} → n ≡ size_of k → AnswersWith t (λ d. place_at d key k i) (Ok p)
     → ChangesBytes current s.cut new (p.handle + p.at) n → ChangesElement t (record s { cut = new }) key k i

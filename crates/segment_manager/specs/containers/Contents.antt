@@ -1,4 +1,4 @@
--- Vectors of numbers and texts: what the two have in common as values of objects, and where they stand.
+-- The contents of vectors of numbers and of texts as values of objects, and their places.
 use Rattle.std.specs.Prelude.{ℕ, ◌+◌, Bool, true, false, Option, Some, None, Result, Ok, Err, List, length}
 use Rattle.std.specs.{Prelude.option_to_list, Prelude.if◌then◌else◌, List.list_all}
 use Rattle.raw_region.specs.{Format.current, Memory.WindowState, Memory.are_bytes}
@@ -11,7 +11,7 @@ use Rattle.seg_vector.specs.{Containers.IsContainer, Containers.place_at, Vector
 use Rattle.segment_manager.specs.Directory.{Value, Numbers, Elements, Bytes, Pairs, Texts, Object, Directory, kind_of}
 use Rattle.segment_manager.specs.{Directory.object_at, Directory.padded, Layout.head_len}
 
--- the bytes of an element, how many elements there are, their storage, and the bytes that spell them
+-- the length of an element, the number of elements, their storage, and their encoded bytes
 pub record Contents : Type 0 where
   pub each : ℕ
   pub len : ℕ
@@ -26,7 +26,7 @@ contents_of (Bytes bs t) = Some (record { each = 1; len = length bs; table = t; 
 contents_of (Pairs k v ps) = None
 contents_of (Texts ps t) = None
 
--- each element is a value of its kind
+-- whether each element is a value of its kind
 abbrev pub has_values : Value → Bool
 has_values (Numbers k zs) = true
 has_values (Elements k zs t) = list_all (is_value k) zs
@@ -34,15 +34,15 @@ has_values (Bytes bs t) = are_bytes bs
 has_values (Pairs k v ps) = true
 has_values (Texts ps t) = true
 
--- where the three words stand of an object that is a container
+-- the place of the three words of a container's object
 abbrev pub container_place : Object → Place
 container_place o = record { handle = handle o.extent; at = head_len + padded (length o.name) }
 
--- where the container of an object stands, if the object is of the kind
+-- the place of an object's container, if the object has the kind
 abbrev pub place_of_kind : Object → Kind → Result Place Refusal
 place_of_kind o kind = if same_kind kind (kind_of o.value) then Ok (container_place o) else Err WrongKind
 
--- where the container of the object of a key stands
+-- the place of the container of a key's object
 abbrev pub container_at : Directory → Key → Kind → Result Place Refusal
 container_at d key kind = elim (object_at d key) [
   | None ↦ Err NotFound
@@ -57,11 +57,11 @@ text_bytes (Bytes bs t) = Ok bs
 text_bytes (Pairs k v ps) = Err WrongKind
 text_bytes (Texts ps t) = Err WrongKind
 
--- the bytes of the text of the object of a key
+-- the bytes of the text of a key's object
 abbrev pub bytes_at : Directory → Key → Result (List ℕ) Refusal
 bytes_at d key = elim (object_at d key) [ None ↦ Err NotFound | Some o ↦ text_bytes o.value ]
 
--- how many elements a container has, and how many places
+-- the length and the capacity of a container
 abbrev pub sizes_of : Value → Result (ℕ × ℕ) Refusal
 sizes_of (Numbers k zs) = Err WrongKind
 sizes_of (Elements k zs t) = Ok (length zs, t.capacity)
@@ -80,18 +80,18 @@ sizes_of_kind o kind = if same_kind kind (kind_of o.value) then sizes_of o.value
 abbrev pub sizes_at_kind : Directory → Key → Kind → Result (ℕ × ℕ) Refusal
 sizes_at_kind d key kind = elim (object_at d key) [ None ↦ Err NotFound | Some o ↦ sizes_of_kind o kind ]
 
--- whether objects of a kind are containers, and whether they have storage of their own
+-- whether objects of a kind are containers
 abbrev pub has_sizes : Kind → Bool
 has_sizes (Scalar k) = false
 has_sizes kind = true
 
--- objects of the kind have storage of their own
+-- whether objects of the kind have storage of their own
 abbrev pub has_storage : Kind → Bool
 has_storage (Scalar k) = false
 has_storage (Map k v) = false
 has_storage kind = true
 
--- The contents of a container are others. Of all blocks that stay no byte changes but its own 24.
+-- The contents of a container change. Of all blocks that stay, only its own 24 bytes change.
 pub record RefillsContainer (old new : WindowState) (p : Place) (was is : Contents) : Type 0 where
   pub change : ExchangesBlocks current old new (place_at p) 24 (option_to_list was.table.extent)
       (option_to_list is.table.extent)

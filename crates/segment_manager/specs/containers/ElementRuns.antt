@@ -1,4 +1,4 @@
--- Where the elements of an array, a vector or a string of scalars stand in the image, one after another.
+-- The places in an image of the elements of an array, a vector of scalars or a string, one after another.
 use Rattle.std.specs.Prelude.{◌≡◌, ℕ, ◌+◌, ◌*◌, ◌%◌, ◌≤◌, Some, None, Result, Ok, Err, List, [], length}
 use Rattle.raw_region.specs.Memory.{HasBytesAt, bytes_of}
 use Rattle.best_fit.specs.{Extents.handle, Table.BackingArray}
@@ -10,7 +10,7 @@ use Rattle.segment_manager.specs.declared.containers.element_runs.ElementRun.{El
 use Rattle.segment_manager.specs.Directory.{Value, Numbers, Elements, Bytes, Pairs, Texts, Object, Directory, object_at}
 use Rattle.segment_manager.specs.{Directory.padded, Layout.head_len, State.SegmentState, State.DenotesCurrent}
 
--- where the storage of a container begins, or 0 if it has none
+-- the offset of a container's storage, or 0 if it has none
 abbrev pub storage_offset : BackingArray → ℕ
 storage_offset t = elim t.extent as (λ _. ℕ) [ None ↦ 0 | Some x ↦ handle x ]
 
@@ -26,11 +26,11 @@ run_in at (Texts ps t) = Err WrongKind
 abbrev pub run_of : Object → Result ElementRun Refusal
 run_of o = run_in (handle o.extent + head_len + padded (length o.name)) o.value
 
--- the run of the elements of the object of a key
+-- the run of the elements of a key's object
 abbrev pub run_at : Directory → Key → Result ElementRun Refusal
 run_at d key = elim (object_at d key) as (λ _. Result ElementRun Refusal) [ None ↦ Err NotFound | Some o ↦ run_of o ]
 
--- the bytes that spell the elements of a value, of the object of a key
+-- the encoded elements of a value
 abbrev pub spelled_in : Value → List ℕ
 spelled_in (Numbers k zs) = spelled k zs
 spelled_in (Elements k zs t) = spelled k zs
@@ -38,11 +38,11 @@ spelled_in (Bytes bs t) = bs
 spelled_in (Pairs k v ps) = []
 spelled_in (Texts ps t) = []
 
--- the bytes of the elements in an image
+-- the encoded elements of a key's object
 abbrev pub spelled_at : Directory → Key → List ℕ
 spelled_at d key = elim (object_at d key) as (λ _. List ℕ) [ None ↦ [] | Some o ↦ spelled_in o.value ]
 
--- A run lies in the image, at a multiple of 8, and its bytes there spell the elements of the object of a key.
+-- A run lies in the image, at a multiple of 8, and its bytes encode the elements of a key's object.
 pub record IsRunOf (s : SegmentState) (key : Key) (run : ElementRun) : Type 0 where
   pub inside : run.offset + size_of run.kind * run.count ≤ length s.cut.bytes
   pub aligned : run.offset % 8 ≡ 0

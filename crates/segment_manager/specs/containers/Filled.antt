@@ -1,5 +1,5 @@
--- How an object comes to be, whatever it holds: it is begun, its value is made in its block, and then it gets its
--- entry, or all is given back.
+-- The construction of an object of any contents: its blocks are allocated, its value is written, and then its entry is
+-- added, or all blocks are freed.
 use Rattle.seg_types.specs.Names as names
 use Rattle.std.specs.Prelude.{◌≡◌, ℕ, ℤ, ◌<◌, ◌^◌, ◌*◌, false, true, [], replicate, Option, Result, Ok, Err, IfErr}
 use Rattle.std.specs.Prelude.{MatchResult, IsTrue}
@@ -24,14 +24,14 @@ use Rattle.segment_manager.specs.State.{IsSegment, TakesStep, DenotesCurrent, Se
 
 -- ---- the value
 
--- what is known of an object before a block is asked for
+-- the properties of an object that are known before its block is allocated
 pub record IsShapeOf (content : Content) (s : ObjectShape) : Type 0 where
   pub kind : s.kind ≡ kind_of (bare content)
   pub count : s.count ≡ count_of (bare content)
   pub len : s.len ≡ value_len (bare content)
   pub small : s.len < 2 ^ 40
 
--- the shape of an object of this many numbers of a kind
+-- the shape of an array of this many numbers of a kind
 abbrev pub numbers_shape : ScalarKind → ℕ → ObjectShape
 numbers_shape k count = record { kind = Scalar k; count = count; len = size_of k * count }
 
@@ -39,15 +39,15 @@ numbers_shape k count = record { kind = Scalar k; count = count; len = size_of k
 abbrev pub container_shape : Kind → ObjectShape
 container_shape kind = record { kind = kind; count = 1; len = 24 }
 
--- what a content asks for after the object's own block, and the value that it becomes
+-- the blocks for contents after the object's own block, and the value with them
 pub record IsGiven (d : Directory) (l : LiveSet) (content : Content) (v : Value) (left : LiveSet) : Type 0 where
   pub met : (next : Value → Plan) → perform d l (with_value content next) ≡ perform d left (next v)
 
--- what it asks for is refused
+-- a block for the contents has no fit
 abbrev pub IsDenied : Directory → LiveSet → Content → Type 0
 IsDenied d l content = (next : Value → Plan) → perform d l (with_value content next) ≡ (Refused NoSpace, d)
 
--- The bytes at the place were written, and then the value was made, which takes what the content asks for.
+-- The bytes at the place were written, and the value was made with the blocks for its contents.
 pub record MakesValueOk (content : Content) (old new : WindowState) (p : Place) : Type 0 where
   pub empty : WindowState
   pub change : ChangesBytes current old empty (place_at p) (value_len (bare content))
@@ -61,7 +61,7 @@ pub record MakesValueOk (content : Content) (old new : WindowState) (p : Place) 
   pub storage : ExchangesBlocks current empty new (place_at p) (value_len (bare content)) [] (value_extents value)
   pub said : IsValueAt (bytes_of new.bytes) (place_at p) value
 
--- the value was not made, and what was taken for it was given back
+-- the value was not made, and the blocks allocated for it were freed
 pub record MakesValueErr (content : Content) (old new : WindowState) (p : Place) (why : Refusal) : Type 0 where
   pub empty : WindowState
   pub change : ChangesBytes current old empty (place_at p) (value_len (bare content))
@@ -69,24 +69,24 @@ pub record MakesValueErr (content : Content) (old new : WindowState) (p : Place)
   pub denied : (d : Directory) → IsDenied d (live_of empty.bytes) content
   pub refusal : why ≡ NoSpace
 
--- the value of a new object is made with its storage, or what was taken is given back
+-- the value of a new object is made with its storage, or the blocks allocated for it are freed
 abbrev pub MakesValue : Content → WindowState → WindowState → Place → Result (Unit {0}) Refusal → Type 0
 MakesValue content old new p result =
     MatchResult result (λ u. MakesValueOk content old new p) (MakesValueErr content old new p)
 
--- ---- in an object that was begun
+-- ---- in a pending object
 
--- an object was begun, for the content
+-- an object for these contents is pending under the key
 abbrev pub BeginsObjectFor : WindowState → WindowState → names.Key → Content → ℕ → ℕ → Option PendingEntry → Type 0
 BeginsObjectFor old now key content h at entry =
     BeginsObjectOk old now key (kind_of (bare content)) (count_of (bare content)) (value_len (bare content)) h at entry
 
--- an object was begun for a content in a segment, and has no entry yet
+-- an object for these contents is pending in a segment, and has no entry yet
 abbrev pub HasBegun : WindowState → Content → ℕ → ℕ → Option PendingEntry → Type 0
 HasBegun now content h at entry =
     (old : WindowState) × (IsSegment old.bytes × ((key : names.Key) × BeginsObjectFor old now key content h at entry))
 
--- the object's value is made, and an entry leads to it if the object is to have one
+-- the object's value is made, and an entry leads to it if it is to have one
 pub record FillsObjectOk (now new : WindowState) (h at : ℕ) (entry : Option PendingEntry) (content : Content)
     (handle : ℕ) : Type 0 where
   pub made : WindowState
@@ -94,29 +94,29 @@ pub record FillsObjectOk (now new : WindowState) (h at : ℕ) (entry : Option Pe
   pub is : handle ≡ h
   pub entered : LeadsThere made new h entry
 
--- the object's value is not made, and all that was taken is given back
+-- the object's value is not made, and all its blocks are freed
 pub record FillsObjectErr (now new : WindowState) (h at : ℕ) (entry : Option PendingEntry) (content : Content)
     (why : Refusal) : Type 0 where
   pub left : WindowState
   pub none : MakesValueErr content now left (record { handle = h; at = at }) why
   pub back : GivesAllBack left new h entry
 
--- the value of a begun object is made and its entry added, or all is given back
+-- the value of a pending object is made and its entry added, or all its blocks are freed
 abbrev pub FillsObject : WindowState → WindowState → ℕ → ℕ → Option PendingEntry → Content → Result ℕ Refusal → Type 0
 FillsObject now new h at entry content result =
     MatchResult result (FillsObjectOk now new h at entry content) (FillsObjectErr now new h at entry content)
 
 -- ---- a construction
 
--- On the heap of a segment that may be changed: it is one step, and if it is refused before it asks for a block
--- nothing changes.
+-- A construction on the heap of a segment that is open for writing: it is one step, and if it fails before it allocates
+-- a block, nothing changes.
 pub record Constructs {A : Type 0} (old new : WindowState) (command : Command) (answer : Result A Refusal → Answer)
     (result : Result A Refusal) : Type 0 where
   pub step : (mode : Mode) → is_read_only mode ≡ false
       → TakesStep (record { cut = old; mode = mode }) (record { cut = new; mode = mode }) command (answer result)
   pub refused : IfErr result (λ why. is_untouched (Refused why) ≡ true → new ≡ old)
 
--- an object of the key is found, and then nothing changes, or one is constructed
+-- the object of the key is found, and nothing changes; or it is constructed
 pub record FindsOrConstructs (old new : WindowState) (key : names.Key) (content : Content)
     (result : Result (ℕ × ℕ) Refusal) : Type 0 where
   pub constructs : Constructs old new (FindOrConstruct key content) found_object_answer result
@@ -127,16 +127,16 @@ abbrev pub with_count : ℕ → Result ℕ Refusal → Result (ℕ × ℕ) Refus
 with_count n (Ok h) = Ok (h, n)
 with_count n (Err why) = Err why
 
--- ---- as calls on a segment say it
+-- ---- as calls on a segment
 
--- an object of the content is made under the key
+-- an object with these contents is constructed under the key
 abbrev pub ConstructsObject : SegmentState → SegmentState → names.Key → Content → Result ℕ Refusal → Type 0
 ConstructsObject old new key content result = TakesStep old new (Construct key content) (handle_answer result)
 
--- an object of the key is found, or one is made
+-- the object of the key is found, or constructed
 abbrev pub FindsOrMakes : SegmentState → SegmentState → names.Key → Content → Result (ℕ × ℕ) Refusal → Type 0
 FindsOrMakes old new key content result = TakesStep old new (FindOrConstruct key content) (found_object_answer result)
 
--- a content of this many equal numbers
+-- the contents of an array of this many equal numbers
 abbrev pub equal_numbers : ScalarKind → ℕ → ℤ → Content
 equal_numbers k count z = Numbers k (replicate count z)

@@ -1,4 +1,4 @@
--- Maps of numbers as values of objects: where they stand, what is read of them, and what becomes of them.
+-- Maps of numbers as values of objects: their places, reads and changes.
 use Rattle.seg_map.specs.Changing as maps
 use Rattle.std.specs.Prelude.{ℕ, ℤ, int_lt, true, false, Option, Some, None, Result, Ok, Err, List, option_map}
 use Rattle.std.specs.Prelude.{if◌then◌else◌}
@@ -15,9 +15,9 @@ use Rattle.seg_map.specs.Places.{HoldsMap, final_pair, first_pair, item_of, last
 use Rattle.segment_manager.specs.{Answers.Answer, Answers.Absent, Answers.Element, Directory.object_at, State.answer_of}
 use Rattle.segment_manager.specs.Directory.{Value, Numbers, Elements, Bytes, Pairs, Texts, Directory, kind_of}
 
--- ---- where they stand
+-- ---- their places
 
--- the numbers of a kind, as a type whose values have spellings and an order
+-- the numbers of a kind, as a type whose values have encodings and an order
 abbrev pub numbers_of : ScalarKind → Plain ℤ
 numbers_of k = record {
   SIZE = size_of k;
@@ -32,17 +32,17 @@ numbers_of k = record {
 abbrev pub IsPairs : ScalarKind → ScalarKind → List ℕ → Place → List NumberPair → Type 0
 IsPairs k v b p ps = HoldsMap (numbers_of k) (numbers_of v) b p.handle p.at ps
 
--- some map of the kinds stands there
+-- a map of the kinds is at a place
 abbrev pub HasPairs : ScalarKind → ScalarKind → List ℕ → Place → Type 0
 HasPairs k v b p = (ps : List NumberPair) × IsPairs k v b p ps
 
--- the map has no pair, and the blocks of its pairs are given back
+-- the map is empty, and the blocks of its pairs are freed
 pub record ReleasesPairs (k v : ScalarKind) (old new : WindowState) (p : Place) : Type 0 where
   pub each : maps.ReleasesMap (numbers_of k) (numbers_of v) old new p.handle p.at
 
--- ---- what is read of them
+-- ---- reads
 
--- what is said of the pairs of a map
+-- a function of the pairs of a map, or `WrongKind`
 abbrev pub told_of : {A : Type 0} → (List NumberPair → A) → Value → Result A Refusal
 told_of say (Numbers k zs) = Err WrongKind
 told_of say (Elements k zs t) = Err WrongKind
@@ -50,7 +50,7 @@ told_of say (Bytes bs t) = Err WrongKind
 told_of say (Pairs k v ps) = Ok (say ps)
 told_of say (Texts ps t) = Err WrongKind
 
--- what a query answers of the object of a key, a map of the kinds
+-- a function of the pairs of a key's map of the kinds, or an error
 abbrev pub answer_of_map : {A : Type 0} → Directory → Key → ScalarKind → ScalarKind → (List NumberPair → A)
     → Result A Refusal
 answer_of_map d key k v say = elim (object_at d key) [
@@ -58,20 +58,19 @@ answer_of_map d key k v say = elim (object_at d key) [
   | Some o ↦ if same_kind (Map k v) (kind_of o.value) then told_of say o.value else Err WrongKind
 ]
 
--- Pairs stand by rising keys. So the first key that is not below a number is the least of those, as is the first above
--- it.
+-- The first pair whose map key is not below a number. Pairs are in order of rising map keys.
 abbrev pub pair_from : ℤ → List NumberPair → Option (ℤ × ℤ)
 pair_from from ps = option_map item_of (first_pair int_lt false from ps)
 
--- the first pair above a key
+-- the first pair whose map key is above a number
 abbrev pub pair_above : ℤ → List NumberPair → Option (ℤ × ℤ)
 pair_above key ps = option_map item_of (first_pair int_lt true key ps)
 
--- the last pair whose key is not above a number
+-- the last pair whose map key is not above a number
 abbrev pub pair_up_to : ℤ → List NumberPair → Option (ℤ × ℤ)
 pair_up_to to ps = option_map item_of (last_pair int_lt true to ps)
 
--- the last pair below a key
+-- the last pair whose map key is below a number
 abbrev pub pair_below : ℤ → List NumberPair → Option (ℤ × ℤ)
 pair_below key ps = option_map item_of (last_pair int_lt false key ps)
 

@@ -1,4 +1,4 @@
--- The blocks that several texts ask for, as a list of requests.
+-- The blocks of several texts, as a list of allocations.
 use Rattle.std.specs.Prelude.{◌≡◌, ℕ, Option, Some, None, List, [], ◌∷◌, length, IsTrue, ◌==◌, if◌then◌else◌}
 use Rattle.block_tags.specs.{declared.tile.Role.Role, declared.tile.Role.TheVariants.Storage}
 use Rattle.best_fit.specs.{Extents.Extent, Extents.LiveSet, Extents.is_proper, Requests.place_all, Requests.all_added}
@@ -7,12 +7,12 @@ use Rattle.seg_vector.specs.Vector.{OwnedText}
 use Rattle.segment_manager.specs.{Directory.Directory, Answers.Answer, Answers.Refused}
 use Rattle.segment_manager.specs.Plan.{Plan, perform, with_owned_texts}
 
--- one for each text that is not empty
+-- one allocation for each text that is not empty
 abbrev pub text_needs : List (List ℕ) → List (ℕ × Role)
 text_needs [] = []
 text_needs (bs ∷ bss) = if length bs == 0 then text_needs bss else (length bs, Storage) ∷ text_needs bss
 
--- the texts, each that is not empty in the next of these blocks
+-- the texts, with these blocks for each text that is not empty
 abbrev pub owned_texts : List (List ℕ) → List Extent → List OwnedText
 owned_texts [] xs = []
 owned_texts (bs ∷ bss) [] = record { bytes = bs; extent = None } ∷ owned_texts bss []
@@ -20,13 +20,13 @@ owned_texts (bs ∷ bss) (x ∷ xs) =
     if length bs == 0 then record { bytes = bs; extent = None } ∷ owned_texts bss (x ∷ xs)
     else record { bytes = bs; extent = Some x } ∷ owned_texts bss xs
 
--- what a plan comes to that goes on with texts in these blocks, or has no space for them
+-- the answer of a plan that continues with texts in these blocks, or has no space for them
 abbrev pub with_blocks : Directory → LiveSet → List (List ℕ) → (List OwnedText → Plan) → Option (List Extent) → Answer
     × Directory
 with_blocks d l bss next None = (Refused NoSpace, d)
 with_blocks d l bss next (Some xs) = perform d (all_added l xs) (next (owned_texts bss xs))
 
--- the law: a plan that asks for several texts goes on with the extents that `place_all` gives for those that are not
+-- the law: a plan that allocates several texts continues with the extents of `place_all`, one for each text that is not
 -- empty
 abbrev pub TextsArePlaced : Type 0
 TextsArePlaced = (d : Directory) (l : LiveSet) (bss : List (List ℕ)) (next : List OwnedText → Plan)

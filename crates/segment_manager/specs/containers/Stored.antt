@@ -1,4 +1,5 @@
--- Containers with storage of their own, at a place: what calls on one answer and leave, whichever key has its object.
+-- Containers with storage of their own, at a place: the results and effects of calls on them, for any key of the
+-- object.
 use Rattle.seg_types.specs.Commands as asked
 use Rattle.std.specs.Prelude.{◌≡◌, ◌≤◌, ℕ, List, Result, Ok, OnErr}
 use Rattle.raw_region.specs.Memory.{WindowState}
@@ -13,45 +14,45 @@ use Rattle.segment_manager.specs.declared.containers.storages.Change.TheVariants
 use Rattle.segment_manager.specs.{Answers.Answer, Directory.Directory, Keeping.HasPlaces}
 use Rattle.segment_manager.specs.State.{TakesStepOfKind, SegmentState, done_answer}
 
--- A call that changes a container is one step of the machine, and if it is refused nothing changes.
+-- A call that changes a container is one step of the machine, and if it fails nothing changes.
 pub record AnswersSafely {R : Type 0} (says : Result R Refusal
     → Answer) (s : SegmentState) (new : WindowState) (key : Key)
     (kind : Kind) (c : Command) (r : Result R Refusal) : Type 0 where
   pub step : TakesStepOfKind s (record s { cut = new }) key kind c (says r)
   pub refused : OnErr r (new ≡ s.cut)
 
--- one that answers nothing
+-- such a call without a value as its result
 abbrev pub StepsSafely : SegmentState → WindowState → Key → Kind → Command → Result (Unit {0}) Refusal → Type 0
 StepsSafely = AnswersSafely done_answer
 
--- ---- what is done with storage
+-- ---- changes of storage
 
--- the command of a key
+-- the command of a change
 abbrev pub command_of : Change → Key → Command
 command_of (Reserve n) key = asked.Reserve key n
 command_of Shrink key = asked.Shrink key
 command_of Clear key = asked.Clear key
 
--- the vector or string of the key has what is asked for
+-- the change is a reservation, and the vector or string of the key already has this capacity
 abbrev pub HasEnough : Change → Key → Directory → Type 0
 HasEnough (Reserve n) key d = HasPlaces key n d
 HasEnough Shrink key d = ⊥
 HasEnough Clear key d = ⊥
 
--- ---- elements of this many bytes each in storage
+-- ---- storage with elements of this length
 
--- how many bytes an element has: of a vector of numbers, or of a text
+-- the length of an element: of a vector of numbers, or of a text
 abbrev pub each_of : Kind → ℕ
 each_of (Vector k) = size_of k
 each_of kind = 1
 
--- elements of 1 to 8 bytes stand at a place
+-- elements of 1 to 8 bytes are at a place
 pub record IsElements (b : List ℕ) (p : Place) (each : ℕ) : Type 0 where
   pub stands : IsStanding b p each
   pub some : 1 ≤ each
   pub short : each ≤ 8
 
--- what is done with their storage
+-- the effect of a change on a container with such elements
 abbrev pub ChangesElements : Change → WindowState → WindowState → Place → ℕ → Result (Unit {0}) Refusal → Type 0
 ChangesElements (Reserve n) old new p each result = ReservesStorage old new p each n result
 ChangesElements Shrink old new p each result = (result ≡ Ok tt) × ShrinksStorage old new p each

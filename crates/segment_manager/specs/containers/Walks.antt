@@ -1,4 +1,4 @@
--- The pairs of a map, one after another by rising keys.
+-- The pairs of a map, one after another by rising map keys.
 use Rattle.std.specs.Prelude.{◌≡◌, ℤ, Bool, Option, Some, None, Result, Ok, Err, List, [], ◌∷◌, ⊤, int_lt, option_map}
 use Rattle.seg_types.specs.{declared.kinds.Kind.TheVariants.Map, declared.kinds.ScalarKind.ScalarKind}
 use Rattle.seg_types.specs.{declared.refusals.Refusal.Refusal, Names.Key, Values.kind_of_scalar, Values.value_of_scalar}
@@ -13,7 +13,7 @@ use Rattle.segment_manager.specs.Directory.{Value, Numbers, Elements, Bytes, Pai
 abbrev pub IsMap : SegmentState → Key → ScalarKind → ScalarKind → Type 0
 IsMap s key k v = AnswersWith s (λ d. kind_at d key) (Ok (Map k v))
 
--- the pairs of a value, which has none if it is no map
+-- the pairs of a value; none if it is no map
 abbrev pub pairs_of : Value → List NumberPair
 pairs_of (Numbers k zs) = []
 pairs_of (Elements k zs t) = []
@@ -21,24 +21,24 @@ pairs_of (Bytes bs t) = []
 pairs_of (Pairs k v ps) = ps
 pairs_of (Texts ps t) = []
 
--- the pairs of the map of a key
+-- the pairs of a key's map
 abbrev pub pairs_at : Directory → Key → List NumberPair
 pairs_at d key = elim (object_at d key) [ None ↦ [] | Some o ↦ pairs_of o.value ]
 
--- the pairs of the object of a key that is a map of the kinds; none if it is another
+-- the pairs of a key's map of the kinds; none for any other object
 abbrev pub pairs_at_kinds : Directory → Key → ScalarKind → ScalarKind → List NumberPair
 pairs_at_kinds d key k v = list_at pairs_of d key (Map k v)
 
--- the first of some pairs
+-- the first pair of the list
 abbrev pub first_of : List NumberPair → Option NumberPair
 first_of [] = None
 first_of (p ∷ ps) = Some p
 
--- the first whose key is above a number, or not below it
+-- the first pair whose map key is above a number, or not below it
 abbrev pub pair_past : Bool → ℤ → List NumberPair → Option (ℤ × ℤ)
 pair_past above z ps = option_map item_of (first_pair int_lt above z ps)
 
--- ---- a pair of it
+-- ---- one pair
 
 -- a key and a value, each with its kind
 abbrev pub KindedPair : Type 0
@@ -52,7 +52,7 @@ item_of_kinds k v (x, y) = ((k, x), (v, y))
 abbrev pub item_seen : ScalarValue × ScalarValue → KindedPair
 item_seen (x, y) = ((kind_of_scalar x, value_of_scalar x), (kind_of_scalar y, value_of_scalar y))
 
--- ---- what is read of a map of which it is not known whether it is one
+-- ---- reads of an object that may be no map
 
 -- a key and a value, or none, as numbers
 abbrev pub numbers_read : {K V : Type 0} → (K → ℤ) → (V → ℤ) → Result (Option (K × V)) Refusal
@@ -61,7 +61,7 @@ numbers_read k v (Ok None) = Ok None
 numbers_read k v (Ok (Some (x, y))) = Ok (Some (k x, v y))
 numbers_read k v (Err why) = Err why
 
--- the value is of a kind
+-- the value of the pair has the kind
 abbrev pub HasValueOf : {K : Type 0} → ScalarKind → Result (Option (K × ScalarValue)) Refusal → Type 0
 HasValueOf v (Ok None) = ⊤
 HasValueOf v (Ok (Some (x, y))) = kind_of_scalar y ≡ v

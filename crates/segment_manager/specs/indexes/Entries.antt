@@ -1,4 +1,4 @@
--- What becomes of the two indexes when an object is put in, taken out, or given another value.
+-- The change of the two indexes when an object is constructed or destroyed, or its value changes.
 use Rattle.std.specs.Prelude.{◌≡◌, ℕ, true, false, Some, None}
 use Rattle.best_fit.specs.Extents.{handle}
 use Rattle.seg_types.specs.declared.kinds.Class.TheVariants.{Named, Unique}
@@ -8,7 +8,7 @@ use Rattle.segment_manager.specs.Directory.{kind_of, named_objects, object_at, r
 use Rattle.segment_manager.specs.Directory.{with_changed, with_object, without_object}
 use Rattle.segment_manager.specs.Denotes.{handles}
 
--- An object that is put in comes into the index of its class, in its place by order, and into no other.
+-- A new object gets an entry in the index of its class, at its place by order, and in no other index.
 pub record PutsOneEntry (d : Directory) (o : Object) : Type 0 where
   pub named : is_class Named o ≡ true → object_at d (ByName o.name) ≡ None
       → named_objects (with_object d o) ≡ insert_by by_name o (named_objects d)
@@ -17,7 +17,7 @@ pub record PutsOneEntry (d : Directory) (o : Object) : Type 0 where
       → unique_objects (with_object d o) ≡ insert_by by_kind o (unique_objects d)
   pub not_unique : is_class Unique o ≡ false → unique_objects (with_object d o) ≡ unique_objects d
 
--- One that is taken out leaves the index of its class, and nothing else does: put in again, it stands where it stood.
+-- A destroyed object leaves the index of its class, and nothing else does: constructed again, it has the old place.
 pub record RemovesOneEntry (d : Directory) (o : Object) : Type 0 where
   pub named : is_class Named o ≡ true
       → named_objects (without_object d o) ≡ remove_object (handle o.extent) (named_objects d)
@@ -29,14 +29,14 @@ pub record RemovesOneEntry (d : Directory) (o : Object) : Type 0 where
       → insert_by by_kind o (unique_objects (without_object d o)) ≡ unique_objects d
   pub not_unique : is_class Unique o ≡ false → unique_objects (without_object d o) ≡ unique_objects d
 
--- all but the values is the same, and the kinds of the values too
+-- the two objects differ only in their values, which have the same kind
 pub record DiffersInValue (o p : Object) : Type 0 where
   pub class : p.class ≡ o.class
   pub name : p.name ≡ o.name
   pub kind : kind_of p.value ≡ kind_of o.value
   pub extent : p.extent ≡ o.extent
 
--- another value of one kind leaves the entries of an object
+-- a change to another value of the same kind keeps the entries
 pub record KeepsEntries (d : Directory) (o : Object) : Type 0 where
   pub named : handles (named_objects (with_changed d o)) ≡ handles (named_objects d)
   pub unique : handles (unique_objects (with_changed d o)) ≡ handles (unique_objects d)

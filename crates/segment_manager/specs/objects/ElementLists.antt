@@ -1,4 +1,4 @@
--- The elements of the object of a key, one after another: as many as it has if it is of the kind, and otherwise none.
+-- The elements of a key's object, one after another: all of them if it has the kind, and otherwise none.
 use Rattle.std.specs.Prelude.{ℕ, ℤ, Some, None, Result, Ok, Err, List, [], map, if◌then◌else◌}
 use Rattle.seg_types.specs.{declared.kinds.Kind.Kind, declared.refusals.Refusal.Refusal, Kinds.same_kind, Names.Key}
 use Rattle.seg_types.specs.declared.kinds.Kind.TheVariants.{Scalar as ScalarOf, Vector as VectorOf}
@@ -25,12 +25,12 @@ texts_in (Bytes bs t) = []
 texts_in (Pairs k v ps) = []
 texts_in (Texts ps t) = map (λ (p : OwnedText). p.bytes) ps
 
--- what is listed of the object of a key, an object of a kind
+-- the list of a key's object of a kind; empty for any other object
 abbrev pub list_at : {A : Type 0} → (Value → List A) → Directory → Key → Kind → List A
 list_at items d key kind = elim
     (object_at d key) [ None ↦ [] | Some o ↦ if same_kind kind (kind_of o.value) then items o.value else [] ]
 
--- the scalars of an array of a kind, and of a vector; the texts of a vector of strings
+-- the scalars of a key's array of a kind
 abbrev pub array_at : Directory → Key → ScalarKind → List ℤ
 array_at d key k = list_at numbers_in d key (ScalarOf k)
 
@@ -42,9 +42,9 @@ vector_at d key k = list_at numbers_in d key (VectorOf k)
 abbrev pub texts_at : Directory → Key → List (List ℕ)
 texts_at d key = list_at texts_in d key StringsKind
 
--- ---- how many they are
+-- ---- their number
 
--- of a container of a kind
+-- the length of a container, from its length and capacity
 abbrev pub first_size : Result (ℕ × ℕ) Refusal → Result ℕ Refusal
 first_size (Ok (n, places)) = Ok n
 first_size (Err why) = Err why
@@ -53,7 +53,7 @@ first_size (Err why) = Err why
 abbrev pub length_at_kind : Directory → Key → Kind → Result ℕ Refusal
 length_at_kind d key kind = first_size (sizes_at_kind d key kind)
 
--- of an array of a kind
+-- the length of a key's array of a kind
 abbrev pub array_length_at : Directory → Key → ScalarKind → Result ℕ Refusal
 array_length_at d key k = elim
     (object_at d key) [
@@ -62,7 +62,7 @@ array_length_at d key k = elim
           (count_of o.value) else Err WrongKind
     ]
 
--- a number, or 0 if there is none
+-- a number, or 0 after an error
 abbrev pub number_or_none : Result ℕ Refusal → ℕ
 number_or_none (Ok n) = n
 number_or_none (Err why) = 0

@@ -1,4 +1,4 @@
--- What the calls answer that find objects.
+-- The results of the calls that find objects.
 use Rattle.std.specs.Prelude.{ℕ, ◌<◌, Bool, Option, Some, None, Result, is_some, option_map}
 use Rattle.best_fit.specs.Extents.{handle}
 use Rattle.seg_types.specs.{declared.refusals.Refusal.Refusal, Names.Key, Names.ByHandle}
@@ -13,11 +13,11 @@ handle_at d key = option_map (λ (o : Object). handle o.extent) (object_at d key
 abbrev pub is_object_at : Directory → ℕ → Bool
 is_object_at d h = is_some (object_at d (ByHandle h))
 
--- the number is below this one of the directory
+-- the number is below this number of the directory
 pub record IsBelow (s : SegmentState) (count : Directory → ℕ) (n : ℕ) : Type 0 where
   pub below : (d : Directory) → DenotesCurrent s.cut.bytes d → n < count d
 
--- a handle and a count, or nothing, as an answer
+-- a handle and a count, or none, as an answer
 abbrev pub found_or_absent : Option (ℕ × ℕ) → Answer
 found_or_absent None = Absent
 found_or_absent (Some (h, n)) = Found h n
@@ -30,6 +30,6 @@ found_answer = answer_of found_or_absent
 abbrev pub found_object : ℕ × ℕ → Answer
 found_object (h, n) = Found h n
 
--- the handle and the count of an object that is there, as an answer
+-- the result of a call that returns a handle and a count, as an answer
 abbrev pub found_object_answer : Result (ℕ × ℕ) Refusal → Answer
 found_object_answer = answer_of found_object

@@ -1,4 +1,4 @@
--- What objects say of themselves.
+-- The properties of objects.
 use Rattle.std.specs.Prelude.{◌≡◌, ℕ, Option, Some, None, List, slice_get}
 use Rattle.best_fit.specs.Extents.{handle}
 use Rattle.seg_types.specs.{declared.kinds.Class.Class, declared.refusals.Refusal.Refusal, Names.Key}
@@ -8,7 +8,7 @@ use Rattle.segment_manager.specs.declared.objects.instance_info.Instance.{Instan
 use Rattle.segment_manager.specs.Directory.{Object, Directory, count_of, kind_of, object_at}
 use Rattle.segment_manager.specs.State.{SegmentState, DenotesCurrent}
 
--- a name, of an object of a class that has one
+-- the name, if the class has names
 abbrev pub name_in : Class → List ℕ → Option (List ℕ)
 name_in Anonymous name = None
 name_in Named name = Some name
@@ -18,7 +18,7 @@ name_in Unique name = None
 abbrev pub own_name : Object → Option (List ℕ)
 own_name o = name_in o.class o.name
 
--- all that is said is so of the object
+-- the instance has the properties of the object
 pub record IsInstance (o : Object) (said : Instance) : Type 0 where
   pub class : said.class ≡ o.class
   pub name : said.name.now ≡ o.name
@@ -26,12 +26,12 @@ pub record IsInstance (o : Object) (said : Instance) : Type 0 where
   pub count : said.count ≡ count_of o.value
   pub at : said.handle ≡ handle o.extent
 
--- an instance says what the object of a key is
+-- the instance has the properties of the key's object
 pub record SaysOf (s : SegmentState) (key : Key) (said : Instance) : Type 0 where
   pub says : (d : Directory) → DenotesCurrent s.cut.bytes d → (o : Object) × (object_at d key ≡ Some o)
       × IsInstance o said
 
--- an instance says what the object at a place in a list is
+-- the instance has the properties of the object at a place of a list
 pub record SaysAt (s : SegmentState) (objects : Directory → List Object) (i : ℕ) (said : Instance) : Type 0 where
   pub says : (d : Directory) → DenotesCurrent s.cut.bytes d → (o : Object) × (slice_get (objects d) i ≡ Some o)
       × IsInstance o said

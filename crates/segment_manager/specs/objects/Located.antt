@@ -1,4 +1,4 @@
--- An object as it was located: what calls take that look nothing up again.
+-- Located objects, which calls accept without another look-up.
 use Rattle.std.specs.Prelude.{ℕ, ◌+◌, ◌*◌, Option, Some, Result, Ok, Err, length, nat_lt, option_map, if◌then◌else◌}
 use Rattle.best_fit.specs.{Extents.handle, declared.places.Place.Place}
 use Rattle.seg_types.specs.{Names.ByHandle, Names.Key, declared.kinds.Kind.Kind, Kinds.same_kind, Kinds.size_of}
@@ -9,7 +9,7 @@ use Rattle.segment_manager.specs.declared.objects.object_ref.Object.{Object as L
 use Rattle.segment_manager.specs.Directory.{Object, Directory, count_of, kind_of, object_at, padded}
 use Rattle.segment_manager.specs.{Layout.head_len, State.AnswersWith, State.SegmentState}
 
--- what is said of an object when it is located
+-- an object as it is located
 abbrev pub located : Object → Located
 located o = record {
   handle = handle o.extent;
@@ -18,29 +18,29 @@ located o = record {
   count = count_of o.value;
 }
 
--- what is said of a key's object
+-- a key's object as it is located
 abbrev pub located_at : Directory → Key → Option Located
 located_at d key = option_map located (object_at d key)
 
--- an object of the segment has the handle, and this is said of it
+-- an object of the segment has the handle, and these are its properties
 abbrev pub IsObject : Located → SegmentState → Type 0
 IsObject o s = AnswersWith s (λ d. located_at d (ByHandle o.handle)) (Some o)
 
--- the object is the one of the key, and nothing is said of it but what holds
+-- the located object is the key's object, with its properties
 pub record IsLocated (s : SegmentState) (key : Key) (o : Located) : Type 0 where
   pub at : AnswersWith s (λ d. located_at d key) (Some o)
   pub here : IsObject o s
 
--- where the value of a located object begins
+-- the offset of a located object's value from its handle
 abbrev pub value_offset : Located → ℕ
 value_offset o = head_len + padded o.name_len
 
--- where the container of a located object stands, if it is of the kind
+-- the place of a located object's container, if it has the kind
 abbrev pub container_in : Located → Kind → Result Place Refusal
 container_in o kind =
     if same_kind kind o.kind then Ok (record { handle = o.handle; at = value_offset o }) else Err WrongKind
 
--- where an element of a located object stands, if it has scalars of the kind
+-- the place of an element of a located object, if it is an array of scalars of the kind
 abbrev pub element_in : Located → ScalarKind → ℕ → Result Place Refusal
 element_in o k i =
     if same_kind (Scalar k) o.kind then

@@ -1,5 +1,5 @@
--- How an object comes to be whose numbers come one by one: it is begun, it is filled, and then it gets its entry or is
--- given back.
+-- The construction of an object whose numbers come one by one: its blocks are allocated, it is filled, and then its
+-- entry is added, or its blocks are freed.
 use Rattle.seg_types.specs.Names as names
 use Rattle.std.specs.Prelude.{◌≡◌, ℕ, ◌<◌, ◌*◌, ◌+◌, ◌⊎◌, ⊤, ℤ, Option, Some, None, Result, Ok, Err, MatchResult, List}
 use Rattle.std.specs.Prelude.{[], insert, length, map, IsTrue}
@@ -23,26 +23,26 @@ use Rattle.segment_manager.specs.{Directory.padded, indexes.Indexed.class_of_ind
 use Rattle.segment_manager.specs.objects.NewObjects.{IsNewKeyOf, RequestsBlocksOk, RestoresBlocks, RequestsBlocksErr}
 use Rattle.segment_manager.specs.objects.Standing.{IsHeadAt, room_for}
 
--- ---- begun
+-- ---- pending
 
--- a look-up finds no entry, which would stand here; or it finds one
+-- the key is absent from the index, and belongs at this place
 abbrev pub IsAbsentAt : WindowState → Index → Entry → ℕ → Type 0
 IsAbsentAt c i e at =
     (t : BackingArray) (hs : List ℕ) → IsIndexOf c (place_of i) t hs → FindsPosition (bytes_of c.bytes) e hs (Absent at)
 
--- a look-up finds the key at this place of the index
+-- the index has the key at this place
 abbrev pub IsFoundAt : WindowState → Index → Entry → ℕ → Type 0
 IsFoundAt c i e at =
     (t : BackingArray) (hs : List ℕ) → IsIndexOf c (place_of i) t hs → FindsPosition (bytes_of c.bytes) e hs (Found at)
 
--- A head is written in a block that was taken, and elements go after it.
+-- A head is written in an allocated block, and the elements follow it.
 pub record WritesObjectHeader (taken new : WindowState) (kind : Kind) (class : Class) (name : List ℕ)
     (count h at : ℕ) : Type 0 where
   pub start : at ≡ head_len + padded (length name)
   pub change : ChangesBytes current taken new h (head_len + padded (length name))
   pub head : IsHeadAt (bytes_of new.bytes) h kind count class name
 
--- under a key that gets an entry, with this many bytes for the value
+-- an object is pending whose key gets an entry, with this many bytes for its value
 pub record BeginsEntryOk (old new : WindowState) (key : names.Key) (kind : Kind) (count body h at : ℕ)
     (e : PendingEntry) : Type 0 where
   pub entry : Entry
@@ -53,19 +53,19 @@ pub record BeginsEntryOk (old new : WindowState) (key : names.Key) (kind : Kind)
   pub requested : RequestsBlocksOk old taken (place_of e.index) (room_for name body) e.growth.block h
   pub headed : WritesObjectHeader taken new kind (class_of_index e.index) name count h at
 
--- without a key
+-- an anonymous object is pending
 pub record BeginsAnonymous (old new : WindowState) (key : names.Key) (kind : Kind) (count body h at : ℕ) : Type 0 where
   pub is : key ≡ names.NoKey
   pub taken : WindowState
   pub takes : AllocatesOk current old taken (room_for [] body) ObjectRole h
   pub headed : WritesObjectHeader taken new kind Anonymous [] count h at
 
--- the object is begun: with an entry to be made, or without a key
+-- an object is pending: with an entry to add, or anonymous
 abbrev pub BeginsObjectOk : WindowState → WindowState → names.Key → Kind → ℕ → ℕ → ℕ → ℕ → Option PendingEntry → Type 0
 BeginsObjectOk old new key kind count body h at None = BeginsAnonymous old new key kind count body h at
 BeginsObjectOk old new key kind count body h at (Some e) = BeginsEntryOk old new key kind count body h at e
 
--- an object has the key
+-- an object already has the key
 pub record RefusesKey (old new : WindowState) (key : names.Key) (kind : Kind) : Type 0 where
   pub index : Index
   pub entry : Entry
@@ -75,7 +75,7 @@ pub record RefusesKey (old new : WindowState) (key : names.Key) (kind : Kind) : 
   pub found : IsFoundAt old index entry place
   pub same : new ≡ old
 
--- one of the two blocks is refused
+-- one of the two blocks has no fit
 pub record BeginsEntryErr (old new : WindowState) (key : names.Key) (kind : Kind) (body : ℕ) : Type 0 where
   pub index : Index
   pub entry : Entry
@@ -85,7 +85,7 @@ pub record BeginsEntryErr (old new : WindowState) (key : names.Key) (kind : Kind
   pub absent : IsAbsentAt old index entry place
   pub unmet : RequestsBlocksErr old new (place_of index) (room_for name body)
 
--- no object is begun: its key is taken, or a block has no fit
+-- no object is pending: its key is in use, or a block has no fit
 abbrev pub BeginsObjectErr : WindowState → WindowState → names.Key → Kind → ℕ → Refusal → Type 0
 BeginsObjectErr old new key kind body Exists = RefusesKey old new key kind
 BeginsObjectErr old new key kind body NoSpace =
@@ -93,13 +93,13 @@ BeginsObjectErr old new key kind body NoSpace =
     ⊎ BeginsEntryErr old new key kind body
 BeginsObjectErr old new key kind body why = ⊥
 
--- blocks are taken and the head of a new object is written, or the call says why not
+-- the blocks of a new object are allocated and its head is written, or the call fails
 abbrev pub BeginsObject : WindowState → WindowState → names.Key → Kind → ℕ → ℕ → Result PendingObject Refusal → Type 0
 BeginsObject old new key kind count body result =
     MatchResult result (λ b. BeginsObjectOk old new key kind count body b.handle b.at b.entry)
     (BeginsObjectErr old new key kind body)
 
--- an object is begun under a key that no object has, whose entry would stand here
+-- an object is pending under a key that no object has, whose entry belongs at this place
 abbrev pub BeginsEntry : WindowState → WindowState → Index → ℕ → Entry → names.Key → List ℕ → Kind → ℕ → ℕ
     → Result PendingObject Refusal → Type 0
 BeginsEntry old new i place e key name kind count body result =
@@ -107,7 +107,7 @@ BeginsEntry old new i place e key name kind count body result =
 
 -- ---- filled
 
--- an item was taken, and its spelling is written
+-- an item was taken, and its encoding is written
 pub record WritesItem {S A : Type 0} (gives : S → Option A → S → Type 0) (whole : A → ℤ) (old new : WindowState)
     (k : ScalarKind) (from : ℕ) (before after : S) : Type 0 where
   pub item : A
@@ -116,18 +116,18 @@ pub record WritesItem {S A : Type 0} (gives : S → Option A → S → Type 0) (
   pub change : ChangesBytes current old new from (size_of k)
   pub content : HasBytesAt (bytes_of new.bytes) from (spelling k (whole item))
 
--- the next item is taken and written, or none came
+-- the next item is taken and written, or there was none
 abbrev pub WritesNext : {S A : Type 0} → (S → Option A → S → Type 0)
     → (A → ℤ) → WindowState → WindowState → ScalarKind → ℕ → S → S → Result (Unit {0}) Refusal → Type 0
 WritesNext gives whole old new k from before after wrote =
     MatchResult wrote (λ u. WritesItem gives whole old new k from before after)
     (λ why. (why ≡ OutOfRange) × (new ≡ old) × gives before None after)
 
--- the next item, if one comes, is of the kind
+-- the next item, if there is one, has the kind
 abbrev pub IsNextOfKind : {S A : Type 0} → (S → Option A → S → Type 0) → (A → ScalarKind) → S → ScalarKind → Type 0
 IsNextOfKind {S} {A} gives kind before k = (item : A) (after : S) → gives before (Some item) after → kind item ≡ k
 
--- Items were taken in turn and written one after another: as many as were asked for, or fewer if no more came.
+-- Items were taken and written one after another: as many as `count`, or fewer if no more came.
 pub record Fills {S A : Type 0} (gives : S → Option A → S → Type 0) (whole : A
     → ℤ) (old new : WindowState) (k : ScalarKind)
     (from count : ℕ) (before after : S) (filled : Result (Unit {0}) Refusal) : Type 0 where
@@ -140,36 +140,36 @@ pub record Fills {S A : Type 0} (gives : S → Option A → S → Type 0) (whole
 
 -- ---- finished
 
--- the block was taken and written, and no entry leads to it yet
+-- the block is allocated and written, and no entry leads to it yet
 pub record WritesUnindexedForEntry (old now : WindowState) (h : ℕ) (e : PendingEntry) : Type 0 where
   pub len : ℕ
   pub taken : WindowState
   pub requested : RequestsBlocksOk old taken (place_of e.index) len e.growth.block h
   pub change : ChangesBytes current taken now h len
 
--- an object without a key was written, and no entry leads to it
+-- an anonymous object is written
 pub record WritesUnindexedAlone (old now : WindowState) (h : ℕ) : Type 0 where
   pub len : ℕ
   pub taken : WindowState
   pub takes : AllocatesOk current old taken len ObjectRole h
   pub change : ChangesBytes current taken now h len
 
--- a block was taken and written, and no entry leads to it yet
+-- a block is allocated and written, and no entry leads to it yet
 abbrev pub WritesUnindexedObject : WindowState → WindowState → ℕ → Option PendingEntry → Type 0
 WritesUnindexedObject old now h None = WritesUnindexedAlone old now h
 WritesUnindexedObject old now h (Some e) = WritesUnindexedForEntry old now h e
 
--- an index has what it needs for an entry that leads to an object: its key belongs there
+-- an index is ready for an entry that leads to an object: its key belongs at the place
 pub record IsReadyForEntry (now : WindowState) (h : ℕ) (e : PendingEntry) : Type 0 where
   pub entry : CanAdd now e.index e.place h
   pub growth : CanGrow now (place_of e.index) e.growth.block
 
--- the index can take the entry of an object, if it is to have one
+-- the index is ready for the object's entry, if it is to have one
 abbrev pub IsReadyFor : WindowState → ℕ → Option PendingEntry → Type 0
 IsReadyFor now h None = ⊤
 IsReadyFor now h (Some e) = IsReadyForEntry now h e
 
--- the entry leads to it, if it is to have one
+-- the entry leads to the object
 pub record AddsPendingEntry (now new : WindowState) (h : ℕ) (e : PendingEntry) : Type 0 where
   pub adds : (t : BackingArray) (hs : List ℕ) → IsIndexOf now (place_of e.index) t hs
       → AddsEntry now new (place_of e.index) t (insert hs e.place h) e.growth.block
@@ -182,20 +182,20 @@ abbrev pub LeadsThere : WindowState → WindowState → ℕ → Option PendingEn
 LeadsThere now new h None = new ≡ now
 LeadsThere now new h (Some e) = AddsPendingEntry now new h e
 
--- all that was taken is given back
+-- all blocks allocated for the object are freed
 abbrev pub GivesAllBack : WindowState → WindowState → ℕ → Option PendingEntry → Type 0
 GivesAllBack now new h entry = (old : WindowState) → WritesUnindexedObject old now h entry → RestoresBlocks old new
 
--- ---- filled or not, with whatever it takes
+-- ---- filled or not, with the blocks of its contents
 
--- a pending object ends: if it was filled, an entry may lead to it, and otherwise only its own block and what its index
--- took were taken
+-- a pending object is finished: if it was filled, an entry can lead to it; otherwise only its own block and the larger
+-- block of its index are allocated
 abbrev pub IsEnding : WindowState → ℕ → Option PendingEntry → Result (Unit {0}) Refusal → Type 0
 IsEnding now h entry filled =
     MatchResult filled (λ u. IsReadyFor now h entry) (λ why. (old : WindowState)
     × WritesUnindexedObject old now h entry)
 
--- the entry is made, or all is given back
+-- the entry is added, or all blocks are freed
 abbrev pub Ends : WindowState → WindowState → ℕ → Option PendingEntry → Result (Unit {0}) Refusal → Result ℕ Refusal
     → Type 0
 Ends now new h entry filled result =

@@ -1,4 +1,4 @@
--- An object in its block, as calls on a heap see it: what its head says, and its elements.
+-- An object in its block, as calls on a heap see it: its head and its elements.
 use Rattle.std.specs.Prelude.{◌≡◌, ℕ, ◌+◌, ◌*◌, List, length, replicate, flat_map, IsTrue, Some, None, Result, Ok, Err}
 use Rattle.std.specs.Prelude.{if◌then◌else◌, nat_lt}
 use Rattle.raw_region.specs.{Format.current, Memory.Memory, Memory.bytes_of, Memory.word_at, Memory.HasBytesAt}
@@ -13,18 +13,18 @@ use Rattle.segment_manager.specs.{Layout.name_class_at, Layout.head_len, Directo
 use Rattle.segment_manager.specs.Directory.{Object, Directory, object_at, count_of, is_object, kind_of, object_len}
 use Rattle.segment_manager.specs.Denotes.{IsObjectAt, padded_name, two_halves}
 
--- the object stands in the block of a handle, which has the room for it
+-- the object is in the block of a handle, which has room for it
 pub record IsObjectInBlock (b : List ℕ) (h : ℕ) (o : Object) : Type 0 where
   pub at : h ≡ handle o.extent
   pub good : IsTrue (is_object current o)
   pub room : IsTrue (has_room (live_of b) h (object_len o.name o.value))
   pub said : IsObjectAt (bytes_of b) o
 
--- some object does
+-- an object is in the block of a handle
 abbrev pub HasObject : List ℕ → ℕ → Type 0
 HasObject b h = (o : Object) × IsObjectInBlock b h o
 
--- what is read of a head is what it says of the object
+-- the head that was read has the object's properties
 pub record IsHeadOf (o : Object) (head : Head) : Type 0 where
   pub kind : head.kind ≡ kind_of o.value
   pub count : head.count ≡ count_of o.value
@@ -37,29 +37,29 @@ pub record IsHeadAt (m : Memory) (h : ℕ) (kind : Kind) (count : ℕ) (class : 
   pub name_class : word_at m (h + name_class_at) ≡ two_halves (length bytes) (class_code class)
   pub name : HasBytesAt m (h + head_len) (padded_name bytes)
 
--- n times the same bytes, one after another
+-- n copies of the same bytes, one after another
 abbrev pub repeated : ℕ → List ℕ → List ℕ
 repeated n bytes = flat_map (λ each. each) (replicate n bytes)
 
--- the bytes of the payload of an object under a name, whose value takes this many
+-- the length of an object's payload with a name and a value of this many bytes
 abbrev pub room_for : List ℕ → ℕ → ℕ
 room_for name body = head_len + padded (length name) + body
 
--- where the element of an index stands, from the handle on
+-- the offset of an element from the handle
 abbrev pub element_at : ScalarKind → List ℕ → ℕ → ℕ
 element_at k name i = head_len + padded (length name) + size_of k * i
 
--- where an element of an object stands, if it has such an element
+-- the offset of an element of an object, or an error if it has no such element
 abbrev pub place_in : Object → ScalarKind → ℕ → Result ℕ Refusal
 place_in o k i =
     if same_kind (Scalar k) (kind_of o.value) then
     (if nat_lt i (count_of o.value) then Ok (element_at k o.name i) else Err OutOfRange) else Err WrongKind
 
--- the handle of an object of a kind, and how many elements it has
+-- the handle of an object of a kind, and its number of elements
 abbrev pub pair_of_kind : Object → Kind → Result (ℕ × ℕ) Refusal
 pair_of_kind o kind = if same_kind kind (kind_of o.value) then Ok (handle o.extent, count_of o.value) else Err WrongKind
 
--- where the element of an index stands in the object of a key, or why there is none
+-- the place of an element of a key's object, or an error if there is none
 abbrev pub place_at : Directory → Key → ScalarKind → ℕ → Result Place Refusal
 place_at d key k i = elim (object_at d key) [
   | None ↦ Err NotFound

@@ -1,4 +1,4 @@
-//! The blocks of an object that is to be made.
+//! Allocates the blocks of a new object.
 ghost use Rattle.seg_index.specs.Held.{HasIndex, place_of};
 ghost use Rattle.segment_manager.specs.objects.NewObjects.{Requests};
 
@@ -7,7 +7,7 @@ use block_tags::Role;
 use raw_region::Steps;
 use seg_index::{Growth, Index};
 
-/// The block of an object that is to be made, and what its index grows into. They are in use, but no entry leads to
+/// The blocks of a new object: its own, and the one that its index grows into. Both are in use, but no entry leads to
 /// them yet.
 #[derive(Drop)]
 pub(crate) struct Requested {
@@ -15,8 +15,8 @@ pub(crate) struct Requested {
     pub(crate) growth: Growth,
 }
 
-/// Takes the blocks of an object with an entry in an index into use. A full index gets a larger block first, and then
-/// the object one of `len` bytes. If one of them has no gap, what was taken before is given back.
+/// Allocates the blocks of a new object with an entry in an index. A full index first gets a larger block; then the
+/// object gets a block of `len` bytes. If no gap is long enough for the second, it frees the first.
 pub(crate) fn request(heap: &mut Heap, index: Index, len: u64) -> Result<Requested, NoSpace>
     requires { HasIndex heap.old (place_of index) }
     ensures { Requests heap.old heap.new (place_of index) len result }

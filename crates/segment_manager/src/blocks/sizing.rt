@@ -1,4 +1,4 @@
-//! A segment whose end moves in its region.
+//! Moves the end of a segment in its region.
 ghost use Rattle.std.specs.Prelude.{◌≡◌, ◌+◌, ◌%◌, ◌≤◌, false};
 ghost use Rattle.segment_manager.specs.{Directory.Directory, State.DenotesCurrent, Step.is_read_only};
 ghost use Rattle.segment_manager.specs.blocks.Resized.{Resizes, grown, room_behind, shrunk};
@@ -7,15 +7,18 @@ use crate::layout::SIZE_AT;
 use crate::segment::Segment;
 use raw_region::Steps;
 
-/// Lengthens the segment by `extra` bytes of its region: a multiple of 16, at least 32. They are a gap, or part of the
-/// gap that stood at the end. Every object keeps its handle and its value.
+/// Lengthens the segment by `extra` bytes of its region. They become a gap, or part of the gap at the old end. Every
+/// object keeps its handle and its value.
 ///
 /// Example: `extend_end(&mut segment, 1024)`.
 ///
 /// # Conditions
 ///
-/// The segment is open for changes, `extra` is a multiple of 16 from 32 on, the segment has at most 1073741824
-/// bytes then, and its region has room for them. `grow_shrink::grow` tests all this and refuses.
+/// `grow_shrink::grow` tests these and has no condition:
+/// - the segment is open for writing;
+/// - `extra` is a multiple of 16, at least 32;
+/// - the new size is at most 1073741824;
+/// - the region has room for it.
 pub fn extend_end(segment: &mut Segment, extra: u64)
     requires writing { is_read_only segment.old.mode ≡ false }
     requires min_len { 32 ≤ extra }
@@ -29,14 +32,14 @@ pub fn extend_end(segment: &mut Segment, extra: u64)
     segment.heap.set_header_word(SIZE_AT, size);
 }
 
-/// Shortens the segment by the gap at its end, if there is one, so that it ends after the last block. One without
-/// blocks has 144 bytes then. Every object keeps its handle and its value.
+/// Shortens the segment by the gap at its end, if there is one, so that it ends after the last block. A segment without
+/// blocks shrinks to 144 bytes. Every object keeps its handle and its value.
 ///
 /// Example: `cut_end(&mut segment)`.
 ///
 /// # Conditions
 ///
-/// The segment is open for changes. `grow_shrink::shrink_to_fit` tests this and refuses.
+/// The segment is open for writing. `grow_shrink::shrink_to_fit` tests this and has no condition.
 pub fn cut_end(segment: &mut Segment)
     requires writing { is_read_only segment.old.mode ≡ false }
     ensures { Resizes segment.old segment.new (λ d. shrunk d) }

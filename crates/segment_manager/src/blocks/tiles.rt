@@ -15,11 +15,11 @@ use seg_types::Refusal;
 /// A block in use or a gap.
 #[derive(Clone, Copy, Debug, PartialEq, Eq)]
 pub struct TileInfo {
-    /// Where its tag begins, in bytes from the segment's start: a multiple of 16.
+    /// The offset of its tag, in bytes from the segment's start: a multiple of 16.
     pub offset: u64,
-    /// The number of bytes with the tag: a multiple of 16, at least 32.
+    /// The number of bytes, including the tag: a multiple of 16, at least 32.
     pub len: u64,
-    /// What the block is for, or nothing if it is a gap.
+    /// The role of the block; `None` for a gap.
     pub use_of: Option<Role>,
 }
 
@@ -35,7 +35,7 @@ impl TileInfo {
         }
     }
 
-    /// Tells whether it is the block of an object.
+    /// Returns true if it is the block of an object.
     pub fn is_object(&self) -> bool
         ensures { result ≡ is_own_span (as_span self.now) }
     {
@@ -47,7 +47,7 @@ impl TileInfo {
 }
 
 impl Segment {
-    /// Returns the first block or gap, or nothing if there is none, as in a segment of 144 bytes.
+    /// Returns the first block or gap, or `None` if there is none, as in a segment of 144 bytes.
     ///
     /// Example: `let first = segment.first_tile()`.
     pub fn first_tile(&self) -> Option<Tile>
@@ -56,8 +56,8 @@ impl Segment {
         self.heap.first_tile()
     }
 
-    /// Returns the block or gap with `index` others before it, or nothing if there are no more. It is looked for from
-    /// the first one on.
+    /// Returns the block or gap with `index` others before it, or `None` if there are fewer. It walks from the first
+    /// one on.
     ///
     /// Example: `let span = segment.tile(0)`.
     pub fn tile(&self, index: u64) -> Option<TileInfo>
@@ -67,7 +67,7 @@ impl Segment {
         Some(TileInfo::of(tile))
     }
 
-    /// Tells whether the segment is whole, as each segment is.
+    /// Checks the tags and returns true if they are whole, as in each segment.
     ///
     /// Example: `if segment.sanity()`.
     pub fn sanity(&self) -> bool
@@ -76,7 +76,7 @@ impl Segment {
         self.heap.sanity()
     }
 
-    /// Tells whether no block is in use, index blocks included.
+    /// Returns true if no block is in use, not even a block of an index.
     ///
     /// Example: `if segment.all_deallocated()`.
     pub fn all_deallocated(&self) -> bool
@@ -85,7 +85,7 @@ impl Segment {
         self.heap.live_count() == 0
     }
 
-    /// Makes the free bytes 0 that are no part of a tag or a link. No other byte changes.
+    /// Sets the free bytes of each gap, which follow its tag and its links, to 0. No other byte changes.
     ///
     /// Example: `segment.zero_free()?`.
     ///
@@ -106,15 +106,15 @@ impl Segment {
     }
 }
 
-/// Returns the block or gap after one of the segment's, or nothing if that is the last. A walk over all of them takes
-/// one step for each.
+/// Returns the block or gap after `tile`, or `None` if that is the last. A walk over all of them takes one step for
+/// each.
 ///
 /// Example: `let next = next_tile(&segment, tile)`.
 ///
 /// # Conditions
 ///
-/// The block or gap is one of the segment's: `first_tile` or this call answered it, and nothing changed since.
-/// `tiles` goes over all of them without a condition.
+/// `first_tile` or this call returned `tile`, and the segment has not changed since. `tiles` iterates over all of them
+/// without a condition.
 pub fn next_tile(segment: &Segment, tile: Tile) -> Option<Tile>
     requires { IsTileOf segment.now.cut.bytes tile }
     ensures { (i : ℕ)

@@ -1,4 +1,4 @@
-//! The blocks and gaps of a segment, one after another.
+//! An iterator over the blocks and gaps of a segment.
 ghost use Rattle.std.specs.{Prelude.◌≡◌, Prelude.◌-◌, Prelude.length, Iterator.at_most};
 ghost use Rattle.raw_region.specs.Memory.{bytes_of};
 ghost use Rattle.block_tags.specs.Tiles.{tiles_of};
@@ -9,9 +9,9 @@ use crate::segment::Segment;
 use block_tags::Tile;
 use std::marker::Model;
 
-/// The blocks and gaps of a segment, one after another. A walk over all of them takes one step for each.
+/// An iterator over the blocks and gaps of a segment, by offset. A walk over all of them takes one step for each.
 ///
-/// Contracts see the segment, and how many blocks and gaps came.
+/// In contracts it is the segment, and the number of blocks and gaps returned so far.
 #[derive(Drop)]
 pub struct Tiles<'a> {
     segment: &'a Segment,
@@ -41,7 +41,7 @@ impl<'a> Iterator for Tiles<'a> {
     fn next(&mut self) -> Option<TileInfo> {
         let tile = self.tile?;
         let segment = self.segment;
-        // No segment has so many tiles that 64 bits do not count them, which its bytes say.
+        // The segment's bytes bound the number of its tiles, so 64 bits count them.
         let _ = segment.as_bytes();
         self.at += 1;
         self.tile = next_tile(segment, tile);
@@ -50,7 +50,7 @@ impl<'a> Iterator for Tiles<'a> {
 }
 
 impl Segment {
-    /// Returns the blocks and gaps, one after another.
+    /// Returns an iterator over the blocks and gaps, by offset.
     ///
     /// Example: `for span in segment.tiles()`.
     pub fn tiles(&self) -> Tiles<'_>

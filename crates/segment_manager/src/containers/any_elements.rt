@@ -1,4 +1,4 @@
-//! The elements of objects whose kind is not known before: of scalars, of vectors of scalars, and of strings.
+//! Elements of arrays, vectors of scalars and strings whose kind is known only at run time.
 ghost use Rattle.std.specs.Prelude.{◌≡◌, Ok, OnErr, OnOk};
 ghost use Rattle.best_fit.specs.Heap.{KeepsGaps};
 ghost use Rattle.seg_types.specs.declared.kinds.Kind.TheVariants.{Vector as VectorOf};
@@ -15,15 +15,15 @@ use seg_types::{Kind, Refusal, ScalarKind, ScalarValue, by_kind, by_value};
 use seg_vector::SegString;
 
 impl Segment {
-    /// Returns the element at `index` in the object of a key: of scalars, of a vector of scalars, or of a string, which
-    /// has bytes.
+    /// Returns the element at `index`. The object is an array of scalars, a vector of scalars, or a string, whose
+    /// elements are bytes.
     ///
     /// Example: `let value: ScalarValue = segment.get_any(&key, 0)?`.
     ///
     /// # Errors
     ///
-    /// `NotFound` if no object has the key, `WrongKind` if its elements are no scalars, `OutOfRange` if it has none
-    /// there.
+    /// `NotFound` if no object has the key, `WrongKind` if its elements are not scalars, `OutOfRange` if `index` is not
+    /// below the length.
     pub fn get_any<O: ObjectRef>(&self, key: &O, index: u64) -> Result<ScalarValue, Refusal>
         requires { O.stands key.now self.now }
         ensures { AnswersWith self.now (λ d. scalar_reply self.now.mode d (O.key key.now) (Get (O.key key.now) index))
@@ -42,7 +42,7 @@ impl Segment {
         }
     }
 
-    /// Returns an element of a vector of scalars of a kind.
+    /// Returns an element of a vector of scalars of `kind`.
     fn get_in_vector<O: ObjectRef>(
         &self,
         key: &O,
@@ -61,7 +61,7 @@ impl Segment {
         Ok(by_kind!(kind, got))
     }
 
-    /// Sets an element of a vector of a value's kind.
+    /// Sets an element of a vector of the value's kind.
     fn set_in_vector<O: ObjectRef>(
         &mut self,
         key: &O,
@@ -78,8 +78,7 @@ impl Segment {
         by_value!(value, number => self.vec_set(key, index, number))
     }
 
-    /// Puts a value of a kind after the last element of the vector of a key, a vector of that kind. Errors: as of
-    /// `vec_push`.
+    /// Appends a value to a vector of its kind. The errors of `vec_push` apply.
     ///
     /// Example: `segment.vec_push_value(&name, ScalarValue::I64(4))?`.
     pub fn vec_push_value<O: ObjectRef>(
@@ -98,19 +97,20 @@ impl Segment {
     }
 }
 
-/// Makes a value the element at `index` in the object of a key, whose elements are of the value's kind. The object has
-/// scalars, or is a vector of scalars or a string. Of an object of scalars no other byte changes.
+/// Sets the element at `index`. The object is an array of scalars, a vector of scalars or a string. In an array no
+/// other byte changes.
 ///
 /// Example: `set_any(&mut segment, &key, 0, ScalarValue::I64(640))?`.
 ///
 /// # Conditions
 ///
-/// The object's elements are of the value's kind, as `kind_of` or `locate` say. `set`, `vec_set` and `string_set`
-/// take a type, refuse every other object, and have no condition.
+/// The object's elements have the value's kind, which `kind_of` and `locate` return. `set`, `vec_set` and `string_set`
+/// take a type and have no condition: they fail for every other object.
 ///
 /// # Errors
 ///
-/// `ReadOnly` if the segment is open for reading. Otherwise `OutOfRange` if it has no element there. Nothing changes.
+/// `ReadOnly` if the segment is open for reading. Otherwise `OutOfRange` if `index` is not below the length. Nothing
+/// changes.
 pub fn set_any<O: ObjectRef>(
     segment: &mut Segment,
     key: &O,

@@ -1,4 +1,4 @@
-//! The pairs of objects that are maps whose kinds are not known before.
+//! Pairs of maps whose kinds are known only at run time.
 ghost use Rattle.std.specs.Prelude.{◌≡◌, OnErr, option_map};
 ghost use Rattle.seg_types.specs.{declared.kinds.Kind.TheVariants.Map as MapOf, Commands.Lookup, Commands.Put};
 ghost use Rattle.seg_types.specs.{Commands.Remove, Commands.literal_of, Values.kind_of_scalar, Values.value_of_scalar};
@@ -11,13 +11,14 @@ use crate::segment::Segment;
 use seg_types::{Refusal, Scalar, ScalarKind, ScalarValue, by_kind, by_value};
 
 impl Segment {
-    /// Returns the value of a key of the map of a key, a map with keys of the kind of `at` and values of a kind.
+    /// Looks `at` up in the map and returns its value, or `None` if the map lacks it. The map has map keys of the kind
+    /// of `at`, and values of the kind `values`.
     ///
     /// Example: `segment.map_get_any(&key, ScalarValue::I32(2), ScalarKind::I64)?`.
     ///
     /// # Errors
     ///
-    /// `NotFound` if no object has the key, `WrongKind` if it is of another kind.
+    /// `NotFound` if no object has the key, `WrongKind` if the object has another kind.
     pub fn map_get_any<O: ObjectRef>(
         &self,
         key: &O,
@@ -31,8 +32,8 @@ impl Segment {
         by_value!(at, at => self.value_by_key(key, at, values))
     }
 
-    /// Returns the value of a key of the map of a key, for keys of a type. It is inlined, as are the two for keys of a
-    /// type below.
+    /// Looks `at` up in the map, for map keys of a type. It is inlined, as are the two calls for map keys of a type
+    /// below.
     #[inline(always)]
     fn value_by_key<K: Scalar, O: ObjectRef>(
         &self,
@@ -53,15 +54,17 @@ impl Segment {
         Ok(by_kind!(values, got))
     }
 
-    /// Puts the value of a key into the map of a key, a map of the two values' kinds, and returns whether the key is
-    /// new.
+    /// Sets the value of the map key `at`, and returns true if `at` is new. The map has the kinds of `at` and `value`.
     ///
     /// Example: `segment.map_put_any(&key, ScalarValue::I32(2), ScalarValue::I64(1999))?`.
     ///
     /// # Errors
     ///
-    /// `ReadOnly` if the segment is open for reading. Otherwise `NotFound` if no object has the key, `WrongKind` if it
-    /// is of another kind, `NoSpace` if the key is new and no gap is long enough for its block. Nothing changes.
+    /// The first that applies; nothing changes:
+    /// - `ReadOnly` if the segment is open for reading;
+    /// - `NotFound` if no object has the key;
+    /// - `WrongKind` if the object has another kind;
+    /// - `NoSpace` if `at` is new and no gap is long enough for its block.
     pub fn map_put_any<O: ObjectRef>(
         &mut self,
         key: &O,
@@ -80,7 +83,7 @@ impl Segment {
         by_value!(at, at => self.put_by_key(key, at, value))
     }
 
-    /// Puts the value of a key into the map of a key, for keys of a type, and returns whether the key is new.
+    /// Sets the value of the map key `at`, for map keys of a type, and returns true if `at` is new.
     #[inline(always)]
     fn put_by_key<K: Scalar, O: ObjectRef>(
         &mut self,
@@ -99,15 +102,15 @@ impl Segment {
         by_value!(value, value => self.map_put(key, at, value))
     }
 
-    /// Erases a key from the map of a key, a map with keys of its kind and values of a kind, and returns whether it was
-    /// there.
+    /// Erases the map key `at`, and returns true if the map had it. The map has map keys of the kind of `at`, and
+    /// values of the kind `values`.
     ///
     /// Example: `segment.map_erase_any(&key, ScalarValue::I32(2), ScalarKind::I64)?`.
     ///
     /// # Errors
     ///
-    /// `ReadOnly` if the segment is open for reading. Otherwise `NotFound` if no object has the key, `WrongKind` if it
-    /// is of another kind. Nothing changes.
+    /// `ReadOnly` if the segment is open for reading. Otherwise `NotFound` if no object has the key, `WrongKind` if the
+    /// object has another kind. Nothing changes.
     pub fn map_erase_any<O: ObjectRef>(
         &mut self,
         key: &O,
@@ -123,7 +126,7 @@ impl Segment {
         by_value!(at, at => self.erase_by_key(key, at, values))
     }
 
-    /// Erases a key from the map of a key, for keys of a type, and returns whether it was there.
+    /// Erases the map key `at`, for map keys of a type, and returns true if the map had it.
     #[inline(always)]
     fn erase_by_key<K: Scalar, O: ObjectRef>(
         &mut self,

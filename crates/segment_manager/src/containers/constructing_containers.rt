@@ -1,4 +1,4 @@
-//! Objects that are vectors, strings or maps, constructed.
+//! Constructs objects that are vectors, strings or maps.
 ghost use Rattle.std.specs.Prelude.{map};
 ghost use Rattle.seg_types.specs.declared.kinds.Kind.TheVariants.{Map as MapOf, String as StringKind};
 ghost use Rattle.seg_types.specs.declared.kinds.Kind.TheVariants.{Strings as StringsKind, Vector as VectorOf};
@@ -14,8 +14,8 @@ use crate::segment::Segment;
 use seg_types::{Handle, Refusal, Scalar, ScalarKind};
 
 impl Segment {
-    /// Makes a vector of values with just a place for each, and returns its handle. A key that is a kind is that of
-    /// such vectors. Conditions and errors: as of `construct`, but for the count.
+    /// Makes a vector of values, with a capacity of exactly their number, and returns its handle. A key with a kind
+    /// must have the kind of this vector. The conditions and errors of `construct` apply, except for the count.
     ///
     /// Example: `segment.construct_vec::<i64, _>(&name, &[])?`.
     pub fn construct_vec<T: Scalar, D: ConstructKey>(
@@ -31,8 +31,8 @@ impl Segment {
         self.construct_under(key, &NewVector { values })
     }
 
-    /// Makes a string of bytes with just a place for each, and returns its handle. A key that is a kind is that of
-    /// strings. Conditions and errors: as of `construct`, but for the count.
+    /// Makes a string of bytes, with a capacity of exactly their number, and returns its handle. A key with a kind must
+    /// have the kind `String`. The conditions and errors of `construct` apply, except for the count.
     ///
     /// Example: `segment.construct_string(&name, b"red")?`.
     pub fn construct_string<D: ConstructKey>(
@@ -47,9 +47,9 @@ impl Segment {
         self.construct_under(key, &NewString { bytes })
     }
 
-    /// Returns the handle of the vector of a key, with 1 for its count. If no object has the key a vector of the values
-    /// is made. One that is found stays as it is. A key that is a kind is that of such vectors. Conditions and errors:
-    /// as of `find_or_construct`, but for the count.
+    /// Returns the handle of the vector, and the count 1. If no object has the key, makes a vector of the values; a
+    /// vector found stays as it is. A key with a kind must have the kind of this vector. The conditions and errors of
+    /// `find_or_construct` apply, except for the count.
     ///
     /// Example: `segment.find_or_construct_vec(&name, &[1i64, 2])?`.
     pub fn find_or_construct_vec<T: Scalar, D: FindOrConstructKey>(
@@ -66,9 +66,9 @@ impl Segment {
         self.find_or_construct_under(key, &NewVector { values })
     }
 
-    /// Returns the handle of the string of a key, with 1 for its count. If no object has the key a string of the bytes
-    /// is made. One that is found stays as it is. A key that is a kind is that of strings. Conditions and errors: as of
-    /// `find_or_construct`, but for the count.
+    /// Returns the handle of the string, and the count 1. If no object has the key, makes a string of the bytes; a
+    /// string found stays as it is. A key with a kind must have the kind `String`. The conditions and errors of
+    /// `find_or_construct` apply, except for the count.
     ///
     /// Example: `segment.find_or_construct_string(&name, b"red")?`.
     pub fn find_or_construct_string<D: FindOrConstructKey>(
@@ -84,8 +84,9 @@ impl Segment {
         self.find_or_construct_under(key, &NewString { bytes })
     }
 
-    /// Makes a vector of texts with just a place for each, each text in a block of its own, and returns its handle. A
-    /// key that is a kind is that of such vectors. Conditions and errors: as of `construct`, but for the count.
+    /// Makes a vector of texts, with a capacity of exactly their number and a block for each text that is not empty,
+    /// and returns its handle. A key with a kind must have the kind `Strings`. The conditions and errors of `construct`
+    /// apply, except for the count.
     ///
     /// Example: `segment.construct_texts(&name, &[b"apples", b"pears"])?`.
     pub fn construct_texts<D: ConstructKey>(
@@ -101,9 +102,9 @@ impl Segment {
         self.construct_under(key, &NewTexts { texts })
     }
 
-    /// Returns the handle of the vector of strings of a key, with 1 for its count. If no object has the key a vector of
-    /// the texts is made. One that is found stays as it is. A key that is a kind is that of such vectors. Conditions
-    /// and errors: as of `find_or_construct`, but for the count.
+    /// Returns the handle of the vector of strings, and the count 1. If no object has the key, makes a vector of the
+    /// texts; a vector found stays as it is. A key with a kind must have the kind `Strings`. The conditions and errors
+    /// of `find_or_construct` apply, except for the count.
     ///
     /// Example: `segment.find_or_construct_texts(&name, &[])?`.
     pub fn find_or_construct_texts<D: FindOrConstructKey>(
@@ -120,8 +121,8 @@ impl Segment {
         self.find_or_construct_under(key, &NewTexts { texts })
     }
 
-    /// Makes a map without pairs, and returns its handle. A key that is a kind is that of such maps. Conditions and
-    /// errors: as of `construct`, but for the count.
+    /// Makes an empty map, and returns its handle. A key with a kind must have the kind of this map. The conditions and
+    /// errors of `construct` apply, except for the count.
     ///
     /// Example: `segment.construct_map::<i32, i64, _>(&name)?`.
     pub fn construct_map<K: Scalar, V: Scalar, D: ConstructKey>(
@@ -136,7 +137,7 @@ impl Segment {
         self.construct_map_of(key, K::kind(), V::kind())
     }
 
-    /// Makes a map of two kinds without pairs, and returns its handle. Conditions and errors: as of `construct`, but
+    /// Makes an empty map of two kinds, and returns its handle. The conditions and errors of `construct` apply, except
     /// for the count.
     ///
     /// Example: `segment.construct_map_of(&name, ScalarKind::I32, ScalarKind::I64)?`.
@@ -154,9 +155,9 @@ impl Segment {
         self.construct_under(key, &NewMap { keys, values })
     }
 
-    /// Returns the handle of the map of a key, with 1 for its count. If no object has the key a map without pairs is
-    /// made. One that is found stays as it is. A key that is a kind is that of such maps. Conditions and errors: as of
-    /// `find_or_construct`, but for the count.
+    /// Returns the handle of the map, and the count 1. If no object has the key, makes an empty map; a map found stays
+    /// as it is. A key with a kind must have the kind of this map. The conditions and errors of `find_or_construct`
+    /// apply, except for the count.
     ///
     /// Example: `segment.find_or_construct_map::<i32, i64, _>(&name)?`.
     pub fn find_or_construct_map<K: Scalar, V: Scalar, D: FindOrConstructKey>(
@@ -172,8 +173,8 @@ impl Segment {
         self.find_or_construct_map_of(key, K::kind(), V::kind())
     }
 
-    /// Returns the handle of the map of a key, or makes one of two kinds without pairs. Conditions and errors: as of
-    /// `find_or_construct`, but for the count.
+    /// Returns the handle of the map, and the count 1. If no object has the key, makes an empty map of two kinds. The
+    /// conditions and errors of `find_or_construct` apply, except for the count.
     ///
     /// Example: `segment.find_or_construct_map_of(&name, ScalarKind::I32, ScalarKind::I64)?`.
     pub fn find_or_construct_map_of<D: FindOrConstructKey>(

@@ -1,4 +1,4 @@
-//! Where the elements of arrays, vectors and strings of scalars stand in the image.
+//! The places in the image of the elements of arrays, vectors of scalars and strings.
 ghost use Rattle.std.specs.Option.{unwrap_or};
 ghost use Rattle.std.specs.Prelude.{◌≡◌, ◌+◌, ◌%◌, ◌≤◌, IfOk, IsTrue};
 ghost use Rattle.raw_region.specs.{Format.current, Memory.bytes_of, Memory.word_at};
@@ -14,26 +14,26 @@ use crate::segment::Segment;
 use best_fit::Heap;
 use seg_types::{Kind, Refusal, ScalarKind};
 
-/// Elements that stand in the image one after another, each the bytes that spell it.
+/// Elements that lie in the image one after another, as encoded values.
 #[derive(Clone, Copy, Debug, PartialEq, Eq)]
 pub struct ElementRun {
-    /// Where the first one begins, from the front of the segment on; 0 if a container has no storage.
+    /// The offset of the first element, in bytes from the start of the segment; 0 if a container has no storage.
     pub offset: u64,
-    /// How many they are.
+    /// The number of elements.
     pub count: u64,
-    /// Their kind. Those of a string are bytes.
+    /// The kind of the elements: `U8` for a string.
     pub kind: ScalarKind,
 }
 
 impl Segment {
-    /// Returns where the elements of the object of a key stand in the image: of scalars, of a vector of scalars, or of
-    /// a string. They stand there until a call moves them.
+    /// Returns the place of an object's elements in the image. The object is an array of scalars, a vector of scalars
+    /// or a string. The place is valid until a call moves the elements.
     ///
     /// Example: `let run = segment.element_run(&name)?`.
     ///
     /// # Errors
     ///
-    /// `NotFound` if no object has the key, `WrongKind` if its elements are no scalars.
+    /// `NotFound` if no object has the key, `WrongKind` if its elements are not scalars.
     pub fn element_run<O: ObjectRef>(&self, key: &O) -> Result<ElementRun, Refusal>
         requires { O.stands key.now self.now }
         ensures run { AnswersWith self.now (λ d. run_at d (O.key key.now)) result }
@@ -46,7 +46,7 @@ impl Segment {
     }
 }
 
-/// Returns where the elements of an object stand.
+/// Returns the place of an object's elements.
 fn read_run(heap: &Heap, object: Object) -> Result<ElementRun, Refusal>
     requires heap { IsHeap current heap.now.bytes }
     requires object { HasObject heap.now.bytes object.handle }
@@ -67,7 +67,7 @@ fn read_run(heap: &Heap, object: Object) -> Result<ElementRun, Refusal>
     }
 }
 
-/// Returns the elements in the storage of the container whose three words stand at `at` in the block of a handle.
+/// Returns the elements in the storage of the container whose three words are at `at` in a block.
 fn storage_run(heap: &Heap, handle: u64, at: u64, kind: ScalarKind) -> ElementRun
     requires aligned { at % 8 ≡ 0 }
     requires max_value { at ≤ 4096 }

@@ -1,4 +1,4 @@
-//! What fills new objects: numbers, or a container with its elements in blocks of its own.
+//! The initial contents of new objects: numbers, or a container with its elements in blocks of its own.
 ghost use Rattle.std.specs.Prelude.{◌≡◌, ◌+◌, ◌%◌, ◌≤◌, ⊤, IsTrue, map, replicate};
 ghost use Rattle.raw_region.specs.Format.{current};
 ghost use Rattle.best_fit.specs.Heap.{IsHeap, has_room, live_of};
@@ -15,41 +15,41 @@ use seg_map::SegMap;
 use seg_types::{Kind, MAX_ARRAY_LEN, Refusal, Scalar, ScalarKind};
 use seg_vector::{Place, SegString, SegTexts, SegVec};
 
-/// The longest spelling of a scalar, in bytes.
+/// The greatest length of an encoded scalar, in bytes.
 pub(crate) const LONGEST: usize = 8;
 
-/// The most elements of an object of scalars.
+/// The greatest number of elements of an array of scalars.
 pub(crate) const MAX_COUNT: u32 = MAX_ARRAY_LEN as u32;
 
-/// What is known of an object before a block is asked for.
+/// The properties of an object that are known before its block is allocated.
 #[derive(Clone, Copy)]
 pub struct ObjectShape {
     /// Its kind.
     pub kind: Kind,
-    /// How many elements it has.
+    /// The number of its elements.
     pub count: u32,
-    /// The bytes of its value in its own block.
+    /// The length of its value in its own block, in bytes.
     pub len: u64,
 }
 
-/// What fills a new object: of each content one type is here.
+/// The initial contents of a new object. There is one type here for each form of contents.
 pub trait ObjectInit {
-    // What it makes of the object, as commands say it.
+    // The contents of the object, as in a command.
     ghost content: { Self → Content };
 
-    // Whether an object can hold it.
+    // Whether an object can have these contents.
     ghost stands: { Self → Type 0 };
 
-    /// Returns the object that it fills.
+    /// Returns the shape of an object with these contents.
     fn shape(&self) -> ObjectShape
         requires { stands self.now }
         ensures { IsShapeOf (content self.now) result };
 
-    /// Makes the value at a place in the block of the object, whatever bytes were there.
+    /// Initialises the value at a place in the block of the object. The old bytes can be anything.
     ///
     /// # Errors
     ///
-    /// `NoSpace` if no gap is long enough for its elements. What was taken for them is given back.
+    /// `NoSpace` if no gap is long enough for its elements. It frees what it allocated.
     fn fill(&self, heap: &mut Heap, place: Place) -> Result<(), Refusal>
         requires object { stands self.now }
         requires heap { IsHeap current heap.old.bytes }
@@ -62,7 +62,7 @@ pub trait ObjectInit {
 /// A value, `count` times.
 #[derive(Drop)]
 pub struct NewNumbers<T> {
-    /// How many times, from 1 to 1048576.
+    /// The number of copies, from 1 to 1048576.
     pub count: u32,
     /// The value.
     pub value: T,
@@ -159,7 +159,7 @@ impl ObjectInit for NewTexts<'_> {
     }
 }
 
-/// A map of two kinds without a pair.
+/// An empty map of two kinds.
 #[derive(Drop)]
 pub struct NewMap {
     /// The kind of its keys.
@@ -178,7 +178,7 @@ impl ObjectInit for NewMap {
         container(Kind::Map(self.keys, self.values))
     }
 
-    // Without a pair it is a map of any types.
+    // An empty map is a map of any types.
     #[inline(always)]
     fn fill(&self, heap: &mut Heap, place: Place) -> Result<(), Refusal> {
         SegMap::<u8, u8>::new(heap, place);
@@ -186,7 +186,7 @@ impl ObjectInit for NewMap {
     }
 }
 
-/// Returns an object of `count` numbers of a kind.
+/// Returns the shape of an array of `count` numbers of a kind.
 #[inline(always)]
 pub(crate) fn numbers(kind: ScalarKind, count: u32) -> ObjectShape
     requires { count ≤ 1048576 }
@@ -199,7 +199,7 @@ pub(crate) fn numbers(kind: ScalarKind, count: u32) -> ObjectShape
     }
 }
 
-/// Returns an object that is a container of a kind.
+/// Returns the shape of a container of a kind.
 #[inline(always)]
 fn container(kind: Kind) -> ObjectShape
     ensures { result ≡ container_shape kind }

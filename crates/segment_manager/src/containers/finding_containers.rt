@@ -1,4 +1,4 @@
-//! The containers of objects: where each stands in its object's block.
+//! The places of containers in the blocks of their objects.
 ghost use Rattle.std.specs.Prelude.{MatchResult};
 ghost use Rattle.segment_manager.specs.{containers.Contents.container_at, State.AnswersWith};
 ghost use Rattle.segment_manager.specs.containers.ToChange.{IsNotToChange, IsChangeableContainer};
@@ -9,8 +9,11 @@ use seg_types::{Kind, Refusal};
 use seg_vector::Place;
 
 impl Segment {
-    /// Returns where the container stands of the object of a key: `NotFound` if there is none, `WrongKind` if it is of
-    /// another kind.
+    /// Returns the place of the object's container.
+    ///
+    /// # Errors
+    ///
+    /// `NotFound` if no object has the key, `WrongKind` if it has another kind.
     #[inline(always)]
     pub(crate) fn find_container<O: ObjectRef>(&self, key: &O, kind: Kind) -> Result<Place, Refusal>
         requires { O.stands key.now self.now }
@@ -22,8 +25,11 @@ impl Segment {
         }
     }
 
-    /// Returns where the container of a key stands that is to be changed: `ReadOnly` if the segment is open for
-    /// reading.
+    /// Returns the place of the object's container, for a change.
+    ///
+    /// # Errors
+    ///
+    /// `ReadOnly` if the segment is open for reading. Otherwise as `find_container`.
     #[inline(always)]
     pub(crate) fn find_to_change<O: ObjectRef>(&self, key: &O, kind: Kind) -> Result<Place, Refusal>
         requires { O.stands key.now self.now }

@@ -1,4 +1,4 @@
-//! The pairs of objects that are maps, read and changed.
+//! Reads and changes the pairs of maps.
 ghost use Rattle.std.specs.Prelude.{◌≡◌, OnErr};
 ghost use Rattle.seg_types.specs.Commands.{Lookup, Put, Remove, literal_of};
 ghost use Rattle.seg_types.specs.declared.kinds.Kind.TheVariants.{Map as MapOf};
@@ -18,13 +18,13 @@ use seg_types::theorems::holds_value;
 use seg_types::{Kind, Refusal, Scalar};
 
 impl Segment {
-    /// Returns the value of a key of the map of a key, a map of the types.
+    /// Looks `at` up in the map and returns its value, or `None` if the map lacks it. The map's types must match.
     ///
     /// Example: `let price: Option<i64> = segment.map_get(&name, 2i32)?`.
     ///
     /// # Errors
     ///
-    /// `NotFound` if no object has the key, `WrongKind` if it is of another kind.
+    /// `NotFound` if no object has the key, `WrongKind` if the object has another kind.
     pub fn map_get<K: Scalar, V: Scalar, O: ObjectRef>(
         &self,
         key: &O,
@@ -39,13 +39,14 @@ impl Segment {
         Ok(SegMap::<K, V>::at(place).get(&self.heap, at, &mut Steps::new()))
     }
 
-    /// Returns the pair with the least key that is not below `from`, of the map of a key, a map of the types.
+    /// Returns the map's first pair whose map key is not below `from`, or `None` if there is none. The map's types must
+    /// match.
     ///
     /// Example: `let first: Option<(i32, i64)> = segment.map_first_from(&name, 2)?`.
     ///
     /// # Errors
     ///
-    /// `NotFound` if no object has the key, `WrongKind` if it is of another kind.
+    /// `NotFound` if no object has the key, `WrongKind` if the object has another kind.
     pub fn map_first_from<K: Scalar, V: Scalar, O: ObjectRef>(
         &self,
         key: &O,
@@ -58,13 +59,13 @@ impl Segment {
         self.pair_past(key, from, false)
     }
 
-    /// Returns the pair with the least key above `after`, of the map of a key, a map of the types.
+    /// Returns the map's next pair after the map key `after`, or `None` if there is none. The map's types must match.
     ///
     /// Example: `let next: Option<(i32, i64)> = segment.map_next_after(&name, 2)?`.
     ///
     /// # Errors
     ///
-    /// `NotFound` if no object has the key, `WrongKind` if it is of another kind.
+    /// `NotFound` if no object has the key, `WrongKind` if the object has another kind.
     pub fn map_next_after<K: Scalar, V: Scalar, O: ObjectRef>(
         &self,
         key: &O,
@@ -77,8 +78,8 @@ impl Segment {
         self.pair_past(key, after, true)
     }
 
-    /// Returns the pair with the least key that is above a bound, or not below it. It is inlined, so which of the two
-    /// costs no test.
+    /// Returns the map's first pair whose map key is above a bound, or not below it. It is inlined, so the choice
+    /// between the two costs no test.
     #[inline(always)]
     pub(crate) fn pair_past<K: Scalar, V: Scalar, O: ObjectRef>(
         &self,
@@ -100,13 +101,13 @@ impl Segment {
         }
     }
 
-    /// Returns the pair with the greatest key, of the map of a key, a map of the types; `None` if it has no pair.
+    /// Returns the map's last pair, or `None` if the map is empty. The map's types must match.
     ///
     /// Example: `let last: Option<(i32, i64)> = segment.map_last(&name)?`.
     ///
     /// # Errors
     ///
-    /// `NotFound` if no object has the key, `WrongKind` if it is of another kind.
+    /// `NotFound` if no object has the key, `WrongKind` if the object has another kind.
     pub fn map_last<K: Scalar, V: Scalar, O: ObjectRef>(
         &self,
         key: &O,
@@ -119,13 +120,14 @@ impl Segment {
         Ok(SegMap::<K, V>::at(place).last(&self.heap, &mut Steps::new()))
     }
 
-    /// Returns the pair with the greatest key that is not above `to`, of the map of a key, a map of the types.
+    /// Returns the map's last pair whose map key is not above `to`, or `None` if there is none. The map's types must
+    /// match.
     ///
     /// Example: `let last: Option<(i32, i64)> = segment.map_last_up_to(&name, 2)?`.
     ///
     /// # Errors
     ///
-    /// `NotFound` if no object has the key, `WrongKind` if it is of another kind.
+    /// `NotFound` if no object has the key, `WrongKind` if the object has another kind.
     pub fn map_last_up_to<K: Scalar, V: Scalar, O: ObjectRef>(
         &self,
         key: &O,
@@ -139,14 +141,15 @@ impl Segment {
         Ok(SegMap::<K, V>::at(place).last_up_to(&self.heap, to, &mut Steps::new()))
     }
 
-    /// Returns the pair with the greatest key below `before`, of the map of a key, a map of the types. So all pairs are
-    /// read by falling keys from `map_last` on, each in a walk from the root of the tree.
+    /// Returns the map's previous pair before the map key `before`, or `None` if there is none. The map's types must
+    /// match. A loop from `map_last` on reads all pairs by falling map keys; each call searches from the root of the
+    /// tree.
     ///
     /// Example: `let previous: Option<(i32, i64)> = segment.map_previous_before(&name, 2)?`.
     ///
     /// # Errors
     ///
-    /// `NotFound` if no object has the key, `WrongKind` if it is of another kind.
+    /// `NotFound` if no object has the key, `WrongKind` if the object has another kind.
     pub fn map_previous_before<K: Scalar, V: Scalar, O: ObjectRef>(
         &self,
         key: &O,
@@ -161,15 +164,18 @@ impl Segment {
         Ok(SegMap::<K, V>::at(place).previous_before(&self.heap, before, &mut Steps::new()))
     }
 
-    /// Puts the value of a key into the map of a key, a map of the types, and returns whether the key is new. All other
-    /// pairs keep their blocks, and so does this one if the key is not new.
+    /// Sets the value of the map key `at`, and returns true if `at` is new. The map's types must match. All other pairs
+    /// keep their blocks, and so does a pair whose map key is not new.
     ///
     /// Example: `let is_new = segment.map_put(&name, 2i32, 1999i64)?`.
     ///
     /// # Errors
     ///
-    /// `ReadOnly` if the segment is open for reading. Otherwise `NotFound` if no object has the key, `WrongKind` if it
-    /// is of another kind, `NoSpace` if the key is new and no gap is long enough for its block. Nothing changes.
+    /// The first that applies; nothing changes:
+    /// - `ReadOnly` if the segment is open for reading;
+    /// - `NotFound` if no object has the key;
+    /// - `WrongKind` if the object has another kind;
+    /// - `NoSpace` if `at` is new and no gap is long enough for its block.
     pub fn map_put<K: Scalar, V: Scalar, O: ObjectRef>(
         &mut self,
         key: &O,
@@ -195,15 +201,15 @@ impl Segment {
         }
     }
 
-    /// Erases a key from the map of a key, a map of the types, and returns whether it was there. Its block is given
-    /// back; all other pairs keep theirs.
+    /// Erases the map key `at`, frees its block, and returns true if the map had it. The map's types must match. All
+    /// other pairs keep their blocks.
     ///
     /// Example: `let was_there = segment.map_erase::<i32, i64, _>(&name, 2)?`.
     ///
     /// # Errors
     ///
-    /// `ReadOnly` if the segment is open for reading. Otherwise `NotFound` if no object has the key, `WrongKind` if it
-    /// is of another kind. Nothing changes.
+    /// `ReadOnly` if the segment is open for reading. Otherwise `NotFound` if no object has the key, `WrongKind` if the
+    /// object has another kind. Nothing changes.
     pub fn map_erase<K: Scalar, V: Scalar, O: ObjectRef>(
         &mut self,
         key: &O,
@@ -223,7 +229,7 @@ impl Segment {
         Ok(SegMap::<K, V>::at(place).erase(&mut self.heap, at, &mut Steps::new()))
     }
 
-    /// Returns where the map of a key stands, a map of the types.
+    /// Returns the place of a map of the types.
     fn find_map<K: Scalar, V: Scalar, O: ObjectRef>(&self, key: &O) -> Result<Place, Refusal>
         requires { O.stands key.now self.now }
         ensures { AnswersWith self.now (λ d. container_at d (O.key key.now) (MapOf K.kind V.kind)) result }

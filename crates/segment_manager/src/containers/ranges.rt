@@ -1,4 +1,4 @@
-//! Elements of arrays and vectors of scalars, several written or put in by one call.
+//! Writes several elements of arrays and vectors of scalars, or appends several, in one call.
 ghost use Rattle.std.specs.Prelude.{◌≡◌, ◌+◌, OnErr, OnOk, false, length, map, nat_le};
 ghost use Rattle.best_fit.specs.Heap.{KeepsGaps};
 ghost use Rattle.seg_types.specs.declared.kinds.Kind.TheVariants.{Vector as VectorOf};
@@ -13,16 +13,16 @@ use seg_types::{Kind, Refusal, Scalar};
 use seg_vector::{SegVec, spell};
 
 impl Segment {
-    /// Makes the values of a row elements of the object of a key, from `first` on. The object is an array of scalars of
-    /// the type, or a vector of them. It is looked up once, and the row is copied as a whole. Of an empty row nothing
-    /// changes, and of an array no other byte.
+    /// Replaces the elements from `first` on by these values. The object is an array or a vector of scalars of the
+    /// type. It is looked up once, and all values are copied at once. In an array no other byte changes; without values
+    /// nothing changes.
     ///
     /// Example: `segment.write_range(&name, 2, &[6i64, 7])?`.
     ///
     /// # Errors
     ///
-    /// `ReadOnly` if the segment is open for reading. Otherwise `NotFound` if no object has the key, `WrongKind` if it
-    /// is of another kind, `OutOfRange` if it has too few elements there. Nothing changes.
+    /// `ReadOnly` if the segment is open for reading. Otherwise `NotFound` if no object has the key, `WrongKind` if the
+    /// object has another kind, `OutOfRange` if it has too few elements from `first` on. Nothing changes.
     pub fn write_range<T: Scalar, O: ObjectRef>(
         &mut self,
         key: &O,
@@ -47,7 +47,7 @@ impl Segment {
         }
     }
 
-    /// Writes the values of a row to a vector that was located, in a segment that may be changed.
+    /// Replaces elements of a located vector. The segment is open for writing.
     fn write_in_vector<T: Scalar>(
         &mut self,
         object: &Object,
@@ -67,7 +67,8 @@ impl Segment {
         SegVec::<T>::at(place).overwrite(&mut self.heap, first, values)
     }
 
-    /// Writes the values of a row to an object of another kind, of which no other byte changes.
+    /// Replaces elements of a located array of scalars of the type, and fails for any other object but a vector. The
+    /// segment is open for writing. No other byte changes.
     fn write_in_array<T: Scalar>(
         &mut self,
         object: &Object,
@@ -100,15 +101,15 @@ impl Segment {
         Ok(())
     }
 
-    /// Puts the values of a row after the last element of the vector of a key, a vector of the type. If there are not
-    /// places for all of them, it gets twice as many as before, and at least 4, and as many as are needed.
+    /// Appends values to the vector. The vector's type must match. If the capacity is too small, it doubles, to at
+    /// least 4 and at least the new length.
     ///
     /// Example: `segment.vec_extend(&name, &[6i64, 7])?`.
     ///
     /// # Errors
     ///
-    /// `ReadOnly` if the segment is open for reading. Otherwise `NotFound` if no object has the key, `WrongKind` if it
-    /// is of another kind, `NoSpace` if its storage cannot be regrown. Nothing changes.
+    /// `ReadOnly` if the segment is open for reading. Otherwise `NotFound` if no object has the key, `WrongKind` if the
+    /// object has another kind, `NoSpace` if its storage cannot be regrown. Nothing changes.
     pub fn vec_extend<T: Scalar, O: ObjectRef>(
         &mut self,
         key: &O,
@@ -128,7 +129,7 @@ impl Segment {
     }
 }
 
-/// Tells whether `len` elements have `count` from `first` on.
+/// Returns true if `len` elements include `count` elements from `first` on.
 fn has_range(len: u64, first: u64, count: u64) -> bool
     ensures { result ≡ nat_le (first + count) len }
 {

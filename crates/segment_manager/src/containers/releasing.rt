@@ -1,4 +1,4 @@
-//! What the values of objects have blocks for, given back.
+//! Frees the blocks of objects' values.
 ghost use Rattle.segment_manager.specs.{objects.Destroyed.Empties, objects.Destroyed.HoldsObject};
 ghost use Rattle.segment_manager.specs.{containers.Maps.HasPairs, containers.Maps.ReleasesPairs};
 
@@ -10,8 +10,7 @@ use seg_map::SegMap;
 use seg_types::{Kind, Scalar, ScalarKind, by_kind};
 use seg_vector::{Place, SegTexts, free_storage};
 
-/// Gives back the blocks that the value of the object of a handle has. A container has nothing in it and no place then,
-/// and numbers stay as they are.
+/// Frees the blocks of an object's value. A container is then empty, with capacity 0; numbers stay.
 pub(crate) fn release_contents(heap: &mut Heap, handle: u64)
     requires { HoldsObject heap.old.bytes handle }
     ensures { Empties heap.old heap.new handle }
@@ -29,7 +28,7 @@ pub(crate) fn release_contents(heap: &mut Heap, handle: u64)
     }
 }
 
-/// Gives back the blocks of the pairs of a map of two kinds.
+/// Frees the blocks of the pairs of a map of two kinds.
 fn release_pairs(heap: &mut Heap, place: Place, keys: ScalarKind, values: ScalarKind)
     requires { HasPairs keys values heap.old.bytes place }
     ensures { ReleasesPairs keys values heap.old heap.new place }
@@ -42,7 +41,7 @@ fn release_pairs(heap: &mut Heap, place: Place, keys: ScalarKind, values: Scalar
     by_kind!(keys, released)
 }
 
-/// Gives back the blocks of the pairs of a map whose keys are of a type.
+/// Frees the blocks of the pairs of a map with map keys of a type.
 fn release_pairs_of<K: Scalar>(heap: &mut Heap, place: Place, values: ScalarKind)
     requires { HasPairs K.kind values heap.old.bytes place }
     ensures { ReleasesPairs K.kind values heap.old heap.new place }
@@ -55,7 +54,7 @@ fn release_pairs_of<K: Scalar>(heap: &mut Heap, place: Place, values: ScalarKind
     by_kind!(values, released)
 }
 
-/// Gives back the blocks of the pairs of a map of two types.
+/// Frees the blocks of the pairs of a map of two types.
 fn release_map<K: Scalar, V: Scalar>(heap: &mut Heap, place: Place)
     requires { HasPairs K.kind V.kind heap.old.bytes place }
     ensures { ReleasesPairs K.kind V.kind heap.old heap.new place }

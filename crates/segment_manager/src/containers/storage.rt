@@ -1,5 +1,4 @@
-//! The places of vectors and strings of objects, vectors of strings among them: reserved, given back and left empty;
-//! and how many elements containers have.
+//! The capacity of vectors, strings and vectors of strings, and the number of elements of containers.
 ghost use Rattle.std.specs.Prelude.{◌≡◌, OnErr, true};
 ghost use Rattle.seg_types.specs.declared.kinds.Kind.TheVariants.{Map as MapOf, Vector as VectorOf};
 ghost use Rattle.seg_types.specs.declared.kinds.Kind.TheVariants.{Strings as StringsKind};
@@ -15,20 +14,19 @@ use crate::segment::Segment;
 use seg_types::{Kind, Refusal, Scalar};
 use seg_vector::SegTexts;
 
-/// Where the number of elements or pairs stands in a container, a vector, string or map, and after it that of places.
+/// The offset of a container's number of elements or pairs; its capacity follows.
 const LEN: u64 = 8;
 
 const CAPACITY: u64 = 16;
 
 impl Segment {
-    /// Returns how many elements the vector or string of a key has, and how many places; or how many pairs its map has,
-    /// and 0.
+    /// Returns the length and the capacity of the vector or string, or the number of a map's pairs and 0.
     ///
     /// Example: `let (count, places) = segment.measure(&name)?`.
     ///
     /// # Errors
     ///
-    /// `NotFound` if no object has the key, `WrongKind` if it is no container.
+    /// `NotFound` if no object has the key, `WrongKind` if the object is no container.
     pub fn measure<O: ObjectRef>(&self, key: &O) -> Result<(u64, u64), Refusal>
         requires { O.stands key.now self.now }
         ensures { AnswersWith self.now (λ d. sizes_at d (O.key key.now)) result }
@@ -40,7 +38,7 @@ impl Segment {
         }
     }
 
-    /// Counts the elements and the places of a container of a kind.
+    /// Returns the length and the capacity of a container of a kind.
     fn measure_kind<O: ObjectRef>(&self, key: &O, kind: Kind) -> Result<(u64, u64), Refusal>
         requires target { O.stands key.now self.now }
         requires container { has_sizes kind ≡ true }
@@ -54,14 +52,14 @@ impl Segment {
         }
     }
 
-    /// Gives the vector or string of a key places for `n` elements, if it has fewer.
+    /// Grows the capacity of the vector or string to at least `n` elements.
     ///
     /// Example: `segment.reserve(&name, 1000)?`.
     ///
     /// # Errors
     ///
-    /// `ReadOnly` if the segment is open for reading. Otherwise `NotFound` if no object has the key, `WrongKind` if it
-    /// has no storage, `NoSpace` if its storage cannot be regrown. Nothing changes.
+    /// `ReadOnly` if the segment is open for reading. Otherwise `NotFound` if no object has the key, `WrongKind` if the
+    /// object has no storage, `NoSpace` if its storage cannot be regrown. Nothing changes.
     #[inline(never)]
     pub fn reserve<O: ObjectRef>(&mut self, key: &O, n: u64) -> Result<(), Refusal>
         requires { O.stands key.now self.old }
@@ -72,14 +70,14 @@ impl Segment {
         self.change_storage(key, Change::Reserve(n))
     }
 
-    /// Gives back the places of the vector or string of a key that have no element.
+    /// Shrinks the capacity of the vector or string to its length, as far as its block can be shortened.
     ///
     /// Example: `segment.shrink(&name)?`.
     ///
     /// # Errors
     ///
-    /// `ReadOnly` if the segment is open for reading. Otherwise `NotFound` if no object has the key, `WrongKind` if it
-    /// has no storage. Nothing changes.
+    /// `ReadOnly` if the segment is open for reading. Otherwise `NotFound` if no object has the key, `WrongKind` if the
+    /// object has no storage. Nothing changes.
     #[inline(never)]
     pub fn shrink<O: ObjectRef>(&mut self, key: &O) -> Result<(), Refusal>
         requires { O.stands key.now self.old }
@@ -89,14 +87,14 @@ impl Segment {
         self.change_storage(key, Change::Shrink)
     }
 
-    /// Takes all elements out of the vector or string of a key. The places stay.
+    /// Removes all elements of the vector or string. The capacity stays.
     ///
     /// Example: `segment.clear(&name)?`.
     ///
     /// # Errors
     ///
-    /// `ReadOnly` if the segment is open for reading. Otherwise `NotFound` if no object has the key, `WrongKind` if it
-    /// has no storage. Nothing changes.
+    /// `ReadOnly` if the segment is open for reading. Otherwise `NotFound` if no object has the key, `WrongKind` if the
+    /// object has no storage. Nothing changes.
     #[inline(never)]
     pub fn clear<O: ObjectRef>(&mut self, key: &O) -> Result<(), Refusal>
         requires { O.stands key.now self.old }
@@ -106,7 +104,7 @@ impl Segment {
         self.change_storage(key, Change::Clear)
     }
 
-    /// Changes the storage of the vector or string of a key. It is inlined, so the change costs no test.
+    /// Changes the storage of the vector or string. It is inlined, so the choice of the change costs no test.
     #[inline(always)]
     fn change_storage<O: ObjectRef>(&mut self, key: &O, change: Change) -> Result<(), Refusal>
         requires { O.stands key.now self.old }
@@ -131,13 +129,14 @@ impl Segment {
         }
     }
 
-    /// Returns how many elements the array of a key has, one scalar or an array of a type.
+    /// Returns the number of elements of the array of scalars; a single scalar is an array of 1. The array's type must
+    /// match.
     ///
     /// Example: `let count = segment.array_len::<u8, _>(&name)?`.
     ///
     /// # Errors
     ///
-    /// `NotFound` if no object has the key, `WrongKind` if it is of another kind.
+    /// `NotFound` if no object has the key, `WrongKind` if the object has another kind.
     pub fn array_len<T: Scalar, O: ObjectRef>(&self, key: &O) -> Result<u64, Refusal>
         requires { O.stands key.now self.now }
         ensures { AnswersWith self.now (λ d. array_length_at d (O.key key.now) T.kind) result }
@@ -149,13 +148,13 @@ impl Segment {
         Ok(u64::from(object.count))
     }
 
-    /// Returns how many elements the vector of a key has, a vector of the type.
+    /// Returns the number of elements of the vector. The vector's type must match.
     ///
     /// Example: `let count = segment.vec_len::<i64, _>(&name)?`.
     ///
     /// # Errors
     ///
-    /// `NotFound` if no object has the key, `WrongKind` if it is of another kind.
+    /// `NotFound` if no object has the key, `WrongKind` if the object has another kind.
     pub fn vec_len<T: Scalar, O: ObjectRef>(&self, key: &O) -> Result<u64, Refusal>
         requires { O.stands key.now self.now }
         ensures { AnswersWith self.now (λ d. length_at_kind d (O.key key.now) (VectorOf T.kind)) result }
@@ -163,13 +162,13 @@ impl Segment {
         Ok(self.measure_kind(key, Kind::Vector(T::kind()))?.0)
     }
 
-    /// Returns how many texts the vector of strings of a key has.
+    /// Returns the number of texts of the vector of strings.
     ///
     /// Example: `let count = segment.texts_len(&name)?`.
     ///
     /// # Errors
     ///
-    /// `NotFound` if no object has the key, `WrongKind` if it is of another kind.
+    /// `NotFound` if no object has the key, `WrongKind` if the object has another kind.
     pub fn texts_len<O: ObjectRef>(&self, key: &O) -> Result<u64, Refusal>
         requires { O.stands key.now self.now }
         ensures { AnswersWith self.now (λ d. length_at_kind d (O.key key.now) StringsKind) result }
@@ -177,13 +176,13 @@ impl Segment {
         Ok(self.measure_kind(key, Kind::Strings)?.0)
     }
 
-    /// Returns how many pairs the map of a key has, a map of the types.
+    /// Returns the number of pairs of the map. The map's types must match.
     ///
     /// Example: `let count = segment.map_len::<i32, i64, _>(&name)?`.
     ///
     /// # Errors
     ///
-    /// `NotFound` if no object has the key, `WrongKind` if it is of another kind.
+    /// `NotFound` if no object has the key, `WrongKind` if the object has another kind.
     pub fn map_len<K: Scalar, V: Scalar, O: ObjectRef>(&self, key: &O) -> Result<u64, Refusal>
         requires { O.stands key.now self.now }
         ensures { AnswersWith self.now (λ d. length_at_kind d (O.key key.now) (MapOf K.kind V.kind)) result }

@@ -1,5 +1,5 @@
-//! The storage of containers of objects: reserved, given back and left empty. What has elements in it differs in their
-//! length alone.
+//! Grows, shrinks and clears the storage of containers. Containers with elements in their storage differ only in the
+//! length of an element.
 ghost use Rattle.std.specs.Prelude.{◌≡◌};
 ghost use Rattle.seg_vector.specs.TextsCalls.{IsTextsContainer};
 ghost use Rattle.segment_manager.specs.containers.Stored.{ChangesElements, ChangesTexts, IsElements, each_of};
@@ -8,18 +8,18 @@ use best_fit::Heap;
 use seg_types::{Kind, Refusal};
 use seg_vector::{Place, SegTexts, reserve, shrink_storage, truncate};
 
-/// What is done with the storage of a container.
+/// A change of a container's storage.
 #[derive(Clone, Copy)]
 pub(crate) enum Change {
-    /// The container gets places for this number of elements, if it has fewer.
+    /// Grows the capacity to at least this number of elements.
     Reserve(u64),
-    /// Its places that have no element are given back.
+    /// Shrinks the capacity to the length.
     Shrink,
-    /// All its elements are taken out. The places stay.
+    /// Removes all elements. The capacity stays.
     Clear,
 }
 
-/// Returns the bytes of an element of a vector of scalars, or of a string.
+/// Returns the length in bytes of an element of a vector of scalars, or of a string.
 pub(crate) fn element_len(kind: Kind) -> u64
     ensures { result ≡ each_of kind }
 {
@@ -43,7 +43,7 @@ pub(crate) fn change_texts(heap: &mut Heap, texts: SegTexts, change: Change) -> 
     Ok(())
 }
 
-/// Changes the storage of a container of elements of `each` bytes.
+/// Changes the storage of a container with elements of `each` bytes.
 #[inline(always)]
 pub(crate) fn change_elements(
     heap: &mut Heap,

@@ -1,4 +1,4 @@
-//! The texts of objects that are vectors of strings, read and changed.
+//! Reads and changes the texts of vectors of strings.
 ghost use Rattle.std.specs.{Prelude.◌≡◌, Prelude.IsTrue, Prelude.OnErr, Prelude.length, Prelude.map, List.list_all};
 ghost use Rattle.seg_types.specs.declared.kinds.Kind.TheVariants.{Strings as StringsKind};
 ghost use Rattle.seg_types.specs.Commands.{Assign, Erase, Get, Insert, Pop, Push, Quoted, Set};
@@ -17,13 +17,14 @@ use seg_types::{Kind, Refusal};
 use seg_vector::SegTexts;
 
 impl Segment {
-    /// Returns the bytes of the text at `index` in the vector of strings of a key, lent.
+    /// Returns the bytes of the text at `index` of the vector of strings, borrowed from the segment.
     ///
     /// Example: `let text = segment.texts_get(&name, 0)?`.
     ///
     /// # Errors
     ///
-    /// `NotFound` if no object has the key, `WrongKind` if it is of another kind, `OutOfRange` if it has no text there.
+    /// `NotFound` if no object has the key, `WrongKind` if the object has another kind, `OutOfRange` if `index` is not
+    /// below the length.
     pub fn texts_get<O: ObjectRef>(&self, key: &O, index: u64) -> Result<&[u8], Refusal>
         requires { O.stands key.now self.now }
         ensures { AnswersQueryOfKind self.now (O.key key.now) StringsKind
@@ -33,15 +34,19 @@ impl Segment {
         SegTexts { place }.get(&self.heap, index)
     }
 
-    /// Replaces the text at `index` in the vector of strings. Allocates the new text's block before it frees the old
+    /// Replaces the text at `index` of the vector of strings. It allocates the new text's block before it frees the old
     /// one.
     ///
     /// Example: `segment.texts_set(&name, 0, b"plums")?`.
     ///
     /// # Errors
     ///
-    /// `ReadOnly` if the segment is open for reading. Otherwise `NotFound` if no object has the key, `WrongKind` if it
-    /// is of another kind, `OutOfRange` if it has no text there, `NoSpace` if the text has no fit. Nothing changes.
+    /// The first that applies; nothing changes:
+    /// - `ReadOnly` if the segment is open for reading;
+    /// - `NotFound` if no object has the key;
+    /// - `WrongKind` if the object has another kind;
+    /// - `OutOfRange` if `index` is not below the length;
+    /// - `NoSpace` if no gap is long enough for the text.
     pub fn texts_set<O: ObjectRef>(
         &mut self,
         key: &O,
@@ -57,16 +62,18 @@ impl Segment {
         SegTexts { place }.set(&mut self.heap, index, text)
     }
 
-    /// Puts bytes after the last text of the vector of strings of a key. A full vector gets twice its places first, and
-    /// at least 4.
+    /// Appends a text to the vector of strings. A full vector first doubles its capacity, to at least 4.
     ///
     /// Example: `segment.texts_push(&name, b"plums")?`.
     ///
     /// # Errors
     ///
-    /// `ReadOnly` if the segment is open for reading. Otherwise `NotFound` if no object has the key, `WrongKind` if it
-    /// is of another kind, and nothing changes; `NoSpace` if it is full and its array cannot be regrown, or the text
-    /// has no fit: all objects and blocks are as they were. Bytes of gaps may differ if an array was had.
+    /// The first that applies; nothing changes, except after `NoSpace`:
+    /// - `ReadOnly` if the segment is open for reading;
+    /// - `NotFound` if no object has the key;
+    /// - `WrongKind` if the object has another kind;
+    /// - `NoSpace` if the vector is full and its array cannot be regrown, or if no gap is long enough for the text. All
+    ///   objects and blocks are then unchanged; bytes of gaps can change if an array was allocated.
     pub fn texts_push<O: ObjectRef>(&mut self, key: &O, text: &[u8]) -> Result<(), Refusal>
         requires { O.stands key.now self.old }
         ensures step { TakesStepOfKind self.old self.new (O.key key.now) StringsKind
@@ -78,16 +85,19 @@ impl Segment {
         SegTexts { place }.push(&mut self.heap, text)
     }
 
-    /// Makes texts those of the vector of strings of a key. One or more get a new array with just a place for each, and
-    /// then their blocks, while the old ones are in use; none leave the array that there is.
+    /// Replaces all texts of the vector of strings. For one or more texts it allocates a new array with a capacity of
+    /// exactly their number, and then their blocks, before it frees the old blocks. Without texts the array stays.
     ///
     /// Example: `segment.texts_assign(&name, &[b"apples", b"pears"])?`.
     ///
     /// # Errors
     ///
-    /// `ReadOnly` if the segment is open for reading. Otherwise `NotFound` if no object has the key, `WrongKind` if it
-    /// is of another kind, and nothing changes; `NoSpace` if the array or a text has no fit: all objects and blocks are
-    /// as they were. Bytes of gaps may differ if an array was had.
+    /// The first that applies; nothing changes, except after `NoSpace`:
+    /// - `ReadOnly` if the segment is open for reading;
+    /// - `NotFound` if no object has the key;
+    /// - `WrongKind` if the object has another kind;
+    /// - `NoSpace` if no gap is long enough for the array or a text. All objects and blocks are then unchanged; bytes
+    ///   of gaps can change if an array was allocated.
     pub fn texts_assign<O: ObjectRef>(&mut self, key: &O, texts: &[&[u8]]) -> Result<(), Refusal>
         requires { O.stands key.now self.old }
         ensures step { TakesStepOfKind self.old self.new (O.key key.now) StringsKind
@@ -100,14 +110,14 @@ impl Segment {
         SegTexts { place }.assign(&mut self.heap, texts)
     }
 
-    /// Takes the last text out of the vector of strings of a key, and gives back its block. The places stay.
+    /// Removes the last text of the vector of strings, and frees its block. The capacity stays.
     ///
     /// Example: `segment.texts_pop(&name)?`.
     ///
     /// # Errors
     ///
-    /// `ReadOnly` if the segment is open for reading. Otherwise `NotFound` if no object has the key, `WrongKind` if it
-    /// is of another kind, `OutOfRange` if it is empty. Nothing changes.
+    /// `ReadOnly` if the segment is open for reading. Otherwise `NotFound` if no object has the key, `WrongKind` if the
+    /// object has another kind, `OutOfRange` if it is empty. Nothing changes.
     pub fn texts_pop<O: ObjectRef>(&mut self, key: &O) -> Result<(), Refusal>
         requires { O.stands key.now self.old }
         ensures step { LeadsOnOfKind self.old self.new (O.key key.now) StringsKind (Pop (O.key key.now))
@@ -118,17 +128,20 @@ impl Segment {
         SegTexts { place }.pop(&mut self.heap)
     }
 
-    /// Puts bytes where `index` other texts stand before them in the vector of strings of a key. Those from there on
-    /// move up. A full vector gets twice its places first, and at least 4.
+    /// Inserts a text before the one at `index` of the vector of strings. The texts from there on move up. A full
+    /// vector first doubles its capacity, to at least 4.
     ///
     /// Example: `segment.texts_insert(&name, 0, b"plums")?`.
     ///
     /// # Errors
     ///
-    /// `ReadOnly` if the segment is open for reading. Otherwise `NotFound` if no object has the key, `WrongKind` if it
-    /// is of another kind, `OutOfRange` if `index` is above the length, and nothing changes; `NoSpace` if it is full
-    /// and its array cannot be regrown, or the text has no fit: all objects and blocks are as they were. Bytes of gaps
-    /// may differ if an array was had.
+    /// The first that applies; nothing changes, except after `NoSpace`:
+    /// - `ReadOnly` if the segment is open for reading;
+    /// - `NotFound` if no object has the key;
+    /// - `WrongKind` if the object has another kind;
+    /// - `OutOfRange` if `index` is above the length;
+    /// - `NoSpace` if the vector is full and its array cannot be regrown, or if no gap is long enough for the text. All
+    ///   objects and blocks are then unchanged; bytes of gaps can change if an array was allocated.
     pub fn texts_insert<O: ObjectRef>(
         &mut self,
         key: &O,
@@ -145,15 +158,15 @@ impl Segment {
         SegTexts { place }.insert(&mut self.heap, index, text)
     }
 
-    /// Leaves out the text at `index` in the vector of strings of a key, and gives back its block. Those after it move
-    /// down, and the places stay.
+    /// Removes the text at `index` of the vector of strings, and frees its block. The texts after it move down; the
+    /// capacity stays.
     ///
     /// Example: `segment.texts_erase(&name, 0)?`.
     ///
     /// # Errors
     ///
-    /// `ReadOnly` if the segment is open for reading. Otherwise `NotFound` if no object has the key, `WrongKind` if it
-    /// is of another kind, `OutOfRange` if it has no text there. Nothing changes.
+    /// `ReadOnly` if the segment is open for reading. Otherwise `NotFound` if no object has the key, `WrongKind` if the
+    /// object has another kind, `OutOfRange` if `index` is not below the length. Nothing changes.
     pub fn texts_erase<O: ObjectRef>(&mut self, key: &O, index: u64) -> Result<(), Refusal>
         requires { O.stands key.now self.old }
         ensures step { TakesStepOfKind self.old self.new (O.key key.now) StringsKind
@@ -165,7 +178,7 @@ impl Segment {
     }
 }
 
-/// Says that texts are of bytes. Their type knows it, and says it of one slice at a time.
+/// States that the texts consist of bytes. Their type implies it, for one slice at a time.
 pub(crate) fn judge_all(texts: &[&[u8]])
     ensures { IsTrue (list_all are_bytes (map (λ text. text.now) texts.now)) }
 {

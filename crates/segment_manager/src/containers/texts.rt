@@ -1,4 +1,4 @@
-//! The bytes of objects that are strings, read and changed.
+//! Reads and changes the bytes of strings.
 ghost use Rattle.std.specs.Prelude.{◌≡◌, Ok, Err, MatchResult, [], ◌∷◌, OnErr, pos};
 ghost use Rattle.seg_types.specs.declared.kinds.Kind.TheVariants.{String as StringKind};
 ghost use Rattle.seg_types.specs.declared.kinds.ScalarKind.TheVariants.{U8 as ByteKind};
@@ -13,13 +13,13 @@ use seg_types::{Kind, Refusal};
 use seg_vector::SegString;
 
 impl Segment {
-    /// Returns the bytes of the string of a key.
+    /// Returns the bytes of the string, borrowed from the segment.
     ///
     /// Example: `let bytes = segment.string_bytes(&name)?`.
     ///
     /// # Errors
     ///
-    /// `NotFound` if no object has the key, `WrongKind` if it is no string.
+    /// `NotFound` if no object has the key, `WrongKind` if the object is no string.
     pub fn string_bytes<O: ObjectRef>(&self, key: &O) -> Result<&[u8], Refusal>
         requires { O.stands key.now self.now }
         ensures { MatchResult result (λ bytes. AnswersWith self.now (λ d. bytes_at d (O.key key.now)) (Ok bytes.now))
@@ -29,14 +29,14 @@ impl Segment {
         Ok(SegString { place }.as_bytes(&self.heap))
     }
 
-    /// Makes a byte the one at `index` in the string of a key.
+    /// Sets the byte at `index` of the string.
     ///
     /// Example: `segment.string_set(&name, 0, b'R')?`.
     ///
     /// # Errors
     ///
-    /// `ReadOnly` if the segment is open for reading. Otherwise `NotFound` if no object has the key, `WrongKind` if it
-    /// is no string, `OutOfRange` if it has no byte there. Nothing changes.
+    /// `ReadOnly` if the segment is open for reading. Otherwise `NotFound` if no object has the key, `WrongKind` if the
+    /// object is no string, `OutOfRange` if `index` is not below the length. Nothing changes.
     pub fn string_set<O: ObjectRef>(&mut self, key: &O, index: u64, byte: u8) -> Result<(), Refusal>
         requires { O.stands key.now self.old }
         ensures step { TakesStepOfKind self.old self.new (O.key key.now) StringKind
@@ -48,15 +48,15 @@ impl Segment {
         SegString { place }.set(&mut self.heap, index, byte)
     }
 
-    /// Puts bytes after those of the string of a key. If they do not fit, it gets twice its places first, at least
-    /// 16, and as many as are needed.
+    /// Appends bytes to the string. If the capacity is too small, it doubles, to at least 16 and at least the new
+    /// length.
     ///
     /// Example: `segment.string_append(&name, b"-black")?`.
     ///
     /// # Errors
     ///
-    /// `ReadOnly` if the segment is open for reading. Otherwise `NotFound` if no object has the key, `WrongKind` if it
-    /// is no string, `NoSpace` if its storage cannot be regrown. Nothing changes.
+    /// `ReadOnly` if the segment is open for reading. Otherwise `NotFound` if no object has the key, `WrongKind` if the
+    /// object is no string, `NoSpace` if its storage cannot be regrown. Nothing changes.
     pub fn string_append<O: ObjectRef>(&mut self, key: &O, bytes: &[u8]) -> Result<(), Refusal>
         requires { O.stands key.now self.old }
         ensures step { TakesStepOfKind self.old self.new (O.key key.now) StringKind
@@ -74,8 +74,8 @@ impl Segment {
     ///
     /// # Errors
     ///
-    /// `ReadOnly` if the segment is open for reading. Otherwise `NotFound` if no object has the key, `WrongKind` if it
-    /// is no string, `NoSpace` if its storage cannot be regrown. Nothing changes.
+    /// `ReadOnly` if the segment is open for reading. Otherwise `NotFound` if no object has the key, `WrongKind` if the
+    /// object is no string, `NoSpace` if its storage cannot be regrown. Nothing changes.
     pub fn string_assign<O: ObjectRef>(&mut self, key: &O, bytes: &[u8]) -> Result<(), Refusal>
         requires { O.stands key.now self.old }
         ensures step { TakesStepOfKind self.old self.new (O.key key.now) StringKind

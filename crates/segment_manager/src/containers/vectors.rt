@@ -1,4 +1,4 @@
-//! The elements of objects that are vectors of scalars, read and changed.
+//! Reads and changes the elements of vectors of scalars.
 ghost use Rattle.std.specs.{Prelude.◌≡◌, Prelude.IsTrue, Prelude.OnErr, Prelude.map, Prelude.true, List.list_all};
 ghost use Rattle.seg_types.specs.declared.kinds.Kind.TheVariants.{Vector as VectorOf};
 ghost use Rattle.seg_types.specs.Commands.{Assign, Erase, Get, Insert, Pop, Push, Set, literal_of};
@@ -13,14 +13,14 @@ use seg_types::{Kind, Refusal, Scalar};
 use seg_vector::SegVec;
 
 impl Segment {
-    /// Returns the element at `index` in the vector of a key, a vector of the type.
+    /// Returns the element at `index` of the vector. The vector's type must match.
     ///
     /// Example: `let number: i64 = segment.vec_get(&name, 0)?`.
     ///
     /// # Errors
     ///
-    /// `NotFound` if no object has the key, `WrongKind` if it is of another kind, `OutOfRange` if it has no element
-    /// there.
+    /// `NotFound` if no object has the key, `WrongKind` if the object has another kind, `OutOfRange` if `index` is not
+    /// below the length.
     pub fn vec_get<T: Scalar, O: ObjectRef>(&self, key: &O, index: u64) -> Result<T, Refusal>
         requires { O.stands key.now self.now }
         ensures { AnswersQueryOfKind self.now (O.key key.now) (VectorOf T.kind)
@@ -30,14 +30,14 @@ impl Segment {
         SegVec::<T>::at(place).get(&self.heap, index)
     }
 
-    /// Makes a value the element at `index` in the vector of a key, a vector of the type.
+    /// Sets the element at `index` of the vector. The vector's type must match.
     ///
     /// Example: `segment.vec_set(&name, 1, 5i64)?`.
     ///
     /// # Errors
     ///
-    /// `ReadOnly` if the segment is open for reading. Otherwise `NotFound` if no object has the key, `WrongKind` if it
-    /// is of another kind, `OutOfRange` if it has no element there. Nothing changes.
+    /// `ReadOnly` if the segment is open for reading. Otherwise `NotFound` if no object has the key, `WrongKind` if the
+    /// object has another kind, `OutOfRange` if `index` is not below the length. Nothing changes.
     pub fn vec_set<T: Scalar, O: ObjectRef>(
         &mut self,
         key: &O,
@@ -55,15 +55,15 @@ impl Segment {
         SegVec::<T>::at(place).set(&mut self.heap, index, value)
     }
 
-    /// Puts a value after the last element of the vector of a key, a vector of the type. A full vector gets twice its
-    /// places first, and at least 4.
+    /// Appends a value to the vector. The vector's type must match. A full vector first doubles its capacity, to at
+    /// least 4.
     ///
     /// Example: `segment.vec_push(&name, 4i64)?`.
     ///
     /// # Errors
     ///
-    /// `ReadOnly` if the segment is open for reading. Otherwise `NotFound` if no object has the key, `WrongKind` if it
-    /// is of another kind, `NoSpace` if it is full and its storage cannot be regrown. Nothing changes.
+    /// `ReadOnly` if the segment is open for reading. Otherwise `NotFound` if no object has the key, `WrongKind` if the
+    /// object has another kind, `NoSpace` if it is full and its storage cannot be regrown. Nothing changes.
     pub fn vec_push<T: Scalar, O: ObjectRef>(&mut self, key: &O, value: T) -> Result<(), Refusal>
         requires { O.stands key.now self.old }
         ensures step { TakesStepOfKind self.old self.new (O.key key.now) (VectorOf T.kind)
@@ -76,14 +76,15 @@ impl Segment {
         SegVec::<T>::at(place).push(&mut self.heap, value)
     }
 
-    /// Replaces the elements of the vector. If the values do not fit, the capacity becomes their number.
+    /// Replaces the elements of the vector. The vector's type must match. If the values do not fit, the capacity
+    /// becomes their number.
     ///
     /// Example: `segment.vec_assign(&name, &[6i64, 7])?`.
     ///
     /// # Errors
     ///
-    /// `ReadOnly` if the segment is open for reading. Otherwise `NotFound` if no object has the key, `WrongKind` if it
-    /// is of another kind, `NoSpace` if its storage cannot be regrown. Nothing changes.
+    /// `ReadOnly` if the segment is open for reading. Otherwise `NotFound` if no object has the key, `WrongKind` if the
+    /// object has another kind, `NoSpace` if its storage cannot be regrown. Nothing changes.
     pub fn vec_assign<T: Scalar, O: ObjectRef>(
         &mut self,
         key: &O,
@@ -100,14 +101,14 @@ impl Segment {
         SegVec::<T>::at(place).assign(&mut self.heap, values)
     }
 
-    /// Takes the last element out of the vector of a key, a vector of the type. The places stay.
+    /// Removes the last element of the vector and returns it. The vector's type must match. The capacity stays.
     ///
     /// Example: `let last: i64 = segment.vec_pop(&name)?`.
     ///
     /// # Errors
     ///
-    /// `ReadOnly` if the segment is open for reading. Otherwise `NotFound` if no object has the key, `WrongKind` if it
-    /// is of another kind, `OutOfRange` if it is empty. Nothing changes.
+    /// `ReadOnly` if the segment is open for reading. Otherwise `NotFound` if no object has the key, `WrongKind` if the
+    /// object has another kind, `OutOfRange` if it is empty. Nothing changes.
     pub fn vec_pop<T: Scalar, O: ObjectRef>(&mut self, key: &O) -> Result<T, Refusal>
         requires { O.stands key.now self.old }
         ensures step { TakesStepOfKind self.old self.new (O.key key.now) (VectorOf T.kind)
@@ -119,16 +120,19 @@ impl Segment {
         SegVec::<T>::at(place).pop(&mut self.heap)
     }
 
-    /// Puts a value where `index` others stand before it in the vector of a key, a vector of the type. Those from there
-    /// on move up. A full vector gets twice its places first, and at least 4.
+    /// Inserts a value before the element at `index` of the vector. The vector's type must match. The elements from
+    /// there on move up. A full vector first doubles its capacity, to at least 4.
     ///
     /// Example: `segment.vec_insert(&name, 0, 3i64)?`.
     ///
     /// # Errors
     ///
-    /// `ReadOnly` if the segment is open for reading. Otherwise `NotFound` if no object has the key, `WrongKind` if it
-    /// is of another kind, `OutOfRange` if `index` is above the length, `NoSpace` if it is full and its storage cannot
-    /// be regrown. Nothing changes.
+    /// The first that applies; nothing changes:
+    /// - `ReadOnly` if the segment is open for reading;
+    /// - `NotFound` if no object has the key;
+    /// - `WrongKind` if the object has another kind;
+    /// - `OutOfRange` if `index` is above the length;
+    /// - `NoSpace` if the vector is full and its storage cannot be regrown.
     pub fn vec_insert<T: Scalar, O: ObjectRef>(
         &mut self,
         key: &O,
@@ -146,15 +150,15 @@ impl Segment {
         SegVec::<T>::at(place).insert(&mut self.heap, index, value)
     }
 
-    /// Leaves out the element at `index` in the vector of a key, a vector of the type. Those after it move down, and
-    /// the places stay.
+    /// Removes the element at `index` of the vector. The vector's type must match. The elements after it move down; the
+    /// capacity stays.
     ///
     /// Example: `segment.vec_erase::<i64, _>(&name, 0)?`.
     ///
     /// # Errors
     ///
-    /// `ReadOnly` if the segment is open for reading. Otherwise `NotFound` if no object has the key, `WrongKind` if it
-    /// is of another kind, `OutOfRange` if it has no element there. Nothing changes.
+    /// `ReadOnly` if the segment is open for reading. Otherwise `NotFound` if no object has the key, `WrongKind` if the
+    /// object has another kind, `OutOfRange` if `index` is not below the length. Nothing changes.
     pub fn vec_erase<T: Scalar, O: ObjectRef>(&mut self, key: &O, index: u64) -> Result<(), Refusal>
         requires { O.stands key.now self.old }
         ensures step { TakesStepOfKind self.old self.new (O.key key.now) (VectorOf T.kind)
@@ -167,7 +171,7 @@ impl Segment {
     }
 }
 
-/// Says that each of some values is one.
+/// States that each of the values satisfies `is_value`.
 fn judge_all<T: Scalar>(values: &[T])
     ensures { IsTrue (list_all T.is_value values.now) }
 {

@@ -1,4 +1,4 @@
-//! The pairs of objects that are maps whose kinds are not known before, one after another by rising keys.
+//! Reads the pairs of maps whose kinds are known only at run time, by rising map keys.
 ghost use Rattle.std.specs.Prelude.{◌≡◌, option_map};
 ghost use Rattle.seg_types.specs.{Kinds.lowest, Values.kind_of_scalar, Values.value_of_scalar};
 ghost use Rattle.seg_map.specs.Places.{item_of};
@@ -11,8 +11,8 @@ use crate::segment::Segment;
 use seg_types::{Refusal, Scalar, ScalarKind, ScalarValue, by_kind, by_value};
 
 impl Segment {
-    /// Returns the pair with the least key above a bound, or not below it, of the map of a key. The map has keys of the
-    /// kind of the bound and values of a kind. It is inlined, so which of the two costs no test.
+    /// Returns the map's first pair whose map key is above a bound, or not below it. The map has map keys of the kind
+    /// of the bound, and values of the kind `values`. It is inlined, so the choice between the two costs no test.
     #[inline(always)]
     fn pair_of_kinds<O: ObjectRef>(
         &self,
@@ -34,7 +34,7 @@ impl Segment {
         })
     }
 
-    /// Returns the pair with the least key above a bound, or not below it, for keys of a type.
+    /// Returns the map's first pair whose map key is above a bound, or not below it, for map keys of a type.
     #[inline(always)]
     fn pair_by_key<K: Scalar, O: ObjectRef>(
         &self,
@@ -77,14 +77,14 @@ fn least(kind: ScalarKind) -> ScalarValue
     by_kind!(kind, least)
 }
 
-/// Returns the pair with the least key of the map of a key, a map of the two kinds, or `None` if the map is empty.
+/// Returns the map's first pair, or `None` if the map is empty.
 ///
 /// Example: `let first = first_pair(&segment, &key, ScalarKind::I32, ScalarKind::I64)`.
 ///
 /// # Conditions
 ///
-/// The object of the key is a map of these kinds, as `kind_of` or `locate` say. `map_first_from` takes types,
-/// refuses every other object, and has no condition.
+/// The object is a map of these kinds, which `kind_of` and `locate` return. `map_first_from` takes types and has no
+/// condition: it fails for every other object.
 pub fn first_pair<O: ObjectRef>(
     segment: &Segment,
     key: &O,
@@ -102,16 +102,15 @@ pub fn first_pair<O: ObjectRef>(
     }
 }
 
-/// Returns the pair with the least key above `after` of the map of a key, or `None` if no key is above. The map has
-/// keys of the kind of `after` and values of a kind. So all pairs are read in rising order, each in a walk from the
-/// root of the tree.
+/// Returns the map's next pair after the map key `after`, or `None` if there is none. A loop from `first_pair` on reads
+/// all pairs by rising map keys; each call searches from the root of the tree.
 ///
 /// Example: `let next = next_pair(&segment, &key, ScalarValue::I32(2), ScalarKind::I64)`.
 ///
 /// # Conditions
 ///
-/// The object of the key is a map of these kinds, as `kind_of` or `locate` say. `map_next_after` takes types,
-/// refuses every other object, and has no condition.
+/// The object is a map with map keys of the kind of `after` and values of the kind `values`, which `kind_of` and
+/// `locate` return. `map_next_after` takes types and has no condition: it fails for every other object.
 pub fn next_pair<O: ObjectRef>(
     segment: &Segment,
     key: &O,

@@ -1,4 +1,4 @@
-//! The objects of an index, and the names of those that have one, one after another.
+//! Iterators over the objects of an index, and over the names.
 ghost use Rattle.std.specs.{Prelude.◌≡◌, Prelude.◌-◌, Prelude.IfSome, Prelude.length, Iterator.UpTo, Iterator.at_most};
 ghost use Rattle.std.specs.Iterator.SizeHint.{IsExactHint, IsWithinCount};
 ghost use Rattle.seg_index.specs.declared.index.Index.TheVariants.{Named, Unique};
@@ -11,10 +11,10 @@ use crate::segment::Segment;
 use seg_index::Index;
 use std::marker::Model;
 
-/// The objects of one of the two indexes in its order, one after another: what each says of itself. Nothing is looked
-/// up.
+/// An iterator over the objects of one of the two indexes, in its order. It returns each object's `Instance` without a
+/// look-up.
 ///
-/// Contracts see the segment, the index, and how many objects came.
+/// In contracts it is the segment, the index, and the number of objects returned so far.
 #[derive(Drop)]
 pub struct Instances<'a> {
     pub(crate) segment: &'a Segment,
@@ -59,9 +59,9 @@ impl<'a> Iterator for Instances<'a> {
     }
 }
 
-/// The names of the objects that have one, in the order of their bytes, one after another. Nothing is looked up.
+/// An iterator over the names of the named objects, in the order of their bytes. It makes no look-up.
 ///
-/// Contracts see the segment, and how many names came.
+/// In contracts it is the segment, and the number of names returned so far.
 #[derive(Drop)]
 pub struct Names<'a> {
     pub(crate) instances: Instances<'a>,
@@ -103,8 +103,8 @@ impl<'a> Iterator for Names<'a> {
 }
 
 impl Segment {
-    /// Returns the names of the objects that have one, in the order of their bytes. A name is bytes, as `Name::new`
-    /// takes them.
+    /// Returns an iterator over the names of the named objects, in the order of their bytes. Each item is the bytes of
+    /// a name, which `Name::new` accepts.
     ///
     /// Example: `for name in segment.names()`.
     pub fn names(&self) -> Names<'_>
@@ -115,7 +115,7 @@ impl Segment {
         }
     }
 
-    /// Returns the objects with names, in the order of the bytes of their names.
+    /// Returns an iterator over the named objects, in the order of the bytes of their names.
     ///
     /// Example: `for said in segment.named_instances()`.
     pub fn named_instances(&self) -> Instances<'_>
@@ -128,7 +128,7 @@ impl Segment {
         }
     }
 
-    /// Returns the unique objects, in the order of the codes of their kinds.
+    /// Returns an iterator over the unique objects, in the order of the codes of their kinds.
     ///
     /// Example: `for said in segment.unique_instances()`.
     pub fn unique_instances(&self) -> Instances<'_>
@@ -141,7 +141,7 @@ impl Segment {
         }
     }
 
-    /// Returns how many objects an index has.
+    /// Returns the number of objects in an index.
     fn count_of(&self, index: Index) -> u64
         ensures word { result ≡ entry_count self.now.cut (place_of index) }
         ensures count { AnswersWith self.now (λ d. length (objects_of index d)) result }

@@ -1,4 +1,4 @@
-//! The names from a text on: where the first of them stands, and those after it.
+//! The names that do not precede a text.
 ghost use Rattle.std.specs.Prelude.{◌≡◌};
 ghost use Rattle.seg_index.specs.declared.index.Index.TheVariants.{Named};
 ghost use Rattle.segment_manager.specs.indexes.NamesFrom.{IsFirstFrom};
@@ -9,8 +9,8 @@ use raw_region::Steps;
 use seg_index::{Entry, Index, Lookup};
 
 impl Segment {
-    /// Returns how many names stand before the text, which may be any bytes: the place of the first that does not. It
-    /// is one look-up in the index of names.
+    /// Returns the number of names that precede the text, which can be any bytes. This is the place of the first name
+    /// that does not. It takes one look-up in the index of names.
     ///
     /// Example: `let at = segment.named_place(b"prices/")`.
     pub fn named_place(&self, text: &[u8]) -> u64
@@ -22,7 +22,8 @@ impl Segment {
         }
     }
 
-    /// Returns the objects whose names do not stand before the text, in the order of the bytes of their names.
+    /// Returns an iterator over the named objects whose names do not precede the text, in the order of the bytes of
+    /// their names.
     ///
     /// Example: `for said in segment.named_instances_from(b"prices/")`.
     pub fn named_instances_from(&self, text: &[u8]) -> Instances<'_>
@@ -37,7 +38,7 @@ impl Segment {
         }
     }
 
-    /// Returns the names that do not stand before the text, in the order of their bytes.
+    /// Returns an iterator over the names that do not precede the text, in the order of their bytes.
     ///
     /// Example: `for name in segment.names_from(b"prices/")`.
     pub fn names_from(&self, text: &[u8]) -> Names<'_>

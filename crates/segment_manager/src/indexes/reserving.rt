@@ -1,4 +1,4 @@
-//! Places of the two indexes, reserved and given back.
+//! Grows and shrinks the capacity of the two indexes.
 ghost use Rattle.std.specs.Prelude.{◌≡◌, ◌≤◌, OnErr};
 ghost use Rattle.seg_types.specs.Commands.{ReserveNamed, ReserveUnique, ShrinkIndexes};
 ghost use Rattle.segment_manager.specs.{indexes.Indexed.reserve_of, indexes.Indexed.table_of, Keeping.UnchangedWhere};
@@ -11,8 +11,8 @@ use seg_index::Index;
 use seg_types::Refusal;
 
 impl Segment {
-    /// Gives the index of names places for `n` objects, if it has less: in a new block of exactly `n`, and the old
-    /// one is given back.
+    /// Grows the capacity of the index of names to `n` objects, if it is less. It allocates a block for exactly `n`,
+    /// and then frees the old one.
     ///
     /// Example: `segment.reserve_named(1000)?`.
     ///
@@ -27,7 +27,7 @@ impl Segment {
         self.reserve_index(Index::Named, n)
     }
 
-    /// Gives the index of kinds places for `n` objects, if it has fewer.
+    /// Grows the capacity of the index of kinds to `n` objects, if it is less.
     ///
     /// Example: `segment.reserve_unique(8)?`.
     ///
@@ -42,7 +42,7 @@ impl Segment {
         self.reserve_index(Index::Unique, n)
     }
 
-    /// Gives an index places for `n` objects, if it has fewer.
+    /// Grows the capacity of an index to at least `n` objects.
     fn reserve_index(&mut self, index: Index, n: u64) -> Result<(), Refusal>
         ensures step { TakesStep self.old self.new (reserve_of index n) (done_answer result) }
         ensures refused { OnErr result (self.new ≡ self.old) }
@@ -57,8 +57,8 @@ impl Segment {
         }
     }
 
-    /// Makes the capacity of each index the number of its entries, that of names first. An index without entries gives
-    /// its block back, and otherwise the block is shortened where it stands.
+    /// Shrinks the capacity of both indexes to the number of their entries, the index of names first. It frees the
+    /// block of an empty index, and shortens any other block in place, as far as it can be shortened.
     ///
     /// Example: `segment.shrink_indexes()?`.
     ///

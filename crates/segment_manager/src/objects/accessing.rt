@@ -1,4 +1,4 @@
-//! The elements of objects of scalars, read and written.
+//! Reads and writes the elements of arrays of scalars.
 ghost use Rattle.std.specs.Prelude.{◌≡◌, OnErr, OnOk};
 ghost use Rattle.seg_types.specs.declared.kinds.Kind.TheVariants.{Scalar as ScalarOf};
 ghost use Rattle.seg_types.specs.Commands.{Get, Set, literal_of};
@@ -17,14 +17,14 @@ use seg_types::{Refusal, Scalar, ScalarKind, ScalarValue, by_kind, by_value};
 use seg_vector::Place;
 
 impl Segment {
-    /// Returns the element at `index` in the object of a key, an object of scalars of the type.
+    /// Returns the element at `index` of the array of scalars. The array's type must match.
     ///
     /// Example: `let width: i64 = segment.get(&name, 0)?`.
     ///
     /// # Errors
     ///
-    /// `NotFound` if no object has the key, `WrongKind` if it is of another kind, `OutOfRange` if it has no element
-    /// there.
+    /// `NotFound` if no object has the key, `WrongKind` if the object has another kind, `OutOfRange` if `index` is not
+    /// below the length.
     pub fn get<T: Scalar, O: ObjectRef>(&self, key: &O, index: u64) -> Result<T, Refusal>
         requires { O.stands key.now self.now }
         ensures { AnswersQueryOfKind self.now (O.key key.now) (ScalarOf T.kind) (Get (O.key key.now) index)
@@ -36,7 +36,7 @@ impl Segment {
         )
     }
 
-    /// Returns the element at `index` in the object of a key, an object of scalars of a kind.
+    /// Returns the element at `index` of the array of scalars of `kind`.
     pub(crate) fn get_value<O: ObjectRef>(
         &self,
         key: &O,
@@ -55,15 +55,14 @@ impl Segment {
         Ok(by_kind!(kind, typed))
     }
 
-    /// Makes a value the element at `index` in the object of a key, an object of scalars of the type. No other byte
-    /// changes.
+    /// Sets the element at `index` of the array of scalars. The array's type must match. No other byte changes.
     ///
     /// Example: `segment.set(&name, 0, 640i64)?`.
     ///
     /// # Errors
     ///
-    /// `ReadOnly` if the segment is open for reading. Otherwise `NotFound` if no object has the key, `WrongKind` if it
-    /// is of another kind, `OutOfRange` if it has no element there. Nothing changes.
+    /// `ReadOnly` if the segment is open for reading. Otherwise `NotFound` if no object has the key, `WrongKind` if the
+    /// object has another kind, `OutOfRange` if `index` is not below the length. Nothing changes.
     pub fn set<T: Scalar, O: ObjectRef>(
         &mut self,
         key: &O,
@@ -87,7 +86,7 @@ impl Segment {
         Ok(())
     }
 
-    /// Makes a value of a kind the element at `index` in the object of a key. Errors: as of `set`.
+    /// Sets the element at `index` of the array of scalars to a value of its kind. The errors of `set` apply.
     ///
     /// Example: `segment.set_value(&name, 0, ScalarValue::I64(640))?`.
     pub fn set_value<O: ObjectRef>(
@@ -106,7 +105,7 @@ impl Segment {
         by_value!(value, it => self.set(key, index, it))
     }
 
-    /// Returns where the element at `index` stands in the object of a key, an object of scalars of a kind.
+    /// Returns the place of the element at `index` of the array of scalars of `kind`.
     fn find_element<O: ObjectRef>(
         &self,
         key: &O,

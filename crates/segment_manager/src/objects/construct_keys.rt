@@ -1,5 +1,5 @@
-//! Under which keys objects are made. A name, `UniqueInstance` and `AnonymousInstance` suit objects of each kind; a key
-//! that says a kind suits those of this kind alone.
+//! The keys of new objects. A name, `UniqueInstance` and `AnonymousInstance` suit objects of each kind; a key with a
+//! kind suits only objects of this kind.
 ghost use Rattle.std.specs.Prelude.{◌≡◌, ⊤};
 ghost use Rattle.seg_types.specs.{declared.kinds.Kind.Kind as AnyKind, Keys.index_key_seen, Keys.name_seen};
 ghost use Rattle.seg_types.specs.{Keys.new_key_seen, Names.ByKind, Names.ByName, Names.Key as AnyKey, Names.NoKey};
@@ -7,24 +7,24 @@ ghost use Rattle.segment_manager.specs.objects.NewObjects.{IsOfKind};
 
 use seg_types::{IndexKey, Kind, Name, NewKey};
 
-/// An object is made as the only one of its kind in the unique index, whatever its kind.
+/// The key of a new unique object: its kind, in the unique index.
 #[derive(Clone, Copy, Debug, PartialEq, Eq, Hash)]
 pub struct UniqueInstance;
 
-/// An object is made under no key: it is found again by its handle alone.
+/// The key of a new object without a name: only its handle finds it.
 #[derive(Clone, Copy, Debug, PartialEq, Eq, Hash)]
 pub struct AnonymousInstance;
 
-/// Under which key an object is made.
+/// The key of a new object.
 ///
 /// # Conditions
 ///
-/// A name, `UniqueInstance` and `AnonymousInstance` have none. A key that says a kind says that of the object.
+/// A name, `UniqueInstance` and `AnonymousInstance` have none. A key with a kind must have the kind of the object.
 pub trait ConstructKey {
-    // The key that an object of a kind gets.
+    // The key of a new object of a kind.
     ghost key: { Self → AnyKind → AnyKey };
 
-    // Whether it may have it.
+    // Whether an object of a kind can have the key.
     ghost suits: { Self → AnyKind → Type 0 };
 
     /// Returns the key of a new object of a kind.
@@ -34,9 +34,9 @@ pub trait ConstructKey {
         ensures kind { IsOfKind (new_key_seen result) kind };
 }
 
-/// Under which entry of an index an object is looked up, and made if there is none.
+/// The key of an index entry, by which an object is looked up, and constructed if there is none.
 pub trait FindOrConstructKey: ConstructKey {
-    /// Returns the entry of an object of a kind.
+    /// Returns the entry's key for an object of a kind.
     fn entry_for(&self, kind: Kind) -> IndexKey<'_>
         requires { Self.suits self.now kind }
         ensures key { index_key_seen result ≡ Self.key self.now kind }

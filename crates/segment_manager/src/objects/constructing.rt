@@ -1,4 +1,4 @@
-//! Objects constructed, whatever they hold; those of one number, several times.
+//! Constructs objects of any contents, and arrays with several copies of one number.
 ghost use Rattle.std.specs.Prelude.{◌≡◌, ◌≤◌, true};
 ghost use Rattle.seg_types.specs.declared.kinds.Kind.TheVariants.{Scalar as ScalarOf};
 ghost use Rattle.seg_types.specs.Values.{kind_of_scalar, value_of_scalar};
@@ -17,21 +17,21 @@ use seg_types::{Handle, Refusal, Scalar, ScalarValue, by_value};
 use seg_vector::Place;
 
 impl Segment {
-    /// Makes an object of `count` times a value, from 1 to 1048576, and returns its handle. A key that is a kind is the
-    /// value's.
+    /// Makes an array of `count` copies of a value, from 1 to 1048576, and returns its handle. A key with a kind must
+    /// have the value's kind.
     ///
     /// Example: `let handle = segment.construct(&name, 1, 640i64)?`.
     ///
     /// # Conditions
     ///
-    /// `count` is from 1 to 1048576. `construct_array` has no such condition, and refuses another count.
+    /// `count` is from 1 to 1048576. `construct_array` has no such condition: it fails for any other count.
     ///
-    /// The key suits the kind: one that says a kind says this one ([`ConstructKey`]).
+    /// The key suits the kind: a key with a kind has this kind ([`ConstructKey`]).
     ///
     /// # Errors
     ///
     /// `ReadOnly` if the segment is open for reading. Otherwise `Exists` if an object has the key: nothing changes.
-    /// Otherwise `NoSpace` if no gap is long enough: what the segment holds does not change, and the bytes of gaps may.
+    /// Otherwise `NoSpace` if no gap is long enough: the objects do not change, but bytes of gaps can.
     pub fn construct<T: Scalar, D: ConstructKey>(
         &mut self,
         key: &D,
@@ -48,14 +48,14 @@ impl Segment {
         self.construct_under(key, &NewNumbers { count, value })
     }
 
-    /// Makes an array of `count` times a value, and returns its handle.
+    /// Makes an array of `count` copies of a value, and returns its handle.
     ///
     /// Example: `let handle = segment.construct_array(&name, count, 0u8)?`.
     ///
     /// # Conditions and errors
     ///
     /// `ReadOnly` if the segment is open for reading. Otherwise `OutOfRange` if `count` is 0 or above 1048576: nothing
-    /// changes. Otherwise as of `construct`, but for the count.
+    /// changes. Otherwise as `construct`, except for the count.
     pub fn construct_array<T: Scalar, D: ConstructKey>(
         &mut self,
         key: &D,
@@ -75,8 +75,8 @@ impl Segment {
         self.construct(key, count, value)
     }
 
-    /// Makes an array of `count` times a value of a kind, and returns its handle. Conditions and errors: as of
-    /// `construct`.
+    /// Makes an array of `count` copies of a value of a kind, and returns its handle. The conditions and errors of
+    /// `construct` apply.
     ///
     /// Example: `segment.construct_value(&name, 1, ScalarValue::I64(640))?`.
     pub fn construct_value<D: ConstructKey>(
@@ -95,7 +95,8 @@ impl Segment {
         by_value!(value, it => self.construct(key, count, it))
     }
 
-    /// Returns why no object is made of a count that is out of range.
+    /// Returns the error for a count out of range: `ReadOnly` if the segment is open for reading, otherwise
+    /// `OutOfRange`.
     pub(crate) fn refusal_of_count(&self) -> Refusal
         ensures { result ≡ refusal_of_count self.now }
     {
@@ -106,17 +107,17 @@ impl Segment {
         }
     }
 
-    /// Makes an object of what fills it, and returns its handle.
+    /// Makes an object with these contents, and returns its handle.
     ///
     /// Example: `let handle = segment.construct_under(&name, &NewString { bytes: b"text" })?`.
     ///
     /// # Conditions
     ///
-    /// An object can hold what fills it: of numbers there are 1 to 1048576. The key suits its kind ([`ConstructKey`]).
+    /// An object can have these contents: an array has 1 to 1048576 numbers. The key suits the kind ([`ConstructKey`]).
     ///
     /// # Errors
     ///
-    /// As of `construct`.
+    /// The errors of `construct` apply.
     #[inline(always)]
     pub fn construct_under<F: ObjectInit, D: ConstructKey>(
         &mut self,
@@ -139,8 +140,8 @@ impl Segment {
     }
 }
 
-/// Fills an object that was begun, and has its entry lead there. If its elements have no gap, all that was taken for
-/// it is given back.
+/// Fills a new object with its contents, and links its entry to it. If there is no space for its elements, it frees
+/// everything that was allocated for the object.
 #[inline(always)]
 pub(crate) fn build<F: ObjectInit>(
     heap: &mut Heap,

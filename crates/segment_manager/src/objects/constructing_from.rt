@@ -1,4 +1,4 @@
-//! Objects of numbers constructed from the items of an iterator.
+//! Constructs arrays of scalars from the items of an iterator.
 ghost use Rattle.std.specs.Prelude.{◌≡◌, ℤ, ◌+◌, ◌*◌, ◌≤◌, IsTrue, OnOk, length, true, false};
 ghost use Rattle.std.specs.{Iterator.HoldsAlong, List.AllByRecursion};
 ghost use Rattle.raw_region.specs.{Format.current, Memory.WindowState as ACut};
@@ -20,20 +20,20 @@ use best_fit::Heap;
 use seg_types::{Handle, Kind, NewKey, Refusal, Scalar, ScalarKind, ScalarValue};
 
 impl Segment {
-    /// Makes an object of the next `count` items, and returns its handle. Items are taken only if each block that is
-    /// needed was found.
+    /// Makes an array of the next `count` items, and returns its handle. It takes no item before all blocks are
+    /// allocated.
     ///
     /// Example: `segment.construct_it(&name, 5, &mut primes)?`.
     ///
     /// # Conditions
     ///
-    /// The key suits the kind: one that says a kind says this one ([`ConstructKey`]).
+    /// The key suits the kind: a key with a kind has this kind ([`ConstructKey`]).
     ///
     /// # Errors
     ///
     /// `ReadOnly` if the segment is open for reading. Otherwise `OutOfRange` if `count` is 0 or above 1048576.
-    /// Otherwise `Exists` if an object has the key. Otherwise `NoSpace` if no gap is long enough; then no item is
-    /// taken. `OutOfRange` if fewer items come. What the segment holds does not change.
+    /// Otherwise `Exists` if an object has the key. Otherwise `NoSpace` if no gap is long enough: it takes no item.
+    /// `OutOfRange` if the iterator ends before `count` items. The objects do not change.
     pub fn construct_it<T: Scalar, I: Iterator<Item = T>, D: ConstructKey>(
         &mut self,
         key: &D,
@@ -54,14 +54,14 @@ impl Segment {
         self.construct_items::<OfType, T, I>(&key, T::kind(), count, items)
     }
 
-    /// Makes an object of the next `count` values of a kind, and returns its handle.
+    /// Makes an array of the next `count` values of a kind, and returns its handle.
     ///
     /// Example: `segment.construct_values(&name, ScalarKind::I64, 5, &mut values)?`.
     ///
     /// # Conditions and errors
     ///
-    /// `count` is from 1 to 1048576, and each item is of the kind. `construct_it` takes items of a type and has no such
-    /// condition. The other conditions are as of `construct_it`, and the errors are its others.
+    /// `count` is from 1 to 1048576, and each item has the kind. `construct_it` takes items of a type and has no such
+    /// condition. The other conditions and errors of `construct_it` apply.
     pub fn construct_values<I: Iterator<Item = ScalarValue>, D: ConstructKey>(
         &mut self,
         key: &D,
@@ -82,7 +82,7 @@ impl Segment {
         self.construct_items::<OfKind, ScalarValue, I>(&key, kind, count, items)
     }
 
-    /// Makes an object of the next `count` numbers of a kind, under a key that suits them.
+    /// Makes an array of the next `count` numbers of a kind, under a key that suits it.
     pub(crate) fn construct_items<S: Spelling<A>, A, I: Iterator<Item = A>>(
         &mut self,
         key: &NewKey,
@@ -106,8 +106,8 @@ impl Segment {
     }
 }
 
-/// Fills an object of `count` numbers of a kind that was begun with items, and has its entry lead to it. If too few
-/// come all that was taken for it is given back.
+/// Fills a new array with `count` items, and links its entry to it. If the iterator ends before `count` items, it frees
+/// everything that was allocated for the array.
 pub(crate) fn take_items<S: Spelling<A>, A, I: Iterator<Item = A>>(
     heap: &mut Heap,
     begun: PendingObject,
@@ -130,20 +130,20 @@ pub(crate) fn take_items<S: Spelling<A>, A, I: Iterator<Item = A>>(
     finish_object(heap, begun, filled)
 }
 
-/// How the items of an iterator are spelled.
+/// The encoding of an iterator's items.
 pub(crate) trait Spelling<A> {
     ghost kind: { A → AnyKind };
 
     ghost whole: { A → ℤ };
 
-    /// Spells an item into `to`, which has as many bytes as one of its kind.
+    /// Encodes an item into `to`, which has as many bytes as a value of its kind.
     fn spell(item: A, to: &mut [u8])
         requires { length to.old ≡ size_of (kind item) }
         ensures value { IsTrue (is_value (kind item) (whole item)) }
         ensures bytes { to.new ≡ spelling_of (kind item) (whole item) };
 }
 
-/// The values are of their type.
+/// The items are values of their type.
 pub(crate) struct OfType;
 
 impl<T: Scalar> Spelling<T> for OfType {
@@ -156,7 +156,7 @@ impl<T: Scalar> Spelling<T> for OfType {
     }
 }
 
-/// The values are of a kind that is known only when the program runs.
+/// The items are values of a kind known only at run time.
 pub(crate) struct OfKind;
 
 impl Spelling<ScalarValue> for OfKind {
@@ -169,8 +169,11 @@ impl Spelling<ScalarValue> for OfKind {
     }
 }
 
-/// Takes items until there are `count` of them, and writes each after the one before it, from `at` on in the block of a
-/// handle: `OutOfRange` if fewer come.
+/// Takes `count` items and encodes them one after another, from `at` on in a block.
+///
+/// # Errors
+///
+/// `OutOfRange` if the iterator ends before.
 fn fill_items<S: Spelling<A>, A, I: Iterator<Item = A>>(
     heap: &mut Heap,
     handle: u64,
@@ -192,7 +195,11 @@ fn fill_items<S: Spelling<A>, A, I: Iterator<Item = A>>(
     Ok(())
 }
 
-/// Takes an item of a kind and writes it at `at` in the block of a handle: `OutOfRange` if none comes.
+/// Takes an item of a kind and encodes it at `at` in a block.
+///
+/// # Errors
+///
+/// `OutOfRange` if the iterator has ended.
 fn write_item<S: Spelling<A>, A, I: Iterator<Item = A>>(
     heap: &mut Heap,
     handle: u64,

@@ -1,4 +1,4 @@
-//! Objects destroyed.
+//! Destroys objects.
 ghost use Rattle.std.specs.Prelude.{◌≡◌, ℕ, OnErr, true, false};
 ghost use Rattle.seg_types.specs.Commands.{Destroy, DestroyPtr};
 ghost use Rattle.seg_types.specs.{Keys.index_key_seen, Names.ByHandle};
@@ -17,17 +17,18 @@ use raw_region::Steps;
 use seg_index::{Entry, Index, Lookup};
 use seg_types::{Class, Handle, IndexKey, Refusal};
 
-/// Where the entry of an object stands.
+/// The place of an object's entry in an index.
 #[derive(Clone, Copy, Debug, PartialEq, Eq)]
 pub(crate) struct Listed {
-    /// The index that has it.
+    /// The index with the entry.
     pub(crate) index: Index,
-    /// Its place there, from 0 on.
+    /// The entry's place in the index, from 0 on.
     pub(crate) place: u64,
 }
 
 impl Segment {
-    /// Destroys the object of a key, if there is one, and gives back all its blocks. Answers whether there was one.
+    /// Destroys the object of a key and frees all its blocks. Returns false, and changes nothing, if no object has the
+    /// key.
     ///
     /// Example: `let there = segment.destroy(&IndexKey::Name(name))?`.
     ///
@@ -52,7 +53,7 @@ impl Segment {
         }
     }
 
-    /// Destroys the object of a handle, whatever its class, and gives back its entry and all its blocks.
+    /// Destroys the object with a handle, of any class: removes its entry and frees all its blocks.
     ///
     /// Example: `segment.destroy_ptr(handle)?`.
     ///
@@ -78,7 +79,7 @@ impl Segment {
         Ok(())
     }
 
-    /// Returns where the entry of the object of a handle stands, or nothing if it has no key.
+    /// Returns the place of an object's entry, or `None` if the object is anonymous.
     fn listed(&self, handle: Handle) -> Option<Listed>
         requires { AnswersWith self.now (λ d. is_object_at d handle) true }
         ensures { IsListed self.now handle result }
@@ -93,7 +94,7 @@ impl Segment {
         }
     }
 
-    /// Returns where an entry of an index stands that an object has.
+    /// Returns the place of an object's entry in this index.
     fn listed_under(&self, index: Index, entry: Entry<'_>) -> Option<Listed>
         requires { index_of entry ≡ index }
         ensures { (handle : ℕ) → HasEntries self.now index entry.entry handle → IsListed self.now handle result }
@@ -105,7 +106,7 @@ impl Segment {
     }
 }
 
-/// Removes the entry at a place of an index, and gives back all blocks of the object that has it.
+/// Removes the entry at a place of an index, and frees all blocks of its object.
 fn remove_entered(heap: &mut Heap, index: Index, place: u64)
     requires { HoldsEntry heap.old.bytes index place }
     ensures { RemovesEntry heap.old heap.new index place }
@@ -116,7 +117,7 @@ fn remove_entered(heap: &mut Heap, index: Index, place: u64)
     heap.deallocate(handle, &mut Steps::new());
 }
 
-/// Gives back all blocks of an object without a key.
+/// Frees all blocks of an anonymous object.
 fn remove_anonymous(heap: &mut Heap, object: Handle)
     requires { HoldsObject heap.old.bytes object }
     ensures { RemovesAnonymous heap.old heap.new object }

@@ -1,5 +1,4 @@
-//! The elements of an object of scalars: each is the bytes that spell it, one after another after the head and the
-//! name.
+//! The elements of an array of scalars, encoded one after another after the head and the name.
 ghost use Rattle.std.specs.Prelude.{◌≡◌, ◌+◌, ◌*◌, IsTrue, length};
 ghost use Rattle.raw_region.specs.{Format.current, Memory.HasBytesAt, Memory.bytes_of, Memory.read};
 ghost use Rattle.best_fit.specs.Heap.{ChangesBytes, IsHeap, has_room, live_of};
@@ -7,7 +6,7 @@ ghost use Rattle.segment_manager.specs.objects.Standing.{repeated};
 
 use best_fit::Heap;
 
-/// Writes the same bytes `count` times, from `at` on in the block of a handle.
+/// Writes `count` copies of the same bytes, from `at` on in a block.
 pub(crate) fn write_elements(heap: &mut Heap, handle: u64, at: u64, count: u32, bytes: &[u8])
     requires heap { IsHeap current heap.old.bytes }
     requires room { IsTrue (has_room (live_of heap.old.bytes) handle (at + length bytes.now * count)) }
@@ -20,7 +19,7 @@ pub(crate) fn write_elements(heap: &mut Heap, handle: u64, at: u64, count: u32, 
     }
 }
 
-/// Returns the `size` bytes at `at` in the block of a handle.
+/// Returns the `size` bytes at `at` in a block.
 pub(crate) fn element(heap: &Heap, handle: u64, at: u64, size: u64) -> &[u8]
     requires heap { IsHeap current heap.now.bytes }
     requires room { IsTrue (has_room (live_of heap.now.bytes) handle (at + size)) }

@@ -1,4 +1,4 @@
-//! Objects found by their keys, and the entries of the two indexes.
+//! Finds objects by their keys, and by their entries in the two indexes.
 ghost use Rattle.std.specs.Prelude.{length, slice_get, Some, ◌≡◌};
 ghost use Rattle.seg_types.specs.declared.kinds.{Kind.Kind as AnyKind, Kind.TheVariants.Scalar as ScalarOf};
 ghost use Rattle.seg_types.specs.{Commands.Find, Commands.NumNamed, Commands.NumUnique, Keys.index_key_seen};
@@ -17,14 +17,14 @@ use seg_index::{Entry, Index, Lookup};
 use seg_types::{Handle, IndexKey, Key, Kind, Refusal, Scalar};
 
 impl Segment {
-    /// Returns the handle of the object of a key, and how many elements it has (1 if it is a container), or nothing if
-    /// no object has the key.
+    /// Returns the handle and the count of the object of a key, or `None` if no object has the key. The count is the
+    /// number of elements of an array, and 1 for a container.
     ///
     /// Example: `let found = segment.find_kind(&Key::Name(name), Kind::String)?`.
     ///
     /// # Errors
     ///
-    /// `WrongKind` if the object is of another kind.
+    /// `WrongKind` if the object has another kind.
     pub fn find_kind(&self, key: &Key, kind: Kind) -> Result<Option<(Handle, u32)>, Refusal>
         ensures { AnswersQuery self.now (Find (key_seen key.now) kind) (found_answer result) }
     {
@@ -35,14 +35,14 @@ impl Segment {
         Ok(Some(found))
     }
 
-    /// Returns the handle of the scalars of a key, one or an array of a type, and how many they are, or nothing if no
-    /// object has the key.
+    /// Returns the handle and the number of elements of the array of scalars of a key, or `None` if no object has the
+    /// key. A single scalar is an array of 1.
     ///
     /// Example: `if let Some((handle, count)) = segment.find::<i64>(&Key::Name(name))?`.
     ///
     /// # Errors
     ///
-    /// `WrongKind` if the object is of another kind.
+    /// `WrongKind` if the object has another kind.
     pub fn find<T: Scalar>(&self, key: &Key) -> Result<Option<(Handle, u32)>, Refusal>
         ensures { AnswersQuery self.now (Find (key_seen key.now) (ScalarOf T.kind)) (found_answer result) }
     {
@@ -67,7 +67,7 @@ impl Segment {
         Index::Unique.len(&self.heap)
     }
 
-    /// Returns the handle of the object that a key means, or nothing if no object has the key.
+    /// Returns the handle of the object of a key, or `None` if no object has the key.
     pub(crate) fn handle_of(&self, key: &Key) -> Option<Handle>
         ensures { AnswersWith self.now (λ d. handle_at d (key_seen key.now)) result }
     {
@@ -79,7 +79,7 @@ impl Segment {
         }
     }
 
-    /// Returns the handle of the object under an entry of an index, or nothing if there is none.
+    /// Returns the handle of the object of an index entry, or `None` if there is none.
     fn look_up(&self, index: Index, entry: Entry<'_>) -> Option<Handle>
         requires { index_of entry ≡ index }
         ensures { (key : AnyKey) → Seeks index entry.entry key → AnswersWith self.now (λ d. handle_at d key) result }
@@ -91,7 +91,7 @@ impl Segment {
     }
 }
 
-/// Returns the index that has the entry of a key, the entry, and the name of the object that it leads to.
+/// Returns the index for a key, the key in this index, and the name of its object.
 #[inline(always)]
 pub(crate) fn entry_of<'a>(key: &IndexKey<'a>) -> (Index, Entry<'a>, &'a [u8])
     ensures search { Seeks result.0 result.1 (index_key_seen key.now) }
@@ -107,14 +107,13 @@ pub(crate) fn entry_of<'a>(key: &IndexKey<'a>) -> (Index, Entry<'a>, &'a [u8])
     }
 }
 
-/// Returns the handle of the object with a name that has `i` others before it, in the order of the bytes of their
-/// names. There are more than `i` of them.
+/// Returns the handle of the `i`th named object, from 0 on, in the order of the bytes of the names.
 ///
 /// Example: `let handle = named_at(&segment, 0)`.
 ///
 /// # Conditions
 ///
-/// `i` is below `num_named`. `named_instances` goes over all of them without a condition.
+/// `i` is below `num_named`. `named_instances` iterates over all of them without a condition.
 pub fn named_at(segment: &Segment, i: u64) -> Handle
     requires { IsBelow segment.now (λ d. length (named_objects d)) i }
     ensures { AnswersWith segment.now (λ d. slice_get (handles (named_objects d)) i) (Some result) }
@@ -122,14 +121,13 @@ pub fn named_at(segment: &Segment, i: u64) -> Handle
     Index::Named.at(&segment.heap, i)
 }
 
-/// Returns the handle of the unique object that has `i` others before it, in the order of the codes of their kinds.
-/// There are more than `i` of them.
+/// Returns the handle of the `i`th unique object, from 0 on, in the order of the codes of the kinds.
 ///
 /// Example: `let handle = unique_at(&segment, 0)`.
 ///
 /// # Conditions
 ///
-/// `i` is below `num_unique`. `unique_instances` goes over all of them without a condition.
+/// `i` is below `num_unique`. `unique_instances` iterates over all of them without a condition.
 pub fn unique_at(segment: &Segment, i: u64) -> Handle
     requires { IsBelow segment.now (λ d. length (unique_objects d)) i }
     ensures { AnswersWith segment.now (λ d. slice_get (handles (unique_objects d)) i) (Some result) }

@@ -1,4 +1,5 @@
-//! Objects found, or constructed if there are none, whatever they hold; those of one number, several times.
+//! Finds objects, or constructs them if there are none: objects of any contents, and arrays with several copies of one
+//! number.
 ghost use Rattle.std.specs.Prelude.{◌≡◌, ◌≤◌, true};
 ghost use Rattle.seg_types.specs.{declared.kinds.Kind.TheVariants.Scalar as ScalarOf, Names.Key as AnyKey};
 ghost use Rattle.seg_types.specs.Values.{kind_of_scalar, value_of_scalar};
@@ -22,23 +23,23 @@ use seg_index::{Entry, Index, Lookup};
 use seg_types::{Handle, Kind, Refusal, Scalar, ScalarValue, by_value};
 
 impl Segment {
-    /// Returns the handle of the scalars of a key, and how many they are. If no object has the key one is made, of
-    /// `count` times a value, from 1 to 1048576. An object that is found stays as it is, however many scalars it has. A
-    /// key that is a kind is the value's.
+    /// Returns the handle and the number of elements of the array of scalars of a key. If no object has the key, makes
+    /// an array of `count` copies of a value, from 1 to 1048576; an array found stays as it is, for any `count`. A key
+    /// with a kind must have the value's kind.
     ///
     /// Example: `let (handle, count) = segment.find_or_construct(&name, 1, 640i64)?`.
     ///
     /// # Conditions
     ///
-    /// `count` is from 1 to 1048576. `find_or_construct_array` has no such condition, and refuses another count.
+    /// `count` is from 1 to 1048576. `find_or_construct_array` has no such condition: it fails for any other count.
     ///
-    /// The key suits the kind: one that says a kind says this one ([`ConstructKey`]).
+    /// The key suits the kind: a key with a kind has this kind ([`ConstructKey`]).
     ///
     /// # Errors
     ///
-    /// `ReadOnly` if the segment is open for reading. Otherwise `WrongKind` if the object is of another kind: nothing
-    /// changes. Otherwise `NoSpace` if none is there and no gap is long enough: what the segment holds does not change,
-    /// and the bytes of gaps may.
+    /// `ReadOnly` if the segment is open for reading. Otherwise `WrongKind` if the object has another kind: nothing
+    /// changes. Otherwise `NoSpace` if no object has the key and no gap is long enough: the objects do not change, but
+    /// bytes of gaps can.
     pub fn find_or_construct<T: Scalar, D: FindOrConstructKey>(
         &mut self,
         key: &D,
@@ -56,15 +57,15 @@ impl Segment {
         self.find_or_construct_under(key, &NewNumbers { count, value })
     }
 
-    /// Returns the handle of the scalars of a key and their number, or makes an array whose count is known only when
-    /// the program runs.
+    /// Returns the handle and the number of elements of the array of scalars of a key, or makes an array whose count is
+    /// known only at run time.
     ///
     /// Example: `let (handle, count) = segment.find_or_construct_array(&name, count, 0u8)?`.
     ///
     /// # Conditions and errors
     ///
     /// `ReadOnly` if the segment is open for reading. Otherwise `OutOfRange` if `count` is 0 or above 1048576: nothing
-    /// changes. Otherwise as of `find_or_construct`, but for the count.
+    /// changes. Otherwise as `find_or_construct`, except for the count.
     pub fn find_or_construct_array<T: Scalar, D: FindOrConstructKey>(
         &mut self,
         key: &D,
@@ -85,8 +86,8 @@ impl Segment {
         self.find_or_construct(key, count, value)
     }
 
-    /// Returns the handle of the scalars of a key and their number, or makes an array of a value of a kind. Conditions
-    /// and errors: as of `find_or_construct`.
+    /// Returns the handle and the number of elements of the array of scalars of a key, or makes an array of a value of
+    /// a kind. The conditions and errors of `find_or_construct` apply.
     ///
     /// Example: `segment.find_or_construct_value(&name, 1, ScalarValue::I64(640))?`.
     pub fn find_or_construct_value<D: FindOrConstructKey>(
@@ -107,18 +108,18 @@ impl Segment {
         by_value!(value, it => self.find_or_construct(key, count, it))
     }
 
-    /// Returns the handle of the object of a key and its count, or makes an object of what fills it. An object that is
-    /// found stays as it is.
+    /// Returns the handle and the count of the object of a key, or makes an object with these contents. An object found
+    /// stays as it is.
     ///
     /// Example: `let (handle, count) = segment.find_or_construct_under(&name, &NewString { bytes: b"text" })?`.
     ///
     /// # Conditions
     ///
-    /// An object can hold what fills it: of numbers there are 1 to 1048576. The key suits its kind ([`ConstructKey`]).
+    /// An object can have these contents: an array has 1 to 1048576 numbers. The key suits the kind ([`ConstructKey`]).
     ///
     /// # Errors
     ///
-    /// As of `find_or_construct`.
+    /// The errors of `find_or_construct` apply.
     #[inline(always)]
     pub fn find_or_construct_under<F: ObjectInit, D: FindOrConstructKey>(
         &mut self,
@@ -142,8 +143,8 @@ impl Segment {
     }
 }
 
-/// Returns the handle of the object of an entry of an index and its count, or makes it, on the heap of a segment that
-/// may be changed.
+/// Returns the handle and the count of the object of an index entry, or makes the object. The segment of the heap is
+/// open for writing.
 fn find_or_construct_entered<F: ObjectInit>(
     heap: &mut Heap,
     index: Index,
@@ -175,8 +176,11 @@ pub(crate) fn counted(made: Result<Handle, Refusal>, count: u32) -> Result<(Hand
     Ok((handle, count))
 }
 
-/// Returns the handle of an object and how many elements it has (1 if it is a container): `WrongKind` if it is of
-/// another kind.
+/// Returns an object's handle and count. The count is the number of elements of an array, and 1 for a container.
+///
+/// # Errors
+///
+/// `WrongKind` if the object has another kind.
 pub(crate) fn found_of(heap: &Heap, handle: u64, kind: Kind) -> Result<(Handle, u32), Refusal>
     requires { HasObject heap.now.bytes handle }
     ensures { (o : Object) → IsObjectInBlock heap.now.bytes handle o → result ≡ pair_of_kind o kind }

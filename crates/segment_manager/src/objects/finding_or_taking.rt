@@ -1,4 +1,4 @@
-//! Objects found, or constructed from the items of an iterator if there are none.
+//! Finds arrays of scalars, or constructs them from the items of an iterator if there are none.
 ghost use Rattle.std.specs.Prelude.{◌≡◌, ◌≤◌, true, false};
 ghost use Rattle.seg_types.specs.Names.{Key as AnyKey};
 ghost use Rattle.seg_types.specs.declared.kinds.Kind.TheVariants.{Scalar as ScalarOf};
@@ -19,15 +19,14 @@ use seg_index::{Entry, Index, Lookup};
 use seg_types::{Handle, Kind, Refusal, Scalar};
 
 impl Segment {
-    /// Returns the handle of the scalars of a key, and how many they are. If no object has the key one is made of the
-    /// next `count` items. An object that is found stays as it is, however many scalars it has, and no item is taken
-    /// then.
+    /// Returns the handle and the number of elements of the array of scalars of a key. If no object has the key, makes
+    /// an array of the next `count` items. An array found stays as it is, for any `count`, and no item is taken.
     ///
     /// Example: `let (handle, count) = segment.find_or_construct_it(&name, 5, &mut primes)?`.
     ///
     /// # Conditions and errors
     ///
-    /// As of `construct_it`, with `WrongKind` in the place of `Exists`, if the object is of another kind.
+    /// As `construct_it`, but `WrongKind` instead of `Exists`, if the object has another kind.
     pub fn find_or_construct_it<T: Scalar, I: Iterator<Item = T>, D: FindOrConstructKey>(
         &mut self,
         key: &D,
@@ -53,8 +52,8 @@ impl Segment {
     }
 }
 
-/// Returns the handle of the object of an entry of an index, which is looked up once, or makes one of the next `count`
-/// items.
+/// Returns the handle and the count of the object of an index entry, which it looks up once, or makes an array of the
+/// next `count` items.
 fn find_or_take<T: Scalar, I: Iterator<Item = T>>(
     heap: &mut Heap,
     index: Index,

@@ -11,18 +11,18 @@ use crate::layout::{HALF, HEAD_LEN, NAME_CLASS_AT, padded};
 use best_fit::Heap;
 use seg_types::{Class, Kind};
 
-/// What the head of an object says.
+/// The fields of an object's head.
 #[derive(Clone, Copy, Debug, PartialEq, Eq)]
 pub(crate) struct Head {
     pub(crate) kind: Kind,
-    /// How many elements an object of scalars has, and otherwise 1.
+    /// The number of elements of an array of scalars; 1 for any other object.
     pub(crate) count: u32,
-    /// The bytes of the name.
+    /// The length of the name in bytes.
     pub(crate) name_len: u8,
     pub(crate) class: Class,
 }
 
-/// Returns the head of the object of a handle.
+/// Returns the head of an object.
 pub(crate) fn read_head(heap: &Heap, handle: u64) -> Head
     requires { HasObject heap.now.bytes handle }
     ensures { (o : Object) → IsObjectInBlock heap.now.bytes handle o → IsHeadOf o result }
@@ -38,7 +38,7 @@ pub(crate) fn read_head(heap: &Heap, handle: u64) -> Head
     }
 }
 
-/// Returns the name of the object of a handle.
+/// Returns the name of an object.
 pub(crate) fn read_name(heap: &Heap, handle: u64) -> &[u8]
     requires heap { IsHeap current heap.now.bytes }
     requires object { HasObject heap.now.bytes handle }
@@ -83,14 +83,14 @@ fn write_name(heap: &mut Heap, handle: u64, name: &[u8])
     heap.write(handle, HEAD_LEN + len, zeros);
 }
 
-/// Returns the kind of a code, or a string if no kind has it.
+/// Returns the kind with a code, or `String` if no kind has it.
 fn kind_of_code(code: u32) -> Kind
     ensures { (k : KindOf) → code ≡ code_of k → result ≡ k }
 {
     Kind::from_code(code).unwrap_or(Kind::String)
 }
 
-/// Returns the number that names a class in an image.
+/// Returns the code of a class in an image.
 fn code_of_class(class: Class) -> u32
     ensures { result ≡ class_code class }
 {
@@ -101,7 +101,7 @@ fn code_of_class(class: Class) -> u32
     }
 }
 
-/// Returns the class that a number names. Only those three have one.
+/// Returns the class with a code. Only three codes have a class.
 fn class_of_code(code: u32) -> Class
     ensures { (c : ClassOf) → code ≡ class_code c → result ≡ c }
 {

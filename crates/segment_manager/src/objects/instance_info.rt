@@ -1,4 +1,4 @@
-//! What objects say of themselves: one thing, or all at once, by their keys and by their places in the two indexes.
+//! The properties of objects: one of them, or all at once, by keys and by places in the two indexes.
 ghost use Rattle.std.specs.Prelude.{length, true, MatchResult, ◌≡◌, Ok, Err, option_map};
 ghost use Rattle.raw_region.specs.Format.{current};
 ghost use Rattle.best_fit.specs.Heap.{IsHeap};
@@ -18,23 +18,23 @@ use block_tags::Role;
 use seg_index::Index;
 use seg_types::{Class, Handle, Key, Kind, Refusal};
 
-/// What an object says of itself.
+/// The properties of an object.
 #[derive(Clone, Copy)]
 pub struct Instance<'a> {
-    /// How it is found again.
+    /// How the object is found.
     pub class: Class,
-    /// Its name. Only objects that are found by name have one: of others it is empty.
+    /// Its name; empty for objects without a name.
     pub name: &'a [u8],
     /// Its kind.
     pub kind: Kind,
-    /// How many elements it has, and 1 if it is a container.
+    /// The number of elements of an array; 1 for a container.
     pub count: u32,
     /// Its handle.
     pub handle: Handle,
 }
 
 impl Segment {
-    /// Returns what the object of a key says of itself.
+    /// Returns the properties of the object of a key.
     ///
     /// Example: `let said = segment.instance(&name)?`.
     ///
@@ -52,7 +52,7 @@ impl Segment {
         }
     }
 
-    /// Returns what the object of an entry of an index says of itself.
+    /// Returns the properties of the object of an index entry.
     pub(crate) fn entered(&self, index: Index, i: u64) -> Instance<'_>
         requires { IsBelow self.now (λ d. length (objects_of index d)) i }
         ensures { SaysAt self.now (objects_of index) i result }
@@ -61,8 +61,8 @@ impl Segment {
         read_instance(&self.heap, handle)
     }
 
-    /// Tells whether an object of the segment has the handle. It is looked for among all blocks, from the nearest
-    /// block hint on, since it may come from outside.
+    /// Returns true if an object of the segment has the handle, which can be any number. It searches all blocks, from
+    /// the nearest block hint on.
     ///
     /// Example: `if segment.is_object_handle(handle)`.
     pub fn is_object_handle(&self, handle: Handle) -> bool
@@ -71,7 +71,7 @@ impl Segment {
         self.heap.is_live(handle) && self.heap.role(handle) == Role::Object
     }
 
-    /// Returns how many elements the object of a handle has: as many as it was made with, and 1 if it is a container.
+    /// Returns the count of the object with a handle: the number of elements of an array, and 1 for a container.
     ///
     /// Example: `let count = segment.length_of(handle)?`.
     ///
@@ -100,8 +100,7 @@ impl Segment {
         }
     }
 
-    /// Returns the name of the object of a key, or nothing if it has none: only objects that are found by name have
-    /// one.
+    /// Returns the name of the object of a key, or `None` if the object has no name.
     ///
     /// Example: `if let Some(bytes) = segment.instance_name(&key)?`.
     ///
@@ -122,7 +121,7 @@ impl Segment {
         }
     }
 
-    /// Returns how many elements the object of a key has: as many as it was made with, and 1 if it is a container.
+    /// Returns the count of the object of a key: the number of elements of an array, and 1 for a container.
     ///
     /// Example: `let count = segment.instance_length(&key)?`.
     ///
@@ -138,7 +137,7 @@ impl Segment {
         }
     }
 
-    /// Returns how the object of a key is found again.
+    /// Returns the class of the object of a key: how it is found.
     ///
     /// Example: `let class = segment.instance_class(&key)?`.
     ///
@@ -155,7 +154,7 @@ impl Segment {
     }
 }
 
-/// Returns what the object at a handle says of itself.
+/// Returns the properties of the object at a handle.
 fn read_instance(heap: &Heap, handle: Handle) -> Instance<'_>
     requires heap { IsHeap current heap.now.bytes }
     requires object { HasObject heap.now.bytes handle }
@@ -171,13 +170,13 @@ fn read_instance(heap: &Heap, handle: Handle) -> Instance<'_>
     }
 }
 
-/// Returns what the object of a handle says of itself. Nothing is looked up.
+/// Returns the properties of the object with a handle, without a look-up.
 ///
 /// Example: `let said = instance_here(&segment, handle)`.
 ///
 /// # Conditions
 ///
-/// An object of the segment has the handle. `instance` looks for it, and has no condition.
+/// An object of the segment has the handle. `instance` looks it up and has no condition.
 pub fn instance_here(segment: &Segment, handle: Handle) -> Instance<'_>
     requires { AnswersWith segment.now (λ d. is_object_at d handle) true }
     ensures { SaysOf segment.now (ByHandle handle) result }
@@ -185,14 +184,13 @@ pub fn instance_here(segment: &Segment, handle: Handle) -> Instance<'_>
     read_instance(&segment.heap, handle)
 }
 
-/// Returns what the object says of itself whose name has `i` others before it, in the order of their bytes. There are
-/// more than `i` of them.
+/// Returns the properties of the `i`th named object, from 0 on, in the order of the bytes of the names.
 ///
 /// Example: `let said = named_instance(&segment, 0)`.
 ///
 /// # Conditions
 ///
-/// `i` is below `num_named`. `named_instances` goes over all of them without a condition.
+/// `i` is below `num_named`. `named_instances` iterates over all of them without a condition.
 pub fn named_instance(segment: &Segment, i: u64) -> Instance<'_>
     requires { IsBelow segment.now (λ d. length (named_objects d)) i }
     ensures { SaysAt segment.now named_objects i result }
@@ -200,14 +198,13 @@ pub fn named_instance(segment: &Segment, i: u64) -> Instance<'_>
     segment.entered(Index::Named, i)
 }
 
-/// Returns what the unique object says of itself whose kind has `i` others before it, in the order of their codes.
-/// There are more than `i` of them.
+/// Returns the properties of the `i`th unique object, from 0 on, in the order of the codes of the kinds.
 ///
 /// Example: `let said = unique_instance(&segment, 0)`.
 ///
 /// # Conditions
 ///
-/// `i` is below `num_unique`. `unique_instances` goes over all of them without a condition.
+/// `i` is below `num_unique`. `unique_instances` iterates over all of them without a condition.
 pub fn unique_instance(segment: &Segment, i: u64) -> Instance<'_>
     requires { IsBelow segment.now (λ d. length (unique_objects d)) i }
     ensures { SaysAt segment.now unique_objects i result }

@@ -1,4 +1,4 @@
-//! What says which object a call means: a key, which is looked up, or an object that was located before.
+//! References to the object of a call: a key, which is looked up, or a located object.
 ghost use Rattle.std.specs.Prelude.{◌≡◌, ⊤, MatchResult, true};
 ghost use Rattle.seg_types.specs.{Keys.key_seen, Keys.name_seen, Names.ByHandle, Names.ByName, Names.Key as AnyKey};
 ghost use Rattle.segment_manager.specs.{Directory.Object as DirectoryObject, objects.Found.is_object_at};
@@ -13,28 +13,32 @@ use crate::segment::Segment;
 use best_fit::{Heap, Place};
 use seg_types::{Handle, Key, Kind, Name, Refusal, ScalarKind};
 
-/// An object of a segment as it was located. It goes on standing for the object of its handle until that is destroyed.
+/// A located object of a segment. It refers to the object with its handle until that is destroyed.
 #[derive(Clone, Copy, Debug, PartialEq, Eq, Hash)]
 pub struct Object {
     /// Its handle.
     pub handle: Handle,
     /// Its kind.
     pub kind: Kind,
-    /// The bytes of its name, after which its value begins.
+    /// The length of its name in bytes; its value begins after the name.
     pub(crate) name_len: u8,
-    /// How many elements it has, and 1 if it is a container.
+    /// The number of elements of an array; 1 for a container.
     pub count: u32,
 }
 
 impl Object {
-    /// Returns where its value begins, from its handle on.
+    /// Returns the offset of its value from its handle.
     pub(crate) fn value_at(self) -> u64
         ensures { result ≡ value_offset self }
     {
         value_at(u64::from(self.name_len))
     }
 
-    /// Returns where its container stands: `WrongKind` if it is of another kind.
+    /// Returns the place of its container.
+    ///
+    /// # Errors
+    ///
+    /// `WrongKind` if it has another kind.
     #[inline(always)]
     pub(crate) fn container(self, kind: Kind) -> Result<Place, Refusal>
         ensures { result ≡ container_in self kind }
@@ -50,8 +54,11 @@ impl Object {
         })
     }
 
-    /// Returns where its element of an index stands: `WrongKind` if it has no scalars of the kind, `OutOfRange` if it
-    /// has no such element.
+    /// Returns the place of its element at an index.
+    ///
+    /// # Errors
+    ///
+    /// `WrongKind` if it is no array of scalars of the kind, `OutOfRange` if the index is not below the length.
     #[inline(always)]
     pub(crate) fn element(self, kind: ScalarKind, index: u64) -> Result<Place, Refusal>
         ensures { result ≡ element_in self kind index }
@@ -69,20 +76,20 @@ impl Object {
     }
 }
 
-/// What says which object a call means. A key is looked up at each call; an object that was located is not.
+/// A reference to the object of a call. A key is looked up at each call; a located object is not.
 ///
 /// # Conditions
 ///
-/// A key and a name have none. An object is one that was located in the segment and is still there: no call on elements
-/// takes it away, `destroy` and `destroy_ptr` do. The views of `segment_views` keep it for their caller.
+/// A key and a name have none. A located object must be an object of the segment and still exist: no call on elements
+/// removes it, but `destroy` and `destroy_ptr` do. The views of `segment_views` ensure this for their caller.
 pub trait ObjectRef {
     // The key by which commands name the object.
     ghost key: { Self → AnyKey };
 
-    // Whether it may be used in a segment.
+    // Whether it can be used in a segment.
     ghost stands: { Self → SegmentState → Type 0 };
 
-    /// Returns the object in a segment, or nothing if it has no such object.
+    /// Returns the object in a segment, or `None` if there is none.
     fn find(&self, segment: &Segment) -> Option<Object>
         requires { stands self.now segment.now }
         ensures { AnswersWith segment.now (λ d. located_at d (key self.now)) result };
@@ -91,7 +98,7 @@ pub trait ObjectRef {
 impl ObjectRef for Key<'_> {
     ghost key = { key_seen };
 
-    // A key may be asked for anywhere.
+    // A key can be used in each segment.
     ghost stands = { λ key s. ⊤ };
 
     fn find(&self, segment: &Segment) -> Option<Object> {
@@ -102,7 +109,7 @@ impl ObjectRef for Key<'_> {
 impl ObjectRef for Name<'_> {
     ghost key = { λ name. ByName (name_seen name) };
 
-    // A name may be asked for anywhere.
+    // A name can be used in each segment.
     ghost stands = { λ name s. ⊤ };
 
     fn find(&self, segment: &Segment) -> Option<Object> {
@@ -113,7 +120,7 @@ impl ObjectRef for Name<'_> {
 impl ObjectRef for Object {
     ghost key = { λ o. ByHandle o.handle };
 
-    // This is said of an object of the segment.
+    // A located object can be used in the segment that has it.
     ghost stands = { λ o s. IsObject o s };
 
     fn find(&self, _segment: &Segment) -> Option<Object> {
@@ -122,7 +129,7 @@ impl ObjectRef for Object {
 }
 
 impl Segment {
-    /// Returns the object of a key, or nothing if no object has the key.
+    /// Returns the object of a key, or `None` if no object has the key.
     pub(crate) fn object_of(&self, key: &Key) -> Option<Object>
         ensures { AnswersWith self.now (λ d. located_at d (key_seen key.now)) result }
     {
@@ -133,7 +140,7 @@ impl Segment {
     }
 }
 
-/// Returns what the head of the object at a handle says.
+/// Returns the object at a handle, from its head.
 fn read_object(heap: &Heap, handle: Handle) -> Object
     requires { HasObject heap.now.bytes handle }
     ensures handle { result.handle ≡ handle }
@@ -148,7 +155,7 @@ fn read_object(heap: &Heap, handle: Handle) -> Object
     }
 }
 
-/// Returns the object of a key as it stands in the segment. Calls that take it look nothing up.
+/// Looks the object of a key up. Calls with the result make no look-up.
 ///
 /// Example: `let object = locate(&segment, &name)?`.
 ///
@@ -165,13 +172,13 @@ pub fn locate<O: ObjectRef>(segment: &Segment, key: &O) -> Result<Object, Refusa
     }
 }
 
-/// Returns the object of a handle as it stands in the segment. Nothing is looked up.
+/// Returns the object with a handle, without a look-up.
 ///
 /// Example: `let object = object_here(&segment, handle)`.
 ///
 /// # Conditions
 ///
-/// An object of the segment has the handle. `locate` looks for it, and has no condition.
+/// An object of the segment has the handle. `locate` looks it up and has no condition.
 pub fn object_here(segment: &Segment, handle: Handle) -> Object
     requires { AnswersWith segment.now (λ d. is_object_at d handle) true }
     ensures handle { result.handle ≡ handle }

@@ -1,5 +1,5 @@
-//! How an object comes to be: its blocks are taken and its head is written, and when it was filled it gets its entry or
-//! is given back.
+//! The construction of an object: it allocates its blocks and writes its head. After the object is filled, it links its
+//! entry, or frees the blocks.
 ghost use Rattle.std.specs.Prelude.{◌≡◌, ◌^◌, ◌<◌, ◌≤◌, length};
 ghost use Rattle.raw_region.specs.Memory.{WindowState};
 ghost use Rattle.seg_types.specs.{Keys.new_key_seen, Names.Key as AnyKey, Names.NoKey};
@@ -20,7 +20,7 @@ use raw_region::Steps;
 use seg_index::{Entry, Growth, Index, Lookup};
 use seg_types::{Class, Handle, NewKey, Refusal};
 
-/// An entry that is to be made: in which index, where, and what the index grows into.
+/// The entry of a new object: its index, its place, and the block that the index grows into.
 #[derive(Drop)]
 pub(crate) struct PendingEntry {
     pub(crate) index: Index,
@@ -28,18 +28,21 @@ pub(crate) struct PendingEntry {
     pub(crate) growth: Growth,
 }
 
-/// An object that is to be made: its blocks are in use and its head is written, but no entry leads to it yet.
+/// A new object: its blocks are in use and its head is written, but no entry leads to it yet.
 #[derive(Drop)]
 pub(crate) struct PendingObject {
     pub(crate) handle: u64,
-    /// Where its elements go, from the handle on.
+    /// The offset of its value from the handle.
     pub(crate) at: u64,
-    /// Its entry, or nothing if it has no key.
+    /// Its entry, or `None` if it is anonymous.
     pub(crate) entry: Option<PendingEntry>,
 }
 
-/// Takes the blocks of an object of a shape into use, and writes its head. Otherwise it is `Exists` if an object has
-/// the key, or `NoSpace`, and what the heap holds does not change.
+/// Allocates the blocks of a new object, and writes its head.
+///
+/// # Errors
+///
+/// `Exists` if an object has the key; otherwise `NoSpace`. The blocks in use and their bytes do not change.
 pub(crate) fn begin_object(
     heap: &mut Heap,
     key: &NewKey,
@@ -62,7 +65,7 @@ pub(crate) fn begin_object(
     }
 }
 
-/// Takes the blocks of an object under an entry of an index into use, and writes its head.
+/// Allocates the blocks of a new object with an index entry, and writes its head.
 fn begin_entered(
     heap: &mut Heap,
     index: Index,
@@ -82,8 +85,7 @@ fn begin_entered(
     }
 }
 
-/// Takes the blocks of an object into use that no key has yet, whose entry gets a place of the index, and writes its
-/// head.
+/// Allocates the blocks of a new object whose key is free and whose entry belongs at `place`, and writes its head.
 pub(crate) fn begin_at(
     heap: &mut Heap,
     index: Index,
@@ -111,7 +113,7 @@ pub(crate) fn begin_at(
     Ok(PendingObject { handle, at, entry })
 }
 
-/// Takes the block of an object without a key into use, and writes its head.
+/// Allocates the block of a new anonymous object, and writes its head.
 fn begin_alone(heap: &mut Heap, shape: ObjectShape) -> Result<PendingObject, Refusal>
     requires { shape.len < 2 ^ 40 }
     ensures { BeginsObject heap.old heap.new NoKey shape.kind shape.count shape.len result }
@@ -127,7 +129,7 @@ fn begin_alone(heap: &mut Heap, shape: ObjectShape) -> Result<PendingObject, Ref
     })
 }
 
-/// Returns the class of the objects that an index has entries of.
+/// Returns the class of the objects in an index.
 pub(crate) fn class_of(index: Index) -> Class
     ensures { result ≡ class_of_index index }
 {
@@ -137,8 +139,8 @@ pub(crate) fn class_of(index: Index) -> Class
     }
 }
 
-/// Links the object's entry to it and returns its handle, if the object was filled. Otherwise frees all blocks that
-/// were allocated for it.
+/// If the object was filled, links its entry to it and returns its handle. Otherwise frees all blocks that were
+/// allocated for it.
 #[inline(always)]
 pub(crate) fn finish_object(
     heap: &mut Heap,
@@ -165,7 +167,7 @@ pub(crate) fn finish_object(
     }
 }
 
-/// Gives the blocks back that were taken for an object.
+/// Frees the blocks that were allocated for an object.
 fn give_back(heap: &mut Heap, handle: u64, entry: Option<PendingEntry>)
     requires { (old : WindowState) × WritesUnindexedObject old heap.old handle entry }
     ensures { GivesAllBack heap.old heap.new handle entry }

@@ -1,4 +1,4 @@
-//! All objects of a segment, one after another by their offsets: those without a key too.
+//! An iterator over all objects of a segment, anonymous ones among them, by offset.
 ghost use Rattle.std.specs.{Prelude.◌≡◌, Prelude.◌-◌, Iterator.at_most};
 ghost use Rattle.segment_manager.specs.indexes.Iterating.{GoesOnObjects, GoesOnOwn, own_count};
 
@@ -9,10 +9,10 @@ use crate::segment::Segment;
 use block_tags::TAG_LEN;
 use std::marker::Model;
 
-/// All objects of a segment by their offsets, one after another: what each says of itself. Those without a key are
-/// among them. A walk over all of them takes one step for each block and gap.
+/// An iterator over all objects of a segment, anonymous ones among them, by offset. It returns each object's
+/// `Instance`. A walk over all of them takes one step for each block and gap.
 ///
-/// Contracts see the segment, and how many objects came.
+/// In contracts it is the segment, and the number of objects returned so far.
 #[derive(Drop)]
 pub struct Objects<'a> {
     segment: &'a Segment,
@@ -40,14 +40,14 @@ impl<'a> Iterator for Objects<'a> {
     fn next(&mut self) -> Option<Instance<'a>> {
         let segment = self.segment;
         let block = next_own(&mut self.tiles)?;
-        // A block lies within the segment, and 64 bits count its objects, which its bytes say.
+        // The segment's bytes bound the number of its objects, so 64 bits count them.
         let _ = segment.as_bytes();
         self.at += 1;
         Some(instance_here(segment, block.offset + TAG_LEN))
     }
 }
 
-/// Returns the next block of an object among the blocks and gaps that are left, or nothing if there is no more.
+/// Returns the next block of an object among the remaining blocks and gaps, or `None` if there is none.
 fn next_own(tiles: &mut Tiles<'_>) -> Option<TileInfo>
     ensures { GoesOnOwn tiles.old result tiles.new }
 {
@@ -60,7 +60,7 @@ fn next_own(tiles: &mut Tiles<'_>) -> Option<TileInfo>
 }
 
 impl Segment {
-    /// Returns all objects by their offsets, those without a key too.
+    /// Returns an iterator over all objects, anonymous ones among them, by offset.
     ///
     /// Example: `for said in segment.objects()`.
     pub fn objects(&self) -> Objects<'_>

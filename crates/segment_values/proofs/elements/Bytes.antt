@@ -47,12 +47,12 @@ abbrev But : SegmentState → SegmentState → ℕ → Result Place Refusal → 
 But old new n r =
     IfOk r (λ (p : Place). SameBytesExcept (bytes_of old.cut.bytes) (bytes_of new.cut.bytes) (p.handle + p.at) n)
 
--- what follows of a success, if more follows
+-- a property of a success implies another
 pub on_ok-map : {P Q : Type 0} (r : Result (Unit {0}) Refusal) → (P → Q) → OnOk r P → OnOk r Q
 on_ok-map (Ok a) f p = f p
 on_ok-map (Err why) f p = tt
 
--- ---- one element, whatever its kind
+-- ---- one element of any kind
 
 abbrev elements_in : Option Object → Result ScalarKind Refusal
 elements_in r =

@@ -1,4 +1,4 @@
--- New elements of vectors, put in under the handle of the vector where a spot says.
+-- New elements of vectors, inserted at a position of the vector of a handle.
 use Rattle.std.proofs.Common.{sym, subst, List, ℕ}
 use Rattle.seg_types.specs.declared.kinds.Kind.TheVariants.{Strings, Vector}
 use Rattle.seg_types.specs.declared.refusals.Refusal.{Refusal}

@@ -1,4 +1,4 @@
--- The pairs of a map: the texts of all of them are those of its value.
+-- The pairs of a map: all their texts together are the texts of its value.
 use Rattle.std.proofs.Common.{◌≡◌, ℕ, List, [], length, Option, Some, None, slice_get, sym, ap, ◌∙◌}
 use Rattle.seg_types.specs.declared.kinds.Kind.TheVariants.{Map}
 use Rattle.seg_types.specs.declared.kinds.ScalarKind.{ScalarKind}
@@ -33,7 +33,7 @@ module _ (s : SegmentState) (o : Located) (l : IsLocated s (ByHandle o.handle) o
       → o.kind ≡ kind_of (said-at s (ByHandle o.handle) o l d st).object.value
   kind-said d st = ap (λ (q : Located). q.kind) (said-at s (ByHandle o.handle) o l d st).said
 
-  -- what is written of it are the texts of its value
+  -- the texts that are written are the texts of its value
   pub map-said : (sp : Spelling) (n : ℕ) → AnswersWith s (λ d. count_at d (ByHandle o.handle)) n → (d : Directory)
       → DenotesCurrent s.cut.bytes d
       → parts_until (pair_part sp k v d (ByHandle o.handle)) n ≡ laid_at sp d (ByHandle o.handle)

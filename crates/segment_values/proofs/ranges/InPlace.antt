@@ -88,7 +88,7 @@ spelled-drop k (suc n) (z ∷ zs) v =
     ap (λ j. drop j (spelling k z ++ spelled k zs)) step
     ∙ drop-append-add (spelling k z) (spelled k zs) (size_of k * n) ∙ spelled-drop k n zs both.1
 
--- those of this many from a place on
+-- the encodings of this many elements from an index on
 pub range-spelled : (k : ScalarKind) (zs : List ℤ) (bytes : List ℕ) (first n : ℕ) → AreSpelled k zs bytes
     → AreSpelled k (take n (drop first zs)) (part bytes (size_of k * first) (size_of k * n))
 range-spelled k zs bytes first n a =
@@ -203,7 +203,7 @@ module _ (s : SegmentState) (o : Located) (k : ScalarKind) (located : IsLocated 
 
   module _ (run : ElementRun) (place : AnswersWith s (λ d. run_at d (ByHandle o.handle)) (Ok run))
       (bytes : IsRunOf s (ByHandle o.handle) run) where
-    -- of the kind, and as many
+    -- the run has the kind, and the number of elements
     run-said : (d : Directory) → DenotesCurrent s.cut.bytes d → (run.kind ≡ k) × (run.count ≡ length (row_of o d))
     run-said d st =
         let said = run-kind s (ByHandle o.handle) run k place d st (there d st).object (there d st).is (of-kind d st) in
@@ -242,7 +242,7 @@ module _ (s : SegmentState) (o : Located) (k : ScalarKind) (located : IsLocated 
       };
     }
 
-  -- it has a run
+  -- the object has a run
   pub no-run : (why : Refusal) → AnswersWith s (λ d. run_at d (ByHandle o.handle)) (Err why) → IsSegment s.cut.bytes → ⊥
   no-run why a g =
       let said = there g.0 g.1 in

@@ -5,7 +5,7 @@ use Rattle.std.specs.Prelude.{drop, slice_get}
 use Rattle.std.proofs.lemmas.List.{map-append, take_more_set}
 use Rattle.std.proofs.lemmas.Option.{none-some, same_Some}
 
--- ---- one element more of those that stand in front
+-- ---- one more element at the front
 
 got-behind : {A : Type 0} (xs : List A) (n i : ℕ) → slice_get (drop n xs) i ≡ slice_get xs (n + i)
 got-behind xs zero i = ap (slice_get xs) (sym (zero-add i))

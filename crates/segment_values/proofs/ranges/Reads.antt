@@ -75,7 +75,7 @@ module _ (s : SegmentState) (o : Located) (l : IsLocated s (ByHandle o.handle) o
       ap (λ zs. range_of zs first n) (its-numbers d (ByHandle o.handle) o.kind p.object p.is (sym (kind-here d st)))
       ∙ sym (told-here d st true row)
 
-  -- what a range of its row is answered is read of such an object
+  -- a range of a row is read from such an object
   pub row-reads : (r : Result (List ℤ) Refusal) → is_row k o.kind ≡ true
       → AnswersWith s (λ d. range_of (row_of o d) first n) r
       → AnswersWith s (λ d. range_at d (ByHandle o.handle) k first n) r
@@ -85,7 +85,7 @@ module _ (s : SegmentState) (o : Located) (l : IsLocated s (ByHandle o.handle) o
   pub no-reads : is_row k o.kind ≡ false → AnswersWith s (λ d. range_at d (ByHandle o.handle) k first n) (Err WrongKind)
   no-reads row = record { answers = λ d st. sym (told-here d st false row) }
 
--- what is said under the handle is said under the key
+-- a result for the handle is the result for the key
 pub reads-by_key : (s : SegmentState) (key : Key) (o : Located) → IsLocated s key o
     → (k : ScalarKind) (first n : ℕ) (r : Result (List ℤ) Refusal)
     → AnswersWith s (λ d. range_at d (ByHandle o.handle) k first n) r

@@ -33,7 +33,7 @@ row-cases k kind r = cases-if (same_kind (Vector k) kind) refl r
     cases-if true f r = inl (sym (one-kind (Vector k) kind f))
     cases-if false f r = inr (sym (one-kind (Scalar k) kind r))
 
--- of the object of a key
+-- the numbers of the object of a key
 pub its-numbers : (d : Directory) (key : Key) (kind : Kind) (o : Object) → object_at d key ≡ Some o
     → kind_of o.value ≡ kind → list_at numbers_in d key kind ≡ numbers_in o.value
 its-numbers d key kind o e f =

@@ -1,4 +1,4 @@
--- The best gap leaves the tree and is taken, and a request is refused where there is none.
+-- The best gap leaves the tree and is allocated; without such a gap the call fails.
 use Rattle.best_fit.proofs.Common.{◌≡◌, refl, sym, ap, subst, ◌∙◌, ℕ, ◌+◌, ◌-◌, ◌%◌, List, ◌++◌, ◌∷◌, length, arith}
 use Rattle.best_fit.proofs.Common.{Option, Some, None, filter, bits, Gap, least, gap_of, gaps_in, gaps_of, tiles_in}
 use Rattle.best_fit.proofs.Common.{HasGapTree, IsUnlinkedGap, is_long, GapTree}

@@ -1,4 +1,4 @@
--- The tile is the one at its offset in each list that the tags say.
+-- The tile is the one at its offset in each list of the tags.
 use Rattle.best_fit.proofs.Common.{◌≡◌, sym, subst, SameExceptTags, EncodesTiles}
 use Rattle.best_fit.proofs.tags.TileCuts.{cut_list, kept_list}
 use Rattle.best_fit.proofs.allocation.split_tail.Goals as goal

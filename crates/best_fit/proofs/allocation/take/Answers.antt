@@ -1,4 +1,4 @@
--- The gap is made black, cut, and taken into use, and what is left of it enters the tree.
+-- The gap is made black, cut and allocated, and its remainder enters the tree.
 use Rattle.best_fit.proofs.Common.{◌≡◌, ap, ◌+◌, ◌++◌, length, arith, sym, ℕ, bits, gaps_in, IsUnlinkedGap}
 use Rattle.best_fit.proofs.allocation.GapToBlock.{Planted, Taken, colour_may, cut_stands, out_bounds, taken, use_may}
 use Rattle.best_fit.proofs.allocation.take.Goals.{After-set_use, After-link_gap}

@@ -1,4 +1,4 @@
--- A piece is emptied, and its handle is noted in the wider piece.
+-- A piece is emptied, and its handle is entered in the wider piece.
 use Rattle.best_fit.proofs.Common.{◌≡◌, ◌+◌, ◌≤◌, ◌⊎◌, ℕ, List, slice_index, place_of, subst, sym, ◌∙◌}
 use Rattle.best_fit.proofs.block_hints.Pieces.{Widened, widened_clear, widened_note}
 use Rattle.best_fit.proofs.block_hints.spread.Goals.{then-place-piece+then-place-piece-2, else-place-piece}

@@ -1,4 +1,4 @@
--- The pieces that were gone through are wider.
+-- The pieces that were passed are wider.
 use Rattle.best_fit.proofs.block_hints.Pieces.{Widened}
 use Rattle.best_fit.proofs.block_hints.spread.Given as goal
 

@@ -5,12 +5,12 @@ use Rattle.best_fit.proofs.tags.TileCuts.{free_next, joined_list, unjoined_list}
 use Rattle.best_fit.proofs.tags.Writes.{tile_in_list}
 use Rattle.best_fit.proofs.deallocation.coalesce_next.Goals as goal
 
--- what is there
+-- an option that is some has a value
 there : (o : Option ℕ) → is_some o ≡ true → (k : ℕ) × (o ≡ Some k)
 there None e = absurd (false≢true e)
 there (Some k) e = (k, refl)
 
--- what is not
+-- an option that is not some is none
 not_there : (o : Option ℕ) → is_some o ≡ false → o ≡ None
 not_there None e = refl
 not_there (Some k) e = absurd (false≢true (sym e))

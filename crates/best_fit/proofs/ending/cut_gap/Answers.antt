@@ -1,4 +1,4 @@
--- The last tile is free and dropped, or the window ends there already.
+-- The last tile is free and is dropped, or the window already ends there.
 use Rattle.best_fit.proofs.Common.{◌≡◌, ap, sym, ◌∙◌, ℕ, ◌+◌, ◌*◌, ◌≤◌, arith, List, ◌++◌, ◌∷◌, [], length, Some}
 use Rattle.best_fit.proofs.Common.{bits, Gap, gap_of, gaps_in, gaps_of, tiles_in, HasGapTree, ChangesGapTree}
 use Rattle.best_fit.proofs.allocation.LeastGap.{heap_tree}
@@ -43,7 +43,7 @@ unlink_gap-requires-clause-tree c =
           c.requires.heap c.in-Some.at l,
     )
 
--- it has left the tree
+-- the gap has left the tree
 left : (c : After-unlink_gap) (l : LastGap c.args.touches.now.gaps.now.window c.in-Some.at)
     → HasGapTree c.last-last.new.self.gaps.now.window (gaps_of l.front ++ (gap_of l.tile ∷ []))
     → HasGapTree c.unlink_gap.new.self.gaps.now.window (gaps_of l.front ++ [])

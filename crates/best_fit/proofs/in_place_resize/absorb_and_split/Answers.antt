@@ -1,4 +1,4 @@
--- The gap after leaves the tree, the block takes it and is cut, and what is cut off enters the tree.
+-- The gap after the block leaves the tree, the block is joined with it and cut, and the part cut off enters the tree.
 use Rattle.best_fit.proofs.Common.{◌≡◌, refl, sym, ap, ◌∙◌, ◌+◌, ◌++◌, ◌∷◌, length, arith, first_in, gaps_of, gaps_in}
 use Rattle.best_fit.proofs.Common.{HasGapTree, ChangesGapTree, gap_offset, tile_list, offset_of}
 use Rattle.best_fit.proofs.allocation.LeastGap.{bits-le}
@@ -108,7 +108,7 @@ overflow_add-at-then-is_cut c =
     let b = live_block c.args.touches.now.gaps.now.window (c.args.at + 16) c.requires.heap c.requires.live in
     let a = b.at in let i = b.inside in let z = b.size in let small = c.requires.max_size in omega arith
 
--- the block has taken the gap, and is cut or not
+-- the block is joined with the gap, and cut or not
 cut : (c : After-split_tail-is_cut) (b : Block c.args.touches.now.gaps.now.window (c.args.at + 16))
     → TailUprooted c.args.touches.now.gaps.now.window c.args.at c.requires.heap b c.args.wanted
     c.unlink_if_gap.new.touches.gaps.now.window c.args.touches.now.count c.unlink_if_gap.new.touches.count

@@ -1,4 +1,4 @@
--- The block and the gap after it are read, and the block takes what it needs of the gap.
+-- The block and the gap after it are read, and the block gets the part of the gap that it needs.
 use Rattle.best_fit.proofs.Common.{◌≡◌, refl, sym, subst, inl, inr, ◌+◌, ◌%◌, length, arith, WindowState, current}
 use Rattle.best_fit.proofs.Common.{HasTileAt}
 use Rattle.best_fit.proofs.Common.{gaps_in, TryExtends, SplitsBlock}

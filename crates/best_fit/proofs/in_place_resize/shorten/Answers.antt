@@ -1,4 +1,4 @@
--- The block and the gap after it are read, and the block takes what it needs of the gap.
+-- The block and the gap after it are read, and the block keeps the part that it needs.
 use Rattle.best_fit.proofs.Common.{◌≡◌, refl, sym, subst, ◌∙◌, ℕ, ◌+◌, ◌-◌, ◌%◌, ◌<◌, length, arith, WindowState}
 use Rattle.best_fit.proofs.Common.{current}
 use Rattle.best_fit.proofs.Common.{HasTileAt, gaps_in, ShrinksInPlace, live_of, SplitsBlock}
@@ -69,7 +69,7 @@ returns-then-len-wanted-clause-changes c =
     let r = not_shortened w (c.args.at + 16) c.args.n c.requires.heap b (omega arith) in
     subst (λ (v : WindowState). ShrinksInPlace current w v (c.args.at + 16) c.args.n) (sym e) r
 
--- whether what is cut off can be a gap
+-- whether the part cut off can be a gap
 leaves : (c : After-leaves_gap) (b : Block c.args.touches.now.gaps.now.window (c.args.at + 16))
     → Measured c.args.touches.now.gaps.now.window (c.args.at + 16) b c.tile_at-len.result.len c.next_gap_len-gap.result
     → c.room-wanted.result < c.tile_at-len.result.len

@@ -1,4 +1,4 @@
--- What the call leaves after the second reference is put back, and what was lent to be read stays.
+-- The call's bytes behind the second reference are written back, and the bytes lent for reading stay.
 use Rattle.best_fit.proofs.Common.{part}
 use Rattle.best_fit.proofs.lending.TwoRanges.{called, second_written}
 use Rattle.best_fit.proofs.lending.on_two.Goals as goal

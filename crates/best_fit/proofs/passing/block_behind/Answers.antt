@@ -1,4 +1,4 @@
--- The tile after a block is one in use, or a gap, after which another one in use stands.
+-- The tile after a block is in use, or is a gap with another block in use after it.
 use Rattle.best_fit.proofs.Common.{◌≡◌, sym, subst, ◌∙◌, ◌-◌, List, arith, WindowState, Tile, next_in, HasTileAt}
 use Rattle.best_fit.proofs.Common.{EncodesTiles}
 use Rattle.best_fit.proofs.tile_walk.Walk.{left_goes_on, left_next}

@@ -1,4 +1,4 @@
--- The block behind is another one, and the hints that are left lead to blocks.
+-- The next block is another one, and the remaining hints are handles of blocks.
 use Rattle.best_fit.proofs.Common.{◌≢◌, sym, subst, ℕ, IsTrue, inl, inr, is_live_in, live_of}
 use Rattle.best_fit.proofs.passing.retarget_hint.Goals as goal
 

@@ -1,4 +1,4 @@
--- What the walk looks for is told by the tiles that are left.
+-- The remaining tiles decide whether the handle is live.
 use Rattle.best_fit.proofs.Common.{length}
 use Rattle.best_fit.proofs.tile_walk.Walk.{Left, StillNames, to_go}
 use Rattle.best_fit.proofs.tile_walk.is_reached.Given as goal

@@ -1,4 +1,4 @@
--- The blocks that are counted and those among the tiles that are left are all.
+-- The counted blocks and the blocks of the remaining tiles are all blocks.
 use Rattle.best_fit.proofs.Common.{length}
 use Rattle.best_fit.proofs.tile_walk.Walk.{Left, StillLive, to_go}
 use Rattle.best_fit.proofs.tile_walk.live_count.Given as goal

@@ -1,4 +1,4 @@
--- Each block that was passed may be noted.
+-- Each hint so far is the handle of a block.
 use Rattle.best_fit.proofs.Common.{List, length, Tile, LeadToBlocks}
 use Rattle.best_fit.proofs.tile_walk.Walk.{Left, to_go}
 use Rattle.best_fit.proofs.tile_walk.note_blocks.Given as goal

@@ -1,4 +1,4 @@
--- The tile of the index is to be found among those that are left.
+-- The tile of the index is among the remaining tiles.
 use Rattle.best_fit.proofs.tile_walk.Walk.{Left, StillAt}
 use Rattle.best_fit.proofs.tile_walk.tile.Given as goal
 

@@ -2,7 +2,7 @@ use Rattle.image_check.proofs.Common.{AreBlocks, List, Tile, bytes_of, is_elemen
 use Rattle.image_check.proofs.Common.{◌*◌, ◌+◌, ◌≡◌, ◌≤◌}
 use Rattle.image_check.proofs.arrays.are_elements.Given as goal
 
--- the elements so far lead to their texts, and each was looked at twice at most
+-- the elements so far lead to their texts, with at most two visits each
 abbrev pub invariant-elements : goal.invariant-elements
 invariant-elements l =
     record {

@@ -1,4 +1,4 @@
--- The first pass that fails has its class, and all passes together spend what each may.
+-- The first pass that fails gives the class, and all passes together stay within their bounds.
 use Rattle.image_check.proofs.Common.{IsFirstWrongTile, IsSharedAt, bytes_of, counted_fields, has_container}
 use Rattle.image_check.proofs.Common.{is_orphaned, not, refl, true, ◌≡◌}
 use Rattle.image_check.specs.Fields.{is_left}

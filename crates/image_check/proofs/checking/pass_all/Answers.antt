@@ -1,4 +1,4 @@
--- The frame, the blocks in use and their classes, one after another, and what each of them spends.
+-- The frame, the blocks in use and their classes, one after another, and the visits of each pass.
 use Rattle.image_check.proofs.Common.{arith}
 use Rattle.image_check.proofs.budget.Visits.{blocks-raised, blocks-spent, gathered-raised}
 use Rattle.image_check.proofs.frame.EarlyClasses.{frame-no_early_class}

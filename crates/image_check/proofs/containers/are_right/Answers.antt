@@ -21,7 +21,7 @@ row c =
 here : (c : After-tile_of-tile) → IsHere c.args.window.now (row c).here
 here c = is-here c.args.window.now _ (row c).here c.requires.tiles (row c).at
 
--- the tile that is looked at is the one that stands there, but for its colour
+-- the tile that is tested is the tile at its offset, except its colour
 place : (c : After-tile_of-tile) → c.tile_of-tile.result.offset ≡ (row c).here.offset
 place c = let at = (row c).place in let there = c.tile_of-tile.ensures.place in omega arith
 

@@ -5,7 +5,7 @@ use Rattle.image_check.proofs.budget.Visits.{treeless-spend}
 use Rattle.image_check.proofs.frame.FormatTags.{later-free_tree}
 use Rattle.image_check.proofs.free_tree.check_gaps.Goals as goal
 
--- a format that is not 0 is one of the later ones
+-- a format other than 0 is a later one
 later-some : (f : ℕ) → f ≢ 0 → 0 < f
 later-some f e = omega arith
 

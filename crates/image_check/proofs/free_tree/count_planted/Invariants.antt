@@ -5,7 +5,7 @@ use Rattle.image_check.proofs.budget.Visits.{Within}
 use Rattle.image_check.proofs.walks.Tiles.{Walks, left_from}
 use Rattle.image_check.proofs.free_tree.count_planted.Given as goal
 
--- all tiles that the walk has passed are planted in each tree at the root, and they and the visits to them are counted
+-- all tiles that the walk has passed are nodes of each tree at the root, and they and their visits are counted
 abbrev pub invariant-tiles : goal.invariant-tiles
 invariant-tiles l =
     ((t : Tree) → IsSearchTree (stands_before (bytes_of l.window.bytes)) (place_cells l.window) l.root t

@@ -3,7 +3,7 @@ use Rattle.image_check.proofs.Common.{first_targets, is_new, link_at, links_in, 
 use Rattle.image_check.proofs.Common.{◌≤◌}
 use Rattle.image_check.proofs.indexes.enter_all.Given as goal
 
--- the entries that were passed are noted
+-- the entries that were passed are entered
 abbrev pub invariant-entries : goal.invariant-entries
 invariant-entries l = record {
   within : l.i ≤ l.count;

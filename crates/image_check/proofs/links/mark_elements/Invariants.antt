@@ -2,7 +2,7 @@ use Rattle.image_check.proofs.Common.{◌-◌}
 use Rattle.image_check.proofs.shared_blocks.Links.{NotedElements}
 use Rattle.image_check.proofs.links.mark_elements.Given as goal
 
--- the elements before this one are noted
+-- the elements before this one are entered
 abbrev pub invariant-elements : goal.invariant-elements
 invariant-elements g l = NotedElements g.format l.window.bytes l.array l.initial.owners.blocks.entries
     l.initial.owners.waiting l.initial.visits l.i l.count l.owners.blocks.entries l.owners.pending l.owners.waiting

@@ -1,4 +1,4 @@
--- What is noted counts, and what was noted before stays. Each turn there is less left to follow.
+-- Each entered link counts, and all entered links stay. Each turn reduces the number of links to follow.
 use Rattle.image_check.proofs.Common.{unspent_budget, ◌*◌, ◌+◌}
 use Rattle.image_check.proofs.shared_blocks.Worklist.{IsGoing}
 use Rattle.image_check.proofs.marks.follow.Given as goal

@@ -42,7 +42,7 @@ overflow_add-right g c =
     c.args.owners.now.waiting c.requires.0 c.requires.1.0 c.args.node c.requires.1.1 in
     let x = w.0.high in let y = w.1 in omega arith
 
--- it is the node's turn
+-- the node is the current one
 its-turn : (format : ℕ) (b : List ℕ) (es : Blocks) (pending : Option ℕ) (waiting : ℕ)
     (k : IsMarkingOf format b None es pending waiting) (n : ℕ) (e : pending ≡ Some n) (block : Option Block)
     (next : Option ℕ)

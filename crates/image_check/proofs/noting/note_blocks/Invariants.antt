@@ -1,7 +1,7 @@
 use Rattle.image_check.proofs.Common.{length, ◌+◌, ◌-◌, ◌≡◌, ◌≤◌}
 use Rattle.image_check.proofs.noting.note_blocks.Given as goal
 
--- the blocks that the walk has passed may be noted
+-- the walk counts one visit for each block that it has passed
 abbrev pub invariant-rows : goal.invariant-rows
 invariant-rows l = record {
   within : l.number ≤ length l.blocks.entries;

@@ -13,7 +13,7 @@ use Rattle.image_check.proofs.walks.Weights.{weigh-front, weigh-more}
 use Rattle.image_check.proofs.object_walk.are_right.Goals.{After-row-payload}
 use Rattle.image_check.proofs.object_walk.are_right.Goals as goal
 
--- what is kept of the tiles after the walk
+-- the property of the passed tiles after the walk
 abbrev Kept : ℕ → WindowState → ℕ → ℕ → List Tile → Type 0
 Kept format w before visits ts = (list_all (is_right_tile format (bytes_of w.bytes)) ts ≡ true) × (before ≤ visits)
     × (visits ≤ before + weigh object_walk_rates ts)
@@ -31,7 +31,7 @@ gaps format w before visits g u a =
       omega arith,
     )
 
--- a test and a cost of a tile are those of one that is as long, and of the same use, at the same place
+-- the test and the cost of a tile depend on its offset, its length and its use
 right-same : (format : ℕ) (m : Memory) (t u : Tile) → t.offset ≡ u.offset → t.len ≡ u.len → t.use_of ≡ u.use_of
     → is_right_tile format m t ≡ is_right_tile format m u
 right-same format m t u e f g = ap (is_right_tile format m) (recoloured t u e f g)

@@ -6,7 +6,7 @@ use Rattle.image_check.proofs.walks.Rows.{PassesGaps, RowAt, row-at, rows-end, r
 use Rattle.image_check.proofs.walks.Tiles.{all-more, fails-there, tags-IsTiledWindow}
 use Rattle.image_check.proofs.orphans.are_owned.Goals as goal
 
--- what is kept of the tiles after the walk
+-- the property of the passed tiles after the walk
 abbrev Kept : Blocks → List Tile → Type 0
 Kept es ts = list_all (has_owner es) ts ≡ true
 

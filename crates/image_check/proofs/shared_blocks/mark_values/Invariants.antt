@@ -7,7 +7,7 @@ use Rattle.image_check.proofs.shared_blocks.mark_values.Given as goal
 abbrev pub ghost-mark_object : goal.ghost-mark_object
 ghost-mark_object g a = g.said
 
--- the values in the tiles that the walk has passed are noted
+-- the values in the tiles that the walk has passed are entered
 abbrev pub invariant-rows : goal.invariant-rows
 invariant-rows g l = RowWalks l.window
     (Noting g.said l.window.bytes l.initial.owners.blocks.entries

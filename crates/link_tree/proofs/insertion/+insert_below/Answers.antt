@@ -25,7 +25,7 @@ insert_below-child-requires g t c =
     (b.tree, rw (way.ensures.nodes, way.ensures.link) b.grows, omega arith) in
     λ κs lives. (omega (arith, c.decreases), (search rules, (search rules, (search rules, (search rules, tree)))))
 
--- what the call below took
+-- the steps of the nested call
 spent : (g : Over) (s now : g.row.N.Denot) (x at : ℕ) (link : Option ℕ) (t : Tree) (steps steps' : ℕ)
     → CanInsert (g.N.Nodes.order s) (g.N.Nodes.cells s) (Some at) x t → now ≡ s
     → link ≡ child_of (side_of (g.N.Nodes.order s x at)) (g.N.Nodes.cells s at)

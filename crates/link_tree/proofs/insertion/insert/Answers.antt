@@ -6,7 +6,7 @@ use Rattle.link_tree.proofs.insertion.insert.Goals as goal
 use Rattle.link_tree.proofs.insertion.insert.Goals.{After-insert_at-changed}
 use Rattle.link_tree.proofs.insertion.insert.Given.{Over}
 
--- a tree of few nodes is gone through in few steps
+-- a tree with few nodes needs few steps
 few : (digits search change : ℕ) → digits ≤ 41 → search ≤ 2 * digits → change ≤ 28 * digits + 32
     → 2 * search + change < 2 ^ 64
 few digits search change a b c = omega arith

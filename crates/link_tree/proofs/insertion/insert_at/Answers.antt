@@ -13,7 +13,7 @@ use Rattle.link_tree.proofs.inserting.EntryPoint.{IsBegun, begun_whole, entered,
 use Rattle.link_tree.proofs.insertion.insert_at.Goals as goal
 use Rattle.link_tree.proofs.insertion.insert_at.Given.{Over}
 
--- what the call asks for
+-- the conditions of the call
 abbrev Asked : (g : Over) → g.row.N.Denot → (root entry : Option ℕ) → ℕ → Type 0
 Asked g s root entry x = (t : Tree) × IsSearchTree (g.N.Nodes.order s) (g.N.Nodes.cells s) root t
     × IsTrue (is_ordered_with (g.N.Nodes.order s) x (nodes_of t))
@@ -61,7 +61,7 @@ insert_below-requires-clause-tree g c =
       omega arith,
     )
 
--- what an insertion below a node of the tree made
+-- the result of an insertion below a node of the tree
 entered_at : (g : Over) (s s' : g.row.N.Denot) (root entry : Option ℕ) (x p top : ℕ) → Asked g s root entry x
     → entry ≡ Some p → ((v : Tree) → CanInsert (g.N.Nodes.order s) (g.N.Nodes.cells s) (Some p) x v
     → BecomesTree (g.N.Nodes.cells s) (g.N.Nodes.cells s') (x ∷ nodes_of v) (Some top)
@@ -115,7 +115,7 @@ paint-requires-clause-no_overflow g c =
     let steps = rw c.new-visits.ensures.nodes at c.insert_below-top.ensures.steps in
     omega (arith, steps t.0 (grows g s c.args.root c.args.entry c.args.node t t.0 t.1))
 
--- what an insertion below the root made
+-- the result of an insertion below the root
 inserted_at : (g : Over) (s s' s'' : g.row.N.Denot) (root entry : Option ℕ) (x top : ℕ) → Asked g s root entry x
     → ((v : Tree) → CanInsert (g.N.Nodes.order s) (g.N.Nodes.cells s) root x v
     → BecomesTree (g.N.Nodes.cells s) (g.N.Nodes.cells s') (x ∷ nodes_of v) (Some top)

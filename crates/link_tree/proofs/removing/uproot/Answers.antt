@@ -16,7 +16,7 @@ right_tree : (g : Over) (s : g.row.N.Denot) (at right : ℕ) (t : Tree)
     → HasChild (strict g.met.N.Nodes s) (g.N.Nodes.cells s) Right at right t
 right_tree g s at right t w e = child_tree (strict g.met.N.Nodes s) Right (g.N.Nodes.cells s) at right t w e
 
--- what was read of the node
+-- the fields of the node that were read
 record IsRead (g : Over) (s now : g.row.N.Denot) (at : ℕ) (red : Bool) (left right : Option ℕ) : Type 0 where
   here : now ≡ s
   red_is : red ≡ (g.N.Nodes.cells s at).red

@@ -9,7 +9,7 @@ use Rattle.link_tree.proofs.rotation.fix_double_red.Goals as goal
 use Rattle.link_tree.proofs.rotation.fix_double_red.Goals.{After-child-inner}
 use Rattle.link_tree.proofs.rotation.fix_double_red.Given.{Over}
 
--- what was read of the node on top and of its child
+-- the fields of the top node and of its child that were read
 record IsRead (g : Over) (s now : g.row.N.Denot) (top near : ℕ) (side : Side) (outer inner : Option ℕ) : Type 0 where
   here : now ≡ s
   near_is : child_of side (g.N.Nodes.cells s top) ≡ Some near
@@ -46,7 +46,7 @@ read g c =
           c.child-inner.ensures.value c.other.ensures e4;
     }
 
--- what `is_red` tells
+-- the result of `is_red`
 tells : (g : Over) (s s' : g.row.N.Denot) (link link' : Option ℕ) (red is : Bool)
     → ((u : Tree) → IsTree (g.N.Nodes.cells s') link' u → red ≡ is_red_tree u) → s' ≡ s → link ≡ link' → red ≡ is
     → (u : Tree) → IsTree (g.N.Nodes.cells s) link u → is ≡ is_red_tree u

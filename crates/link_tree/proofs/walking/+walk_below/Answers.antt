@@ -36,7 +36,7 @@ walk_below-requires g t c =
       (search rules, (search rules, (search rules, (c.requires.callable, (good, tree))))),
     )
 
--- what is ahead of the two calls, of which the first one is done
+-- the nodes ahead of the two calls, of which the first has returned
 both : (g : Over) (t : ℕ) (c : After-walk_below g t) (u : Tree)
     → IsAhead (g.N.Nodes.order c.args.visits.now.nodes.now) (g.N.Nodes.cells c.args.visits.now.nodes.now) c.args.link
     c.args.levels c.args.visits.now.at u

@@ -8,7 +8,7 @@ use Rattle.offset_link.specs.Relinked.{AllLinksLead}
 use Rattle.offset_link.proofs.moves.ShiftedWords.{all_lead-non_null}
 use Rattle.offset_link.proofs.moves.all_lead.Goals as goal
 
--- what the link at i leads to, where all lead
+-- the target of the link at i, if all links lead to targets
 even : (m : Memory) (at n i target : ℕ) → i < n → link_at m (at + 8 * i) ≡ Some target → AllLinksLead m at n
     → target % 16 ≡ 0
 even m at n i target h is all =

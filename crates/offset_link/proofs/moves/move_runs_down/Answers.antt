@@ -9,7 +9,7 @@ use Rattle.offset_link.proofs.moves.move_runs_down.Goals as goal
 abbrev Moved : List ℕ → List ℕ → ℕ → ℕ → ℕ → Type 0
 Moved b cur at by k = cur ≡ patched b (at - by) (reworded word_by_distance (bytes_of b) at (at - by) (8 * k))
 
--- what they were seen to be
+-- the bits that were seen
 abbrev Set : List ℕ → ℕ → ℕ → Type 0
 Set b at k = HasNoNullLink (bytes_of b) at (8 * k)
 

@@ -11,7 +11,7 @@ Moved b cur at by n k =
     cur ≡ patched b (at + by + 64 * k)
     (reworded word_by_distance (bytes_of b) (at + 64 * k) (at + by + 64 * k) (8 * (n - k)))
 
--- what they were seen to be
+-- the bits that were seen
 abbrev Set : List ℕ → ℕ → ℕ → ℕ → Type 0
 Set b at n k = HasNoNullLink (bytes_of b) (at + 64 * k) (8 * (n - k))
 

@@ -1,4 +1,4 @@
--- The eight bytes lie in the heap, whose last 16 bytes are no block's.
+-- The eight bytes lie in the heap, whose last 16 bytes belong to no block.
 use Rattle.seg_index.proofs.{◌+◌, ◌-◌, ◌*◌, ◌/◌, ◌^◌, ◌∙◌, ap, subst, arith, bit_and, ℕ, List, slice_range}
 use Rattle.seg_index.proofs.{big_number, bytes_of, AreBytes, name_len_at, long_front, short_front}
 use Rattle.seg_index.proofs.comparing.front_at.Goals as goal

@@ -1,4 +1,4 @@
--- Where the fronts differ, the names stand as they do.
+-- If the fronts differ, the names have the order of the fronts.
 use Rattle.seg_index.proofs.{◌≡◌, ◌≢◌, ◌≤◌, ◌∙◌, sym, ap, ap₂, subst, arith, ℕ, List, length, Equal, slice_cmp, nat_cmp}
 use Rattle.raw_region.specs.Memory.{read}
 use Rattle.seg_index.proofs.{◌+◌, ◌%◌, Ordering, bytes_of, AreBytes, front, name_at, front_equal, front_order}

@@ -1,4 +1,4 @@
--- Each turn halves what is left, and compares one key.
+-- Each turn halves the number of remaining keys, and compares one key.
 use Rattle.seg_index.proofs.{◌≡◌, ◌+◌, ap, sym, subst, ◌∙◌, ◌≤◌, arith, bytes_of, bits, IsKeyedEntry, middle, order_at}
 use Rattle.seg_index.proofs.{IsLeft, entry_of, left_down, left_found, left_none, left_up}
 use Rattle.seg_index.proofs.{searching.search.Goals.After-compare, bits_few}
@@ -17,7 +17,7 @@ compare-requires c =
       room = omega arith;
     }
 
--- how the compared key stands, and what is known of the comparisons then
+-- the order of the compared key, and the facts about the comparisons after it
 stands : (c : After-compare) → order_at (bytes_of c.args.comparisons.now.heap.now.bytes) c.args.comparisons.now.key
     c.args.comparisons.now.block (middle c.halves.low c.halves.high) ≡ c.compare.result
 stands c = subst (λ (s : ComparisonCounter). order_at (bytes_of s.heap.now.bytes) s.key s.block

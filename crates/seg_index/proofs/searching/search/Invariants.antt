@@ -1,4 +1,4 @@
--- What is left of the entries, and how many comparisons are left for them.
+-- The remaining entries, and a bound on the remaining comparisons.
 use Rattle.seg_index.proofs.{◌≡◌, ◌-◌, IsLeft}
 use Rattle.seg_index.proofs.searching.search.Given as goal
 

@@ -1,4 +1,4 @@
--- No two entries have the key, and none has it where it belongs between two.
+-- At most one entry has the key, and none has it if it belongs between two entries.
 use Rattle.seg_index.proofs.{bytes_of, one-place}
 use Rattle.seg_index.proofs.theorems.keys_have_one_place.Goals as goal
 

@@ -1,4 +1,4 @@
--- The two lowest bytes say the key and the value.
+-- The two lowest bytes are the key and the value.
 use Rattle.std.proofs.Common.{sym, ◌∙◌}
 use Rattle.seg_types.proofs.kinds.Codes.{map_part, map_without_key, map_without_value}
 use Rattle.seg_types.proofs.kinds.map_of_code.Goals as goal

@@ -1,4 +1,4 @@
--- The laws of the type, which tie its spellings to those of its kind.
+-- The laws of the type relate its encodings to the encodings of its kind.
 use Rattle.std.proofs.Common.{◌∙◌, arith}
 use Rattle.seg_types.proofs.theorems.scalar_is_number.Goals as goal
 use Rattle.seg_types.proofs.scalars.PlainReads.{scalar-read}

@@ -1,4 +1,4 @@
--- The words are written, and then the block is given back.
+-- The words are written, and then the block is freed.
 use Rattle.seg_vector.proofs.{sym, subst, ◌∙◌, IsTrue, is_live_in, changed-live, given-back, given-nothing, none-left}
 use Rattle.seg_vector.proofs.{storage-live}
 use Rattle.seg_vector.proofs.container_capacity.free_storage.Goals as goal

@@ -1,4 +1,4 @@
--- The three words are those of a container without a place.
+-- The three words are an empty container with capacity 0.
 use Rattle.seg_vector.proofs.{started}
 use Rattle.seg_vector.proofs.container_capacity.init_container.Goals as goal
 

@@ -1,4 +1,4 @@
--- Those after the element move down, and the length is written.
+-- The elements after the erased one move down, and the length is written.
 use Rattle.seg_vector.proofs.{take, drop, ◌++◌, ℕ, ◌*◌, ◌+◌, ◌-◌, sym, subst, ◌∙◌, arith, IsContainer, RewritesElements}
 use Rattle.seg_vector.proofs.{live_of}
 use Rattle.seg_vector.proofs.{Fitting, erase-fits, erased, part-room, elements.erase_element.Goals.In-Some}

@@ -1,4 +1,4 @@
--- The elements lie in the storage, and the length in the container's own block.
+-- The elements are in the storage, and the length is in the container's own block.
 use Rattle.seg_vector.proofs.elements.extend.Goals as goal
 use Rattle.seg_vector.proofs.{◌≡◌, bytes_of, ChangesBytes, none-left, capacity-bytes, extended-not, more-times}
 use Rattle.seg_vector.proofs.{some-room, sym, ap, subst, ◌∙◌, ◌+◌, ◌*◌, ◌≤◌, ℕ, arith, length, current, HasBytesAt}

@@ -1,4 +1,5 @@
--- One that is written over lies in the storage; before one that is put in, those from the place on move up.
+-- An element that is replaced lies in the storage; before an element is inserted, the elements from its place on move
+-- up.
 use Rattle.seg_vector.proofs.elements.put_at.Goals as goal
 use Rattle.seg_vector.proofs.elements.put_at.Goals.{In-Some, In-Some-link_of}
 use Rattle.seg_vector.proofs.{take, drop, ◌++◌, ℕ, ◌*◌, ◌+◌, ◌-◌, ◌<◌, ◌≤◌, sym, subst, ◌∙◌, arith, IsTrue, IsContainer}
@@ -7,7 +8,7 @@ use Rattle.seg_vector.proofs.{at-least, PutsAt, bytes_of, capacity-bytes, elemen
 use Rattle.seg_vector.proofs.{part-room, place_at, put_in, room-small, some-room, word_at}
 use Rattle.seg_vector.specs.Elements.{HasSpot}
 
--- the element that is there has room in the storage
+-- the storage has room for the element that is replaced
 over : (c : In-Some) → let end = c.args.each * c.in-Over.index + c.args.each in
     IsTrue (has_room (live_of c.args.heap.now.bytes) c.in-Some.storage end)
 over c =
@@ -34,7 +35,7 @@ returns-in-Some c =
     (λ len t bytes s. overwritten c.in-Over.index c.args.bytes.now s (omega (arith, inside, s.words.len_word))
     c.requires.min_len (sym c.link_of.ensures ∙ c.in-Some.is) c.write.ensures.changes c.write.ensures.content)
 
--- there is a place more, and the index is none after the end
+-- the capacity allows one more, and the index is at most the length
 before : (c : In-Some-link_of) → let b = c.args.heap.now.bytes in let at = place_at c.args.place in
     (word_at (bytes_of b) (at + 8) < word_at (bytes_of b) (at + 16))
     × (c.in-Before.index ≤ word_at (bytes_of b) (at + 8))

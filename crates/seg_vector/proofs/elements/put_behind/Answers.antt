@@ -1,11 +1,11 @@
--- The elements lie in the storage, and the length in the container's own block.
+-- The elements are in the storage, and the length is in the container's own block.
 use Rattle.seg_vector.proofs.{◌≡◌, ◌+◌, ◌*◌, ◌≤◌, sym, ap, subst, ◌∙◌, arith, ℕ, length, HasBytesAt, ChangesBytes}
 use Rattle.seg_vector.proofs.{IsTrue, elements.put_behind.Goals.After-SIZE, elements.put_behind.Given.Over}
 use Rattle.seg_vector.proofs.{all-none, at-least, bytes_of, capacity-bytes, current, extended, extended-not, flat-long}
 use Rattle.seg_vector.proofs.{flat_map, has_room, live_of, more-times, none-left, none-more, room-small, some-room}
 use Rattle.seg_vector.proofs.elements.put_behind.Goals as goal
 
--- those that come have room after the others
+-- the block has room for the new elements after the others
 room : (g : Over) (c : After-SIZE g) → IsTrue (has_room (live_of c.args.heap.now.bytes) c.in-Some.storage
     (c.SIZE.result * c.len_of-len.result + g.T.Plain.SIZE * length c.args.values.now))
 room g c =

@@ -1,11 +1,11 @@
--- The elements lie in the storage, which there is where there is one.
+-- The elements are in the storage, which exists if there is an element.
 use Rattle.seg_vector.proofs.elements.put_over.Goals as goal
 use Rattle.seg_vector.proofs.{◌≡◌, ◌+◌, ◌*◌, sym, subst, ◌∙◌, arith, HasBytesAt, ChangesBytes, IsTrue, bytes_of}
 use Rattle.seg_vector.proofs.{current, elements-fit, flat-long, flat_map, has_room, length, live_of, overwritten-all}
 use Rattle.seg_vector.proofs.{room-small, some-room}
 use Rattle.seg_vector.proofs.{elements.put_over.Goals.After-SIZE, elements.put_over.Given.Over}
 
--- those that are there have room in it
+-- the block has room for the old elements
 room : (g : Over) (c : After-SIZE g) → IsTrue (has_room (live_of c.args.heap.now.bytes) c.in-Some.storage
     (c.SIZE.result * c.args.first + g.T.Plain.SIZE * length c.args.values.now))
 room g c =

@@ -1,4 +1,4 @@
--- Those before the next one are spelled.
+-- The values before the next one are encoded.
 use Rattle.seg_vector.proofs.{◌≡◌, IsTrue, flat_map, list_all, patched, take}
 use Rattle.seg_vector.proofs.elements.put_spellings.Given as goal
 

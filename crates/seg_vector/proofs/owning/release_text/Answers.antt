@@ -1,4 +1,4 @@
--- The block is one that is in use.
+-- The block is in use.
 use Rattle.seg_vector.proofs.{◌∙◌, sym, none-left, element-live, released-none, released-some}
 use Rattle.seg_vector.proofs.owning.release_text.Goals as goal
 

@@ -1,4 +1,4 @@
--- The next text is released, and those after it are left.
+-- The next text's block is freed, and the texts after it remain.
 use Rattle.seg_vector.proofs.{arith, refl, element-left, released-nothing-next, releases-begin, releases-next}
 use Rattle.seg_vector.proofs.{has-element}
 use Rattle.seg_vector.proofs.owning.release_texts.Goals as goal

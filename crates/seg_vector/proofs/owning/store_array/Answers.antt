@@ -1,4 +1,4 @@
--- The array is taken into use, and then the texts; or all is given back.
+-- The array is allocated, and then the texts; or all blocks are freed.
 use Rattle.seg_vector.proofs.{sym, length, map, length-map, err_from_is_err_and, array-live, array-taken, laid-held}
 use Rattle.seg_vector.proofs.{laid-out, no-space, out-of-reach, taken-off}
 use Rattle.seg_vector.proofs.owning.store_array.Goals as goal

@@ -1,4 +1,4 @@
--- Those after move up, the element is written, and then the length.
+-- The elements after the place move up, the element is written, and then the length.
 use Rattle.seg_vector.proofs.{ℕ, sym, ◌∙◌, ◌+◌, ◌-◌, ◌*◌, arith, length, bytes_of, live_of, changed-room, laid-heap}
 use Rattle.seg_vector.proofs.{room-less, head-room, len-room, even-from, put-by, put-even, put-place, put-run}
 use Rattle.seg_vector.proofs.text_arrays.insert_element.Goals as goal

@@ -1,4 +1,5 @@
--- The array is asked for, then the text, and then the array is adopted and the text put in; or all is given up.
+-- The array is reserved, then the text is placed, and then the array is installed and the text inserted; or all is
+-- undone.
 use Rattle.seg_vector.proofs.text_arrays.insert_growing.Goals as goal
 use Rattle.seg_vector.proofs.{sym, ap, subst, ◌*◌, length, WindowState, ReservesArray, err_from_is_err_and, asked-heap}
 use Rattle.seg_vector.proofs.{ready-of, no-extent, growing-err, growing-none, growing-ok, growing-ready, more-places}

@@ -1,4 +1,4 @@
--- The text is placed, and put in.
+-- The text is placed, and inserted.
 use Rattle.seg_vector.proofs.{sym, ap, length, err_from_is_err_and, within, within-err, within-ok}
 use Rattle.seg_vector.proofs.text_arrays.insert_within.Goals as goal
 

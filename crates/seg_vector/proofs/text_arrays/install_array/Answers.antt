@@ -1,4 +1,4 @@
--- The vector's words are those that they were, until they are written.
+-- The vector's words stay until they are written.
 use Rattle.seg_vector.proofs.text_arrays.install_array.Goals as goal
 use Rattle.seg_vector.proofs.{refl, sym, ap, subst, ◌∙◌, ◌+◌, ◌*◌, Some, length, current, bytes_of, ChangesBytes}
 use Rattle.seg_vector.proofs.{live_of, changed-room, laid-heap, SameElements, head-room, live-if, adopt-none}

@@ -1,4 +1,4 @@
--- The next element is put in its place, and it is the one that it was.
+-- The next element is copied to its place, unchanged.
 use Rattle.seg_vector.proofs.{ℕ, ◌≡◌, subst, ◌+◌, ◌*◌, ◌%◌, arith, IfSome, bytes_of, link_at, live_of, laid-heap}
 use Rattle.seg_vector.proofs.{changed-room, room-less, carried-changed, carried-next, even-now, source-stays}
 use Rattle.seg_vector.proofs.text_arrays.move_elements_down.Goals as goal

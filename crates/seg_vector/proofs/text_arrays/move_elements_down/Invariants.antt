@@ -1,4 +1,4 @@
--- This many are put in their places, and nothing else changed.
+-- This many elements are in their places, and nothing else changed.
 use Rattle.seg_vector.proofs.{◌+◌}
 use Rattle.seg_vector.specs.TextParts.{CarriesElements}
 use Rattle.seg_vector.proofs.text_arrays.move_elements_down.Given as goal

@@ -1,4 +1,4 @@
--- The last element that has not moved moves up, and it is the one that it was.
+-- The last element that has not moved moves up, unchanged.
 use Rattle.seg_vector.proofs.{◌≡◌, subst, ◌+◌, ◌-◌, ◌*◌, ◌%◌, arith, IfSome, bytes_of, link_at, ℕ, laid-heap, live_of}
 use Rattle.seg_vector.proofs.{changed-room, room-less, even-now, up-changed, up-next, up-source}
 use Rattle.seg_vector.proofs.text_arrays.move_elements_up.Goals as goal

@@ -1,4 +1,4 @@
--- This many are put in their places, the last ones, and nothing else changed.
+-- This many elements, the last ones, are in their places, and nothing else changed.
 use Rattle.seg_vector.proofs.{◌+◌, ◌-◌, ◌*◌, current, bytes_of, ChangesBytes, AreUp}
 use Rattle.seg_vector.proofs.text_arrays.move_elements_up.Given as goal
 

@@ -1,4 +1,4 @@
--- The old array has the room, or is lengthened, or a new block is asked for.
+-- The old array has the room, or is lengthened, or a new block is allocated.
 use Rattle.seg_vector.proofs.{sym, subst, ◌∙◌, ◌*◌, WindowState, current, IsHeap, TakesStorage, none-left, asked-beside}
 use Rattle.seg_vector.proofs.{asked-none, asked-wide, not-wide, storage-live, texts-stand, wide-longer, wide-same}
 use Rattle.seg_vector.proofs.text_arrays.reserve_array.Goals.{in-Some+else-room-n+else-try_extend, in_default}

@@ -1,4 +1,4 @@
--- The block is shortened again, or given back.
+-- The block is shortened again, or freed.
 use Rattle.seg_vector.proofs.{sym, ap, ◌∙◌, Some, head-room, asked-link, asked-live, asked-run, undone-none}
 use Rattle.seg_vector.proofs.{undone-other, undone-same, none-left}
 use Rattle.seg_vector.proofs.text_arrays.undo_reserve.Goals.{in-Some+else-old-array, in_default}

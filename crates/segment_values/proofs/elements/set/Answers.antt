@@ -50,7 +50,7 @@ returns-in-Strings-clause-element g c =
     element-text c.args.segment.now c.set_text.new.segment (key_seen c.args.key.now) c.in_ok-object.object
     c.in_ok-object.ensures.located c.in-Strings.is c.args.index c.set_text.result
 
--- of an element of a kind that the object has, and of none of another
+-- an element of the object's kind is set, and an element of another kind fails
 element-told : (old new : SegmentState) (key : Key) (o : Located) → IsLocated old key o → (j : ScalarKind) (i : ℕ)
     (r : Result (Unit {0}) Refusal) → AnswersWith old (λ d. elements_at d (ByHandle o.handle)) (Ok j)
     → OnOk r (ChangesElement old new (ByHandle o.handle) j i)

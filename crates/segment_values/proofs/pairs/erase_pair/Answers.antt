@@ -1,4 +1,4 @@
--- The kind of the object says which keys it has.
+-- The object's kind determines the kind of its map keys.
 use Rattle.segment_manager.proofs.CommandLaws.{remove-no_map, remove-no_value, remove-unchangeable, removes-key}
 use Rattle.segment_values.proofs.pairs.Absent.{erases-absent}
 use Rattle.segment_values.proofs.Exits.{exit-is}

@@ -1,4 +1,4 @@
--- The kind of the object says which keys it has.
+-- The object's kind determines the kind of its map keys.
 use Rattle.segment_manager.proofs.CommandLaws.{lookup-no_map, lookup-no_value, lookup-nowhere, looks-up-key}
 use Rattle.segment_values.proofs.Exits.{exit-is}
 use Rattle.segment_values.proofs.pairs.look_up.Goals as goal

@@ -1,4 +1,4 @@
--- The kind of the object says which pairs it takes.
+-- The object's kind determines the kinds of its pairs.
 use Rattle.segment_manager.proofs.CommandLaws.{put-no_map, put-no_pair, put-unchangeable, puts-pair}
 use Rattle.segment_values.proofs.Exits.{exit-is}
 use Rattle.segment_values.proofs.pairs.put_pair.Goals as goal

@@ -1,4 +1,4 @@
--- One value more.
+-- One more value is read.
 use Rattle.std.proofs.Common.{◌∙◌, ◌*◌, ◌<◌, ◌≤◌, ap, length, subst, sym}
 use Rattle.seg_types.specs.Kinds.{size_of}
 use Rattle.segment_values.proofs.ranges.InPlace.{reads-all, reads-value, slice-element}

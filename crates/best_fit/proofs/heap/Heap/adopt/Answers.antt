@@ -1,4 +1,4 @@
--- The hints that were noted lead to blocks.
+-- The hints that were added are handles of blocks.
 use Rattle.best_fit.proofs.heap.Heap.adopt.Goals as goal
 
 pub invariant_of-heap : goal.invariant_of-heap

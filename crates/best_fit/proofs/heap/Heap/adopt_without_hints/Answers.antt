@@ -1,4 +1,4 @@
--- Without hints there is nothing that leads to no block.
+-- Without hints each hint is the handle of a block.
 use Rattle.best_fit.proofs.Common.{WindowState, IsHeap, current, subst, sym}
 use Rattle.best_fit.proofs.tile_walk.Hints.{none-lead}
 use Rattle.best_fit.proofs.heap.Heap.adopt_without_hints.Goals as goal

@@ -1,4 +1,4 @@
--- A block is put after all others, and given back.
+-- A block is appended after all others, and freed.
 use Rattle.best_fit.proofs.Common.{◌≡◌, ap, subst, ◌+◌, ◌≤◌, List, length, arith, WindowState, current, bits}
 use Rattle.best_fit.proofs.Common.{AppendsBlock}
 use Rattle.best_fit.proofs.Common.{MovesEnd, of_size, Gap, gaps_in, heap_touches, live_of}

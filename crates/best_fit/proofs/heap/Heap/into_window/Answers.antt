@@ -1,4 +1,4 @@
--- The window is as it was, with room for notes beside it.
+-- The window is unchanged, and keeps its room for notes.
 use Rattle.best_fit.proofs.Common.{WindowState, IsHeap, current, subst, sym}
 use Rattle.best_fit.proofs.heap.Heap.into_window.Goals as goal
 

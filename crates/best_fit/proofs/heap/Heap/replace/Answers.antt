@@ -1,4 +1,4 @@
--- The new block is taken while the old one is in use.
+-- The new block is allocated while the old one is in use.
 use Rattle.best_fit.proofs.Common.{◌≡◌, ◌+◌, subst, arith, IsTrue, WindowState, bytes_of, read, current, ChangesBytes}
 use Rattle.best_fit.proofs.Common.{IsHeap}
 use Rattle.best_fit.proofs.Common.{has_room}

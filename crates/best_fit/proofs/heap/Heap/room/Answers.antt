@@ -1,4 +1,4 @@
--- The tile of the block says its length.
+-- The tile of the block has its length.
 use Rattle.best_fit.proofs.Common.{◌≡◌, sym, subst, ap, ◌∙◌, ◌-◌, arith, IsTrue, Some, option_map, WindowState, Extent}
 use Rattle.best_fit.proofs.Common.{is_live_in, live_of, extent_at}
 use Rattle.best_fit.proofs.tags.Writes.{live_block, block_tile, block_len}

@@ -1,4 +1,4 @@
--- A node's tile may have any colour.
+-- A node's tile can have any colour.
 use Rattle.best_fit.proofs.Common.{◌≡◌, sym, subst, ◌-◌, arith, IsTrue, WindowState, current, Recolours, is_node_in}
 use Rattle.best_fit.proofs.Common.{live_of}
 use Rattle.best_fit.proofs.heap.Colours.{node_may, recoloured}

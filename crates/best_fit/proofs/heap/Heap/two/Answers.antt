@@ -1,4 +1,4 @@
--- Two blocks share no byte, and whatever is written to the payload of the second, the heap stays one.
+-- Two blocks share no byte, so any write to the payload of the second keeps the heap.
 use Rattle.best_fit.proofs.Common.{◌≡◌, sym, subst, ap, ◌∙◌, ◌-◌, List, ℕ, arith, refill, part, patched, with_bytes}
 use Rattle.best_fit.proofs.Common.{live_of, payload_at, IsHintedHeap}
 use Rattle.best_fit.proofs.lending.Payloads.{ReadAt, live_at, payload_written, read_at, with_payload-lent}
@@ -57,7 +57,7 @@ on_two-requires-clause-disjoint g c =
     blocks_apart c.self.inside.gaps.window c.args.first c.args.second (c.tile_at-len.result.len - 16)
     (c.tile_at-other.result.len - 16) c.self.invariant.heap s.block t.block c.requires.disjoint s.payload t.payload
 
--- what is lent of them is their payloads
+-- the lent parts are the payloads of the two blocks
 first_lent : (g : Over) (c : After-bytes_mut-bytes g) → part c.bytes_mut-bytes.result.now c.args.first
     (c.tile_at-len.result.len - 16) ≡ payload_at c.args.self.now.bytes (live_of c.args.self.now.bytes) c.args.first
 first_lent g c =
@@ -77,7 +77,7 @@ second_lent g c =
 pub on_two-requires-clause-callable : goal.on_two-requires-clause-callable
 on_two-requires-clause-callable g c = λ p q a b. c.requires.callable p q (a ∙ first_lent g c) (b ∙ second_lent g c)
 
--- what the call leaves of all bytes
+-- the bytes of the window after the call
 left : (g : Over) (c : After-on_two g) → ReadAt c.self.inside.gaps.window c.args.second c.tile_at-other.result.len
     → patched c.self.inside.gaps.window.bytes 0
     (refill c.size-size.result (part c.self.inside.gaps.window.bytes 0 c.size-size.result) c.on_two.new.bytes)

@@ -1,4 +1,4 @@
--- The second link is beside the first.
+-- The second link follows the first.
 use Rattle.best_fit.proofs.Common.{◌∙◌, ◌+◌, inl, arith, bytes_of, SameBytesExcept-link}
 use Rattle.best_fit.proofs.heap.free_tree_build.clear.Goals as goal
 

@@ -1,4 +1,4 @@
--- What stands at the end of the way.
+-- The links after the move.
 use Rattle.best_fit.proofs.Common.{◌≡◌, sym, subst, ◌+◌, ◌*◌, ◌≤◌, ℕ, length, bytes_of, patched, with_bytes}
 use Rattle.best_fit.proofs.Common.{KeepTargets, relinked}
 use Rattle.best_fit.proofs.heap.links.move_to.Goals as goal

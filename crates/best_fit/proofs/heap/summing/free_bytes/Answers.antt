@@ -1,4 +1,4 @@
--- The walk goes to each gap once.
+-- The walk visits each gap once.
 use Rattle.best_fit.proofs.Common.{◌≡◌, refl, sym, ◌∙◌, arith, zero-add, nodes_of, free_bytes, live_of, gaps_in}
 use Rattle.best_fit.proofs.Common.{is_gap_node, len_in}
 use Rattle.std.proofs.Common.{rules}

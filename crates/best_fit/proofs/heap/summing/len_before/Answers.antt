@@ -1,4 +1,4 @@
--- The tag of a gap lies before its payload, and tells the length of its tile.
+-- The tag of a gap is before its payload, and has the length of its tile.
 use Rattle.best_fit.proofs.Common.{◌≡◌, false, Bool, IsTrue, ◌+◌, ◌-◌, ◌*◌, ◌/◌, ap, subst, sym, ◌∙◌, arith}
 use Rattle.best_fit.proofs.Common.{false≢true, bytes_of, word_at, Tile, tile_at, tile_is_read_off}
 use Rattle.best_fit.proofs.Common.{is_gap_node-GapNode, tiles_in}

@@ -1,4 +1,4 @@
--- The two links of a gap that no tree has are beside all other nodes.
+-- The two links of a gap that is in no tree are outside all other nodes.
 use Rattle.best_fit.proofs.Common.{arith}
 use Rattle.best_fit.proofs.free_tree.LinkAndUnlink.{cleared_kept, cleared_node, cleared_tree, lacking_node}
 use Rattle.best_fit.proofs.heap.touch_counter.clear_links.Goals as goal

@@ -5,7 +5,7 @@ use Rattle.best_fit.proofs.gaps.Nodes.{NodeAt, node_at, node_len, node_read, nod
 use Rattle.best_fit.proofs.heap.touch_counter.probe_of.Goals.{Start}
 use Rattle.best_fit.proofs.heap.touch_counter.probe_of.Goals as goal
 
--- where the gap lies
+-- the place of the gap
 there : (c : Start) → NodeAt c.args.gaps.now.window c.args.node
 there c = let w = c.args.gaps.now.window in node_at w c.args.node (is_gap_node-GapNode w c.args.node c.requires)
 

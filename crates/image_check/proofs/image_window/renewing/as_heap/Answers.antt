@@ -1,4 +1,4 @@
--- A window that is a heap by a format from 1 on is one by the current format.
+-- A window that is a heap in a format from 1 on is a heap of the current format.
 use Rattle.image_check.proofs.Common.{RebuildsFreeTree, WindowState, arith, subst, sym}
 use Rattle.raw_region.specs.Format.{current}
 use Rattle.image_check.proofs.frame.OlderFormats.{heap-legal, heap-tags, later-heap, rebuilt-same}

@@ -13,7 +13,7 @@ use Rattle.best_fit.specs.Table.{BackingArray as ATable}
 use Rattle.seg_index.specs.{Growth.AddKeeps, Growth.AddsEntry, Growth.CanGrow, Growth.grown_live, Held.entry_count}
 use Rattle.seg_index.proofs.index.Index.add.Goals.{After-unwrap_or-block, After-unwrap_or-from, After-spread-in-Some}
 
--- there are places left in the block that the index has
+-- the capacity of the index's block allows one more
 few : (c : After-unwrap_or-block)
     → entry_count c.args.heap.now (place_of c.args.self) < capacity_at c.args.heap.now (place_of c.args.self)
 few c = subst (λ b. CanGrow c.args.heap.now (place_of c.args.self) b) c.in-None.is c.requires.growth
@@ -65,7 +65,7 @@ returns-in-None-clause-gaps c = λ none.
     gaps_kept p (in_header c.args.self) (8 * c.args.place) c.spread.ensures.changes (omega arith)
     c.header_offset-in-None.ensures c.set_header_word.ensures.changes
 
--- the block of the growth, and where the links come from
+-- the block of the growth, and the old place of the links
 given : (c : After-unwrap_or-from) {t : ATable} {hs : List ℕ} → IsIndexOf c.args.heap.now (place_of c.args.self) t hs
     → let A = c.args.heap.now in let at = place_of c.args.self in
     Offer A (record {

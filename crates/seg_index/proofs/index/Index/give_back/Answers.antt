@@ -1,4 +1,4 @@
--- What was taken goes back.
+-- The allocated block is freed.
 use Rattle.seg_index.proofs.index.Index.give_back.Goals as goal
 use Rattle.seg_index.proofs.{ℕ, sym, subst, Option, IfSome, current, WindowState, AllocatesOk, KeepsBlocks}
 use Rattle.seg_index.proofs.{EncodesLiveSet, live_of, IndexRole}

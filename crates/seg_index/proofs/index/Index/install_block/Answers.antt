@@ -1,4 +1,4 @@
--- The words lead to the block, and the old one goes.
+-- The words link to the block, and the old one is freed.
 use Rattle.seg_index.proofs.index.Index.install_block.Goals as goal
 use Rattle.seg_index.proofs.{◌≡◌, ap, sym, subst, ◌∙◌, ◌+◌, ◌≤◌, arith, current, LiveSet, released, EncodesLiveSet}
 use Rattle.seg_index.proofs.{heap_touches, live_of, KeepsOutsideIndex, without_index_block, without_link, place_of}

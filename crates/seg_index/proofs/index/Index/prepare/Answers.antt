@@ -1,4 +1,4 @@
--- A block is taken, or nothing changes.
+-- A block is allocated, or nothing changes.
 use Rattle.seg_index.proofs.{keeps-sorted, taken-stays}
 use Rattle.seg_index.proofs.index.Index.prepare.Goals as goal
 

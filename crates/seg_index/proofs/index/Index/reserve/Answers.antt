@@ -1,4 +1,4 @@
--- A new block, and then the links go there.
+-- A new block is allocated, and then the links are copied to it.
 use Rattle.seg_index.proofs.{◌≡◌, ap, ap₂, refl, sym, subst, ◌∙◌, ◌+◌, ◌*◌, ◌<◌, ◌≤◌, arith, None, Option, Some}
 use Rattle.seg_index.proofs.{current, Extent, LiveSet, added, place, EncodesLiveSet, extent_at, heap_touches, live_of}
 use Rattle.seg_index.proofs.{allocated-live, without_link, IsIndexOf, capacity_at, place_of, same_live, in_header}

@@ -1,4 +1,4 @@
--- The block goes, or is cut.
+-- The block is freed, or cut.
 use Rattle.seg_index.proofs.index.Index.shrink.Goals as goal
 use Rattle.seg_index.proofs.{ap, sym, ◌∙◌, WindowState, live_of, same_live, in_header, leads_from, placed, emptied}
 use Rattle.seg_index.proofs.{shrunk_bare, shrunk_empty, shrunk_short}

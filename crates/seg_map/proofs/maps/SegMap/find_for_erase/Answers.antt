@@ -1,4 +1,4 @@
--- What the search has found is looked at once more.
+-- The key of the node that the search found is compared once.
 use Rattle.seg_map.proofs.{false, arith, exit_is, finds_first, sought_room, looked_for}
 use Rattle.seg_map.proofs.maps.SegMap.find_for_erase.Goals as goal
 

@@ -1,4 +1,4 @@
--- The least pair that is not below the key has it, or none has.
+-- The least pair that is not below the key has it, or no pair has.
 use Rattle.seg_map.proofs.{◌≡◌, refl, sym, ◌∙◌, Bool, true, false, None, Some, if◌then◌else◌, not, value_by_key}
 use Rattle.std.specs.Bool.{then_some}
 use Rattle.seg_map.proofs.maps.SegMap.get.Goals as goal

@@ -1,4 +1,4 @@
--- The node enters the tree, and the three words say so.
+-- The node is linked into the tree, and the three words are written.
 use Rattle.seg_map.proofs.{sym, ap, ◌∙◌, ◌+◌, ◌-◌, Some, arith, bits, laws, can_link, few_steps, fewer, kept_proper}
 use Rattle.seg_map.proofs.{kept_room, own_nodes, planted, planted_tree, relinked, rules, top_whole, Relinked}
 use Rattle.seg_map.proofs.{pairs.SearchTree.few_in_map, maps.SegMap.link_pair.Goals.After-add}
@@ -14,7 +14,7 @@ insert_at-changed-requires g c =
     rw (lent.ownership, lent.heap)
     (record { root = r.tree.leads; node = r.own; tree = (r.shape, r.tree.tree, r.place, r.begins) })
 
--- what is known of the nodes is known of the heap
+-- a change of the nodes is a change of the heap
 entered : (g : _) (c : After-add g) → let ns =
     own_nodes c.args.heap.now.bytes c.args.trace.now.root (Some c.args.node) in
     Relinked g.K.Plain ns c.args.heap.now c.heap-1.given.0 c.args.trace.now.root c.insert_at-changed.result.root

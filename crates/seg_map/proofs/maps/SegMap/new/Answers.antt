@@ -1,4 +1,4 @@
--- No pair is there.
+-- The map has no pair.
 use Rattle.seg_map.proofs.{is_new}
 use Rattle.seg_map.proofs.maps.SegMap.new.Goals as goal
 

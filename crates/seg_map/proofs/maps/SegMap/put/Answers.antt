@@ -1,4 +1,4 @@
--- The value of a key that is there is written over; else a node is made, and enters the map.
+-- The value of an existing key is replaced; otherwise a node is allocated and linked into the map.
 use Rattle.seg_map.proofs.{◌≡◌, refl, sym, ◌+◌, arith, true, None, handle, laws, key_absent, key_at_node, is_put_again}
 use Rattle.seg_map.proofs.{value_room, is_put, map_there, can_put_in}
 use Rattle.seg_map.proofs.maps.SegMap.put.Goals as goal

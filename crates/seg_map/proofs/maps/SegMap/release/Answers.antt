@@ -1,4 +1,4 @@
--- A pair is given up as long as there is a root.
+-- A pair is removed as long as there is a root.
 use Rattle.seg_map.proofs.{◌≡◌, sym, ◌∙◌, None, laws, given_up, going_on, one_less, root_exit, root_pair}
 use Rattle.seg_map.proofs.maps.SegMap.release.Goals as goal
 

@@ -1,4 +1,4 @@
--- The map is one of the pairs that are left, of which there is one less each time.
+-- The map has the remaining pairs, one fewer each time.
 use Rattle.seg_map.proofs.{◌+◌, List, bytes_of, word_at, Pair, HoldsMap, IsGoing}
 use Rattle.seg_map.proofs.maps.SegMap.release.Given as goal
 

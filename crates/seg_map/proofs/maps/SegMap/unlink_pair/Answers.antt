@@ -1,4 +1,4 @@
--- The node leaves the tree, the three words say so, and its block is given back.
+-- The node is unlinked from the tree, the three words are written, and its block is freed.
 use Rattle.seg_map.proofs.{refl, ap, ℕ, ◌+◌, ◌-◌, ◌*◌, ◌≤◌, None, arith, laws, can_unlink, erased, few_steps, gone_live}
 use Rattle.seg_map.proofs.{kept_proper, kept_room, lent_tree, live_laid, own_nodes, relinked, removed_length, taken}
 use Rattle.seg_map.proofs.{rules, top_whole, Relinked, maps.SegMap.unlink_pair.Goals.After-add}
@@ -13,7 +13,7 @@ remove_at-changed-requires g c =
     c.args.trace.now.start q.begins in
     rw (lent.ownership, lent.heap) (record { root = r.tree.leads; tree = (r.shape, r.tree.tree, r.listed, r.begins) })
 
--- what is known of the nodes is known of the heap
+-- a change of the nodes is a change of the heap
 cut : (g : _) (c : After-add g) → Relinked g.K.Plain (own_nodes c.args.heap.now.bytes c.args.trace.now.root None)
     c.args.heap.now c.heap-1.given.0 c.args.trace.now.root c.remove_at-changed.result.root
     (without c.args.node) (c.add.new.self - c.args.steps.now)

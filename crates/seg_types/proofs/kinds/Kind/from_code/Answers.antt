@@ -1,4 +1,4 @@
--- The part from 65536 on says the container, and the rest the element.
+-- The part from 65536 on is the container, and the rest the element.
 use Rattle.std.proofs.Common.{ap, sym, ◌∙◌}
 use Rattle.std.specs.Prelude.{option_map}
 use Rattle.seg_types.specs.declared.kinds.Kind.TheVariants.{Scalar, Vector}

@@ -1,4 +1,4 @@
--- The storage grows, and then the bytes are put in after the others.
+-- The storage grows, and then the bytes are appended.
 use Rattle.seg_vector.proofs.{◌++◌, arith, length, length-append, subst, live_of, capacity_for_text, ReservesStorageOk}
 use Rattle.seg_vector.proofs.{LacksSpace, err_from_is_err_and, table-places, too-many, few-bytes, text-extended}
 use Rattle.seg_vector.proofs.{text-grown-then, text-space, text-wanted, wanted-bytes}

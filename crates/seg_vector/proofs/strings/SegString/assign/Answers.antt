@@ -1,4 +1,4 @@
--- The storage grows, and then the bytes are put in from the front.
+-- The storage grows, and then the bytes are written from the front.
 use Rattle.seg_vector.proofs.{arith, length, [], live_of, table-places, text-extended, text-grown-then, text-space}
 use Rattle.seg_vector.proofs.{text-then}
 use Rattle.seg_vector.proofs.strings.SegString.assign.Goals as goal

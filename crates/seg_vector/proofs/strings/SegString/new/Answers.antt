@@ -1,4 +1,4 @@
--- The words are those of a text without a place.
+-- The words are an empty text with capacity 0.
 use Rattle.seg_vector.proofs.{head-exchanged, head-gaps}
 use Rattle.seg_vector.proofs.strings.SegString.new.Goals as goal
 

@@ -1,4 +1,4 @@
--- No byte is left, and no place.
+-- The string is empty, with capacity 0.
 use Rattle.seg_vector.proofs.{length}
 use Rattle.seg_vector.proofs.strings.SegString.release.Goals as goal
 

@@ -1,4 +1,4 @@
--- Other texts are laid out, then those before are released, and then the words are written.
+-- Other texts are stored, then the old ones are freed, and then the words are written.
 use Rattle.seg_vector.proofs.{sym, arith, length, map, length-map, assigned, assigns-some, laid-even, texts-still}
 use Rattle.seg_vector.proofs.{some-texts}
 use Rattle.seg_vector.proofs.texts.SegTexts.assign.Goals as goal

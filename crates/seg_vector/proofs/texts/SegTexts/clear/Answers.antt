@@ -1,4 +1,4 @@
--- The texts are released, as many as the array has elements, and then the length is written.
+-- The blocks of all texts of the array are freed, and then the length is written.
 use Rattle.seg_vector.proofs.texts.SegTexts.clear.Goals as goal
 use Rattle.seg_vector.proofs.{◌+◌, ◌∙◌, arith, sym, subst, List, WindowState, live_of, room-less, head-room, cleared}
 use Rattle.seg_vector.proofs.{head-after, held-elements, none-left, released-nothing, text_blocks, FreesBlocks, IsTexts}

@@ -1,4 +1,4 @@
--- The block of the text is released, those after it move down, and then the length is written.
+-- The block of the text is freed, the texts after it move down, and then the length is written.
 use Rattle.seg_vector.proofs.{ℕ, inl, sym, ◌∙◌, ◌+◌, ◌-◌, ◌*◌, arith, length, bytes_of, live_of, changed-room}
 use Rattle.seg_vector.proofs.{room-less, IsHead, head-room, len-room, IsArrayLeft, even-from, erased-by, left}
 use Rattle.seg_vector.proofs.{has-element, texts.SegTexts.erase.Goals.After-release_text}

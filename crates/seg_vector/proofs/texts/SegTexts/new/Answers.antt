@@ -1,4 +1,4 @@
--- The words are those of a vector without a place.
+-- The words are an empty vector with capacity 0.
 use Rattle.seg_vector.proofs.{head-exchanged, head-gaps, none-stands}
 use Rattle.seg_vector.proofs.texts.SegTexts.new.Goals as goal
 

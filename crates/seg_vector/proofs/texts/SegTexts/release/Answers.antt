@@ -1,4 +1,4 @@
--- The texts are released, and then the array is given back.
+-- The texts' blocks are freed, and then the array.
 use Rattle.seg_vector.proofs.{[], given-up-all, stands-none, text_blocks}
 use Rattle.seg_vector.proofs.texts.SegTexts.release.Goals as goal
 

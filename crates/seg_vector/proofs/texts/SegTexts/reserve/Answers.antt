@@ -1,4 +1,4 @@
--- Nothing is asked for, or an array, which the vector has then.
+-- Nothing is allocated, or an array, which is then installed.
 use Rattle.seg_vector.proofs.{refl, ◌<◌, arith, live_of, err_from_is_err_and, asked-alone, not-grown, ready-of}
 use Rattle.seg_vector.proofs.{reserved, reserved-same, too-many-texts}
 use Rattle.seg_vector.proofs.texts.SegTexts.reserve.Goals as goal

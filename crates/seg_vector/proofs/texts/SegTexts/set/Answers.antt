@@ -4,7 +4,7 @@ use Rattle.seg_vector.proofs.texts.SegTexts.set.Goals.{After-release_text, In_ok
 use Rattle.seg_vector.proofs.{sym, refl, ◌∙◌, ◌+◌, ◌*◌, arith, length, live_of, left, no-array, none-left, room-less}
 use Rattle.seg_vector.proofs.{text-set, texts-still, has-element, text-even, IsTexts, IsArrayLeft}
 
--- the new text has a block, and the vector is what it was
+-- the new text has a block, and the vector is unchanged
 still : (c : In_ok-block) → IsTexts c.place_text.new.heap.bytes c.args.self.place c.requires.0 c.requires.1.0
 still c = texts-still c.requires.1.1 c.in_ok-block.ensures.change
 

@@ -1,4 +1,4 @@
--- The storage grows, and then the values are put in from the front.
+-- The storage grows, and then the values are written from the front.
 use Rattle.seg_vector.proofs.vectors.SegVec.assign.Goals as goal
 use Rattle.seg_vector.proofs.{arith, length, [], extended-now, live_of, refl, table-places, grown-of, grown-then}
 use Rattle.seg_vector.proofs.{IsVector, now-then}

@@ -1,4 +1,4 @@
--- The first none of the values are left.
+-- The vector is truncated to 0 values.
 use Rattle.seg_vector.proofs.{arith, cut-now}
 use Rattle.seg_vector.proofs.vectors.SegVec.clear.Goals as goal
 

@@ -1,4 +1,4 @@
--- The storage grows, and then the values are put in after the others.
+-- The storage grows, and then the values are appended.
 use Rattle.seg_vector.proofs.vectors.SegVec.extend.Goals as goal
 use Rattle.seg_vector.proofs.{arith, length, subst, live_of, ReservesStorageOk, IsVector, enough-for-more, extended-now}
 use Rattle.seg_vector.proofs.{few-places, flat_map, grown-of, grown-then, refl, table-places, too-many, wanted-for-more}

@@ -1,4 +1,4 @@
--- The storage grows, and then the value is put in.
+-- The storage grows, and then the value is inserted.
 use Rattle.seg_vector.proofs.{◌≤◌, arith, length, refl, capacity_for_one, grown-of, grown-then, inserted-now}
 use Rattle.seg_vector.proofs.{space-for-one, stands-for-one}
 use Rattle.seg_vector.proofs.vectors.SegVec.insert.Goals as goal

@@ -1,4 +1,4 @@
--- The words are those of a vector without a place.
+-- The words are an empty vector with capacity 0.
 use Rattle.seg_vector.proofs.{refl, head-exchanged, head-gaps}
 use Rattle.seg_vector.proofs.vectors.SegVec.new.Goals as goal
 

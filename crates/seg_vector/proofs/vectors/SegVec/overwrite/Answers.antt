@@ -1,4 +1,4 @@
--- The bytes are those of the values.
+-- The bytes encode the values.
 use Rattle.seg_vector.proofs.{◌≤◌, ◌+◌, arith, length, refl, replaced-none, replaced-now, unchanged-now}
 use Rattle.seg_vector.specs.VectorCalls.{replaced}
 use Rattle.seg_vector.proofs.vectors.SegVec.overwrite.Goals as goal

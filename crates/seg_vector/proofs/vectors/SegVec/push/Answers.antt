@@ -1,4 +1,4 @@
--- The storage grows, and then the value is put in.
+-- The storage grows, and then the value is appended.
 use Rattle.seg_vector.proofs.{refl, capacity_for_one, appended-now, grown-of, grown-then, space-for-one, stands-for-one}
 use Rattle.seg_vector.proofs.vectors.SegVec.push.Goals as goal
 

@@ -1,4 +1,4 @@
--- The bytes are those of the value.
+-- The bytes encode the value.
 use Rattle.seg_vector.proofs.{◌<◌, arith, length, refl, set-now}
 use Rattle.seg_vector.proofs.vectors.SegVec.set.Goals as goal
 

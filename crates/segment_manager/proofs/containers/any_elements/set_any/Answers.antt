@@ -1,4 +1,4 @@
--- The kind of the object that was located says which call it is.
+-- The kind of the located object decides which call it is.
 use Rattle.segment_manager.proofs.Common.{sym, subst, Ok, ScalarKind, Kind, Scalar, String, Vector, Set, literal_of}
 use Rattle.segment_manager.proofs.Common.{Key, ScalarValue, kind_of_scalar, value_of_scalar, kind_at, AnswersWith}
 use Rattle.segment_manager.proofs.objects.AnyKind.{element-by_key, element-of_text, element-of_vector, on_ok}

@@ -1,4 +1,4 @@
--- What was located says the kind, and where the value begins.
+-- The located object has the kind, and the offset of the value.
 use Rattle.segment_manager.proofs.Common.{◌∙◌, ◌+◌, ap, arith, padded, length, sym, Located}
 use Rattle.segment_manager.specs.objects.Located.{value_offset}
 use Rattle.segment_manager.proofs.objects.{Pieces.room-small, Standings.standing-room}

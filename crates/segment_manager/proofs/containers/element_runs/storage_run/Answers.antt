@@ -1,4 +1,4 @@
--- The words stand in the block.
+-- The words are in the block.
 use Rattle.segment_manager.proofs.Common.{◌+◌, arith, live_of}
 use Rattle.best_fit.proofs.Laws.{room-less}
 use Rattle.segment_manager.proofs.containers.element_runs.storage_run.Goals as goal

@@ -1,4 +1,4 @@
--- The head says which value the object has, and where it stands.
+-- The head decides which value the object has, and its offset.
 use Rattle.segment_manager.proofs.containers.releasing.release_contents.Goals as goal
 use Rattle.segment_manager.proofs.Common.{◌∙◌, ap, subst, sym, ℕ, ◌+◌, padded, head_len}
 use Rattle.seg_vector.specs.{Elements.FreesStorage, Containers.IsStanding}

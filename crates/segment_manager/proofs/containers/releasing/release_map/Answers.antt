@@ -1,4 +1,4 @@
--- The map stands at the place.
+-- The map is at the place.
 use Rattle.segment_manager.proofs.{Common.sym, containers.PairNumbers.releases-numbers, containers.PairNumbers.some-map}
 use Rattle.segment_manager.proofs.{Common.subst, Common.ReleasesMap, Common.IsSomeMap, containers.ScalarTypes.of-map}
 use Rattle.best_fit.specs.declared.places.Place.{Place}

@@ -1,4 +1,4 @@
--- Those before the next one are of bytes.
+-- The texts before the next one consist of bytes.
 use Rattle.segment_manager.proofs.Common.{ℕ, List, take, IsTrue, list_all, Bor, are_bytes}
 use Rattle.segment_manager.proofs.containers.text_lists.judge_all.Given as goal
 

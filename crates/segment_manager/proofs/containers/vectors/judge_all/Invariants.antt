@@ -1,4 +1,4 @@
--- Those before the next one are values.
+-- The elements before the next one are values.
 use Rattle.segment_manager.proofs.Common.{take, IsTrue, list_all}
 use Rattle.segment_manager.proofs.containers.vectors.judge_all.Given as goal
 

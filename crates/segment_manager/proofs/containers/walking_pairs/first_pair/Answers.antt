@@ -1,4 +1,4 @@
--- The object is a map of the kinds, and from the least key on its first pair comes.
+-- The object is a map of the kinds, and its first pair is the first from the least key on.
 use Rattle.segment_manager.proofs.containers.PairWalks.{first-seen, least-kinds, least-told}
 use Rattle.segment_manager.proofs.containers.walking_pairs.first_pair.Goals as goal
 

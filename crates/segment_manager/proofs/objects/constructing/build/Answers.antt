@@ -1,4 +1,4 @@
--- The value is made at its place, and then its object is entered or given back.
+-- The value is made at its place, and then its object's entry is added, or its blocks are freed.
 use Rattle.segment_manager.proofs.Common.{count_of, kind_of, value_len, bare}
 use Rattle.segment_manager.proofs.{objects.FilledCalls.builds, objects.FilledCalls.ending, objects.Loose.begun-heap}
 use Rattle.segment_manager.proofs.{objects.Loose.begun-room}

@@ -1,4 +1,4 @@
--- Each turn takes one item more and writes it after those before it.
+-- Each turn takes one more item and writes it after the earlier ones.
 use Rattle.segment_manager.proofs.Common.{◌≡◌, sym, ap, subst, ◌+◌, ◌*◌, ◌<◌, IsTrue, Fits, w64, arith, has_room}
 use Rattle.segment_manager.proofs.{Common.live_of, Common.size_of, objects.Filling.filling-more}
 use Rattle.segment_manager.proofs.{objects.Filling.last-holds, objects.Pieces.next-small, objects.Pieces.room-once_more}

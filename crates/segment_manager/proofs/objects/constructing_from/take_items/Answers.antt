@@ -1,4 +1,4 @@
--- The object is filled, and then it gets its entry, or all is given back.
+-- The object is filled, and then its entry is added, or all its blocks are freed.
 use Rattle.segment_manager.proofs.Common.{◌*◌, refl, Scalar, SegmentState, Write, size_of}
 use Rattle.segment_manager.proofs.objects.ItemCalls.{fills-ending, takes}
 use Rattle.segment_manager.proofs.objects.Loose.{begun-heap, begun-room}

@@ -1,4 +1,4 @@
--- The entry leads to an object. Once its contents are released the index is as it was, and its own block is in use.
+-- The entry leads to an object. After its contents are freed the index is unchanged, and its own block is in use.
 use Rattle.segment_manager.proofs.objects.Destroys.{block-still, below-still, entry-below, entry-index, entry-object}
 use Rattle.segment_manager.proofs.objects.Destroys.{index-still, removes-entry}
 use Rattle.segment_manager.proofs.objects.destroying.remove_entered.Goals as goal

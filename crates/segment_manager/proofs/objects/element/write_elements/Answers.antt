@@ -1,4 +1,4 @@
--- Each turn writes them once more.
+-- Each turn writes one more copy of the bytes.
 use Rattle.segment_manager.proofs.Common.{◌+◌, ◌<◌, length, arith}
 use Rattle.segment_manager.proofs.objects.Pieces.{Repeats, next-small, repeats-more, room-once_more}
 use Rattle.segment_manager.proofs.objects.element.write_elements.Goals as goal

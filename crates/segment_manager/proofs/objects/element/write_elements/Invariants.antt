@@ -1,4 +1,4 @@
--- This many of them stand there, and nothing else has changed.
+-- This many copies are written, and nothing else has changed.
 use Rattle.segment_manager.proofs.Common.{◌+◌, ◌*◌, length, current, HasBytesAt, bytes_of, ChangesBytes, repeated}
 use Rattle.segment_manager.proofs.objects.element.write_elements.Given as goal
 

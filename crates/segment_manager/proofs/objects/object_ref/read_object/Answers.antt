@@ -1,4 +1,4 @@
--- The head says it.
+-- The head has the object's properties.
 use Rattle.segment_manager.proofs.objects.object_ref.read_object.Goals as goal
 
 pub returns-clause-text : goal.returns-clause-text

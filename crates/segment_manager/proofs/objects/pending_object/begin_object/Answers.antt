@@ -1,4 +1,4 @@
--- The key says which index gets an entry.
+-- The key determines which index gets an entry.
 use Rattle.seg_types.specs.Names as names
 use Rattle.segment_manager.proofs.objects.pending_object.begin_object.Goals as goal
 use Rattle.segment_manager.proofs.Common.{◌≡◌, refl, sym, subst, true, new_key_seen, is_text_name, BeginsObject}

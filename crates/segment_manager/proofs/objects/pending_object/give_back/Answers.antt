@@ -1,4 +1,4 @@
--- The object's block goes back first, and then what its index took.
+-- The object's block is freed first, and then the index's new block.
 use Rattle.segment_manager.proofs.Common.{subst, WritesUnindexedObject, WritesUnindexedForEntry}
 use Rattle.segment_manager.proofs.objects.Loose.{alone-back, entry-back, loose-held, loose-live}
 use Rattle.segment_manager.proofs.objects.pending_object.give_back.Goals as goal

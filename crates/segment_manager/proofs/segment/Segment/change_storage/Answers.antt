@@ -1,4 +1,4 @@
--- The container of the object of the key is changed as its kind says.
+-- The container of the key's object is changed by the call for its kind.
 use Rattle.segment_manager.proofs.segment.Segment.change_storage.Goals as goal
 use Rattle.segment_manager.proofs.Common.{exit-is, ◌≡◌, false, refl, subst, sym, ◌∙◌, AnswersWith, ByHandle, Change}
 use Rattle.segment_manager.proofs.Common.{Err, TakesStep, Key, Kind, Located, Refusal, Refused, SegmentState}
@@ -26,7 +26,7 @@ not-there s key o l change kind why is may a = located-changes s key o l change 
     (finds-no_container s (ByHandle o.handle) kind (command_of change (ByHandle o.handle)) why
     (open-writing s.mode (command_of change (ByHandle o.handle)) may) a)
 
--- what the call does with a vector of strings, and with elements of one length, in each goal after it
+-- the effect of the call on a vector of strings, and on elements of one length, in each goal after it
 texts-done : (g : Over) (c : After-change_texts g)
     → Answered done_answer (record { cut = c.self.inside.heap; mode = c.self.inside.mode })
     c.args.self.now c.change_texts.new.heap (ByHandle c.in_ok-object.object.handle) StringsKind

@@ -8,7 +8,7 @@ use Rattle.seg_types.specs.Commands.{Construct}
 use Rattle.segment_manager.proofs.segment.Segment.construct_under.{Goals.After-build, Goals.In_err-begun, Given.Over}
 use Rattle.segment_manager.proofs.segment.Segment.construct_under.Goals as goal
 
--- what the call does, under the key of the object's kind
+-- the effect of the call, under the key of the object's kind
 done : (g : Over) (c : After-build g) → Constructs c.self.inside.heap c.build.new.heap
     (Construct (g.D.ConstructKey.key c.args.key.now (kind_of (bare (g.F.ObjectInit.content c.args.filling.now))))
     (g.F.ObjectInit.content c.args.filling.now)) handle_answer c.build.result

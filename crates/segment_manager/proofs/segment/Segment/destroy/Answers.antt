@@ -1,4 +1,4 @@
--- The key says which index has the entry. It is removed with its object, or there is none.
+-- The key determines which index has the entry. The entry is removed with its object, or there is none.
 use Rattle.segment_manager.proofs.segment.Segment.destroy.Goals as goal
 use Rattle.segment_manager.proofs.{objects.KeyFrames.keeps-found, Common.refl, Common.sym, Common.◌∙◌}
 use Rattle.segment_manager.proofs.{directory.CommandSteps.refuses-read_only}

@@ -1,4 +1,4 @@
--- The run of the object at the handle, and what stands there.
+-- The run of the object at the handle, and its bytes.
 use Rattle.segment_manager.proofs.{directory.HeapCalls.denotes-heap, Common.current}
 use Rattle.segment_manager.proofs.objects.{Here.seen-object, Locating.handle-located, Locating.located-there}
 use Rattle.segment_manager.proofs.containers.ElementRuns.{no-run, run-answers, run-bytes}

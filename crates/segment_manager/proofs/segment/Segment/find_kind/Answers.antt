@@ -1,4 +1,4 @@
--- The object that was found says its kind and its count.
+-- The object that was found has this kind and this count.
 use Rattle.segment_manager.proofs.objects.KeyCalls.{find-absent, find-there}
 use Rattle.segment_manager.proofs.{Common.exit-is, Common.key_seen, objects.Here.seen-object}
 use Rattle.segment_manager.proofs.segment.Segment.find_kind.Goals as goal

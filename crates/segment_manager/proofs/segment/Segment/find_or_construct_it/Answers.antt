@@ -6,7 +6,7 @@ use Rattle.segment_manager.proofs.segment.Segment.find_or_construct_it.Goals.{Af
 use Rattle.segment_manager.proofs.segment.Segment.find_or_construct_it.Given.{Over}
 use Rattle.segment_manager.proofs.segment.Segment.find_or_construct_it.Goals as goal
 
--- what the call does, under the key of the object's kind
+-- the effect of the call, under the key of the object's kind
 done : (g : Over) (c : After-find_or_take g) → FindsOrTakesIn g.I.Iterator.next_gives g.T.Scalar.whole
     c.self.inside.heap c.find_or_take.new.heap (g.D.ConstructKey.key c.args.key.now (Scalar g.T.Scalar.kind))
     g.T.Scalar.kind c.args.count c.args.items.now c.find_or_take.new.items c.find_or_take.result

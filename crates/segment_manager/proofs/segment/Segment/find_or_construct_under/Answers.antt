@@ -7,7 +7,7 @@ use Rattle.segment_manager.proofs.{containers.KeptContainers.keeps-cut, director
 use Rattle.segment_manager.specs.Keeping.{IsBoundKey}
 use Rattle.segment_manager.proofs.segment.Segment.find_or_construct_under.Goals as goal
 
--- what the call does, under the key of the object's kind
+-- the effect of the call, under the key of the object's kind
 done : (g : Over) (c : After-find_or_construct_entered g)
     → FindsOrConstructs c.self.inside.heap c.find_or_construct_entered.new.heap
     (g.D.ConstructKey.key c.args.key.now (kind_of (bare (g.F.ObjectInit.content c.args.filling.now))))

@@ -1,4 +1,4 @@
--- The kind of the object that was located says which call it is.
+-- The kind of the located object decides which call it is.
 use Rattle.segment_manager.proofs.Common.{exit-is, refl, U8, ByHandle, Scalar, String, Vector}
 use Rattle.segment_manager.proofs.objects.AnyKind.{located-replies}
 use Rattle.segment_manager.proofs.containers.StorageSteps.{no_container-reply, seen-reply}

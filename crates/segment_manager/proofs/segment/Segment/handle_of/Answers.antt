@@ -1,4 +1,4 @@
--- Each form of key is looked for in its own way.
+-- Each form of key is looked up in its own way.
 use Rattle.segment_manager.proofs.Common.{sym, subst, None, key_seen, ByName, ByKind, ByHandle, handle_at, AnswersWith}
 use Rattle.segment_manager.proofs.objects.KeyCalls.{anonymous-answers, handle-answers}
 use Rattle.segment_manager.proofs.segment.Segment.handle_of.Goals as goal

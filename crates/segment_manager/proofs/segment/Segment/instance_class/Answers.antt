@@ -1,4 +1,4 @@
--- The head says the class.
+-- The head has the class.
 use Rattle.segment_manager.proofs.{Common.key_seen, objects.Here.seen-object, objects.Here.seen-tells}
 use Rattle.segment_manager.proofs.segment.Segment.instance_class.Goals as goal
 

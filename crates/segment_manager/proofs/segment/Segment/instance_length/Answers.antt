@@ -1,4 +1,4 @@
--- The head says the count.
+-- The head has the count.
 use Rattle.segment_manager.proofs.{Common.◌∙◌, Common.key_seen, Common.count_of, objects.Here.seen-object}
 use Rattle.segment_manager.proofs.{objects.Here.seen-tells}
 use Rattle.segment_manager.proofs.segment.Segment.instance_length.Goals as goal

@@ -1,4 +1,4 @@
--- The head says the class, and with it the key.
+-- The head has the class, which determines the key.
 use Rattle.segment_manager.proofs.objects.OwnEntries.{has-own_object, listed-kind, listed-name, listed-none}
 use Rattle.segment_manager.proofs.{Common.current, directory.HeapCalls.denotes-heap}
 use Rattle.seg_index.specs.declared.keys.Entry.TheVariants as entry

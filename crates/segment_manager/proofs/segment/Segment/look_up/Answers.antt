@@ -1,4 +1,4 @@
--- The index stands in the heap of the segment, and what is found there is the object of the key.
+-- The index is in the heap of the segment, and the object found there is the object of the key.
 use Rattle.segment_manager.proofs.Common.{subst, Some, None, handle_at, AnswersWith}
 use Rattle.segment_manager.proofs.indexes.HeldIndexes.{denotes-sorted_index}
 use Rattle.segment_manager.proofs.objects.KeyCalls.{absent-answers, found-answers, place-below, segment-index}

@@ -1,4 +1,4 @@
--- The pair is looked for in the map that is found.
+-- The pair is searched for in the object's map.
 use Rattle.segment_manager.proofs.containers.MapAnswers.{last-there, some-there}
 use Rattle.segment_manager.proofs.{containers.ScalarTypes.of-map}
 use Rattle.segment_manager.proofs.segment.Segment.map_last.Goals as goal

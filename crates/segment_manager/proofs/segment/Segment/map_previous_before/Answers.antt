@@ -1,4 +1,4 @@
--- The pair is looked for in the map that is found.
+-- The pair is searched for in the object's map.
 use Rattle.segment_manager.proofs.{Common.false, containers.MapAnswers.back-there}
 use Rattle.segment_manager.proofs.{containers.MapAnswers.some-there, containers.ScalarTypes.of-map}
 use Rattle.segment_manager.proofs.segment.Segment.map_previous_before.Goals as goal

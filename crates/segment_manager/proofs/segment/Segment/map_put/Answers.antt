@@ -9,7 +9,7 @@ use Rattle.segment_manager.proofs.{directory.CommandSteps.refuses_of_kind-read_o
 use Rattle.segment_manager.proofs.segment.Segment.map_put.Goals as goal
 use Rattle.segment_manager.proofs.segment.Segment.map_put.{Goals.Joined-put, Goals.in-Err, Goals.in-Ok, Given.Over}
 
--- what the call answers
+-- the result of the call
 answer : (g : Over) (c : Joined-put g) → c.match-put.result ≡ put_result c.put.result
 answer g c =
     elim c.match-put.branch [
@@ -17,7 +17,7 @@ answer g c =
       | in-Ok w ↦ w.result-is ∙ sym (ap put_result w.in-Ok.is)
     ]
 
--- what the call does, in each goal after it
+-- the effect of the call, in each goal after it
 done : (g : Over) (c : Joined-put g)
     → Answered truth_answer (record { cut = c.self.inside.heap; mode = c.self.inside.mode })
     c.args.self.now c.put.new.heap (g.O.ObjectRef.key c.args.key.now) (Map g.K.Scalar.kind g.V.Scalar.kind) (Put

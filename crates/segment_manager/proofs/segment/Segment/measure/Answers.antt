@@ -1,4 +1,4 @@
--- The kind of the object of the key says which call it is.
+-- The kind of the key's object decides which call it is.
 use Rattle.segment_manager.proofs.{Common.refl, objects.Locating.located-measures}
 use Rattle.segment_manager.proofs.segment.Segment.measure.Goals as goal
 

@@ -1,4 +1,4 @@
--- The sizes are what the words of the container say that is found.
+-- The sizes are the words of the object's container.
 use Rattle.segment_manager.proofs.Common.{sym, ap, arith, bytes_of}
 use Rattle.segment_manager.proofs.containers.OneLength.{measured, near-front, places-otherwise, places_in, word-room}
 use Rattle.segment_manager.proofs.segment.Segment.measure_kind.Goals as goal

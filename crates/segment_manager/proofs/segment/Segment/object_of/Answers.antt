@@ -1,4 +1,4 @@
--- The head of the object at the handle says it.
+-- The head of the object at the handle has its properties.
 use Rattle.segment_manager.proofs.{Common.key_seen, objects.Here.seen-object, objects.Locating.head-located}
 use Rattle.segment_manager.proofs.segment.Segment.object_of.Goals as goal
 

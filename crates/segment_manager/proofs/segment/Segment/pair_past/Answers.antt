@@ -1,4 +1,4 @@
--- The pair is looked for in the map that is found, by the call that the bound says.
+-- The pair is searched for in the object's map, by the call for the bound.
 use Rattle.segment_manager.proofs.{Common.true, Common.false, containers.MapAnswers.past-there}
 use Rattle.segment_manager.proofs.{containers.MapAnswers.some-there, containers.ScalarTypes.of-map}
 use Rattle.segment_manager.proofs.segment.Segment.pair_past.Goals as goal

@@ -1,4 +1,4 @@
--- The places are there, or they are taken, or their block is refused.
+-- The capacity suffices, or a larger block is allocated, or it has no fit.
 use Rattle.segment_manager.proofs.indexes.Reserves.{reserve-changes, reserves, reserves-none}
 use Rattle.segment_manager.proofs.{Common.sym, Common.◌∙◌, Common.reserve_of}
 use Rattle.segment_manager.proofs.{objects.KeyCalls.segment-index, directory.CommandSteps.refuses-read_only}

@@ -1,4 +1,4 @@
--- The bytes are put after the others of the string that is found.
+-- The bytes are appended to the object's string.
 use Rattle.segment_manager.proofs.segment.Segment.string_append.Goals as goal
 use Rattle.segment_manager.proofs.{containers.Safely.told-gaps, Common.refl, containers.ToChange.not-changed}
 use Rattle.segment_manager.proofs.containers.TextAnswers.{text-appended, text-standing, append-gaps}

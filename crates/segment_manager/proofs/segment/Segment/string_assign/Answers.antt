@@ -1,4 +1,4 @@
--- The bytes are put in the place of those of the string that is found.
+-- The bytes replace the bytes of the object's string.
 use Rattle.segment_manager.proofs.segment.Segment.string_assign.Goals as goal
 use Rattle.segment_manager.proofs.{containers.Safely.told-gaps, Common.refl, containers.ToChange.not-changed}
 use Rattle.segment_manager.proofs.containers.TextAnswers.{text-assigned, text-standing, assign_text-gaps}

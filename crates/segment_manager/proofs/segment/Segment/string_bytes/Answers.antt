@@ -1,4 +1,4 @@
--- The bytes are those of the string that is found.
+-- The bytes are the bytes of the object's string.
 use Rattle.segment_manager.proofs.Common.{subst, Ok, String, bytes_at, AnswersWith, SegmentState}
 use Rattle.segment_manager.proofs.containers.TextAnswers.{reads-bytes, text-standing}
 use Rattle.segment_manager.proofs.containers.ToChange.{seen-found}

@@ -1,4 +1,4 @@
--- The texts are those of the vector of strings that is found.
+-- The texts replace the texts of the object's vector of strings.
 use Rattle.segment_manager.proofs.containers.TextListCalls.{array-first, texts-assigned, texts-standing}
 use Rattle.segment_manager.proofs.{Common.refl, containers.ToChange.not-changed}
 use Rattle.segment_manager.proofs.segment.Segment.texts_assign.Goals as goal

@@ -1,4 +1,4 @@
--- The text is put among those of the vector of strings that is found.
+-- The text is inserted into the object's vector of strings.
 use Rattle.segment_manager.proofs.containers.TextListCalls.{text-first, text-inserted, texts-standing}
 use Rattle.segment_manager.proofs.{Common.refl, containers.ToChange.not-changed}
 use Rattle.segment_manager.proofs.segment.Segment.texts_insert.Goals as goal

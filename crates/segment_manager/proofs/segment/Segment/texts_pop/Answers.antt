@@ -1,4 +1,4 @@
--- The last text is taken out of the vector of strings that is found.
+-- The last text is removed from the object's vector of strings.
 use Rattle.segment_manager.proofs.containers.TextListCalls.{text-popped, texts-standing}
 use Rattle.segment_manager.proofs.{Common.Pop, Common.exit-is, Common.refl, containers.TextMoves.step-leads-on}
 use Rattle.segment_manager.proofs.segment.Segment.texts_pop.Goals as goal

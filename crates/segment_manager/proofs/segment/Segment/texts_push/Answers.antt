@@ -1,4 +1,4 @@
--- The text is put after the last of the vector of strings that is found.
+-- The text is appended to the object's vector of strings.
 use Rattle.segment_manager.proofs.containers.TextListCalls.{text-first, text-pushed, texts-standing}
 use Rattle.segment_manager.proofs.{Common.refl, containers.ToChange.not-changed}
 use Rattle.segment_manager.proofs.segment.Segment.texts_push.Goals as goal

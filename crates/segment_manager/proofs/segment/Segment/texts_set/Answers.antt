@@ -1,4 +1,4 @@
--- The text is put in the place of another in the vector of strings that is found.
+-- The text replaces another in the object's vector of strings.
 use Rattle.segment_manager.proofs.{Common.refl, containers.Safely.told, containers.TextListCalls.text-set}
 use Rattle.segment_manager.proofs.{containers.TextListCalls.texts-standing, containers.ToChange.not-changed}
 use Rattle.segment_manager.proofs.segment.Segment.texts_set.Goals as goal

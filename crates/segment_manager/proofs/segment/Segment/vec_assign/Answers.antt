@@ -1,4 +1,4 @@
--- The values are put in the place of those of the vector that is found.
+-- The values replace the values of the object's vector.
 use Rattle.segment_manager.proofs.segment.Segment.vec_assign.Goals as goal
 use Rattle.segment_manager.proofs.{containers.Safely.told-gaps, Common.Vector, Common.ap, Common.refl}
 use Rattle.segment_manager.proofs.{containers.ToChange.told-unchanged, containers.ScalarTypes.of-vector}

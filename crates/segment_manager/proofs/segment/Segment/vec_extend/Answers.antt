@@ -1,4 +1,4 @@
--- The values are put after the last of the vector that is found.
+-- The values are appended to the object's vector.
 use Rattle.segment_manager.proofs.segment.Segment.vec_extend.Goals as goal
 use Rattle.segment_manager.proofs.Common.{exit-is, sym, ◌∙◌, subst, map, AnswersWith, Err, Vector, container_at}
 use Rattle.segment_manager.proofs.containers.ScalarTypes.{of-vector}

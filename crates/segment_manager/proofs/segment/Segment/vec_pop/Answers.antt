@@ -1,4 +1,4 @@
--- The last value is taken out of the vector that is found.
+-- The last value is removed from the object's vector.
 use Rattle.segment_manager.proofs.segment.Segment.vec_pop.Goals as goal
 use Rattle.segment_manager.proofs.{containers.Safely.told-gaps, Common.Vector, Common.ap, Common.refl}
 use Rattle.segment_manager.proofs.{containers.ToChange.told-unchanged, containers.ScalarTypes.of-vector}

@@ -1,4 +1,4 @@
--- The value is put after the last of the vector that is found.
+-- The value is appended to the object's vector.
 use Rattle.segment_manager.proofs.segment.Segment.vec_push.Goals as goal
 use Rattle.segment_manager.proofs.{containers.Safely.told-gaps, Common.Vector, Common.ap, Common.refl}
 use Rattle.segment_manager.proofs.{containers.ToChange.told-unchanged, containers.ScalarTypes.of-vector}

@@ -1,4 +1,4 @@
--- The values are spelled where the elements stand, or there are not this many, or it is no array of them.
+-- The values are encoded at the elements' place; or there are too few elements, or the object is no such array.
 use Rattle.segment_manager.proofs.segment.Segment.write_in_array.Goals as goal
 use Rattle.segment_manager.proofs.Common.{sym, ◌∙◌, ◌*◌, length, length-map, map, subst, ByHandle, IsLocated}
 use Rattle.segment_manager.proofs.Common.{SegmentState, current, eqb-true}

@@ -1,4 +1,4 @@
--- The values are written over those of the vector that is found, or it is of another kind.
+-- The values replace values of the object's vector, or the object has another kind.
 use Rattle.segment_manager.proofs.segment.Segment.write_in_vector.Goals as goal
 use Rattle.segment_manager.proofs.Common.{exit-is, ◌∙◌, map, ByHandle, Vector}
 use Rattle.segment_manager.proofs.{containers.ScalarTypes.of-vector, containers.Safely.contains}

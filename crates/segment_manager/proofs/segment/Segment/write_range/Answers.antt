@@ -1,4 +1,4 @@
--- The kind of the object says which call it is, and what is written under its handle is written under the key.
+-- The object's kind decides which call it is, and a write for its handle is a write for the key.
 use Rattle.segment_manager.proofs.segment.Segment.write_range.Goals as goal
 use Rattle.segment_manager.proofs.Common.{exit-is, sym, ◌∙◌, length, map, done_answer}
 use Rattle.best_fit.proofs.Laws.{gaps-refl}

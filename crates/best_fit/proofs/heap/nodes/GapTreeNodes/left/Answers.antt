@@ -1,4 +1,4 @@
--- The link stands where the node begins.
+-- The link is at the beginning of the node.
 use Rattle.best_fit.proofs.Common.{sym, ap, ◌∙◌, arith, Cell, cells_at, is_gap_node-GapNode}
 use Rattle.best_fit.proofs.gaps.Nodes.{node_at}
 use Rattle.best_fit.proofs.heap.nodes.GapTreeNodes.left.Goals as goal

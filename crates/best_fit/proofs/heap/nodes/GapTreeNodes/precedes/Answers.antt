@@ -1,4 +1,4 @@
--- The lengths are those of the two tiles.
+-- The lengths are the lengths of the two tiles.
 use Rattle.best_fit.proofs.Common.{◌-◌, sym, ap, ◌∙◌, arith, Tile, gaps_in, len_in, is_gap_node-GapNode}
 use Rattle.best_fit.proofs.gaps.Comparisons.{as_long, longer, shorter}
 use Rattle.best_fit.proofs.gaps.Nodes.{node_at, node_tile, node_read, node_len}

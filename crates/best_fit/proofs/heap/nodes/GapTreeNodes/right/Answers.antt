@@ -1,4 +1,4 @@
--- The link stands 8 bytes after.
+-- The link is 8 bytes after the node's beginning.
 use Rattle.best_fit.proofs.Common.{sym, ap, ◌∙◌, arith, Cell, cells_at, is_gap_node-GapNode}
 use Rattle.best_fit.proofs.gaps.Nodes.{node_at}
 use Rattle.best_fit.proofs.heap.nodes.GapTreeNodes.right.Goals as goal

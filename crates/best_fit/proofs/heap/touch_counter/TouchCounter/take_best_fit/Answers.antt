@@ -1,4 +1,4 @@
--- The first gap of the tree that is long enough is the least one that is, and it stands in the tree.
+-- The first gap of the tree that is long enough is the least such gap, and it is in the tree.
 use Rattle.best_fit.proofs.Common.{◌≡◌, sym, subst, ◌∙◌, ℕ, arith, Option, Some, IfSome, List, Gap, gaps_in, node_of}
 use Rattle.best_fit.proofs.Common.{same_Some, option_map, filter, least, is_long, HasGapTree, CanBeginRemoval}
 use Rattle.best_fit.proofs.allocation.LeastGap.{least_listed}
@@ -13,7 +13,7 @@ overflow_add-self c =
     let steps = c.way_to-best.ensures.steps hs h in let few = few_bits w hs h in let room = c.requires.no_overflow in
     omega arith
 
--- what the way leads to
+-- the gap that the search finds
 found : (c : After-way_to-best) (hs : List Gap) → HasGapTree c.args.self.now.gaps.now.window hs
     → c.way_to-best.result.node ≡ option_map node_of (least (filter (is_long c.args.wanted) hs))
 found c hs h = c.way_to-best.ensures.first hs h

@@ -1,4 +1,4 @@
--- The gap is found where it is looked for, in few steps.
+-- The search finds the gap, in few steps.
 use Rattle.best_fit.proofs.Common.{◌≡◌, subst, ◌∙◌, ℕ, arith, Option, Some, IfSome, CanBeginRemoval}
 use Rattle.best_fit.proofs.free_tree.ExitPoint.{found_itself}
 use Rattle.best_fit.proofs.free_tree.LinkAndUnlink.{few_bits, node_of_tree}

@@ -5,7 +5,7 @@ use Rattle.image_check.specs.Rows.{AreSortedBlocks}
 use Rattle.image_check.proofs.block_collection.ByNumber.{below-new, ok-then, order-push}
 use Rattle.image_check.proofs.image_window.blocks.BlockTable.add.Goals as goal
 
--- the entries with the block after them
+-- the entries with the new block at the end
 added : (c : goal.After-insert)
     → c.insert.new.self.entries ≡ c.self.inside.map.entries ++ (c.args.target, c.args.block) ∷ []
 added c =

@@ -1,4 +1,4 @@
--- The role says it.
+-- The role decides it.
 use Rattle.segment_manager.proofs.Common.{sym, ap, ◌∙◌, Bool, false, Option, Some, None, Role, ObjectRole, same_role}
 use Rattle.segment_manager.proofs.objects.KeyCalls.{same-test}
 use Rattle.segment_manager.proofs.blocks.tiles.TileInfo.is_object.Goals as goal

@@ -1,4 +1,4 @@
--- No pair is there.
+-- The map has no pair.
 use Rattle.segment_manager.proofs.objects.NewNumbers.{map-made}
 use Rattle.segment_manager.proofs.containers.fillings.NewMapObjectInit.fill.Goals as goal
 

@@ -1,4 +1,4 @@
--- The vector is made without a value, and then the values are put there.
+-- The vector is made empty, and then the values are written.
 use Rattle.segment_manager.proofs.{containers.NewContainers.vector-made, containers.ScalarTypes.of-vector}
 use Rattle.segment_manager.proofs.containers.fillings.NewVectorObjectInit.fill.Goals as goal
 

@@ -1,4 +1,4 @@
--- What the iterator over the objects says has the name.
+-- The result of the iterator over the objects has the name.
 use Rattle.segment_manager.proofs.Common.{refl, sym, subst, Option, Some, List, ℕ, Instance, YieldsInstance}
 use Rattle.segment_manager.proofs.Common.{GoesOnNames, NameWalk}
 use Rattle.segment_manager.proofs.indexes.WalkedInstances.{names-end, names-go_on, names_walk}

@@ -1,4 +1,4 @@
--- The next block of an object is that of the next object. A segment has few, as many as the tags say.
+-- The next block of an object belongs to the next object. The number of objects in the tags is small.
 use Rattle.segment_manager.proofs.Common.{refl, sym, subst, ◌+◌, Some, None, rules, arith, IsSegment}
 use Rattle.segment_manager.specs.indexes.Iterating.{GoesOnObjects, ObjectWalk}
 use Rattle.segment_manager.proofs.blocks.OwnWalks.{block-at, none-left, owner-counts, owner-few, owner-here, owner-says}

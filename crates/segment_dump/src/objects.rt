@@ -21,7 +21,7 @@ pub(crate) trait ObjectWriter {
     // The text of an object.
     ghost text: { Self → Object → List ℕ };
 
-    /// Writes the text of an object that said this of itself.
+    /// Writes the text of the object with these properties.
     fn tell<W: Sink>(
         &self,
         segment: &Segment,
@@ -34,7 +34,7 @@ pub(crate) trait ObjectWriter {
             part_of (text self.now) (object_at d (ByHandle said.entry.handle))) };
 }
 
-/// Tells the objects with names, by their names.
+/// Writes the named objects, in the order of their names.
 pub(crate) fn put_named<T: ObjectWriter, W: Sink>(
     telling: &T,
     segment: &Segment,
@@ -50,7 +50,7 @@ pub(crate) fn put_named<T: ObjectWriter, W: Sink>(
     Ok(())
 }
 
-/// Tells the unique objects, by their kinds.
+/// Writes the unique objects, in the order of their kinds.
 pub(crate) fn put_unique<T: ObjectWriter, W: Sink>(
     telling: &T,
     segment: &Segment,
@@ -66,7 +66,7 @@ pub(crate) fn put_unique<T: ObjectWriter, W: Sink>(
     Ok(())
 }
 
-/// Tells the anonymous objects, by their handles.
+/// Writes the anonymous objects, in the order of their handles.
 pub(crate) fn put_anonymous<T: ObjectWriter, W: Sink>(
     telling: &T,
     segment: &Segment,
@@ -82,7 +82,7 @@ pub(crate) fn put_anonymous<T: ObjectWriter, W: Sink>(
     Ok(())
 }
 
-/// Tells an object if it is anonymous.
+/// Writes an object if it is anonymous.
 fn put_if_anonymous<T: ObjectWriter, W: Sink>(
     telling: &T,
     segment: &Segment,

@@ -1,4 +1,4 @@
--- A segment that was read with room for more bytes is not refused them by its region.
+-- A segment that was read with room for more bytes can grow by them in its region.
 use Rattle.std.proofs.Common.{◌≡◌, ℕ, Bool, true, false, inl, inr, List, Option, Some, None, Result, Ok, Err, sym}
 use Rattle.std.proofs.Common.{subst, ◌∙◌}
 use Rattle.std.specs.Prelude.{if◌then◌else◌}
@@ -23,7 +23,7 @@ use Rattle.segment_commands.specs.Opening.{OpensWith}
 use Rattle.segment_commands.specs.Resizing.{more_by, refusal_by}
 use Rattle.segment_commands.proofs.running.Start.{no_error, was_read}
 
--- what was read, after an answer
+-- the segment that was read, after a command
 record IsReadIn (more : ℕ) (s : SegmentState) : Type 0 where
   len : ℕ
   image : ReadDelta

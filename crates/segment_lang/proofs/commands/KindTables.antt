@@ -36,7 +36,7 @@ kinds_now : (whole_language current).kinds ≡ kinds
 unfolding current
 kinds_now = refl
 
--- A table of all kinds has for a word the kind that is printed so.
+-- A table of all kinds maps the text of a kind to the kind.
 pub kind_in_table : (rows : List (KeywordRow Kind)) (w : List ℕ)
     → map (λ (row : KeywordRow Kind). row.1) rows ≡ kinds → AreKinds rows
     → found_in rows w ≡ kind_named (whole_language current) w

@@ -1,4 +1,4 @@
--- The names that came have gone out, those of them that begin with the text.
+-- Of the names so far, those with the prefix are written.
 use Rattle.std.proofs.Common.{◌≡◌}
 use Rattle.segment_report.proofs.page.Names.{ListsFirstNames}
 use Rattle.segment_report.proofs.names.put_names.Given as goal

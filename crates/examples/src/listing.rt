@@ -4,7 +4,8 @@ use zaluxhoni::{
     AnonymousInstance, Disk, Name, Refusal, Segment, SegmentFile, UniqueInstance, named,
 };
 
-/// Makes a number under a name, the only `i32`, and three bytes that go by their handle alone.
+/// Constructs an `i64` with a name, the unique `i32`, and three bytes without a key, and returns the handle of the
+/// bytes.
 fn fill(segment: &mut Segment, name: &Name) -> Result<u64, Refusal> {
     segment.construct(name, 1, 640i64)?;
     segment.find_or_construct_array(name, 3, 0i64)?;
@@ -12,7 +13,7 @@ fn fill(segment: &mut Segment, name: &Name) -> Result<u64, Refusal> {
     segment.construct_array(&AnonymousInstance, 3, 9u8)
 }
 
-/// Tells what stands first in each index.
+/// Prints the first object of each index.
 fn tell_the_first(rt: &HostRuntime, segment: &Segment) -> Result<()> {
     let first = segment.named_instances().next();
     if let Some(first) = first {
@@ -25,7 +26,7 @@ fn tell_the_first(rt: &HostRuntime, segment: &Segment) -> Result<()> {
     Ok(())
 }
 
-/// Tells all names, in the order of their bytes.
+/// Prints all names, in the order of their bytes.
 fn tell_the_names(rt: &HostRuntime, segment: &Segment) -> Result<()> {
     for name in segment.names() {
         let name = str::from_utf8(name)?;
@@ -34,7 +35,7 @@ fn tell_the_names(rt: &HostRuntime, segment: &Segment) -> Result<()> {
     Ok(())
 }
 
-/// Tells of all objects, those without a key too.
+/// Prints all objects, also those without a key.
 fn tell_of_all(rt: &HostRuntime, segment: &Segment) -> Result<()> {
     for said in segment.objects() {
         println!(rt;
@@ -45,14 +46,14 @@ fn tell_of_all(rt: &HostRuntime, segment: &Segment) -> Result<()> {
     Ok(())
 }
 
-/// Tells of one object by its handle.
+/// Prints the object with this handle.
 fn tell_of_one(rt: &HostRuntime, segment: &Segment, handle: u64) -> Result<()> {
     let (known, len) = (segment.is_object_handle(handle), segment.length_of(handle)?);
     println!(rt; "a list: #{handle} is an object: {known}, of {len} elements")?;
     Ok(())
 }
 
-/// Fills a segment, and tells what is in it.
+/// Fills a segment, and prints its contents.
 fn tell(rt: &HostRuntime, segment: &mut Segment) -> Result<()> {
     let handle = fill(segment, &named("width")?)?;
     tell_the_first(rt, segment)?;
@@ -61,7 +62,7 @@ fn tell(rt: &HostRuntime, segment: &mut Segment) -> Result<()> {
     tell_of_one(rt, segment, handle)
 }
 
-/// Makes a segment, and tells what is in it.
+/// Creates and fills a segment in a file, and prints its contents.
 pub fn list_a_segment(rt: &HostRuntime, disk: &mut impl Disk) -> Result<()> {
     let mut file = SegmentFile::create(rt.alloc(), disk, "listed.seg", 1024)?;
     tell(rt, &mut file.segment)

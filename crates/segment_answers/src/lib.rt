@@ -1,4 +1,4 @@
-//! Outputs that are told of the lines of a script which they answer.
+//! Outputs for the answers to a script. Before the answers to each line of the script, `next_line` is called.
 #![tactic(auto)]
 
 mod line_output;

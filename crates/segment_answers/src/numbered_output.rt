@@ -1,4 +1,4 @@
-//! An output whose lines stand after the number of the line of the script that they answer.
+//! An output that writes the number of a script's line before each line of the answer to it.
 ghost use Rattle.std.specs.Prelude.{◌≡◌, ◌≢◌, ◌≤◌, ◌<◌, ◌-◌, ◌^◌, ◌+◌, ◌++◌, ℕ, true, false, codes, decimal, length};
 ghost use Rattle.std.specs.Prelude.{min, take, IfOk, OnOk, OnErr};
 ghost use Rattle.raw_region.specs.Answers.{failures_in, write_failures_in};
@@ -40,7 +40,7 @@ fn line_length(bytes: &[u8]) -> usize
     count
 }
 
-/// Returns where the next byte stands after this one of a line's text.
+/// Returns the spot of the next byte after this byte of a line.
 fn spot_behind(byte: u8) -> LineSpot
     ensures text { has_number result ≡ next_in_text true byte }
     ensures contents { result ≢ IsBroken }
@@ -52,8 +52,8 @@ fn spot_behind(byte: u8) -> LineSpot
     }
 }
 
-/// An output that writes `N: ` before each line that it takes, where N is how often it was told of a next line of the
-/// script. It fails only if the output that it writes to did.
+/// An output that writes `N: ` before each line that it takes. N is the number of calls of `next_line` so far. It fails
+/// only if the inner output has failed.
 #[derive(Drop)]
 pub struct NumberedOutput<O: Output> {
     inner: O,
@@ -133,7 +133,7 @@ impl<O: Output> NumberedOutput<O> {
         }
     }
 
-    /// Takes bytes of one line, whose number is written.
+    /// Writes bytes of one line, whose number is already written, and returns the number of bytes that were taken.
     fn take(&mut self, line: &[u8]) -> Result<usize, DeviceFault>
         requires room { self.old.failures < 2 ^ 64 - 1 }
         requires start { has_number self.old.spot ≡ true }
@@ -164,8 +164,8 @@ impl<O: Output> NumberedOutput<O> {
 impl<O: Output> Sink for NumberedOutput<O> {
     ghost history = { λ s. record { bytes = s.plain.history.bytes; failures = s.failures } };
 
-    /// Writes the front of the bytes, up to the end of their first line, and before it the number of the line if one
-    /// begins there.
+    /// Writes the bytes up to the end of their first line. If they begin a new line, writes the line's number before
+    /// them.
     fn write(&mut self, bytes: &[u8]) -> Result<usize, DeviceFault>
         requires { self.old.failures < 2 ^ 64 - 1 }
         ensures count { IfOk result (λ n. n ≤ length bytes.now) }

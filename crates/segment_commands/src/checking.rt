@@ -34,7 +34,7 @@ pub fn check<D: Disk, O: Output>(
     Ok(write_and_flush(out, b"ok\n")?)
 }
 
-/// Says on standard output, after its path, that a file holds a segment, unless it holds none or nothing is to be said.
+/// Prints the path and `ok` on standard output, if the file holds a segment and the check is not quiet.
 fn tell_fit<O: Output>(
     path: &str,
     found: Result<(), SessionFault>,
@@ -54,8 +54,8 @@ fn tell_fit<O: Output>(
     Output::flush(out)
 }
 
-/// Says on standard error, after its path, why a file holds no segment, and in a line of its own what the disk said of
-/// it, if that is told.
+/// Prints the path on standard error, and why the file holds no segment. If there is a `trouble`, prints it in a second
+/// line.
 fn put_reason<S: Sink>(
     path: &str,
     fault: SessionFault,

@@ -16,16 +16,16 @@ use thiserror::Error;
 /// Why a command fails.
 #[derive(Clone, Copy, Debug, PartialEq, Eq, Error)]
 pub enum CommandFault {
-    /// The command fails as a program over sessions does.
+    /// Wrong usage, a file that exists, a refused growth, or a session that failed.
     #[error("{0}")]
     Program(ProgramFault),
-    /// Another has the right to write the file.
+    /// The right to write the file was refused, or another writer may have changed the file while it was read.
     #[error("file in use")]
     InUse,
-    /// An answer of a strict run is an error.
+    /// A strict run stopped at a line that was refused. Nothing is saved.
     #[error("stopped at an error, and nothing is saved")]
     Stopped,
-    /// A line of a script that is linted is no command.
+    /// A linted script has lines that are no commands.
     #[error("some lines are no commands")]
     Misspelled,
     /// A text is no dump.
@@ -41,7 +41,7 @@ pub(crate) const WRITE_FAULT: CommandFault = CommandFault::Program(ProgramFault:
     SessionFault::WriteFault,
 ));
 
-/// Returns what a writing answered, as the program answers it.
+/// Converts the result of a write to the result of a command.
 pub(crate) fn written(answer: Result<(), DeviceFault>) -> Result<(), CommandFault>
     ensures { result ≡ written_as answer }
 {
@@ -70,7 +70,7 @@ impl From<SessionFault> for CommandFault {
 impl From<DeviceFault> for CommandFault {
     ghost from_gives = { λ _ fault. fault ≡ Session NotWritten };
 
-    /// Says that a file or standard output can't be written: no command tells a failed read this way.
+    /// Converts a failed write to a file or to standard output. No failed read is converted here.
     fn from(_refused: DeviceFault) -> CommandFault {
         WRITE_FAULT
     }

@@ -29,7 +29,7 @@ fn dump_words(cause: DumpFault) -> &'static [u8]
     }
 }
 
-/// Writes the line of a dump that is refused.
+/// Writes the message about a refused dump: the line and the column of the fault, and the reason.
 fn put_bad_dump<S: Sink>(bad: BadDump, err: &mut S) -> Result<(), DeviceFault>
     requires { (S.history err.old).failures < 2 ^ 64 - 1 }
     ensures { Writes (S.history err.old) (S.history err.new) result (bad_dump_line bad) }
@@ -48,7 +48,7 @@ fn put_bad_dump<S: Sink>(bad: BadDump, err: &mut S) -> Result<(), DeviceFault>
     )
 }
 
-/// Writes the line of a dump whose objects do not fit the size.
+/// Writes the message about a dump whose objects do not fit the size.
 fn put_no_space<S: Sink>(needed: u64, err: &mut S) -> Result<(), DeviceFault>
     requires { (S.history err.old).failures < 2 ^ 64 - 1 }
     ensures { Writes (S.history err.old) (S.history err.new) result (no_space_line needed) }
@@ -103,8 +103,8 @@ pub fn report<S: Sink>(fault: CommandFault, err: &mut S) -> u8
     }
 }
 
-/// Writes the line of memory that was refused to the program itself, and returns the status: that of a session without
-/// memory.
+/// Writes the message that memory for the program itself was refused, and returns the status, which is also that of a
+/// session without memory.
 pub fn report_no_memory<S: Sink>(err: &mut S) -> u8
     requires { (S.history err.old).failures < 2 ^ 64 - 1 }
     ensures status { result ≡ 4 }
@@ -113,7 +113,7 @@ pub fn report_no_memory<S: Sink>(err: &mut S) -> u8
     put_line(b"segment: out of memory\n", 4, err)
 }
 
-/// Returns what is said of a file.
+/// Returns the end of the message about a file, after its path.
 fn trouble_words(trouble: FileProblem) -> &'static [u8]
     ensures { result.now ≡ trouble_words trouble }
 {
@@ -131,13 +131,13 @@ fn trouble_words(trouble: FileProblem) -> &'static [u8]
     }
 }
 
-/// Writes a line that says why the file of a path can't be read or written, after the line of the fault, if that is
-/// known. The path stands there as a text of the language, so that none of its bytes ends the line or means something
-/// to a terminal.
+/// Writes a line with the path and the problem of its file, after the line of the fault. Writes nothing if the problem
+/// is unknown. The path is written as a text of the language, so none of its bytes ends the line or controls a
+/// terminal.
 ///
 /// # Errors
 ///
-/// The writer failed; what it took is a part of the line, from the first byte on.
+/// The writer failed. It took a front of the line, and not all of it.
 pub fn put_trouble<S: Sink>(
     path: &str,
     trouble: Option<FileProblem>,

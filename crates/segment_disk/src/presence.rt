@@ -1,4 +1,4 @@
-//! What a disk is asked and what it answers.
+//! Types of the requests to a disk and of its answers.
 
 use thiserror::Error;
 
@@ -13,52 +13,52 @@ pub enum Presence {
     Unknown,
 }
 
-/// How a file that is held comes to be open for writing with no byte in it, to take another image.
+/// How a held file gets another image: which file is opened, with no byte in it, to write the image to.
 #[derive(Clone, Copy, Debug, PartialEq, Eq)]
 pub enum SaveMode {
     /// The file is emptied.
     InPlace,
-    /// A file is made beside it, which stays as it is until the new one is put in its place.
+    /// A new file is made beside it. The held file stays as it is until the new file replaces it.
     Replacing,
 }
 
-/// What the file of a path is that is to take an image.
+/// The result of comparing the file of a path with the held file, and its bytes with an image.
 #[derive(Clone, Copy, Debug, PartialEq, Eq)]
 pub enum Comparison {
-    /// Another than the one that is held.
+    /// The path leads to another file than the held one.
     Other,
-    /// The one that is held, and its bytes are others than those of the image, or can't be known.
+    /// The path leads to no other file. Its bytes differ from the image, or can't be compared.
     Different,
-    /// The one that is held. It can be opened for writing, and its bytes are those of the image.
+    /// The path leads to no other file. Its file can be opened for writing, and its bytes equal the image.
     Equal,
 }
 
-/// Another has the right to write a file.
+/// The right to write a file is refused: another writer has it, or a log has commits that the file lacks.
 #[derive(Clone, Copy, Debug, Drop, PartialEq, Eq, Error)]
 #[error("file in use")]
 pub struct AlreadyLocked;
 
-/// Why a file can't be opened, read, made or written, as far as the system tells, or what became of it.
+/// A problem with a file: why it can't be opened, read, made or written, or that its replacement has another owner.
 #[derive(Clone, Copy, Debug, PartialEq, Eq)]
 pub enum FileProblem {
     /// No file is there.
     Missing,
     /// No folder is there in which the file is to be made.
     NoParentFolder,
-    /// The path is none that a file can be made by: it is empty, or ends as that of a folder does.
+    /// The path can't name a file: it is empty, or ends with a slash.
     Unnamed,
     /// A folder has the path.
     Folder,
-    /// Its rights do not let it be.
+    /// The system denies permission.
     Denied,
     /// Another file has taken the name meanwhile.
     Exists,
     /// It had another owner before it was replaced.
     Owner,
-    /// Another has the right to write it.
+    /// Another writer has the right to write it.
     Writer,
-    /// A log beside it has commits that it has not.
+    /// A log beside it has commits that it lacks.
     Log,
-    /// It took not all, or need not last.
+    /// It was not written completely, or the system did not confirm that it is on the disk.
     Unwritten,
 }

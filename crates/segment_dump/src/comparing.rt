@@ -6,12 +6,12 @@ use crate::compare_sink::CompareSink;
 use crate::dumping::dump_as;
 use segment_manager::Segment;
 
-/// Compares a text with the output of [`dump`](crate::dump) for a segment, except that the text states a size of its
-/// own.
+/// Compares a text with the output of [`dump`](crate::dump) for a segment, in which `size` replaces the segment's
+/// size.
 ///
 /// # Errors
 ///
-/// The length of the prefix that is equal. No clause says this number.
+/// The length of the equal prefix. The contract does not state this number.
 pub fn compare(segment: &Segment, size: u64, text: &[u8]) -> Result<(), usize>
     ensures on_ok { OnOk result (IsDumpOf segment.now size text.now) }
     ensures on_error { OnErr result (IsNoDumpOf segment.now size text.now) }

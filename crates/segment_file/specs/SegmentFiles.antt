@@ -1,4 +1,4 @@
--- A segment with the path of its file: what the disk is asked, in order, and what becomes of the segment.
+-- Calls of a segment with the path of its file: their requests to the disk, in order, and their effect on the segment.
 use Rattle.std.specs.Prelude.{◌≡◌, ◌≢◌, ◌⊎◌, ℕ, true, false, List, [], ◌∷◌, length, IsTrue, string_bytes}
 use Rattle.std.specs.Prelude.{Some, None, Result, Ok, Err, IfErr, MatchResult}
 use Rattle.raw_region.specs.Refusals.{out_of_memory_of}
@@ -33,11 +33,11 @@ use Rattle.segment_file.specs.Opening.{ExaminesFile, OpensFile, open_fault_error
 abbrev pub saved : Result (Unit {0}) FileError
 saved = Ok tt
 
--- a request for this many bytes was refused; for a region with room for this many
+-- the error of a refused request for this many bytes
 abbrev pub bytes_refused : ℕ → FileError
 bytes_refused n = OutOfMemory (Bytes (out_of_memory_of n))
 
--- a request for a region for n bytes was refused
+-- the error of a refused request for a region with room for this many bytes
 abbrev pub region_refused : ℕ → FileError
 region_refused room = bytes_refused (region_len room)
 
@@ -48,7 +48,7 @@ pub record IsEmptySegment (size : ℕ) (s : SegmentState) : Type 0 where
   pub region : List ℕ
   pub created : CreatesOk region 0 size Write s
 
--- no segment has the size, whatever memory there is; or it has, and memory for its region was refused
+-- why no segment is made: the size is not legal, or the size is legal and memory for its region was refused
 abbrev pub IsWhyNoSegment : ℕ → FileError → Type 0
 IsWhyNoSegment size why =
     ((is_legal_size size ≡ false) × (why ≡ BadSize)) ⊎ (IsTrue (is_legal_size size) × (why ≡ region_refused size))
@@ -59,12 +59,12 @@ module _ {D : Type 0} (step : D → Event → D → Type 0) (old new : D) (path 
     pub empty : IsEmptySegment size s
     pub writes : WritesImage step old new New path s.cut.bytes saved
 
-  -- there is no such segment, and nothing was asked
+  -- no segment was made, for this reason, and the disk got no request
   pub record MakesSegmentFileErr (why : FileError) : Type 0 where
     pub asked : new ≡ old
     pub reason : IsWhyNoSegment size why
 
-  -- the image of an empty segment is not in its file, or need not last
+  -- writing the image of an empty segment to its new file failed: the file may lack a part, or may not last
   pub record MakesSegmentFileUnwritten (why : FileError) : Type 0 where
     pub segment : SegmentState
     pub empty : IsEmptySegment size segment
@@ -76,7 +76,7 @@ module _ {D : Type 0} (step : D → Event → D → Type 0) (old new : D) (path 
   MakesSegmentFile result = MatchResult result MakesSegmentFileOk (λ why. MakesSegmentFileErr why
       ⊎ MakesSegmentFileUnwritten why)
 
--- the path was looked at and this was found, and then what is done went on from there
+-- the disk looked the path up and found what `IsWhere` allows, and from there on `goes_on` holds
 pub record IsBehindLook {D : Type 0} (step : D → Event → D → Type 0) (old : D) (path : List ℕ) (IsWhere : Presence
     → Type 0) (goes_on : D → Type 0) : Type 0 where
   pub found : Presence
@@ -88,12 +88,12 @@ pub record IsBehindLook {D : Type 0} (step : D → Event → D → Type 0) (old 
 -- ---- a file that is held
 
 module _ {D : Type 0} (step : D → Event → D → Type 0) (old new : D) (path : List ℕ) where
-  -- another has the lock of the file, and nothing else was asked
+  -- another writer has the lock of the file, and the disk got no other request
   pub record RefusesFileInUse {A : Type 0} (result : Result A FileError) : Type 0 where
     pub asked : After step old (Held path false ∷ []) new
     pub refused : result ≡ Err InUse
 
-  -- the right was taken, this was done, and it was given back
+  -- another writer has the right to write; or the right was taken, `does` was done, and the right was given back
   abbrev pub HoldsFile : (D → D → Type 0) → Result (Unit {0}) FileError → Type 0
   HoldsFile does result = RefusesFileInUse result ⊎ RunsLocked step old new path does
 
@@ -105,7 +105,8 @@ module _ {D : Type 0} (step : D → Event → D → Type 0) (old new : D) (path 
     pub opens : OpensFile step held read path Current Write 0 result
     pub kept : MatchResult result (λ s. new ≡ read) (λ why. step read Released new)
 
-  -- another has the right to write, or it is taken before the file is read and kept exactly if there is a segment
+  -- another writer has the right to write; or the right is taken before the file is read, and kept exactly if there is
+  -- a segment
   abbrev pub OpensHeld : Result SegmentState FileError → Type 0
   OpensHeld result = RefusesFileInUse result ⊎ OpensHeldOk result
 
@@ -115,7 +116,7 @@ module _ {D : Type 0} (step : D → Event → D → Type 0) (old new : D) (path 
     pub asked : After step old (Looked path There ∷ []) new
     pub refused : result ≡ Err Exists
 
-  -- a segment that is made, in a file that is not there
+  -- a segment is made in a new file, unless something is there under the path
   abbrev pub CreatesSegment : ℕ → Result SegmentState FileError → Type 0
   CreatesSegment size result =
       RefusesExistingPath result ⊎ IsBehindLook step old path (λ found. found ≢ There) (λ looked.
@@ -129,12 +130,12 @@ module _ {D : Type 0} (step : D → Event → D → Type 0) (old new : D) (path 
 
 -- ---- a segment with its path, and with the right to write its file
 
--- the segment comes with the right
+-- a segment comes with the right to write its file, and `comes` holds for the result without that right
 abbrev pub ComesHeld : {H : Type 0} → (Result SegmentState FileError → Type 0) → Result (SegmentState × H) FileError
     → Type 0
 ComesHeld comes result = MatchResult result (λ held. comes (Ok held.0)) (λ why. comes (Err why))
 
--- the segment came to be by this, and its path is kept
+-- `comes` holds for the segment, and the file keeps its path
 pub record IsFileOf {H : Type 0} (path : List ℕ) (comes : Result SegmentState FileError
     → Type 0) (file : SegmentFile H) : Type 0 where
   pub path_is : string_bytes file.path ≡ path
@@ -145,7 +146,7 @@ pub record RefusesPath {D : Type 0} (old new : D) (path : List ℕ) (why : FileE
   pub asked : new ≡ old
   pub refused : why ≡ bytes_refused (length path)
 
--- a segment comes with the path of its file, or memory for the path was refused
+-- `comes` holds for the result, and a segment has the path of its file; or memory for the path was refused
 abbrev pub KeepsFile : {D H : Type 0} → D → D → List ℕ → (Result SegmentState FileError → Type 0)
     → Result (SegmentFile H) FileError → Type 0
 KeepsFile old new path comes result =
@@ -160,7 +161,7 @@ pub record SavesFile {D : Type 0} (step : D → Event → D
   pub writes : WritesImage step old new how path s.cut.bytes result
   pub refused : IfErr result (λ why. why ≡ WriteFault)
 
--- `save_as`: the image in a file that is not there
+-- `save_as`: the image is written to a new file, unless something is there under the path
 abbrev pub SavesAs : {D : Type 0} → (D → Event → D → Type 0) → D → D → List ℕ → SegmentState
     → Result (Unit {0}) FileError → Type 0
 SavesAs step old new path s result =
@@ -202,12 +203,12 @@ Migrates step old new path result = MigrateRefused step old new path result ⊎ 
 
 -- ---- other sizes
 
--- why a segment does not grow, as a file's call answers it
+-- converts the reason why a segment does not grow to the error of a file's call
 abbrev pub growth_file_error : GrowOrMoveError → FileError
 growth_file_error (NoGrowth reason) = Growth reason
 growth_file_error (NoLargerRegion refusal) = OutOfMemory (Bytes refusal)
 
--- the segment does not grow, and may not move, for this reason
+-- the segment is unchanged: for this reason it grows neither in place nor in a larger region
 pub record GrowsFileErr (old new : SegmentState) (extra : ℕ) (why : FileError) : Type 0 where
   pub cause : GrowOrMoveError
   pub refused : GrowsOrMovesErr old new extra cause

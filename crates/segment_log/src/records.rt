@@ -12,7 +12,7 @@ pub const GATE_LEN: usize = 4096;
 /// No log and no payload is longer.
 pub const MAX_LOG_LEN: usize = 1 << 40;
 
-/// Returns the number that stands in front.
+/// Returns the number in the first 8 bytes.
 pub(crate) fn number_of(bytes: &[u8]) -> u64
     requires in_bounds { 8 ≤ length bytes.now }
     ensures { result ≡ number_of bytes.now }
@@ -68,7 +68,7 @@ pub fn record_body(alloc: Global, payload: &[u8]) -> Result<Vec<u8>, AllocError>
     Ok(bytes)
 }
 
-/// Returns a gate that is open: written over the shut one, it marks the record behind it.
+/// Returns an open gate. When it is written over a shut gate, the record after that gate counts.
 pub fn open_gate(alloc: Global) -> Result<Vec<u8>, AllocError>
     ensures { IfOk result (λ bytes. bytes.items ≡ 1 ∷ zeros 4095) }
 {

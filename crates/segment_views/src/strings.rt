@@ -1,4 +1,4 @@
-//! A string in a segment that may be changed, looked up once.
+//! A view that can change a string in a segment. It looks the string up once.
 ghost use Rattle.std.specs.Prelude.{◌≡◌, Ok, Err, MatchResult, [], ◌∷◌, OnErr, pos};
 ghost use Rattle.seg_types.specs.declared.kinds.Kind.TheVariants.{String as StringKind};
 ghost use Rattle.seg_types.specs.declared.kinds.ScalarKind.TheVariants.{U8 as ByteKind};
@@ -13,7 +13,7 @@ use seg_types::{Kind, Refusal};
 #[derive(Drop)]
 pub struct StringBytes;
 
-/// A string in a segment that may be changed, looked up once.
+/// A view that can change a string in a segment. It looks the string up once.
 pub type StringView<'a> = View<'a, StringBytes>;
 
 impl ViewContent for StringBytes {
@@ -40,7 +40,7 @@ impl<'a> View<'a, StringBytes> {
         self.segment.string_bytes(&self.object)
     }
 
-    /// Makes a byte the one at `index`.
+    /// Sets the byte at `index`.
     ///
     /// # Errors
     ///
@@ -56,7 +56,7 @@ impl<'a> View<'a, StringBytes> {
         self.segment.string_set(&self.object, index, byte)
     }
 
-    /// Puts bytes after its own.
+    /// Appends bytes to the string.
     ///
     /// # Errors
     ///

@@ -1,7 +1,8 @@
 /* A part of files.c: files that are mapped, and their lengths. */
 
-/* Returns the class of bytes that an opening refused, and notes the offset that shows it. An image that states more
-   bytes than there are is refused by its class. */
+/* Returns the image class of bytes that an opening refused, and stores the offset that shows it in `file->place`. Also
+   replaces ZX_SHORT_REGION, the code for an image that states more bytes than there are. Returns any other code as it
+   is. */
 static zx_code explained(zx_file *file, zx_code code, const uint8_t *image, size_t len) {
     if (code != ZX_SHORT_REGION && code < ZX_TRUNCATED) return code;
     return zx_explain(image, len, &file->place);
@@ -74,28 +75,29 @@ static uint64_t size_said(const uint8_t *image) {
     return size;
 }
 
-/* Addresses for a process that maps files of one length again and again: between two pages that stay; a short file lies
-   at the start of what one page table of the system covers. The pages beside a mapping keep the tables of its ends.
-   Without them the system makes and frees tables each time, which costs as much as all else in an opening. */
+/* The addresses at which this process maps files of one length again and again: a gap between two pages that stay
+   mapped. A short file lies near the start of the range that one page table of the system covers. The two pages keep
+   the page tables of the gap's ends. Without them the system would allocate and free these tables at each opening,
+   which costs as much as the rest of the opening. */
 static struct {
     uint8_t *at;  /* null if there are no such pages */
     uint64_t len; /* of the file that was mapped last, in whole pages */
 } place;
 
-/* How far from an end of a mapping another page lies that is read with it. When a mapping ends, the system takes the
-   pages of each of its tables out of the processor one by one, up to 33 of a table, and under a hypervisor each of them
-   with all that the processor knows of the system itself; of more pages than that it takes out all of this process, and
-   only these. */
+/* The distance, in pages, from an end of a mapping to another page that is read with this end. When a mapping ends, the
+   system flushes its pages from the processor's cache of addresses, table by table. It flushes up to 33 pages of a
+   table one by one, and under a hypervisor each of these flushes also drops the entries of the system itself. For more
+   than 33 pages it flushes all entries of this process, and no others. */
 enum { APART = 34 };
 
-/* On which page of a table a file begins of which each end has a table of its own: so that the pages that are read
-   with its ends lie in these, and the pages beside it too. */
+/* Returns the page of a table at which a file begins. If the two ends of the file lie in different tables, each table
+   also has the page that is read with its end, and the page next to that end. */
 static size_t first_page(size_t entries, size_t pages) {
     return pages % entries >= APART && pages % entries < entries - 1 ? 1 : APART + 15;
 }
 
-/* Reads what the opening reads first of a file that is mapped in its place, and a page apart from each end. They have
-   blocks in the file, as all have that is mapped for writing. */
+/* Reads the first and the last page of a mapping in its place, and the page APART pages from each, if its ends lie in
+   different tables. The file is mapped for writing, so `allot` has allocated their blocks, if its file system can. */
 static void read_apart(const uint8_t *at, uint64_t len) {
     size_t page = page_size();
     const volatile uint8_t *first = at, *last = at + (len - 1) / page * page;
@@ -103,7 +105,8 @@ static void read_apart(const uint8_t *at, uint64_t len) {
     (void)(first[0] + first[APART * page] + last[0] + (last - APART * page)[0]);
 }
 
-/* Moves the two pages to the place where a second file of this length is mapped. */
+/* Unmaps the two pages. If the file mapped last had this length too, maps two new pages with a gap of this length
+   between them. */
 static void move_place(size_t page, uint64_t len) {
     if (place.at) {
         munmap(place.at - page, page);
@@ -131,7 +134,7 @@ static void *place_for(uint64_t len) {
     return place.at;
 }
 
-/* Maps a file in the list. A child that is forked at any time ends its copy of the mapping. */
+/* Maps a file that is in the list of held files. A child that is forked at any time unmaps its copy. */
 static bool map_listed(struct zx_held_file *held, uint64_t len, int protection, int flags) {
     pthread_mutex_lock(&guard);
     void *wanted = place_for(len), *at = mmap(wanted, len, protection, flags, held->file, 0);
@@ -156,7 +159,7 @@ static void unmap_listed(struct zx_held_file *held) {
 
 static zx_code map_anew(zx_file *file, struct zx_held_file *held, uint32_t how);
 
-/* Maps the file, and opens its segment where it stands. */
+/* Maps the file, and opens its segment in the mapping. */
 static zx_code map(zx_file *file, struct zx_held_file *held, const struct stat *found, uint32_t how) {
     uint64_t len = (uint64_t)found->st_size;
     // no segment has such a size, so the bytes are refused
@@ -165,7 +168,7 @@ static zx_code map(zx_file *file, struct zx_held_file *held, const struct stat *
     int protection = how == ZX_READ ? PROT_READ : PROT_READ | PROT_WRITE;
     if (!map_listed(held, len, protection, how == ZX_WRITE ? MAP_SHARED : MAP_PRIVATE)) return fault(file);
     zx_code code = attach(file, held, len, how);
-    // a process that was killed while it changed the length leaves an image with more behind it
+    // a process that was killed while it changed the file's length can leave bytes after the image
     uint64_t said = code == ZX_BAD_IMAGE_SIZE ? size_said(held->at) : len;
     bool is_longer = said < len && attach(file, held, said, how) == ZX_DONE;
     if (is_longer) code = ZX_DONE;
@@ -175,7 +178,7 @@ static zx_code map(zx_file *file, struct zx_held_file *held, const struct stat *
     if (is_cut) return cut(held->file, said) ? map_anew(file, held, how) : fault(file);
     if (code != ZX_DONE) return code;
     held->mapped = &file->segment;
-    // it stands under its name with all changes, also where it is never flushed
+    // a new file that is mapped has its name and all changes from now on, even if it is never flushed
     if (held->state == NEW) held->state = UNSYNCED;
     return ZX_DONE;
 }
@@ -186,7 +189,8 @@ static zx_code map_anew(zx_file *file, struct zx_held_file *held, uint32_t how) 
     return fstat(held->file, &found) == 0 ? map(file, held, &found, how) : fault(file);
 }
 
-/* Cuts a mapped file that this process writes to its image. */
+/* Cuts a mapped file to the length of its image, if this process writes the file, the file is not durable, and no
+   transaction is open. Returns false if the cut fails. */
 static bool cut_mapped(zx_file *file, const struct zx_held_file *held) {
     uint64_t size;
     bool is_written = held->state != READ && !held->commits && held->steps == 0 && is_own(held) && file->segment.lent;
@@ -248,8 +252,8 @@ zx_code zx_file_grow(zx_file *file, uint64_t extra) {
     return code == ZX_DONE ? zx_grow(&file->segment, extra) : code;
 }
 
-/* Makes a mapped file as short as its segment became by a call, which returned the code. While a transaction is open
-   the file keeps its length, and so does the mapping of a file that is durable. */
+/* Sets the length of a mapped file and of its mapping to the size of its segment, after a call that returned `code`.
+   Changes neither if the call failed, if a transaction is open, or if the file is durable. */
 static zx_code fit(zx_file *file, zx_code code) {
     struct zx_held_file *held = file->held;
     uint64_t size = 0;

@@ -53,7 +53,7 @@ class Tile(NamedTuple):
 
 
 _Row = Tuple[str, int, int, int, Optional[int]]
-"""Of an object with a name: the name, its kind, how many scalars it has, its handle, and the value of one scalar."""
+"""A named object: its name, its kind, its number of scalars, its handle, and its value if it is a single scalar."""
 _INFO, _VALUE = struct.Struct("@IIIQQ"), struct.Struct("@IqQ")
 
 
@@ -88,7 +88,7 @@ class _Named(_Pairs, MutableMapping[str, Any]):
             raise NotImplementedError
 
     def _full(self, key: Any) -> Any:
-        """Returns the key in the segment."""
+        """Returns the key for the segment: a group puts its prefix before a name."""
         raise NotImplementedError
 
     # -- objects
@@ -269,8 +269,8 @@ class _Named(_Pairs, MutableMapping[str, Any]):
         return self._segment._info(self._full(key))
 
     def records(self, key: Key, form: Any) -> Records:
-        """Returns the records of a name, in a form: those of its vector of u8, or of its array of u8. It makes an empty
-        vector if there is none: records("points", "dd"). WrongKind, NoSpace."""
+        """Returns the records that the bytes of a name spell in a form; the bytes are a vector or an array of u8. If
+        the name is new, makes an empty vector: records("points", "dd"). WrongKind, NoSpace."""
         told = self._segment._told(self._full(key))
         if told is not None and told.kind == U8:
             return self._segment._classes[Records](self.object(key), form)  # type: ignore[no-any-return]
@@ -491,7 +491,7 @@ class Segment(_Named, _library.Block):
         self._file = _library.File()
         self._handle = self._file.segment
         self._prefix = ""
-        # who may make a call at once: a thread, any (0), or none, so that each call looks who makes it
+        # the number of the thread whose calls are not checked; 0: no call is checked; _NOBODY: each call is checked
         self._thread_number: int = _here.number if check_same_thread else 0
         self._may_ask = ctypes.c_uint64(self._thread_number)
         self._opener = self._thread_number
@@ -503,7 +503,7 @@ class Segment(_Named, _library.Block):
         self._steps: List[_library.Step] = []
         self._task: Any = None
         self._restored: Optional[Tuple[bytes, int, int]] = None
-        # its `with` block holds nothing that others wait for
+        # the lock of its `with` block is its own, so no other thread waits while the block runs
         self._held, self._was_refused = threading.RLock(), False
         self._any_name = ctypes.create_string_buffer(_LONGEST_NAME)
         self._was_lent, self._left = False, []  # type: Tuple[bool, List[_Left]]
@@ -513,7 +513,7 @@ class Segment(_Named, _library.Block):
         self.growing = grow
         """Whether a call that finds no space makes the segment longer by half and goes on."""
         self.encoding = encoding
-        """How texts are decoded, or None, where they are bytes; those that cannot be decoded have surrogates (PEP
+        """The encoding of texts; with None, texts are bytes. Bytes that cannot be decoded become surrogates (PEP
         383)."""
         try:
             codecs.lookup(encoding or "utf-8")
@@ -631,8 +631,8 @@ class Segment(_Named, _library.Block):
         return None if code else told
 
     def _is_lent(self) -> bool:
-        """Tells whether a view exists. It forgets those that are gone here, and not as they go: a signal would prevent
-        that."""
+        """Tells whether a view exists. Views that are gone leave the list here, and not at the moment when they go: a
+        signal could prevent that."""
         if self._lent:
             self._lent = [lent for lent in self._lent if lent[0]() is not None]
         return bool(self._lent)
@@ -697,17 +697,19 @@ class Segment(_Named, _library.Block):
         self._call(zx.zx_relocate, natural(capacity))
 
     def transaction(self) -> Transaction:
-        """Makes a block one step. `with segment.transaction():` keeps all that the block did; if an exception leaves
-        the block, the segment is as before it. Of a file opened with `durable` or `mapped` it costs what is changed;
-        any other segment is copied. The end of the outermost block commits a file opened with `durable`: if that raises
-        anything but FileUnsure, the segment is as before the block. In a task of asyncio it belongs to the task: until
-        it ends, the calls of other tasks raise WrongTask. NoMemory, Closed; the errors of `commit`."""
+        """Makes all calls of a block one step. `with segment.transaction():` keeps all that the block did; if an
+        exception leaves the block, the segment is as before the block. For a file opened with `durable` or `mapped` the
+        cost depends on what the block changed; any other segment is copied. The end of the outermost block commits a
+        file opened with `durable`: if that raises anything but FileUnsure, the segment is as before the block. If a
+        task of asyncio makes the transaction, calls of other tasks raise WrongTask until the transaction ends.
+        NoMemory, Closed; the errors of `commit`."""
         if self._thread_number and _here.number != self._thread_number:
             self._refuse_stranger()
         return Transaction(self)
 
     def _begin_step(self, before: _library.Step) -> None:
-        """Notes that a transaction begins. The first one in a task makes each call look at its task."""
+        """Notes that a transaction begins. If it is the outermost one and in a task, each call checks its task from now
+        on."""
         if not self._steps:
             self._task = _task_here()
         self._steps.append(before)
@@ -721,8 +723,8 @@ class Segment(_Named, _library.Block):
             self._task = None
 
     def _roll_back(self, before: _library.Step) -> None:
-        """Restores the segment. Views keep what they show, in memory of their own. If the handler of a
-        signal interrupts it, the same call continues."""
+        """Restores the segment. Views keep their bytes, in memory of their own. If a signal handler interrupts it, a
+        second call continues."""
         self._changes += 1
         if self._restored is None:
             if not self._is_lent():
@@ -744,15 +746,15 @@ class Segment(_Named, _library.Block):
 
     def save(self) -> None:
         """Saves the segment in its file, unless the file has these bytes already. A new file replaces the old one when
-        it is wholly on the disk, so the name leads to one of the two, whole, whatever fails. ReadOnly, NoFile,
-        FileError; only after FileUnsynced it is saved."""
+        it is completely on the disk. So the name always leads to a whole file, the old or the new one. ReadOnly,
+        NoFile, FileError; of all errors, only FileUnsynced means that the segment is saved."""
         self._note_views()
         self._file_call(zx.zx_file_save, self._path)
 
     def commit(self) -> None:
         """Commits the changes of a file opened with `durable`: then they are on the disk, and survive whatever ends the
-        process. It costs what was changed. For any other file it is `flush`. The errors of `save`; FileInStep in a
-        transaction; FileUnsure if nobody knows whether they are on the disk."""
+        process. The cost depends on what was changed. For any other file it does what `flush` does. The errors of
+        `save`; FileInStep in a transaction; FileUnsure if nobody knows whether the changes are on the disk."""
         self._note_views()
         self._file_call(zx.zx_file_commit, self._path)
 
@@ -828,8 +830,8 @@ class Segment(_Named, _library.Block):
         return self
 
     def _end(self, depth: int, raised: Any) -> None:
-        """Closes or discards it behind its `with` block. If the handler of a signal interrupts it, the same call
-        continues; what the library refused is not tried again."""
+        """Closes or discards the segment at the end of its `with` block. If a signal handler interrupts it, a second
+        call continues. If the library refused it, a second call does nothing."""
         if raised is True or self._was_refused:
             return
         try:
@@ -842,7 +844,7 @@ class Segment(_Named, _library.Block):
             raise
 
     def __del__(self) -> None:
-        # nobody else uses it any more, whatever thread this is
+        # no other code has the segment now, so any thread can be the one that runs this
         file = getattr(self, "_file", None)
         if file is None or not (file.segment.at or file.held):
             return
@@ -854,8 +856,9 @@ class Segment(_Named, _library.Block):
             zx.zx_file_discard(file)
 
     def _end_unclosed(self, is_alone: bool) -> bool:
-        """Saves and closes a segment that nobody closed, if it is whole, and tells whether it did. Otherwise it says on
-        standard error that it is not saved. `is_alone`: no other thread can use it."""
+        """Saves and closes a segment that nobody closed, and returns True. If it cannot save, as in a transaction or
+        while another thread uses the segment, it says so on standard error and returns False. It also returns False if
+        there is nothing to save. `is_alone`: no other thread can use the segment."""
         mode = ctypes.c_uint32()
         zx.zx_mode(self._handle, mode)
         if not self._file.held or mode.value != MODES["w"] or self._is_told:
@@ -882,7 +885,7 @@ class Segment(_Named, _library.Block):
             self._lock.release()
 
     def _say_unsaved(self, reason: str) -> bool:
-        """Says on standard error, once, that the segment is not saved; false."""
+        """Says on standard error, once, that the segment is not saved, and returns False."""
         left = ("its file stays as it was committed last" if self._is_durable else
                 "its file has the changes so far" if self._is_mapped else "its file stays as it was saved last")
         self._is_told = True
@@ -934,7 +937,7 @@ class Segment(_Named, _library.Block):
             index += 1
 
     def _names(self, index: int, many: int) -> List[_Row]:
-        """Reads at most `count` named objects, from an index on."""
+        """Reads at most `many` named objects, from an index on."""
         infos, values = ctypes.create_string_buffer(many * _INFO.size), ctypes.create_string_buffer(many * _VALUE.size)
         room, read = max(_LONGEST_NAME, 64 * many), ctypes.c_size_t()
         names = ctypes.create_string_buffer(room)
@@ -1047,7 +1050,7 @@ class Transaction(_library.Block):
         return segment
 
     def _end(self, depth: int, raised: Any) -> None:
-        """Ends the block that is so deep. If the handler of a signal interrupts it, the same call continues."""
+        """Ends the block of this depth. If a signal handler interrupts it, a second call continues."""
         if len(self._copies) < depth:
             return
         segment, before = self._segment, self._copies[depth - 1]
@@ -1118,7 +1121,7 @@ MODES_OF = {"write": 0, "read": 1, "copy on write": 2}
 # ---- segments of several threads
 
 def _locks(call: Callable[..., Any]) -> Callable[..., Any]:
-    """Wraps a method, so that its call is alone on the segment."""
+    """Wraps a method, so that each call locks the segment."""
     def alone(self: Any, *arguments: Any, **named: Any) -> Any:
         with self._lock:
             return call(self, *arguments, **named)
@@ -1127,7 +1130,7 @@ def _locks(call: Callable[..., Any]) -> Callable[..., Any]:
 
 
 def _locked(kind: Any) -> Any:
-    """Makes a subclass whose methods are each alone on the segment."""
+    """Makes a subclass whose methods each lock the segment."""
     members: Dict[str, Any] = {}
     for base in reversed(kind.__mro__[:-1]):
         for name, member in vars(base).items():
@@ -1139,7 +1142,7 @@ def _locked(kind: Any) -> Any:
             elif isinstance(member, property) and member.fget is not None and name != "_segment":
                 members[name] = property(_locks(member.fget), doc=member.__doc__)
             elif name in ("_at", "__getitem__"):
-                # those of the library's class, which are no functions of Python
+                # methods of a class that the library for C makes: they are not functions of Python
                 members[name] = _locks(member)
             elif name in members:
                 del members[name]

@@ -75,7 +75,7 @@ pub bare-long : (w a : List ℕ) → 0 < length w → AreBare w → ends_word a 
 bare-long [] a l h e = absurd (omega arith)
 bare-long (c ∷ w) a l h e = bare-next c w a h e
 
--- after a blank
+-- a blank before a word is skipped
 pub blank-next : (bytes : List ℕ) → next_word (0x20 ∷ bytes) ≡ next_word bytes
 unfolding next_word
 blank-next bytes = refl
@@ -172,7 +172,7 @@ is_word-same (c ∷ w) (d ∷ v) e =
     let more = is_word-same w v p.1 in
     λ i. one i ∷ more i
 
--- neither word is a number
+-- the decimal of a number differs from each word that is not a number
 no-truth : (z : ℤ) (word : List ℕ) (b : Bool) → is_word (signed_decimal z) word ≡ b
     → whole_of (signed_decimal z) ≡ Some z → whole_of word ≡ None → b ≡ false
 no-truth z word true e f g = let same : signed_decimal z ≡ word = is_word-same (signed_decimal z) word e in absurd

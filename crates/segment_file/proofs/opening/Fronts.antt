@@ -1,4 +1,4 @@
--- What the first 24 bytes of an image say, and that bytes which follow change nothing of it.
+-- What the first 24 bytes of an image state, and that bytes after them do not change it.
 use Rattle.std.proofs.Common.{◌≡◌, ◌<◌, ◌≤◌, ◌&&◌, ◌||◌, ℕ, Bool, true, false, List, [], ◌++◌, length, drop, Some, None}
 use Rattle.std.proofs.Common.{Result, Ok, Err, IsTrue, nat_lt, find, refl, sym, ap₂, subst, ◌∙◌, arith}
 use Rattle.std.specs.Prelude.{nat_le, if◌then◌else◌}
@@ -78,7 +78,7 @@ legal-most n e = grind (arith, nat_tests)
 legal-least : (n : ℕ) → is_legal_size n ≡ true → 144 ≤ n
 legal-least n e = grind (arith, nat_tests)
 
--- ---- the class by how many bytes there are
+-- ---- the class, by the number of bytes
 
 second : (a b : Bool) → b ≡ true → (a || b) ≡ true
 second true b e = refl
@@ -94,7 +94,7 @@ undecided_by : (short : Bool) → decided_by short true true true ≡ None
 undecided_by true = refl
 undecided_by false = refl
 
--- fewer than 144 bytes decide none
+-- fewer than 144 bytes decide no class
 pub few-undecided : (format : ℕ) (b : List ℕ) → length b < 144 → decided format b ≡ None
 unfolding decided
 few-undecided format b few = rw (below (length b) 144 few) refl
@@ -115,7 +115,7 @@ module _ (format : ℕ) (b : List ℕ) (said : ℕ) (s : Says format b said) whe
   pub said-most : said ≤ 1073741824
   said-most = let size = s.size in let most = legal-most (size_word b) legal in omega (arith, size, most)
 
-  -- bytes within the size that is said decide no class
+  -- as many bytes as the front states, or fewer, decide no class
   pub undecided : length b ≤ said → decided format b ≡ None
   unfolding decided
   undecided few =
@@ -125,7 +125,7 @@ module _ (format : ℕ) (b : List ℕ) (said : ℕ) (s : Says format b said) whe
       (le-leb (length b) (size_word b) (omega (arith, few, size))) in
       rw (words.0, words.1, fits) (undecided_by (nat_lt (length b) 144))
 
-  -- more bytes than the size decide a wrong size
+  -- more bytes than the front states decide the class `BadSize`
   pub goes-past : said < length b → decided format b ≡ Some BadSize
   unfolding decided
   goes-past more =
@@ -137,12 +137,12 @@ module _ (format : ℕ) (b : List ℕ) (said : ℕ) (s : Says format b said) whe
       (lt-leb (length b) (size_word b) (omega (arith, more, size))) in
       rw (whole, words.0, words.1, other) refl
 
-  -- more bytes than the size have the class of a wrong size
+  -- an image with more bytes than its front states has the class `BadSize`
   pub passed : said < length b → class_of format b ≡ Some BadSize
   passed more = subst (λ (x : List ℕ).
       class_of format x ≡ Some BadSize) (append-nil b) ((all_decided format b).some BadSize (goes-past more) [] refl)
 
-  -- fewer bytes than the size have the class of a cut image
+  -- an image with fewer bytes than its front states has the class `Truncated`
   pub ends-early : length b < said → class_of format b ≡ Some Truncated
   ends-early less =
       let size = s.size in

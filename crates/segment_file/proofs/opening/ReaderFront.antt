@@ -1,8 +1,8 @@
--- What a reader keeps of the front that it gave.
+-- A reader keeps the front of an image that it gave.
 use Rattle.std.proofs.Common.{◌≡◌, ◌<◌, ◌+◌, ◌*◌, ℕ, Bool, true, false, List, length, take, refl, sym, ◌∙◌, arith}
 use Rattle.std.proofs.lemmas.List.{take_all}
 
--- it has the front, where that is all that it gave
+-- if the reader gave 24 bytes and no read failed, the front that it keeps is these bytes
 pub front_kept : (is_all : Bool) (kept failures : ℕ) (front bytes : List ℕ) → length front ≡ 24
     → (is_all ≡ true → take kept front ≡ bytes) → (is_all ≡ true → length bytes ≡ kept)
     → (is_all ≡ false → 24 < length bytes + 25 * failures) → length bytes ≡ 24 → failures ≡ 0 → bytes ≡ front

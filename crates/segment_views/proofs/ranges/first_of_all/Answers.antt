@@ -1,4 +1,4 @@
--- From the least key on the first pair comes.
+-- The first pair whose key is not below the least key is the first pair of the map.
 use Rattle.std.proofs.Common.{subst}
 use Rattle.seg_types.specs.Names.{ByHandle}
 use Rattle.segment_manager.specs.containers.Maps.{pair_from, pair_result, answer_of_map}

@@ -18,8 +18,8 @@ from typing import (TYPE_CHECKING, Any, Callable, Dict, ItemsView, Iterator, Key
 from . import _library
 from ._errors import (BadCount, BadKey, BadName, BadValue, Error, FileForked, FileUnsynced, Lent, NotFound,
                       WrongKind, WrongTask, WrongThread, error_of, file_error_of, named, no_space, shown)
-from ._library import BOOL, I32, I64, MAP, NO_SPACE, STRING, STRINGS, U8, VECTOR, quick, zx
-from ._objects import Array, Map, Object, _Pairs, String, Strings, Vector, bytes_in, object_of
+from ._library import BOOL, I32, I64, MAP, NO_SPACE, STRING, STRINGS, U8, U64, VECTOR, quick, zx
+from ._objects import SAME, Array, Map, Object, _Pairs, String, Strings, Vector, bytes_in, object_of
 from ._records import Records
 from ._values import (KINDS, MOST, TEXTS, Key, MapKind, ScalarKind, Texts, VectorKind, code_of, counted, encoded,
                       handle, is_scalar, is_truth, listed, natural, pairs_of, raw_key, row, scalar, value_of, whole)
@@ -77,6 +77,7 @@ class _Named(_Pairs, MutableMapping[str, Any]):
     __slots__ = ()
     _segment: Segment
     _prefix: str
+    _own_encoding: Optional[str]
     if TYPE_CHECKING:
         def keys(self) -> KeysView[str]:
             raise NotImplementedError
@@ -119,7 +120,7 @@ class _Named(_Pairs, MutableMapping[str, Any]):
         BadValue, BadCount, WrongKind."""
         full, made = self._full(key), ctypes.c_uint64()
         code = self._make("construct", kind, full, value, made)
-        return object_of(self._segment, full if full is not None else handle(made.value), code)
+        return self._object(full if full is not None else handle(made.value), code)
 
     @overload
     def find_or_construct(self, kind: ScalarKind, key: Key, value: Any = None) -> Array: ...
@@ -144,7 +145,7 @@ class _Named(_Pairs, MutableMapping[str, Any]):
         kind has the key."""
         full = self._full(key)
         code = self._make("find_or_construct", kind, full, value, ctypes.c_uint64(), ctypes.c_uint32())
-        return object_of(self._segment, full, code)
+        return self._object(full, code)
 
     def _make(self, call: str, kind: str, key: Any, value: Any, *told: Any) -> int:
         segment = self._segment
@@ -153,10 +154,10 @@ class _Named(_Pairs, MutableMapping[str, Any]):
             if is_scalar(code):
                 self._make_scalars(call, code, count, key, value, told)
             elif code == STRING:
-                text = encoded("" if value is None else value, segment.encoding)
+                text = encoded("" if value is None else value, self._texts)
                 segment._change(f"{call}_string", key, text, len(text), *told)
             elif code == STRINGS:
-                texts = Texts(() if value is None else value, segment.encoding)
+                texts = Texts(() if value is None else value, self._texts)
                 segment._change(f"{call}_strings", key, texts.passed, texts.count, *told)
             elif code < MAP:
                 values = row(code - VECTOR, () if value is None else value, BadValue)
@@ -202,7 +203,7 @@ class _Named(_Pairs, MutableMapping[str, Any]):
 
     def _is_new(self, call: str, code: int, key: Any) -> bool:
         """Tells whether the call will make an object."""
-        return call == "construct" or self._segment._find(code, key) is None
+        return call == "construct" or not self._segment._has(code, key)
 
     def vector(self, key: Key, kind: str = "i64") -> Vector:
         """Returns the vector of a name, and makes an empty one if there is none: vector("queue", "i64"). WrongKind,
@@ -247,13 +248,14 @@ class _Named(_Pairs, MutableMapping[str, Any]):
     def find(self, kind: str, key: Key) -> Any:
         """Returns the object of a kind under a name or unique(kind), or None. WrongKind, if an object of another kind
         has the key."""
-        return self._segment._find(code_of(kind), self._full(key))
+        code, full = code_of(kind), self._full(key)
+        return self._object(full, code) if self._segment._has(code, full) else None
 
     def object(self, key: Key) -> Any:
         """Returns the object of a name, of unique(kind) or of handle(number); one number as an Array, a text as a
         String. NotFound."""
         full = self._full(key)
-        return object_of(self._segment, full, code_of(self._segment._info(full).kind))
+        return self._object(full, code_of(self._segment._info(full).kind))
 
     def destroy(self, key: Key) -> bool:
         """Destroys the object of a name or of unique(kind), and returns whether it existed; or destroys that of
@@ -270,17 +272,29 @@ class _Named(_Pairs, MutableMapping[str, Any]):
 
     def records(self, key: Key, form: Any) -> Records:
         """Returns the records of a name, in a form: those of its vector of u8, or of its array of u8. It makes an empty
-        vector if there is none: records("points", "dd"). WrongKind, NoSpace."""
+        vector if there is none: records("points", "dd"), records("points", Point) of a ctypes.Structure, of a dataclass
+        or of a numpy dtype. WrongKind, NoSpace."""
         told = self._segment._told(self._full(key))
         if told is not None and told.kind == U8:
             return self._segment._classes[Records](self.object(key), form)  # type: ignore[no-any-return]
         return self._segment._classes[Records](self.vector(key, "u8"), form)  # type: ignore[no-any-return]
 
-    def group(self, prefix: str) -> Group:
-        """Returns the names that begin with a text, as a mapping from the rest of each name: group("prices/")."""
+    def group(self, prefix: str, *, encoding: Optional[str] = SAME) -> Group:
+        """Returns the names that begin with a text, as a mapping from the rest of each name: group("prices/"). Its
+        texts are decoded as here, or by another encoding; with None they are bytes: group("images/", encoding=None)."""
         if not isinstance(prefix, str):
             raise BadName(f"{shown(prefix)} is no front of names")
-        return self._segment._classes[Group](self._segment, self._prefix + prefix)  # type: ignore[no-any-return]
+        own = self._own_encoding if encoding is SAME else known_encoding(encoding)
+        return self._segment._classes[Group](self._segment, self._prefix + prefix, own)  # type: ignore[no-any-return]
+
+    @property
+    def _texts(self) -> Optional[str]:
+        """How its texts are encoded and decoded."""
+        return self._segment.encoding if self._own_encoding is SAME else self._own_encoding
+
+    def _object(self, key: Any, code: int) -> Any:
+        """Returns the object of a key that has a kind."""
+        return object_of(self._segment, key, code, self._own_encoding)
 
     # -- as a mapping
 
@@ -289,7 +303,7 @@ class _Named(_Pairs, MutableMapping[str, Any]):
         told = self._segment._told(full)
         if told is None:
             raise NotFound(f"no object is {shown(full)}")
-        found = object_of(self._segment, full, told.kind)
+        found = self._object(full, told.kind)
         if told.kind == STRING:
             return found._value()
         return found[0] if told.count == 1 and is_scalar(told.kind) else found
@@ -303,9 +317,13 @@ class _Named(_Pairs, MutableMapping[str, Any]):
             if key is None:
                 raise WrongKind("None is no name")
             raw_key(full)
-            self.construct(_kind_for(value, full), key, value._value() if isinstance(value, Object) else value)
+            number = _kind_of_number(value)
+            if number:
+                self._segment._change("construct", full, 1, value_of(number, value), ctypes.c_uint64())
+            else:
+                self.construct(_kind_for(value, full), key, value._value() if isinstance(value, Object) else value)
         else:
-            object_of(self._segment, full, told.kind)._become(value)
+            self._object(full, told.kind)._become(value)
 
     def __delitem__(self, key: Any) -> None:
         full = self._full(key)
@@ -375,7 +393,7 @@ class _Named(_Pairs, MutableMapping[str, Any]):
         for name, kind, _, _, value in self._rows():
             found: Any = value
             if value is None:
-                found = object_of(segment, name, kind)
+                found = self._object(name, kind)
                 found = found._value() if kind == STRING else found
             yield name[begin:], found
 
@@ -418,6 +436,24 @@ def _pairs_in(other: Any = ()) -> List[Tuple[Any, Any]]:
 def _is_number(value: Any) -> bool:
     """Whether a value is one whole number or bool; numpy arrays have __index__ too."""
     return is_truth(value) or hasattr(value, "__index__") and not hasattr(value, "__len__")
+
+
+def _kind_of_number(value: Any) -> int:
+    """Returns the kind of a new object for one whole number or bool of Python, or 0."""
+    if type(value) is bool:
+        return BOOL
+    if type(value) is int and -MOST <= value < 2 * MOST:
+        return I64 if value < MOST else U64
+    return 0
+
+
+def known_encoding(encoding: Optional[str]) -> Optional[str]:
+    """Returns the name of an encoding. BadValue."""
+    try:
+        codecs.lookup(encoding or "utf-8")
+    except (LookupError, TypeError):
+        raise BadValue(f"no encoding is {shown(encoding)}") from None
+    return encoding
 
 
 def _new_scalar(code: int, value: Any) -> int:
@@ -478,19 +514,19 @@ class _Left:
 class Segment(_Named, _library.Block):
     """A segment, used as a mapping from names to objects, in the order of the names' bytes. `open`, `create` and `load`
     make one."""
-    __slots__ = ("_file", "_handle", "_prefix", "_thread_number", "_may_ask", "_opener", "_thread", "_process",
-                 "_changes_at_fork", "_is_told", "_lock", "_changes", "_lent", "_any_name", "_was_lent", "_left",
-                 "_path", "_is_mapped", "_is_durable", "_classes", "_steps", "_task", "_restored", "_held", "_was_refused", "growing",
-                 "encoding", "__weakref__")
+    __slots__ = ("_file", "_handle", "_prefix", "_own_encoding", "_thread_number", "_may_ask", "_opener", "_thread",
+                 "_process", "_changes_at_fork", "_is_told", "_lock", "_changes", "_lent", "_any_name", "_was_lent",
+                 "_left", "_path", "_is_mapped", "_is_durable", "_classes", "_steps", "_task", "_restored", "_held",
+                 "_was_refused", "growing", "encoding", "__weakref__")
     if TYPE_CHECKING:
         def __enter__(self) -> Segment:
             raise NotImplementedError
 
-    def __init__(self, *, grow: bool = False, encoding: Optional[str] = "utf-8",
+    def __init__(self, *, grow: bool = True, encoding: Optional[str] = "utf-8",
                  check_same_thread: bool = True) -> None:
         self._file = _library.File()
         self._handle = self._file.segment
-        self._prefix = ""
+        self._prefix, self._own_encoding = "", SAME
         # who may make a call at once: a thread, any (0), or none, so that each call looks who makes it
         self._thread_number: int = _here.number if check_same_thread else 0
         self._may_ask = ctypes.c_uint64(self._thread_number)
@@ -512,13 +548,9 @@ class Segment(_Named, _library.Block):
         self._classes: Dict[Any, Any] = _plain if check_same_thread else _locked_classes()
         self.growing = grow
         """Whether a call that finds no space makes the segment longer by half and goes on."""
-        self.encoding = encoding
+        self.encoding = known_encoding(encoding)
         """How texts are decoded, or None, where they are bytes; those that cannot be decoded have surrogates (PEP
         383)."""
-        try:
-            codecs.lookup(encoding or "utf-8")
-        except (LookupError, TypeError):
-            raise BadValue(f"no encoding is {shown(encoding)}") from None
 
     @property
     def _segment(self) -> Segment:  # type: ignore[override]
@@ -606,11 +638,12 @@ class Segment(_Named, _library.Block):
         self._call(call, truth)
         return truth.value
 
-    def _find(self, code: int, key: Any) -> Any:
+    def _has(self, code: int, key: Any) -> bool:
+        """Tells whether an object of the kind has the key. WrongKind."""
         found = self._code(zx.zx_find, raw_key(key), code, ctypes.c_uint64(), ctypes.c_uint32())
         if found and found != _ABSENT:
             raise self._error(found, key)
-        return None if found else object_of(self, key, code)
+        return not found
 
     def _info(self, key: Any) -> Info:
         told, name = _library.Info(), ctypes.create_string_buffer(_LONGEST_NAME)
@@ -986,10 +1019,11 @@ class Segment(_Named, _library.Block):
 class Group(_Named):
     """The names of a segment that begin with a text: a mapping from the rest of each name to its object.
     `Segment.group` makes one; it stays valid as long as the segment is open."""
-    __slots__ = ("_segment", "_prefix", "_lock")
+    __slots__ = ("_segment", "_prefix", "_own_encoding", "_lock")
 
-    def __init__(self, segment: Segment, prefix: str) -> None:
+    def __init__(self, segment: Segment, prefix: str, encoding: Optional[str] = SAME) -> None:
         self._segment, self._prefix, self._lock = segment, prefix, segment._lock
+        self._own_encoding = encoding
 
     @property
     def prefix(self) -> str:

@@ -1519,9 +1519,7 @@ class segment {
 
     /// Finds the object, which stays unchanged, or makes it. Throws `wrong_kind` if an object of another kind has the
     /// key.
-    ///
-    ///     *shop.find_or_construct<std::int64_t>("visits", 0) += 1;
-    ///     shop.find_or_construct_vector<std::int64_t>("queue")->push_back(7);
+    /// What it returns leads to the object: `*shop.find_or_construct<std::int64_t>("visits", 0) += 1`.
     template <class T>
     found_values<T> find_or_construct(const key &at, value_of<T> value, std::uint64_t count = 1);
     template <class T>

@@ -22,7 +22,8 @@ from ._library import BOOL, I32, I64, MAP, NO_SPACE, STRING, STRINGS, U8, U64, V
 from ._objects import SAME, Array, Map, Object, _Pairs, String, Strings, Vector, bytes_in, object_of
 from ._records import Records
 from ._values import (KINDS, MOST, TEXTS, Key, MapKind, ScalarKind, Texts, VectorKind, code_of, counted, encoded,
-                      handle, is_scalar, is_truth, listed, natural, pairs_of, raw_key, row, scalar, value_of, whole)
+                      handle, is_scalar, is_truth, listed, natural, number_in, pairs_of, raw_key, row, scalar, value_of,
+                      whole)
 
 _ABSENT, _OUT_OF_RANGE, _CLOSED = 10, 8, 16
 _NO_OBJECT = (6, 17, 18)
@@ -303,10 +304,10 @@ class _Named(_Pairs, MutableMapping[str, Any]):
         told = self._segment._told(full)
         if told is None:
             raise NotFound(f"no object is {shown(full)}")
+        if told.count == 1 and is_scalar(told.kind):
+            return self._segment._number_of(full)
         found = self._object(full, told.kind)
-        if told.kind == STRING:
-            return found._value()
-        return found[0] if told.count == 1 and is_scalar(told.kind) else found
+        return found._value() if told.kind == STRING else found
 
     def __setitem__(self, key: Any, value: Any) -> None:
         """Gives an object another value of its kind. If the name is new, makes an object: a bool of a bool, an i64 of a
@@ -317,11 +318,13 @@ class _Named(_Pairs, MutableMapping[str, Any]):
             if key is None:
                 raise WrongKind("None is no name")
             raw_key(full)
-            number = _kind_of_number(value)
-            if number:
-                self._segment._change("construct", full, 1, value_of(number, value), ctypes.c_uint64())
+            kind = _kind_of_number(value)
+            if kind:
+                self._segment._change("construct", full, 1, value_of(kind, value), ctypes.c_uint64())
             else:
                 self.construct(_kind_for(value, full), key, value._value() if isinstance(value, Object) else value)
+        elif told.count == 1 and is_scalar(told.kind) and type(value) in (int, bool):
+            self._segment._set_number(full, told.kind, value)
         else:
             self._object(full, told.kind)._become(value)
 
@@ -662,6 +665,25 @@ class Segment(_Named, _library.Block):
         if code and code not in _NO_OBJECT:
             raise self._error(code, key)
         return None if code else told
+
+    def _number_of(self, key: Any) -> int:
+        """Returns the value of a single scalar."""
+        value = _library.Value()
+        code = self._code(zx.zx_get, raw_key(key), 0, value)
+        if code:
+            raise self._error(code, key)
+        return number_in(value)
+
+    def _set_number(self, key: Any, kind: int, value: int) -> None:
+        """Gives a single scalar another value."""
+        try:
+            passed = value_of(kind, scalar(kind, value))
+        except Error as error:
+            raise named(error, key) from None
+        self._changes += 1
+        code = self._code(zx.zx_set, raw_key(key), 0, passed)
+        if code:
+            raise self._error(code, key)
 
     def _is_lent(self) -> bool:
         """Tells whether a view exists. It forgets those that are gone here, and not as they go: a signal would prevent

@@ -26,7 +26,7 @@ db.execute("create table names (name text primary key, value integer) without ro
 db.executemany("insert into names values (?, ?)", ((f"name {number:06}", number) for number in range(NAMES)))
 db.execute("create table new_names (name text primary key, value integer) without rowid")
 db.commit()
-shop = zaluxhoni.create(2**26, grow=True)
+shop = zaluxhoni.create(2**26)
 shop["pairs"] = {key: 3 * key for key in range(MANY)}
 shop["few"] = {key: 3 * key for key in range(FEW)}
 shop["numbers"], shop["texts"] = numbers, texts

@@ -1062,9 +1062,10 @@ void storage_that_cannot_double() {
     text.append("bc");
     text.push_back('d');
     IS(text.size() == 40003 && text.ends_with("abcd") && s.sanity());
-    const auto items = s.vector<item>("items");
+    segment other = segment::create(65536);
+    const auto items = other.vector<item>("items");
     THROWS(no_space, [&] { while (true) items.push_back({1, 2, 3, 4}); }());
-    IS(items.size() > 900 && items.back()->stock == 3);
+    IS(items.size() > 2600 && items.back()->stock == 3);
 }
 
 /// An open waits for the writer who holds the file, and no longer than it may.

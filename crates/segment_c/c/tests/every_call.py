@@ -2091,7 +2091,7 @@ class Article:
 
 
 @dataclasses.dataclass(frozen=True)
-class Point:
+class Spot:
     x: float
     y: float
     name: dataclasses.InitVar[int] = 0
@@ -2128,11 +2128,11 @@ def records_of_dataclasses():
         narrow.append(Narrow(-5, 0.5, 255))
         same((narrow[0], len(s["narrow"])), (Narrow(-5, 0.5, 255), 12))
         raises(zaluxhoni.WrongKind, narrow.append, Narrow(2**15, 0.5, 1))
-    points = s.records("points", Point)
+    points = s.records("points", Spot)
     raises(zaluxhoni.WrongKind, s.records, "texts", dataclasses.make_dataclass("Texts", [("text", str)]))
     raises(zaluxhoni.BadValue, s.records, "none", dataclasses.make_dataclass("None_", []))
-    points.append(Point(1.0, 2.0))
-    same((points[0], len(s["points"])), (Point(1.0, 2.0), 16))
+    points.append(Spot(1.0, 2.0))
+    same((points[0], len(s["points"])), (Spot(1.0, 2.0), 16))
 
 
 def threads_that_shorten():

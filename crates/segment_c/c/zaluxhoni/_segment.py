@@ -305,26 +305,24 @@ class _Named(_Pairs, MutableMapping[str, Any]):
         if told is None:
             raise NotFound(f"no object is {shown(full)}")
         if told.count == 1 and is_scalar(told.kind):
-            return self._segment._number_of(full)
+            return self._segment._number_of(raw_key(full), full)
         found = self._object(full, told.kind)
         return found._value() if told.kind == STRING else found
 
     def __setitem__(self, key: Any, value: Any) -> None:
         """Gives an object another value of its kind. If the name is new, makes an object: a bool of a bool, an i64 of a
         number (above its range a u64), a string of a text, a vector of a list, a map of a dict."""
-        full = self._full(key)
-        told = self._segment._told(full)
-        if told is None:
-            if key is None:
-                raise WrongKind("None is no name")
-            raw_key(full)
-            kind = _kind_of_number(value)
-            if kind:
-                self._segment._change("construct", full, 1, value_of(kind, value), ctypes.c_uint64())
-            else:
-                self.construct(_kind_for(value, full), key, value._value() if isinstance(value, Object) else value)
-        elif told.count == 1 and is_scalar(told.kind) and type(value) in (int, bool):
-            self._segment._set_number(full, told.kind, value)
+        if key is None:
+            raise WrongKind("None is no name")
+        full, kind = self._full(key), _kind_of_number(value)
+        raw = raw_key(full)
+        told = self._segment._told_by(raw, full)
+        if told is None and kind:
+            self._segment._make_number(raw, full, value_of(kind, value))
+        elif told is None:
+            self.construct(_kind_for(value, full), key, value._value() if isinstance(value, Object) else value)
+        elif kind and told.count == 1 and is_scalar(told.kind):
+            self._segment._set_number(raw, full, told.kind, value)
         else:
             self._object(full, told.kind)._become(value)
 
@@ -657,31 +655,42 @@ class Segment(_Named, _library.Block):
 
     def _told(self, key: Any) -> Optional[_library.Info]:
         """Tells about an object, except its name; None also for a key that no object can have."""
-        told = _library.Info()
         try:
-            code = self._code(zx.zx_tell, raw_key(key), told, self._any_name, _LONGEST_NAME)
+            raw = raw_key(key)
         except (BadKey, BadName):
             return None
+        return self._told_by(raw, key)
+
+    def _told_by(self, raw: _library.Key, key: Any) -> Optional[_library.Info]:
+        told = _library.Info()
+        code = self._code(zx.zx_tell, raw, told, self._any_name, _LONGEST_NAME)
         if code and code not in _NO_OBJECT:
             raise self._error(code, key)
         return None if code else told
 
-    def _number_of(self, key: Any) -> int:
+    def _make_number(self, raw: _library.Key, key: Any, value: _library.Value) -> None:
+        """Makes a single scalar."""
+        self._changes += 1
+        code = self._code(zx.zx_construct, raw, 1, value, ctypes.c_uint64())
+        if code:
+            raise self._error(code, key, (value,))
+
+    def _number_of(self, raw: _library.Key, key: Any) -> int:
         """Returns the value of a single scalar."""
         value = _library.Value()
-        code = self._code(zx.zx_get, raw_key(key), 0, value)
+        code = self._code(zx.zx_get, raw, 0, value)
         if code:
             raise self._error(code, key)
         return number_in(value)
 
-    def _set_number(self, key: Any, kind: int, value: int) -> None:
+    def _set_number(self, raw: _library.Key, key: Any, kind: int, value: int) -> None:
         """Gives a single scalar another value."""
         try:
             passed = value_of(kind, scalar(kind, value))
         except Error as error:
             raise named(error, key) from None
         self._changes += 1
-        code = self._code(zx.zx_set, raw_key(key), 0, passed)
+        code = self._code(zx.zx_set, raw, 0, passed)
         if code:
             raise self._error(code, key)
 

@@ -70,7 +70,7 @@ def saved(segment, name):
     segment.save_as(new(name))
     segment.discard()
     with open(path_of(name), "rb") as file:
-        return zaluxhoni.load(file.read())
+        return zaluxhoni.load(file.read(), grow=False)
 
 
 def create(size, *, grow=False, **named):

@@ -24,14 +24,16 @@ db.execute("create table few (key integer primary key, value integer)")
 db.executemany("insert into few values (?, ?)", ((key, 3 * key) for key in range(FEW)))
 db.execute("create table names (name text primary key, value integer) without rowid")
 db.executemany("insert into names values (?, ?)", ((f"name {number:06}", number) for number in range(NAMES)))
+db.execute("create table new_names (name text primary key, value integer) without rowid")
 db.commit()
-shop = zaluxhoni.create(2**26, grow=True)
+shop = zaluxhoni.create(2**26)
 shop["pairs"] = {key: 3 * key for key in range(MANY)}
 shop["few"] = {key: 3 * key for key in range(FEW)}
 shop["numbers"], shop["texts"] = numbers, texts
 few = shop["few"]
 named = zaluxhoni.create(2**24)
 named.reserve_named(NAMES)
+fresh = zaluxhoni.create(2**20)
 for number in range(NAMES):
     named[f"name {number:06}"] = number
 pairs, vector, strings, plain = shop["pairs"], shop["numbers"], shop["texts"], {key: 3 * key for key in range(MANY)}
@@ -62,6 +64,38 @@ def sql_puts():
         db.execute("insert or replace into pairs values (?, ?)", (key, key))
 
 
+def new_names(of):
+    of.clear()
+    for number in range(FEW):
+        of[f"new name {number:06}"] = number
+
+
+def name_puts(of):
+    for key in few_keys:
+        of[f"name {key:06}"] = key
+
+
+def name_looks(of):
+    for key in few_keys:
+        of[f"name {key:06}"]
+
+
+def sql_new_names():
+    db.execute("delete from new_names")
+    for number in range(FEW):
+        db.execute("insert into new_names values (?, ?)", (f"new name {number:06}", number))
+
+
+def sql_name_puts():
+    for key in few_keys:
+        db.execute("insert or replace into names values (?, ?)", (f"name {key:06}", key))
+
+
+def sql_name_looks():
+    for key in few_keys:
+        db.execute("select value from names where name = ?", (f"name {key:06}",)).fetchone()[0]
+
+
 def appends(of):
     for key in keys:
         of.append(key)
@@ -81,6 +115,9 @@ cases = [
     ("items()", MANY, lambda: each(pairs.items()), "sqlite3", lambda: each(db.execute("select key, value from pairs"))),
     ("items() of names", NAMES, lambda: each(named.items()), "sqlite3",
      lambda: each(db.execute("select name, value from names order by name"))),
+    ("s[name] = n of 1,000 new names", FEW, lambda: new_names(fresh), "sqlite3", sql_new_names),
+    ("s[name] = n", LOOKS, lambda: name_puts(named), "sqlite3", sql_name_puts),
+    ("s[name]", LOOKS, lambda: name_looks(named), "sqlite3", sql_name_looks),
     ("extend by a range", MANY, lambda: extends(ours, range(MANY)), "list", lambda: extends(theirs, range(MANY))),
     ("extend by a list", MANY, lambda: extends(ours, numbers), "list", lambda: extends(theirs, numbers)),
     ("extend by an array", MANY, lambda: extends(ours, copy_of_numbers), "list",

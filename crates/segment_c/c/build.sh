@@ -1,17 +1,20 @@
 #!/usr/bin/env bash
-# build.sh [--archive FILE] [FOLDER]: makes the library for C, C++ and Python in a folder, `out` beside this script
-# where none is given: the archive libzaluxhoni.a, the shared object libzaluxhoni.so, the headers, the package for
+# build.sh [--archive FILE] [--packed] [FOLDER]: makes the library for C, C++ and Python in a folder, `out` beside this
+# script where none is given: the archive libzaluxhoni.a, the shared object libzaluxhoni.so, the headers, the package for
 # Python, and the examples, ready to run. It takes the archive that it is given, or the one that the gate or `rt lib`
-# left, where no source of what is in it is younger; otherwise `rt lib` proves what is missing first. It needs a C and a
-# C++ compiler for Linux; CC, CXX and AR say which.
+# left, where no source of what is in it is younger; otherwise `rt lib` proves what is missing first. With --packed the
+# shared object is that of a package: stripped, and its name and its calls have a version. It needs a C and a C++
+# compiler for Linux, and binutils; CC, CXX and AR say which.
 set -euo pipefail
 here=$(cd "$(dirname "$0")" && pwd)
 crate=$(dirname "$here")
 folder=$here/out
 archive=
+soname=libzaluxhoni.so calls= flags=()
 while [ $# -gt 0 ]; do
     case $1 in
         --archive) archive=$(realpath "$2") && shift 2 ;;
+        --packed) soname=libzaluxhoni.so.1 calls=ZALUXHONI_1 flags=(-s -Wl,--build-id=none) && shift ;;
         *) folder=$1 && shift ;;
     esac
 done
@@ -39,10 +42,27 @@ chmod u+w libzaluxhoni.a
 "$ar" rs libzaluxhoni.a heap.o files.o rows.o python.o state.o
 
 # the shared object shows the calls of the header and nothing else
-printf '{ global: zx_*; local: *; };\n' > shown.map
-"$cc" -shared -pthread -o libzaluxhoni.so -Wl,-soname,libzaluxhoni.so -Wl,--version-script=shown.map \
+echo "$calls { global: zx_*; local: *; };" > shown.map
+"$cc" -shared -pthread "${flags[@]}" -o "$soname" -Wl,-soname,"$soname" -Wl,--version-script=shown.map \
     -Wl,--whole-archive libzaluxhoni.a -Wl,--no-whole-archive
+[ "$soname" = libzaluxhoni.so ] || ln -sf "$soname" libzaluxhoni.so
 rm heap.o files.o rows.o python.o state.o shown.map
+
+# what a program links from the archive is for that program alone: a shared object with the archive in it shows none of
+# these calls again. A name that is hidden in one of two objects is hidden in what `ld -r` makes of both
+mkdir hidden
+(cd hidden && "$ar" x ../libzaluxhoni.a)
+for member in hidden/*; do
+    {
+        nm -g --defined-only "$member" | sed -n 's/^[0-9a-f]* [A-Z] \(.*\)$/.globl \1\n.hidden \1/p'
+        echo '.section .note.GNU-stack,"",%progbits'
+    } | "$cc" -x assembler -c -o hides.o -
+    "$cc" -r -nostdlib -o "$member.o" "$member" hides.o
+    mv "$member.o" "$member"
+done
+rm libzaluxhoni.a
+"$ar" rcs libzaluxhoni.a hidden/*
+rm -r hidden hides.o
 
 for file in "$here"/examples/*; do
     name=$(basename "$file")

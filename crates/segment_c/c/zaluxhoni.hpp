@@ -24,6 +24,7 @@
 #include <cstddef>
 #include <cstdint>
 #include <cstring>
+#include <exception>
 #include <functional>
 #include <initializer_list>
 #include <iosfwd>
@@ -632,6 +633,8 @@ class const_string;
 class string;
 class const_strings;
 class strings;
+template <class T> class found_values;
+template <class Object> class found_object;
 
 namespace detail {
 
@@ -652,6 +655,18 @@ struct state {
         const zx_code code = call(raw());
         if (code == ZX_NO_SPACE && grows) check(in_more_space(call));
         else check_code(code);
+    }
+    /// Makes a call that adds elements to storage, which asks for twice the capacity. If there is no gap for that, and
+    /// the segment cannot have one, `has_room` asks for less.
+    template <class Call, class Room> void lengthen(Call call, Room has_room) {
+        zx_code code = call(raw());
+        if (code == ZX_NO_SPACE) {
+            if (grows) code = in_more_space(call);
+            if ((code == ZX_NO_SPACE || code == ZX_TOO_LARGE) && has_room()) code = call(raw());
+            check(code);
+        } else {
+            check_code(code);
+        }
     }
     /// Throws what the library answers if the segment can never have so many elements of a width, before memory is
     /// taken for them.
@@ -727,7 +742,23 @@ struct spot {
         const zx_key at = zx_handle(handle);
         of->change([&](zx_segment *raw) { return call(raw, &at, args...); });
     }
+    /// Makes a call that adds `more` elements to a vector or bytes to a string.
+    template <class Call, class... Args> void lengthen(std::uint64_t more, Call call, Args... args) const {
+        const zx_key at = zx_handle(handle);
+        of->lengthen([&](zx_segment *raw) { return call(raw, &at, args...); }, [&] { return has_room(more); });
+    }
     friend bool operator==(const spot &a, const spot &b) { return a.of == b.of && a.handle == b.handle; }
+
+  private:
+    /// Gets storage for `more` elements at least: for half of the capacity more, a fourth, and so on.
+    [[gnu::noinline, gnu::cold]] bool has_room(std::uint64_t more) const {
+        std::uint64_t len = 0, places = 0;
+        if (code_of(zx_measure, &len, &places) != ZX_DONE || more > UINT64_MAX - len) return false;
+        for (std::uint64_t extra = places / 2; extra > more; extra /= 2) {
+            if (code_of(zx_reserve, len + extra) == ZX_DONE) return true;
+        }
+        return code_of(zx_reserve, len + more) == ZX_DONE;
+    }
 };
 
 /// An object by its handle, and where its values were when this was made: in place until a call changes the segment.
@@ -1009,6 +1040,43 @@ template <class T> class arrow {
     T value_;
 };
 
+/// Whether values have members that `->` reads and writes.
+template <class T> inline constexpr bool has_members = std::is_class_v<T> && std::is_trivially_copyable_v<T>;
+
+/// Holds the value of an element for `->`. If a member was changed, the destructor writes the value, at the end of the
+/// expression.
+template <class Access> class arrow_back {
+  public:
+    using value_type = typename Access::value_type;
+
+    arrow_back(const typename Access::target &of, typename Access::index_type at)
+        : of_(of), at_(at), value_(Access::get(of, at)) {
+        std::memcpy(before_, &value_, sizeof before_);
+    }
+    arrow_back(const arrow_back &) = delete;
+    arrow_back &operator=(const arrow_back &) = delete;
+    ~arrow_back() noexcept(false) {
+        if (std::memcmp(before_, &value_, sizeof before_) == 0) return;
+        try {
+            Access::set(of_, at_, value_);
+        } catch (const error &) {
+            // unless another error is on its way
+            if (std::uncaught_exceptions() == exceptions_) throw;
+        }
+    }
+    value_type *operator->() noexcept { return &value_; }
+
+  private:
+    typename Access::target of_;
+    typename Access::index_type at_;
+    int exceptions_ = std::uncaught_exceptions();
+    value_type value_;
+    unsigned char before_[sizeof(value_type)];
+};
+template <class Access>
+using arrow_of = std::conditional_t<has_members<typename Access::value_type>, arrow_back<Access>,
+                                    arrow<typename Access::value_type>>;
+
 /// What `*` of an element reads into, so that `&item::weight` is a projection of elements: `std::invoke` takes the
 /// member of what `*` gives. A scalar has no members.
 template <class T, bool = std::is_class_v<T>> class value_kept {};
@@ -1041,7 +1109,11 @@ template <class Access> class element : private value_kept<typename Access::valu
     template <class T = value_type, std::enable_if_t<std::is_class_v<T>, int> = 0> const T &operator*() const {
         return this->keep(value());
     }
-    arrow<value_type> operator->() const { return arrow<value_type>(value()); }
+    /// Reads and writes a member of an element that has some: `records[0]->price = 2.5`.
+    arrow_of<Access> operator->() const {
+        if constexpr (has_members<value_type>) return arrow_back<Access>(of_, at_);
+        else return arrow<value_type>(value());
+    }
 
     const element &operator=(typename Access::passed_type value) const {
         Access::set(of_, at_, value);
@@ -1148,8 +1220,10 @@ template <class Access, class R> class iterator {
     using iterator_category = std::random_access_iterator_tag;
     using value_type = typename Access::value_type;
     using difference_type = std::ptrdiff_t;
-    using pointer = arrow<value_type>;
     using reference = R;
+    /// Whether `->` writes, too.
+    static constexpr bool is_arrow_back = has_members<value_type> && !std::is_same_v<R, value_type>;
+    using pointer = std::conditional_t<is_arrow_back, arrow_of<Access>, arrow<value_type>>;
 
     iterator() = default;
     iterator(const typename Access::target &of, std::uint64_t index) : of_(of), index_(index) {}
@@ -1158,7 +1232,10 @@ template <class Access, class R> class iterator {
     iterator(const iterator<Access, Other> &other) : of_(other.of_), index_(other.index_) {}
 
     R operator*() const { return (*this)[0]; }
-    pointer operator->() const { return pointer(Access::get(of_, index_)); }
+    pointer operator->() const {
+        if constexpr (is_arrow_back) return pointer(of_, index_);
+        else return pointer(Access::get(of_, index_));
+    }
     R operator[](difference_type by) const {
         if constexpr (std::is_same_v<R, value_type>) return Access::get(of_, moved(by));
         else return R(of_, moved(by));
@@ -1442,29 +1519,14 @@ class segment {
 
     /// Finds the object, which stays unchanged, or makes it. Throws `wrong_kind` if an object of another kind has the
     /// key.
-    template <class T> found find_or_construct(const key &at, value_of<T> value, std::uint64_t count = 1) {
-        if constexpr (is_scalar<T>) {
-            const zx_value passed = stored<T>::value(value);
-            return found_or_made(zx_find_or_construct, at, count_of(count), &passed);
-        } else {
-            const std::optional<found> had = find<T>(at);
-            return had ? *had : found{construct<T>(at, value, count), count_of(count)};
-        }
-    }
-    template <class T> found find_or_construct_vector(const key &at, slice<T> values = {}) {
-        const zx_values passed = stored<T>::values(values.data(), values.size());
-        return found_or_made(zx_find_or_construct_vector, at, &passed);
-    }
-    found find_or_construct_string(const key &at, std::string_view text) {
-        return found_or_made(zx_find_or_construct_string, at, bytes_of(text), text.size());
-    }
-    found find_or_construct_strings(const key &at, const texts &list = {}) {
-        return found_or_made(zx_find_or_construct_strings, at, list.data(), list.size());
-    }
-    template <class K, class V> found find_or_construct_map(const key &at) {
-        static_cast<void>(kind_of<std::map<K, V>>);
-        return found_or_made(zx_find_or_construct_map, at, kind_of<K>, kind_of<V>);
-    }
+    /// What it returns leads to the object: `*shop.find_or_construct<std::int64_t>("visits", 0) += 1`.
+    template <class T>
+    found_values<T> find_or_construct(const key &at, value_of<T> value, std::uint64_t count = 1);
+    template <class T>
+    found_object<zaluxhoni::vector<T>> find_or_construct_vector(const key &at, slice<T> values = {});
+    found_object<zaluxhoni::string> find_or_construct_string(const key &at, std::string_view text);
+    found_object<zaluxhoni::strings> find_or_construct_strings(const key &at, const texts &list = {});
+    template <class K, class V> found_object<zaluxhoni::map<K, V>> find_or_construct_map(const key &at);
 
     /// Finds the object of a key, if there is one. T says its kind: a type that can be stored, `std::string`,
     /// `std::vector<std::string>`, `std::vector<std::int64_t>`, `std::map<std::int32_t, std::int64_t>`. Throws
@@ -1992,7 +2054,7 @@ template <class T> class vector : public detail::row<const_vector<T>, detail::va
         const T of = value;
         if constexpr (is_scalar<T>) {
             const zx_value passed = stored<T>::value(of);
-            this->spot().change(zx_push, &passed);
+            this->spot().lengthen(1, zx_push, &passed);
         } else {
             append_range(slice<T>(&of, 1));
         }
@@ -2023,7 +2085,7 @@ template <class T> class vector : public detail::row<const_vector<T>, detail::va
         const T of = value;
         if constexpr (is_scalar<T>) {
             const zx_value passed = stored<T>::value(of);
-            this->spot().change(zx_insert, index, &passed);
+            this->spot().lengthen(1, zx_insert, index, &passed);
         } else {
             insert_range(index, slice<T>(&of, 1));
         }
@@ -2046,7 +2108,7 @@ template <class T> class vector : public detail::row<const_vector<T>, detail::va
     /// Appends values by one call: all of them or none.
     void append_range(slice<T> values) const {
         const zx_values passed = stored<T>::values(values.data(), values.size());
-        this->spot().change(zx_extend, &passed);
+        this->spot().lengthen(values.size() * stored<T>::width, zx_extend, &passed);
     }
     /// Removes the value at `index`; the values from `first` on and before `last`.
     void erase(std::uint64_t index) const {
@@ -2157,7 +2219,7 @@ class string : public detail::row<const_string, detail::values<std::uint8_t>> {
     using row::row;
 
     void assign(std::string_view text) const { spot().change(zx_assign_string, bytes_of(text), text.size()); }
-    void append(std::string_view text) const { spot().change(zx_append, bytes_of(text), text.size()); }
+    void append(std::string_view text) const { spot().lengthen(text.size(), zx_append, bytes_of(text), text.size()); }
     const string &operator+=(std::string_view text) const {
         append(text);
         return *this;
@@ -2261,21 +2323,26 @@ template <class K, class V> class const_map : public object {
     using value_type = std::pair<K, V>;
     using size_type = std::uint64_t;
 
-    /// Moves from each pair to the one with the least key above it, even if the map has changed meanwhile.
+    /// Holds a copy of a pair. It moves to the pair with the least key above it, or with the greatest key below it,
+    /// even if the map has changed meanwhile; a step back looks up at most some 64 keys.
     class iterator {
       public:
-        using iterator_category = std::input_iterator_tag;
+        using iterator_category = std::bidirectional_iterator_tag;
         using value_type = std::pair<K, V>;
         using difference_type = std::ptrdiff_t;
-        using pointer = const value_type *;
-        using reference = const value_type &;
+        using pointer = detail::arrow<value_type>;
+        using reference = value_type;
 
         iterator() = default;
         iterator(detail::spot of, std::optional<value_type> pair) : of_(of), pair_(pair) {}
         reference operator*() const { return *pair_; }
-        pointer operator->() const { return &*pair_; }
+        pointer operator->() const { return pointer(*pair_); }
         iterator &operator++() {
             pair_ = next_of(of_, pair_->first);
+            return *this;
+        }
+        iterator &operator--() {
+            pair_ = pair_ ? below(of_, pair_->first) : greatest(of_, std::numeric_limits<K>::max());
             return *this;
         }
         iterator operator++(int) {
@@ -2283,7 +2350,15 @@ template <class K, class V> class const_map : public object {
             ++*this;
             return before;
         }
-        friend bool operator==(const iterator &a, const iterator &b) { return a.pair_ == b.pair_; }
+        iterator operator--(int) {
+            iterator before = *this;
+            --*this;
+            return before;
+        }
+        /// Compares the keys, or whether both are at the end.
+        friend bool operator==(const iterator &a, const iterator &b) {
+            return a.pair_ && b.pair_ ? a.pair_->first == b.pair_->first : !a.pair_ && !b.pair_;
+        }
         friend bool operator!=(const iterator &a, const iterator &b) { return !(a == b); }
 
       private:
@@ -2291,6 +2366,8 @@ template <class K, class V> class const_map : public object {
         std::optional<value_type> pair_;
     };
     using const_iterator = iterator;
+    using reverse_iterator = std::reverse_iterator<iterator>;
+    using const_reverse_iterator = reverse_iterator;
 
     using object::object;
     const_map(const segment &of, const key &at) : object(of, at, kind_of<std::map<K, V>>) {}
@@ -2301,38 +2378,44 @@ template <class K, class V> class const_map : public object {
     [[nodiscard]] bool empty() const { return size() == 0; }
 
     /// Returns the value of a key, or nothing; `get`, `at` and [] throw `absent` instead.
-    [[nodiscard]] std::optional<V> find(number<K> wanted) const { return detail::pairs<K, V>::find(spot(), wanted); }
+    [[nodiscard]] std::optional<V> lookup(number<K> wanted) const { return detail::pairs<K, V>::find(spot(), wanted); }
+    /// Returns an iterator to the pair of a key, or `end()`.
+    [[nodiscard]] iterator find(number<K> wanted) const {
+        const std::optional<V> value = lookup(wanted);
+        return {spot(), value ? std::optional(value_type(wanted, *value)) : std::nullopt};
+    }
     [[nodiscard]] V get(number<K> wanted) const { return detail::pairs<K, V>::get(spot(), wanted); }
     [[nodiscard]] V at(number<K> wanted) const { return get(wanted); }
     [[nodiscard]] V operator[](number<K> wanted) const { return get(wanted); }
-    [[nodiscard]] bool contains(number<K> wanted) const { return find(wanted).has_value(); }
+    [[nodiscard]] bool contains(number<K> wanted) const { return lookup(wanted).has_value(); }
     /// Returns 1 if the key is there, and 0 otherwise.
     [[nodiscard]] size_type count(number<K> wanted) const { return contains(wanted) ? 1 : 0; }
 
     /// Returns the pair with the least key; with the least key above another.
-    [[nodiscard]] std::optional<value_type> first() const {
-        zx_value at{}, value{};
-        if (!is_there(spot().code_of(zx_map_first, &at, &value))) return std::nullopt;
-        return value_type(stored<K>::from(at), stored<V>::from(value));
-    }
+    [[nodiscard]] std::optional<value_type> first() const { return first_of(spot()); }
     [[nodiscard]] std::optional<value_type> next(number<K> after) const { return next_of(spot(), after); }
     /// Returns the pair with the greatest key; with the greatest key below another. Each looks up at most some 64 keys.
-    [[nodiscard]] std::optional<value_type> last() const { return greatest(std::numeric_limits<K>::max()); }
-    [[nodiscard]] std::optional<value_type> previous(number<K> before) const {
-        if (before == std::numeric_limits<K>::min()) return std::nullopt;
-        return greatest(static_cast<K>(before - 1));
-    }
+    [[nodiscard]] std::optional<value_type> last() const { return greatest(spot(), std::numeric_limits<K>::max()); }
+    [[nodiscard]] std::optional<value_type> previous(number<K> before) const { return below(spot(), before); }
     /// Returns an iterator to the first pair whose key is at least `from`; whose key is above it.
     [[nodiscard]] iterator lower_bound(number<K> from) const {
-        const std::optional<V> value = find(from);
+        const std::optional<V> value = lookup(from);
         return {spot(), value ? value_type(from, *value) : next(from)};
     }
     [[nodiscard]] iterator upper_bound(number<K> from) const { return {spot(), next(from)}; }
 
     [[nodiscard]] std::map<K, V> to_map() const { return std::map<K, V>(begin(), end()); }
-    [[nodiscard]] std::vector<value_type> to_vector() const { return std::vector<value_type>(begin(), end()); }
+    [[nodiscard]] std::vector<value_type> to_vector() const {
+        std::vector<value_type> all;
+        for (std::optional<value_type> pair = first(); pair; pair = next(pair->first)) all.push_back(*pair);
+        return all;
+    }
     [[nodiscard]] iterator begin() const { return {spot(), first()}; }
     [[nodiscard]] iterator end() const { return {spot(), std::nullopt}; }
+    [[nodiscard]] iterator cbegin() const { return begin(); }
+    [[nodiscard]] iterator cend() const { return end(); }
+    [[nodiscard]] reverse_iterator rbegin() const { return reverse_iterator(end()); }
+    [[nodiscard]] reverse_iterator rend() const { return reverse_iterator(begin()); }
 
   private:
     static std::optional<value_type> next_of(const detail::spot &of, K after) {
@@ -2341,15 +2424,24 @@ template <class K, class V> class const_map : public object {
         if (!is_there(of.code_of(zx_map_next, &passed, &at, &value))) return std::nullopt;
         return value_type(stored<K>::from(at), stored<V>::from(value));
     }
+    static std::optional<value_type> first_of(const detail::spot &of) {
+        zx_value at{}, value{};
+        if (!is_there(of.code_of(zx_map_first, &at, &value))) return std::nullopt;
+        return value_type(stored<K>::from(at), stored<V>::from(value));
+    }
+    static std::optional<value_type> below(const detail::spot &of, K before) {
+        if (before == std::numeric_limits<K>::min()) return std::nullopt;
+        return greatest(of, static_cast<K>(before - 1));
+    }
     /// Returns the pair with the greatest key that is at most `high`.
-    std::optional<value_type> greatest(K high) const {
-        std::optional<value_type> pair = first();
+    static std::optional<value_type> greatest(const detail::spot &of, K high) {
+        std::optional<value_type> pair = first_of(of);
         if (!pair || pair->first > high) return std::nullopt;
         // the key that we want is at least that of the pair, and at most `high`
         while (pair->first < high) {
             const std::uint64_t low = static_cast<std::uint64_t>(pair->first);
             const K middle = static_cast<K>(low + (static_cast<std::uint64_t>(high) - low) / 2);
-            const std::optional<value_type> above = next(middle);
+            const std::optional<value_type> above = next_of(of, middle);
             if (above && above->first <= high) pair = above;
             else high = middle;
         }
@@ -2370,7 +2462,7 @@ template <class K, class V> class map : public const_map<K, V> {
     std::pair<iterator, bool> insert(const value_type &pair) const { return try_emplace(pair.first, pair.second); }
     std::pair<iterator, bool> try_emplace(number<K> at, number<V> value) const {
         const K wanted = at;
-        const std::optional<V> had = this->find(wanted);
+        const std::optional<V> had = this->lookup(wanted);
         if (!had) put(wanted, value);
         return {iterator(this->spot(), value_type(wanted, had ? *had : V(value))), !had};
     }
@@ -2456,6 +2548,66 @@ auto operator!=(const A &a, const B &b) -> decltype(std::begin(a) == std::end(a)
 }
 
 // ---- what a segment gives
+
+/// What `find_or_construct` returns: handle and count, and the values. `*` is the first one, as `[0]` is.
+template <class T> class found_values : public found {
+  public:
+    found_values(const found &had, array<T> values) : found(had), values_(std::move(values)) {}
+
+    [[nodiscard]] const array<T> &object() const noexcept { return values_; }
+    [[nodiscard]] typename array<T>::reference operator[](std::uint64_t index) const { return values_[index]; }
+    [[nodiscard]] typename array<T>::reference operator*() const { return values_[0]; }
+    /// Reads and writes a member of the first value.
+    [[nodiscard]] auto operator->() const { return values_[0].operator->(); }
+
+  private:
+    array<T> values_;
+};
+
+/// What `find_or_construct_vector` and its like return: handle and count, and by `*` and `->` the object.
+template <class Object> class found_object : public found {
+  public:
+    found_object(const found &had, Object of) : found(had), object_(std::move(of)) {}
+
+    [[nodiscard]] const Object &object() const noexcept { return object_; }
+    [[nodiscard]] const Object &operator*() const noexcept { return object_; }
+    [[nodiscard]] const Object *operator->() const noexcept { return &object_; }
+
+  private:
+    Object object_;
+};
+
+template <class T>
+found_values<T> segment::find_or_construct(const key &at, value_of<T> value, std::uint64_t count) {
+    found had{0, 0};
+    if constexpr (is_scalar<T>) {
+        const zx_value passed = stored<T>::value(value);
+        had = found_or_made(zx_find_or_construct, at, count_of(count), &passed);
+    } else {
+        const std::optional<found> there = find<T>(at);
+        had = there ? *there : found{construct<T>(at, value, count), count_of(count)};
+    }
+    return {had, zaluxhoni::array<T>(state_, had.handle)};
+}
+template <class T>
+found_object<vector<T>> segment::find_or_construct_vector(const key &at, slice<T> values) {
+    const zx_values passed = stored<T>::values(values.data(), values.size());
+    const found had = found_or_made(zx_find_or_construct_vector, at, &passed);
+    return {had, zaluxhoni::vector<T>(state_, had.handle)};
+}
+inline found_object<string> segment::find_or_construct_string(const key &at, std::string_view text) {
+    const found had = found_or_made(zx_find_or_construct_string, at, bytes_of(text), text.size());
+    return {had, zaluxhoni::string(state_, had.handle)};
+}
+inline found_object<strings> segment::find_or_construct_strings(const key &at, const texts &list) {
+    const found had = found_or_made(zx_find_or_construct_strings, at, list.data(), list.size());
+    return {had, zaluxhoni::strings(state_, had.handle)};
+}
+template <class K, class V> found_object<map<K, V>> segment::find_or_construct_map(const key &at) {
+    static_cast<void>(kind_of<std::map<K, V>>);
+    const found had = found_or_made(zx_find_or_construct_map, at, kind_of<K>, kind_of<V>);
+    return {had, zaluxhoni::map<K, V>(state_, had.handle)};
+}
 
 template <class T> array<T> segment::array(const key &at) { return zaluxhoni::array<T>(*this, at); }
 template <class T> const_array<T> segment::array(const key &at) const { return const_array<T>(*this, at); }

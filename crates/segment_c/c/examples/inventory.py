@@ -47,7 +47,7 @@ def report(shop: zaluxhoni.Segment) -> None:
     print("earned", shop.get("earned", 0))
 
 
-with zaluxhoni.open(sys.argv[1] if len(sys.argv) > 1 else "inventory.seg", grow=True) as shop:
+with zaluxhoni.open(sys.argv[1] if len(sys.argv) > 1 else "inventory.seg") as shop:
     if "articles" not in shop:
         fill(shop)
     sell(shop, 1)

@@ -939,6 +939,135 @@ void members_as_in_std() {
     IS(erase_if(list, [](const std::string &each) { return each == "q"; }) == 1 && list.empty());
 }
 
+/// Maps have iterators that go both ways, and `find` gives one, as that of std::map.
+void maps_both_ways() {
+    segment s = segment::create(65536);
+    const auto m = s.map<i32, i64>("m");
+    IS(m.begin() == m.end() && m.rbegin() == m.rend() && --m.end() == m.end() && m.find(1) == m.end());
+    m.put_range({{-5, 1}, {3, 2}, {INT32_MAX, 3}, {INT32_MIN, 4}});
+    std::map<i32, i64> model{{-5, 1}, {3, 2}, {INT32_MAX, 3}, {INT32_MIN, 4}};
+    IS(m.find(3)->second == 2 && m.find(3) != m.end() && m.find(4) == m.end() && (*m.find(-5)).first == -5);
+    IS(std::equal(m.rbegin(), m.rend(), model.rbegin(), [](auto a, auto b) { return a.first == b.first && a.second == b.second; }));
+    IS(std::prev(m.end())->first == INT32_MAX && std::next(m.begin())->first == -5 && std::prev(m.find(3))->first == -5);
+    auto at = m.end();
+    at--;
+    IS(at->first == INT32_MAX && (--at)->first == 3 && (at++)->first == 3 && at->first == INT32_MAX);
+    // the keys are compared, and a value may change meanwhile
+    at = m.find(3);
+    m[3] = 20;
+    IS(at == m.find(3) && at->second == 2 && m.find(3)->second == 20);
+    IS(m.erase(m.find(3))->first == INT32_MAX && m.find(3) == m.end() && std::distance(m.begin(), m.end()) == 3);
+    IS(m.lookup(-5) == 1 && !m.lookup(3));
+    const segment &constant = s;
+    IS(constant.map<i32, i64>("m").find(-5)->second == 1 && constant.map<i32, i64>("m").rbegin()->second == 3);
+    THROWS(out_of_range, m.find(i64{1} << 40));
+#if __cplusplus >= 202002L
+    static_assert(std::bidirectional_iterator<zaluxhoni::map<i32, i64>::iterator>);
+    IS(std::ranges::find(m, -5, [](const auto &pair) { return pair.first; })->second == 1);
+#ifndef __clang__ // some versions do not compile the views of the library of g++
+    auto back = m | std::views::reverse;
+    IS((*back.begin()).second == 3);
+#endif
+#endif
+}
+
+/// `->` writes a member of an element.
+void members_that_are_written() {
+    segment s = segment::create(65536);
+    const auto items = s.vector<item>("items");
+    items.assign({{0.5, 1, 2, 3}, {1.5, 4, 5, 6}});
+    items[0]->price = 2.5;
+    items[1]->stock += 10;
+    items.begin()->shelf = 7;
+    IS(items[0].value() == (item{2.5, 1, 2, 7}) && items[1].value() == (item{1.5, 4, 15, 6}));
+    auto last = items.end();
+    (--last)->article++;
+    (items.begin() + 1)->price *= 2;
+    items.back()->shelf = items.front()->shelf;
+    IS(items[1].value() == (item{3, 5, 15, 7}));
+    const auto two = s.array<item>(zaluxhoni::key::by_handle(s.construct<item>("two", {9, 8, 7, 6}, 2)));
+    two[1]->article = 5;
+    IS(two[0]->article == 8 && two[1]->article == 5);
+    THROWS(out_of_range, items[2]->price = 1);
+    IS(items.size() == 2);
+    // the right side comes first, and a vector that moves meanwhile gets what is written
+    items[0]->price = (items.append_range(std::vector<item>(100, item{})), 8.5);
+    IS(items[0]->price == 8.5 && items.size() == 102);
+    // in a segment that is open for reading, `->` reads
+    const std::vector<u8> image = s.save();
+    segment reader = segment::open(image, zaluxhoni::mode::read);
+    const auto read = reader.vector<item>("items");
+    IS(read[0]->price == 8.5 && read.begin()->shelf == 7);
+    THROWS(read_only, read[0]->price = 1);
+    THROWS(read_only, read.begin()->price = 1);
+    // another error goes on
+    try {
+        const auto fails = []() -> double { throw 5; };
+        const auto both = [](double first, double second) { return first + second; };
+        IS(both(items[0]->price += 1, items[1]->price = 4) == 13.5);
+        static_cast<void>(both(read[0]->price, fails()));
+        IS(false);
+    } catch (int) {
+        IS(items[0]->price == 9.5);
+    }
+}
+
+/// `find_or_construct` gives the object.
+void objects_found_or_made() {
+    segment s = segment::create(65536);
+    *s.find_or_construct<i64>("visits", 5) += 1;
+    *s.find_or_construct<i64>("visits", 5) += 1;
+    IS(s.get<i64>("visits") == 7 && *s.find_or_construct<i64>("visits", 0) == 7);
+    const auto row = s.find_or_construct<i32>("row", 3, 4);
+    row[2] = 9;
+    IS(row.count == 4 && row.object().size() == 4 && row.object()[2] == 9 && row.handle == row.object().handle());
+    s.find_or_construct<item>("item", item{1, 2, 3, 4})->stock = 77;
+    IS(s.find_or_construct<item>("item", item{})->stock == 77 && s.find_or_construct<item>("item", item{}).count == 1);
+    s.find_or_construct_vector<i64>("queue")->push_back(1);
+    (*s.find_or_construct_vector<i64>("queue")).push_back(2);
+    IS(s.find_or_construct_vector<i64>("queue").object() == (std::vector<i64>{1, 2}));
+    s.find_or_construct_string("text", "a")->append("b");
+    s.find_or_construct_strings("list")->push_back("c");
+    (*s.find_or_construct_map<i32, i64>("map"))[1] = 5;
+    IS(s.string("text") == "ab" && s.strings("list")[0] == "c" && s.map<i32, i64>("map").get(1) == 5);
+    THROWS(wrong_kind, s.find_or_construct_vector<i64>("text"));
+    const zaluxhoni::found plain = s.find_or_construct<i64>("visits", 0);
+    IS(plain == s.find<i64>("visits"));
+}
+
+/// Storage for which there is no gap twice as long becomes longer all the same.
+void storage_that_cannot_double() {
+    for (const bool grows : {false, true}) {
+        segment s = segment::create(65536);
+        const auto v = s.vector<i64>("v");
+        v.assign(std::vector<i64>(5000, 7));
+        const u64 most = s.size();
+        s.set_growing(grows);
+        if (grows) {
+            v.push_back(1);
+            IS(s.size() > most && v.capacity() == 10000);
+            continue;
+        }
+        while (v.size() < 8000) v.push_back(1);
+        v.insert(0, 3);
+        v.append_range({4, 5});
+        IS(v.size() == 8003 && v[0] == 3 && v[8002] == 5 && v.capacity() < 10000 && s.sanity());
+        THROWS(no_space, v.append_range(std::vector<i64>(5000)));
+        THROWS(no_space, [&] { while (true) v.push_back(0); }());
+        IS(s.free_bytes() < 48 && v.front() == 3);
+    }
+    segment s = segment::create(65536);
+    const auto text = s.string("text");
+    text.assign(std::string(40000, 'a'));
+    text.append("bc");
+    text.push_back('d');
+    IS(text.size() == 40003 && text.ends_with("abcd") && s.sanity());
+    segment other = segment::create(65536);
+    const auto items = other.vector<item>("items");
+    THROWS(no_space, [&] { while (true) items.push_back({1, 2, 3, 4}); }());
+    IS(items.size() > 2600 && items.back()->stock == 3);
+}
+
 /// An open waits for the writer who holds the file, and no longer than it may.
 void an_open_that_waits() {
     using namespace std::chrono;
@@ -979,7 +1108,8 @@ void every_case() {
                                elements, texts, FORMATS algorithms, bulk, own_types, views_without_a_copy,
                                iterators_in_place, iterators_and_modes, several_calls_as_one, const_segments, groups,
                                segments_that_grow, errors, sizes_that_do_not_fit, swapped, projected,
-                               members_as_in_std, an_open_that_waits};
+                               members_as_in_std, maps_both_ways, members_that_are_written, objects_found_or_made,
+                               storage_that_cannot_double, an_open_that_waits};
     for (void (*each)() : cases) {
         try {
             each();

@@ -384,7 +384,8 @@ void a_map() {
     IS(s.free_bytes(), 480);
     IS(m.put(1, 11), false);
     IS(m.at(1), 11);
-    IS(m.find(4).has_value(), false);
+    IS(m.lookup(4).has_value(), false);
+    IS(m.find(4) == m.end(), true);
     IS(m.contains(7), true);
     THROWS(absent, m.at(4));
     m[7] = 71;

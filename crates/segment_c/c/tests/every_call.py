@@ -3,6 +3,7 @@ section 11, and on what is raised. The files that it makes are in the folder tha
 import asyncio
 import copy
 import ctypes
+import dataclasses
 import gc
 import json
 import os
@@ -14,6 +15,7 @@ import subprocess
 import sys
 import threading
 import time
+import typing
 import warnings
 
 import zaluxhoni
@@ -68,7 +70,12 @@ def saved(segment, name):
     segment.save_as(new(name))
     segment.discard()
     with open(path_of(name), "rb") as file:
-        return zaluxhoni.load(file.read())
+        return zaluxhoni.load(file.read(), grow=False)
+
+
+def create(size, *, grow=False, **named):
+    """A segment of just this size, so that calls find no space."""
+    return zaluxhoni.create(size, grow=grow, **named)
 
 
 def set_item(of, index, value):
@@ -82,14 +89,14 @@ def delete_item(of, index):
 # ---- worked examples
 
 def an_anonymous_object():
-    s = zaluxhoni.create(1024)
+    s = create(1024)
     same(s.construct("i64", None, 5).handle, 144)
     same(s[handle(144)], 5)
     same(s.free, 832)
 
 
 def names():
-    s = zaluxhoni.create(1024)
+    s = create(1024)
     same(s.construct("i64", "a", 5).handle, 192)
     same(s.free, 784)
     same(s.info("a"), ("named", "a", "i64", 1, 192))
@@ -107,7 +114,7 @@ def names():
 
 
 def index_and_object_do_not_both_fit():
-    s = zaluxhoni.create(224)
+    s = create(224)
     raises(zaluxhoni.NoSpace, s.construct, "i64", "a", 5)
     same(s.free, 80)
     same(s.construct("i64", None, 5).handle, 144)
@@ -115,7 +122,7 @@ def index_and_object_do_not_both_fit():
 
 
 def arrays():
-    s = zaluxhoni.create(1024)
+    s = create(1024)
     v = s.construct("i64[3]", "v", 7)
     same(v.handle, 192)
     same(list(v), [7, 7, 7])
@@ -142,7 +149,7 @@ def arrays():
 
 
 def the_only_object_of_its_kind():
-    s = zaluxhoni.create(1024)
+    s = create(1024)
     same(s.construct("u64", unique("u64"), 9).handle, 192)
     raises(zaluxhoni.Exists, s.construct, "u64", unique("u64"), 1)
     raises(zaluxhoni.WrongKind, s.find, "u8", unique("u64"))
@@ -157,7 +164,7 @@ def the_only_object_of_its_kind():
 
 
 def places_reserved_in_the_indexes():
-    s = zaluxhoni.create(1024)
+    s = create(1024)
     s.reserve_named(5)
     s.reserve_unique(1)
     same([s.construct("i64", name, 1).handle for name in "abcd"], [240, 288, 336, 384])
@@ -172,7 +179,7 @@ def places_reserved_in_the_indexes():
 
 
 def best_fit():
-    s = zaluxhoni.create(1024)
+    s = create(1024)
     same([s.construct("i64", None, 1).handle for _ in range(4)], [144, 192, 240, 288])
     same(s.destroy(handle(144)), True)
     same(s.destroy(handle(240)), True)
@@ -181,7 +188,7 @@ def best_fit():
 
 
 def storage_is_lengthened_then_replaced():
-    s = zaluxhoni.create(1024)
+    s = create(1024)
     v = s.construct("vec<i64>", "v")
     same(v.handle, 192)
     for number in range(1, 6):
@@ -199,7 +206,7 @@ def storage_is_lengthened_then_replaced():
 
 
 def a_string_grows_and_shrinks():
-    s = zaluxhoni.create(1024)
+    s = create(1024)
     text = s.construct("string", "s", "ab")
     same(text.handle, 192)
     text.append("cdefg")
@@ -237,7 +244,7 @@ def a_string_grows_and_shrinks():
 
 
 def a_map():
-    s = zaluxhoni.create(1024)
+    s = create(1024)
     m = s.construct("map<i64,i64>", "m")
     same(m.handle, 192)
     same(m.first(), None)
@@ -280,7 +287,7 @@ def a_map():
 
 
 def refusals_of_a_vector():
-    s = zaluxhoni.create(1024)
+    s = create(1024)
     w = s.construct("vec<i32>", "w", [1, 2, 3])
     same(w.handle, 192)
     w.insert(1, 9)
@@ -315,7 +322,7 @@ def refusals_of_a_vector():
 
 
 def a_vector_of_strings():
-    s = zaluxhoni.create(1024)
+    s = create(1024)
     v = s.construct("vec<string>", "v", ["a", "bc"])
     same(v.handle, 192)
     same(s.free, 656)
@@ -351,7 +358,7 @@ def a_vector_of_strings():
 # ---- what the examples leave out
 
 def objects_found_or_made():
-    s = zaluxhoni.create(4096)
+    s = create(4096)
     for kind, value, other in (("vec<u8>", [200], [7, 8]), ("string", "text", "other"), ("vec<string>", ["only"], []),
                                ("i32[2]", [1, 2], 3)):
         first = s.find_or_construct(kind, kind, value)
@@ -378,7 +385,7 @@ def objects_found_or_made():
 
 
 def every_kind_of_scalar():
-    s = zaluxhoni.create(4096)
+    s = create(4096)
     for kind, least, most in (("u8", 0, 255), ("i32", -2**31, 2**31 - 1), ("i64", -2**63, 2**63 - 1),
                               ("u64", 0, 2**64 - 1)):
         for number in (least, most):
@@ -401,7 +408,7 @@ def every_kind_of_scalar():
 
 
 def many_at_once():
-    s = zaluxhoni.create(65536, grow=True)
+    s = create(65536, grow=True)
     a = s.construct("i64[3]", "a", [7, -8, 9])
     same(list(a), [7, -8, 9])
     same(a[1:], [-8, 9])
@@ -440,7 +447,7 @@ def many_at_once():
 
 def one_of_each():
     """One object of each kind, by the calls that every_call.c makes: all three programs save the same bytes."""
-    s = zaluxhoni.create(4096)
+    s = create(4096)
     text = s.construct("string", None, b'a\0"b')
     s.construct("vec<u8>", None, [1, 2, 255])
     s.construct("i32[2]", None, [-2**31, 2**31 - 1])
@@ -467,7 +474,7 @@ def one_of_each():
 
 
 def a_segment_as_a_dict():
-    s = zaluxhoni.create(1024, grow=True)
+    s = create(1024, grow=True)
     s["number"] = 5
     s["number"] += 1
     s["large"] = 2**63
@@ -498,7 +505,7 @@ def a_segment_as_a_dict():
 
 
 def maps_are_made_whole():
-    s = zaluxhoni.create(1024)
+    s = create(1024)
     many, free = {number: 0 for number in range(100)}, s.free
     raises(zaluxhoni.OutOfRange, set_item, s, "m", {1: 2**64})
     raises(zaluxhoni.OutOfRange, set_item, s, "m", {1: 10, -2**63 - 1: 20})
@@ -519,7 +526,7 @@ def maps_are_made_whole():
 
 
 def size_and_region():
-    s = zaluxhoni.create(208)
+    s = create(208)
     raises(zaluxhoni.NoSpace, s.construct, "i64[100]", "numbers", 0)
     raises(zaluxhoni.BadGrowth, s.grow, 33)
     raises(zaluxhoni.TooLarge, s.grow, 1073741824)
@@ -544,7 +551,7 @@ def size_and_region():
 
 def calls_of_c():
     """The calls that Python has no names of its own for."""
-    made = zaluxhoni.create(1024)
+    made = create(1024)
     made["a/1"] = 5
     image = made.image()
     made.discard()
@@ -585,7 +592,7 @@ def calls_of_c():
 
 def what_shows_a_class():
     """The byte that shows each class, in the image of two vectors."""
-    s = zaluxhoni.create(1024)
+    s = create(1024)
     s.construct("vec<i64>", "a", [1, 2, 3])
     s.construct("vec<i64>", "b", [1])
     image, at, other = s.image(), s.info("a").handle, s.info("b").handle
@@ -628,7 +635,7 @@ def what_shows_a_class():
 
 
 def what_is_refused():
-    s = zaluxhoni.create(1024)
+    s = create(1024)
     image = s.image()
     raises(zaluxhoni.BadSize, zaluxhoni.create, 160)
     raises(zaluxhoni.OutOfRange, zaluxhoni.create, -1)
@@ -667,7 +674,7 @@ def what_is_refused():
 
 
 def one_thread():
-    s = zaluxhoni.create(1024)
+    s = create(1024)
     errors = []
 
     def use():
@@ -687,7 +694,7 @@ def one_thread():
 
 def values_of_one_kind_alone():
     """What is assigned by a name is what the object is: neither the keys of a dict, nor a set, nor a byte."""
-    s = zaluxhoni.create(4096)
+    s = create(4096)
     s["n"], s["v"], s["t"], s["m"], s["text"] = 5, [1, 2], ["a"], {1: 2}, "x"
     s.construct("vec<u8>", "bytes", [1])
     for name, refused in (("n", b"A"), ("n", "A"), ("n", {5: 6}), ("n", {5}), ("n", 5.0), ("n", None), ("n", [6]),
@@ -717,7 +724,7 @@ def all_of(mapping):
 
 
 def a_mapping_as_dict_is_one():
-    s = zaluxhoni.create(4096)
+    s = create(4096)
     s["v"], s["t"], s["n"], s["text"], s["m"] = [1, 2], ["a"], 5, "x", {1: 2}
     same((s.pop("v"), s.pop("t"), s.pop("n"), s.pop("text"), s.pop("m"), s.pop("m", 7)),
          ([1, 2], ["a"], 5, "x", {1: 2}, 7))
@@ -756,7 +763,7 @@ def a_mapping_as_dict_is_one():
 
 def refusals_have_names():
     """Each error derives from Error, and tells which object it is about."""
-    s = zaluxhoni.create(1024)
+    s = create(1024)
     v, m, t, n = s.vector("numbers", "i32"), s.map("pairs", "i32", "i64"), s.strings("texts"), s.construct("i64",
                                                                                                            "one", 5)
     text, reader = s.string("text"), zaluxhoni.load(s.image(), "r")
@@ -804,10 +811,10 @@ def refusals_have_names():
                  lambda: text["a"],
                  lambda: set_item(v, "a", 1), lambda: delete_item(v, "a"), lambda: v.insert("a", 1),
                  lambda: v.extend(5), lambda: v * "a",
-                 lambda: zaluxhoni.create("a"), lambda: zaluxhoni.create(None), lambda: zaluxhoni.open(5),
+                 lambda: create("a"), lambda: create(None), lambda: zaluxhoni.open(5),
                  lambda: zaluxhoni.open("a", 5),
                  lambda: zaluxhoni.open("a", []), lambda: zaluxhoni.load(5), lambda: zaluxhoni.load(b"", None),
-                 lambda: zaluxhoni.create(1024, encoding="none such"), lambda: s.grow("a"), lambda: s.construct(5, "a"),
+                 lambda: create(1024, encoding="none such"), lambda: s.grow("a"), lambda: s.construct(5, "a"),
                  lambda: s.vector("a", 5), lambda: s.group(5), lambda: unique(5), lambda: handle("a"),
                  lambda: s.find(None, "a"),
                  lambda: s.find("i64", 5), lambda: s.info(5), lambda: s.destroy(5), lambda: m.update({}, {}),
@@ -824,7 +831,7 @@ def refusals_have_names():
 
 
 def copies():
-    s = zaluxhoni.create(1024)
+    s = create(1024)
     s["v"], s["t"], s["m"], s["x"] = [1, 2], ["a"], {1: 2}, "text"
     for name, value in (("v", [1, 2]), ("t", ["a"]), ("m", {1: 2})):
         for copied in (copy.copy(s[name]), copy.deepcopy(s[name]), pickle.loads(pickle.dumps(s[name])), s[name].copy()):
@@ -835,7 +842,7 @@ def copies():
 
 
 def a_list_as_list_is_one():
-    s = zaluxhoni.create(4096)
+    s = create(4096)
     v, free = s.vector("v", "i64"), s.free
     v.extend(range(5))
     # all of it or nothing
@@ -882,7 +889,7 @@ def threads_that_follow_each_other():
 
     def opens():
         idents.append(threading.get_ident())
-        s = zaluxhoni.create(1024)
+        s = create(1024)
         s["v"], s["m"] = [1], {1: 2}
         opened.append((s, s["v"], s["m"]))
 
@@ -934,7 +941,7 @@ def one_segment_of_many_threads():
 # ---- groups, transactions, records
 
 def groups():
-    s = zaluxhoni.create(8192)
+    s = create(8192)
     prices = s.group("prices/")
     same((len(prices), list(prices), prices.get("a"), "a" in prices, 5 in prices), (0, [], None, False, False))
     prices["apples"], prices["pears"] = 250, {1: 2}
@@ -968,7 +975,7 @@ def groups():
 
 
 def transactions():
-    s = zaluxhoni.create(1024, grow=True)
+    s = create(1024, grow=True)
     s["a"], s["v"] = 1, [1]
     before, v = s.image(), s["v"]
     try:
@@ -1025,7 +1032,7 @@ class Point(ctypes.Structure):
 
 
 def records():
-    s = zaluxhoni.create(4096)
+    s = create(4096)
     doubles = s.records("doubles", "d")
     doubles.extend([1.5, -2.5])
     doubles.append(3.5)
@@ -1063,7 +1070,7 @@ def records():
 
 def views():
     """Elements where they stand."""
-    s = zaluxhoni.create(4096, grow=True)
+    s = create(4096, grow=True)
     s["v"], s["n"], s["other"] = [1, 2, 3], 5, [7]
     text, v = s.string("text"), s["v"]
     text.assign("abc")
@@ -1136,7 +1143,7 @@ def views():
     with zaluxhoni.open(path, "r") as s:
         same(s["v"].copy(), [7, 8])
         view = s["v"].view()
-    with zaluxhoni.create(4096, check_same_thread=False) as s:
+    with create(4096, check_same_thread=False) as s:
         s["v"] = [1, 2]
         view = s["v"].view()
         same(on_a_thread(lambda: name_of_error(lambda: s["v"].append(3))), "Lent")
@@ -1208,7 +1215,7 @@ def files():
     raises(zaluxhoni.BadMode, zaluxhoni.open, path, "rw")
     raises(zaluxhoni.WrongKind, zaluxhoni.open, 5)
     raises(zaluxhoni.BadName, zaluxhoni.open, "a\0b")
-    raises(zaluxhoni.NoFile, zaluxhoni.create(1024).save)
+    raises(zaluxhoni.NoFile, create(1024).save)
     # a close without changes writes nothing
     before = os.stat(path)
     with zaluxhoni.open(path, "w") as s:
@@ -1255,7 +1262,7 @@ def files_that_are_mapped():
 
 
 def what_is_refused_by_name():
-    s = zaluxhoni.create(1024)
+    s = create(1024)
     for call in (lambda: s["none"], lambda: s.object("none"), lambda: s.__delitem__("none"), lambda: s.info("none")):
         try:
             call()
@@ -1395,7 +1402,7 @@ def files_that_are_durable():
     s["a"] = 11
     s.commit()
     s.discard()
-    with zaluxhoni.create(8192) as other:
+    with create(8192) as other:
         image = other.image()
     with open(path, "wb") as file:
         file.write(image)
@@ -1449,7 +1456,7 @@ def files_that_fail():
 
 def what_is_read_again():
     """An object that is read again and again is the one that has the name now."""
-    s = zaluxhoni.create(4096)
+    s = create(4096)
     s["v"], s["m"], s["other"] = [1, 2], {1: 2, -1: 1}, [9]
     v, m, text = s["v"], s["m"], s.string("text")
     text.assign("abc")
@@ -1500,7 +1507,7 @@ def what_is_read_again():
     for _ in range(3):
         raises(zaluxhoni.Closed, lambda: m[1])
     # what is lent to a function of Python's goes with it
-    s, counts = zaluxhoni.create(1024), []
+    s, counts = create(1024), []
     s["v"] = [1]
     for _ in range(3):
         for _ in range(100):
@@ -1605,7 +1612,7 @@ def the_end_of_a_block():
     same([ends(raised) for raised in (SystemExit(0), SystemExit(), SystemExit(None), SystemExit(False))], [2] * 4)
     same([ends(raised) for raised in (SystemExit(1), SystemExit(""), SystemExit("no"), KeyboardInterrupt(),
                                       GeneratorExit(), asyncio.CancelledError(), ValueError())], [1] * 7)
-    s = zaluxhoni.create(1024)
+    s = create(1024)
     s["a"] = 1
     try:
         with s.transaction():
@@ -1624,8 +1631,8 @@ def errors_are_copied():
     same(len(kinds) > 40, True)
     errors = [kind() for kind in kinds]
     for call in (lambda: zaluxhoni.open("/nowhere/at all", "r"), lambda: zaluxhoni.open("/proc/none", "x"),
-                 lambda: zaluxhoni.load(b"x" * 200), lambda: zaluxhoni.create(1024)["a"],
-                 lambda: zaluxhoni.create(1024).construct("i64[1000]", "a"), lambda: zaluxhoni.open(folder, "r"),
+                 lambda: zaluxhoni.load(b"x" * 200), lambda: create(1024)["a"],
+                 lambda: create(1024).construct("i64[1000]", "a"), lambda: zaluxhoni.open(folder, "r"),
                  lambda: zaluxhoni.open("a/" * 3000, "r")):
         try:
             call()
@@ -1650,7 +1657,7 @@ def errors_are_copied():
 
 
 def none_is_no_name():
-    s = zaluxhoni.create(1024)
+    s = create(1024)
     for mapping in (s, s.group("g/")):
         for call in (lambda: set_item(mapping, None, 5), lambda: mapping.update({None: 1}),
                      lambda: mapping.setdefault(None, 3), lambda: mapping.update([(None, [1])])):
@@ -1694,7 +1701,7 @@ class Ndarray(Series):
 
 
 def records_of_other_packages():
-    s = zaluxhoni.create(8192)
+    s = create(8192)
     doubles = s.records("doubles", "d")
     doubles.extend(Series([1.5, 2.5], Dtype(8, "d")))
     doubles.assign(Series([1.5, 3.5], Dtype(8, "d")))
@@ -1723,7 +1730,7 @@ def records_of_other_packages():
 
 
 def records_as_list_are_one():
-    s = zaluxhoni.create(65536, grow=True)
+    s = create(65536, grow=True)
     ours, model = s.records("r", "<hd"), []
 
     def both(call):
@@ -1839,7 +1846,7 @@ def tasks_with_transactions():
         same(s["a"], 8)
 
     for shared in (False, True):
-        s = zaluxhoni.create(4096, check_same_thread=not shared)
+        s = create(4096, check_same_thread=not shared)
         s["a"], s["v"], s["m"] = 1, [1], {1: 10}
         asyncio.run(both(s))
         asyncio.run(cancelled(s))
@@ -1854,7 +1861,7 @@ def tasks_with_transactions():
 
 def numbers_beyond_all():
     """Numbers of thousands of digits, and other long values, have messages and a repr of bounded length."""
-    s = zaluxhoni.create(65536, grow=True)
+    s = create(65536, grow=True)
     s["v"], s["n"], s["m"], s["t"], s["text"] = [1, 2, 3], 5, {1: 2}, ["a"], "text"
     v, m, t, text = s["v"], s["m"], s["t"], s.string("text")
     huge = 10**5000
@@ -1888,7 +1895,7 @@ def numbers_beyond_all():
 
 
 def small_rules():
-    s = zaluxhoni.create(4096)
+    s = create(4096)
     s["n"], s["v"], s["m"] = 5, [1, 2, 3], {1: 2, 3: 4, 5: 6, 7: 8}
     # one number is no list
     raises(zaluxhoni.WrongKind, set_item, s, "n", [7])
@@ -1897,7 +1904,7 @@ def small_rules():
     s.construct("i64[1]", "other", 9)
     s["n"] = s.object("other")
     same(s["n"], 9)
-    for made in (s, s["v"], s["m"], s.group("g"), s.records("r", "d"), s.transaction(), zaluxhoni.create(
+    for made in (s, s["v"], s["m"], s.group("g"), s.records("r", "d"), s.transaction(), create(
             1024, check_same_thread=False)):
         try:
             made.foo = 1
@@ -1934,17 +1941,20 @@ def small_rules():
     # what a map or a vector cannot keep: the error says what does
     for call, word in ((lambda: set_item(m, "a", 1), "group"), (lambda: set_item(m, 1, 1.5), "records"),
                        (lambda: set_item(s, "new", {"a": 1}), "group"), (lambda: set_item(s, "new", 1.5), "records"),
-                       (lambda: set_item(s, "new", [1.5]), "records"), (lambda: s["v"].append(1.5), "records")):
+                       (lambda: set_item(s, "new", [1.5]), "records"), (lambda: s["v"].append(1.5), "records"),
+                       (lambda: s.map("texts", "string", "i64"), "group"), (lambda: s.map("m2", "str"), "group"),
+                       (lambda: s.vector("w", "f64"), "records"), (lambda: s.construct("float", "w"), "records"),
+                       (lambda: s.map("floats", "i64", "double"), "records")):
         try:
             call()
-        except zaluxhoni.WrongKind as error:
+        except (zaluxhoni.WrongKind, zaluxhoni.BadKind) as error:
             same((word in str(error), str(error)), (True, str(error)))
         else:
             fails("no error")
 
 
 def no_space_says_more():
-    s = zaluxhoni.create(1024)
+    s = create(1024)
     s["v"], s["t"] = [1], ["a"]
     v, t, m, text = s["v"], s["t"], s.map("m"), s.string("text")
     for wanted, call in ((80000, lambda: v.extend(range(10000))), (80000, lambda: s.construct("i64[10000]", "a", 0)),
@@ -2006,9 +2016,128 @@ def the_module_as_program():
     same(run()[:2], (2, ""))
 
 
+def segments_grow():
+    """A segment becomes longer, unless it is told not to."""
+    path = new("grown")
+    for made in (zaluxhoni.create(1024), zaluxhoni.open(path, "x", size=1024), zaluxhoni.load(create(1024).image())):
+        same((made.growing, made.size), (True, 1024))
+        made["v"] = range(10000)
+        same((len(made["v"]), made.size > 80000), (10000, True))
+        made.close()
+    with zaluxhoni.open(path, "w", grow=False) as s:
+        same(s.growing, False)
+        raises(zaluxhoni.NoSpace, s["v"].extend, range(10000))
+    for made in (zaluxhoni.create(1024, grow=False), zaluxhoni.load(create(1024).image(), grow=False)):
+        raises(zaluxhoni.NoSpace, set_item, made, "v", range(10000))
+        same(made.size, 1024)
+
+
+def storage_that_cannot_double():
+    """Storage for which there is no gap twice as long becomes longer all the same."""
+    s = create(65536)
+    v = s.construct("vec<i64>", "v", [7] * 5000)
+    for _ in range(3000):
+        v.append(1)
+    v.insert(0, 3)
+    v.extend([4, 5])
+    same((len(v), v[0], v[-1], v.capacity < 10000, s.sanity()), (8003, 3, 5, True, True))
+    raises(zaluxhoni.NoSpace, v.extend, [0] * 5000)
+    same(len(v), 8003)
+    s = create(65536)
+    text = s.construct("string", "text", "a" * 40000)
+    text.append("bc")
+    text += "d"
+    same((len(text), bytes(text)[-4:], s.sanity()), (40003, b"abcd", True))
+    s = create(65536)
+    points = s.records("points", "dd")
+    points.extend([(1, 2)] * 2500)
+    points.append((3, 4))
+    same((len(points), points[-1]), (2501, (3.0, 4.0)))
+
+
+def texts_that_stay_bytes():
+    s = create(65536)
+    blobs = s.group("blobs/", encoding=None)
+    blobs["a"] = b"\x00\xff"
+    same((blobs["a"], s["blobs/a"], blobs.get("a"), blobs.setdefault("a", b"")),
+         (b"\x00\xff", "\x00\udcff", b"\x00\xff", b"\x00\xff"))
+    blobs["a"] = b"b"
+    blobs["list"] = [b"\xfe", "text"]
+    same((blobs["a"], blobs["list"][:], list(blobs.strings("list")), blobs.strings("list").pop(), list(s["blobs/list"])),
+         (b"b", [b"\xfe", b"text"], [b"\xfe", b"text"], b"text", ["\udcfe"]))
+    blobs.construct("string", "c", b"\xfd")
+    same((dict(blobs.items())["c"], blobs.object("c") == b"\xfd", str(blobs.object("c")), bytes(blobs.string("c")),
+          blobs.find("string", "c").copy(), blobs.find_or_construct("string", "c", b"").copy()),
+         (b"\xfd", True, "\udcfd", b"\xfd", b"\xfd", b"\xfd"))
+    same((blobs.pop("c"), blobs.group("sub/").setdefault("d", b"\xfc"), s.group("blobs/")["sub/d"]),
+         (b"\xfd", b"\xfc", "\udcfc"))
+    same((blobs.group("sub/", encoding="latin-1")["d"], s.group("", encoding=None)["blobs/a"]), ("\xfc", b"b"))
+    raises(zaluxhoni.BadValue, s.group, "x", encoding="none such")
+    raises(zaluxhoni.BadValue, s.group, "x", encoding=5)
+    # the encoding of a segment counts where a group has none of its own
+    s.encoding = None
+    same((s["blobs/a"], s.group("blobs/")["a"], blobs.group("", encoding="utf-8")["a"]), (b"b", b"b", "b"))
+    shared = create(8192, check_same_thread=False).group("b/", encoding=None)
+    shared["a"], shared["l"] = b"\xff", [b"\xfe"]
+    same((shared["a"], shared["l"][0], dict(shared)["a"]), (b"\xff", b"\xfe", b"\xff"))
+
+
+@dataclasses.dataclass
+class Article:
+    weight: float
+    number: ctypes.c_int32
+    is_there: bool
+    count: int = 0
+
+
+@dataclasses.dataclass(frozen=True)
+class Spot:
+    x: float
+    y: float
+    name: dataclasses.InitVar[int] = 0
+    total: float = dataclasses.field(default=0.0, init=False)
+
+
+def records_of_dataclasses():
+    s = create(65536)
+    articles = s.records("articles", Article)
+    articles.append(Article(0.5, 7, True, 2**40))
+    articles.extend([(1.5, 8, False, -1), Article(2.5, 9, True)])
+    same((articles[0], articles[1], len(articles)), (Article(0.5, 7, True, 2**40), Article(1.5, 8, False, -1), 3))
+    # laid out as a structure of C
+    class Same(ctypes.Structure):
+        _fields_ = [("weight", ctypes.c_double), ("number", ctypes.c_int32), ("is_there", ctypes.c_bool),
+                    ("count", ctypes.c_int64)]
+    same((len(s["articles"]), ctypes.sizeof(Same)), (72, 24))
+    same([(each.weight, each.number, each.is_there, each.count) for each in s.records("articles", Same)],
+         [(0.5, 7, True, 2**40), (1.5, 8, False, -1), (2.5, 9, True, 0)])
+    articles[1] = dataclasses.replace(articles[1], count=5)
+    same((articles.index(Article(1.5, 8, False, 5)), (2.5, 9, True, 0) in articles, articles == articles.copy()),
+         (1, True, True))
+    articles.sort(key=lambda each: -each.weight)
+    same([each.number for each in articles], [9, 8, 7])
+    for value in (Article(0.5, 2**31, True), Article("a", 1, True), (1.5, 8), 5, None):
+        raises(zaluxhoni.WrongKind, articles.append, value)
+    if hasattr(typing, "Annotated"):
+        @dataclasses.dataclass
+        class Narrow:
+            a: "typing.Annotated[int, 'h']"
+            b: "typing.Annotated[float, 'f', 'and more']"
+            c: ctypes.c_uint8
+        narrow = s.records("narrow", Narrow)
+        narrow.append(Narrow(-5, 0.5, 255))
+        same((narrow[0], len(s["narrow"])), (Narrow(-5, 0.5, 255), 12))
+        raises(zaluxhoni.WrongKind, narrow.append, Narrow(2**15, 0.5, 1))
+    points = s.records("points", Spot)
+    raises(zaluxhoni.WrongKind, s.records, "texts", dataclasses.make_dataclass("Texts", [("text", str)]))
+    raises(zaluxhoni.BadValue, s.records, "none", dataclasses.make_dataclass("None_", []))
+    points.append(Spot(1.0, 2.0))
+    same((points[0], len(s["points"])), (Spot(1.0, 2.0), 16))
+
+
 def threads_that_shorten():
     """One thread goes over what another one makes shorter, and reads no element while a transaction is open."""
-    s = zaluxhoni.create(1 << 20, check_same_thread=False)
+    s = create(1 << 20, check_same_thread=False)
     s["v"], s["t"], s["r"] = list(range(2000)), ["a"] * 500, [1]
     v, t, r = s["v"], s["t"], s.records("records", "d")
     r.extend([1.0] * 500)
@@ -2066,6 +2195,7 @@ for case in (an_anonymous_object, names, index_and_object_do_not_both_fit, array
              what_is_read_again, what_is_not_closed, the_end_of_the_process, the_end_of_a_block, errors_are_copied,
              none_is_no_name, records_of_other_packages, records_as_list_are_one, tasks_with_transactions,
              numbers_beyond_all, small_rules, no_space_says_more, a_wait_for_the_writer, the_module_as_program,
+             segments_grow, storage_that_cannot_double, texts_that_stay_bytes, records_of_dataclasses,
              threads_that_shorten):
     try:
         case()

@@ -78,6 +78,21 @@ def arrays_as_elements():
     same((m[5], m[numpy.int16(5)], m.copy()), (6, 6, {0: 0, 1: 1, 2: 2, 5: 6}))
     pairs = numpy.fromiter(m.items(), "i8,i8")
     same((pairs["f0"].tolist(), pairs["f1"].tolist()), ([0, 1, 2, 5], [0, 1, 2, 6]))
+    pairs = numpy.asarray(m)
+    same((pairs["key"].tolist(), pairs["value"].tolist(), pairs.dtype == numpy.dtype([("key", "i8"), ("value", "i8")])),
+         ([0, 1, 2, 5], [0, 1, 2, 6], True))
+    for kind, dtype in DTYPES.items():
+        other = s.construct(f"map<i32,{kind}>", f"map of {kind}")
+        same((numpy.asarray(other).tolist(), numpy.asarray(other).dtype[1] == numpy.dtype(dtype)), ([], True))
+        other.update(numpy.array(list(enumerate(SOME[kind])), [("a", "i4"), ("b", dtype)]))
+        same((other.copy(), numpy.asarray(other).tolist()), (dict(enumerate(SOME[kind])), list(enumerate(SOME[kind]))))
+        again = s.construct(f"map<i32,{kind}>", None)
+        again.update(numpy.asarray(other))
+        again.update(zip(numpy.arange(3), numpy.array(SOME[kind], dtype)))
+        same(again == other, True)
+    raises(zaluxhoni.OutOfRange, s["map of i32"].update, numpy.array([(1, 2**31)], "i8,i8"))
+    raises(zaluxhoni.WrongKind, s["map of i32"].update, numpy.array([(1, 0.5)], "i8,f8"))
+    raises(zaluxhoni.WrongKind, s["map of i32"].update, numpy.array([(1, True)], "i8,?"))
 
 
 def elements_as_arrays():

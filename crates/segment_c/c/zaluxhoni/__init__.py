@@ -67,16 +67,16 @@ def _image_bytes(image: Any) -> bytes:
         raise WrongKind(f"{type(image).__name__} is no image") from None
 
 
-def create(size: int, *, grow: bool = False, encoding: Optional[str] = "utf-8",
+def create(size: int, *, grow: bool = True, encoding: Optional[str] = "utf-8",
            check_same_thread: bool = True) -> Segment:
-    """Creates an empty segment of `size` bytes, without a file. With `grow` it becomes longer if there is no space.
-    BadSize, NoMemory."""
+    """Creates an empty segment of `size` bytes, without a file. It becomes longer if there is no space, unless `grow`
+    is false. BadSize, NoMemory."""
     made = new_segment(grow, encoding, check_same_thread)
     made._call(zx.zx_create, natural(size))
     return made
 
 
-def load(image: Any, mode: str = "w", *, capacity: Optional[int] = None, grow: bool = False,
+def load(image: Any, mode: str = "w", *, capacity: Optional[int] = None, grow: bool = True,
          encoding: Optional[str] = "utf-8", check_same_thread: bool = True) -> Segment:
     """Opens a copy of an image, without a file. `mode` is "w", "r" for reading, or "p" for changes that are never
     saved. `capacity` is the length of its region in bytes: a multiple of 16. BadImage, BadMode, ShortRegion,
@@ -96,7 +96,7 @@ def load(image: Any, mode: str = "w", *, capacity: Optional[int] = None, grow: b
     return made
 
 
-def open(path: Any, mode: str = "c", *, size: int = 65536, grow: bool = False, encoding: Optional[str] = "utf-8",
+def open(path: Any, mode: str = "c", *, size: int = 65536, grow: bool = True, encoding: Optional[str] = "utf-8",
          check_same_thread: bool = True, mapped: bool = False, durable: bool = False,
          timeout: Optional[float] = None) -> Segment:
     """Opens the segment of a file. `mode` is one of
@@ -107,14 +107,14 @@ def open(path: Any, mode: str = "c", *, size: int = 65536, grow: bool = False, e
         "x"  creates a file that must not exist                   (create_only)
         "p"  opens a file that exists; changes are private        (open_copy_on_write)
 
-    A new segment has `size` bytes, and its file exists at once, with an empty segment. With `grow` a segment becomes
-    longer if there is no space. In the modes that save, the file belongs to this segment until it is closed: anyone
-    else gets FileInUse, at once or after `timeout` seconds of waiting. With check_same_thread=False each thread may use
-    the segment, and each call is alone on it. With `mapped` the segment lies in the file: opening copies nothing, each
-    change is in the file at once, and `discard` reverts none; docs/C.md says what that costs. With `durable` changes are
-    private until `commit`, or the end of a transaction, puts them into the log beside the file: whenever the process is
-    killed or the power fails, the next opening finds the last commit that was done, or the one under way. FileError, if the file is
-    refused; BadImage, BadMode, BadSize."""
+    A new segment has `size` bytes, and its file exists at once, with an empty segment. A segment becomes longer if
+    there is no space, unless `grow` is false. In the modes that save, the file belongs to this segment until it is
+    closed: anyone else gets FileInUse, at once or after `timeout` seconds of waiting. With check_same_thread=False each
+    thread may use the segment, and each call is alone on it. With `mapped` the segment lies in the file: opening copies
+    nothing, each change is in the file at once, and `discard` reverts none; docs/C.md says what that costs. With
+    `durable` changes are private until `commit`, or the end of a transaction, puts them into the log beside the file:
+    whenever the process is killed or the power fails, the next opening finds the last commit that was done, or the one
+    under way. FileError, if the file is refused; BadImage, BadMode, BadSize."""
     if not isinstance(mode, str) or mode not in FILE_MODES:
         raise BadMode(f"no mode is {shown(mode)}")
     opened = new_segment(grow, encoding, check_same_thread)

@@ -367,8 +367,8 @@ def no_space(about: object, wanted: Optional[int], free: int) -> NoSpace:
     """Returns the NoSpace of a call whose values have `wanted` bytes, if it has some."""
     name = "" if about is None else f": {shown(about)}"
     need = "" if wanted is None else f"{wanted} bytes wanted, "
-    error = NoSpace(f"{_words(NoSpace.code)}{name}: {need}{free} free in all gaps; grow() makes the segment longer, or "
-                    "open it with grow=True")
+    error = NoSpace(f"{_words(NoSpace.code)}{name}: {need}{free} free in all gaps; grow() makes the segment longer, "
+                    "and without grow=False it becomes longer by itself")
     error.wanted, error.free = wanted, free
     return error
 

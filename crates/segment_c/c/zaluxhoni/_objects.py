@@ -9,7 +9,8 @@ from typing import (TYPE_CHECKING, Any, Dict, ItemsView, Iterable, Iterator, Key
                     MutableSequence, Optional, Sequence, SupportsIndex, Tuple, TypeVar, Union, ValuesView, overload)
 
 from . import _library
-from ._errors import Absent, BadCount, BadValue, Error, NoElement, OutOfRange, WrongKind, named, shown
+from ._errors import (Absent, BadCount, BadValue, Error, NoElement, NoSpace, OutOfRange, TooLarge, WrongKind, named,
+                      shown)
 from ._library import BOOL, I32, I64, STRING, STRINGS, U8, U64, VECTOR, MAP, quick, zx
 from ._values import (KINDS, SCALARS, Key, Row, Texts, decoded, encoded, from_words, is_scalar, listed,
                       natural, number_in, pairs_of, raw_key, row, scalar, unpacked, value_of, whole)
@@ -21,6 +22,10 @@ _reads = {BOOL: zx.zx_read_bools, U8: zx.zx_read_u8s, I32: zx.zx_read_i32s, I64:
 _AHEAD = 4096
 _SHOWN = 20
 _Default = TypeVar("_Default")
+
+
+SAME = "as of the segment"
+"""The encoding of a group that takes that of its segment."""
 
 
 class Lease:
@@ -73,7 +78,8 @@ def places_of(index: slice, length: int) -> range:
 class Object(_library.Place):
     """An object of a segment. It looks its key up in each call, so it stays valid as long as the segment is open."""
     __slots__ = ("_segment", "_key", "_code", "_raw", "_lock", "_scalar_code", "_key_code", "_value_code",
-                 "__weakref__")
+                 "_own_encoding", "__weakref__")
+    _own_encoding: Optional[str]
 
     def __init__(self, segment: Segment, key: Key, code: int) -> None:
         self._segment, self._key, self._code, self._raw = segment, key, code, raw_key(key)
@@ -110,6 +116,11 @@ class Object(_library.Place):
     def kind(self) -> str:
         """Its kind, such as "vec<i64>"."""
         return KINDS[self._code]
+
+    @property
+    def _encoding(self) -> Optional[str]:
+        """How its texts are decoded: as the segment says, or the group that it was asked of."""
+        return self._segment.encoding if self._own_encoding is SAME else self._own_encoding
 
     def info(self) -> Info:
         """Returns its Info. NotFound."""
@@ -196,6 +207,25 @@ class _Places(Object):
     def clear(self) -> None:
         """Removes all elements. Keeps the capacity."""
         self._change(zx.zx_clear)
+
+    def _lengthen(self, more: int, call: Any, *arguments: Any) -> None:
+        """Makes a call that adds `more` elements, which asks for twice the capacity. If there is no gap for that, and
+        the segment cannot have one, asks for less."""
+        try:
+            return self._change(call, *arguments)
+        except (NoSpace, TooLarge):
+            if not self._has_room(more):
+                raise
+        self._change(call, *arguments)
+
+    def _has_room(self, more: int) -> bool:
+        """Gets storage for `more` elements at least: for half of the capacity more, a fourth, and so on."""
+        segment, (length, extra) = self._segment, self._measure()
+        while extra // 2 > more:
+            extra //= 2
+            if not zx.zx_reserve(segment._handle, self._raw, length + extra):
+                return True
+        return not zx.zx_reserve(segment._handle, self._raw, length + more)
 
 
 class _Elements(Object):
@@ -525,7 +555,7 @@ class Vector(_Scalars, _List, MutableSequence[int]):
             raise NotImplementedError
 
     def _insert(self, place: int, value: Any) -> None:
-        self._change(zx.zx_insert, place, self._number(value))
+        self._lengthen(1, zx.zx_insert, place, self._number(value))
 
     def _pop(self) -> int:
         value = _library.Value()
@@ -538,10 +568,11 @@ class Vector(_Scalars, _List, MutableSequence[int]):
         segment._changes += 1
         if not segment._lent and self._at(-1, value):
             return
-        self._change(zx.zx_push, self._number(value))
+        self._lengthen(1, zx.zx_push, self._number(value))
 
     def _extend(self, values: Any) -> None:
-        self._change(zx.zx_extend, self._row(values).passed)
+        added = self._row(values)
+        self._lengthen(added.count, zx.zx_extend, added.passed)
 
     def assign(self, values: Iterable[int]) -> None:
         """Replaces all elements: by all values, or none. NoSpace, OutOfRange, WrongKind."""
@@ -549,7 +580,7 @@ class Vector(_Scalars, _List, MutableSequence[int]):
 
 
 class Strings(_List, MutableSequence[str]):
-    """A vector of strings, used as a list of str; of bytes, if the segment's encoding is None."""
+    """A vector of strings, used as a list of str; of bytes, if the encoding of its segment or group is None."""
     __slots__ = ()
     if TYPE_CHECKING:
         @overload
@@ -573,15 +604,19 @@ class Strings(_List, MutableSequence[str]):
         def pop(self, index: int = -1) -> str:
             raise NotImplementedError
 
+    def __init__(self, segment: Segment, key: Key, code: int) -> None:
+        super().__init__(segment, key, code)
+        self._own_encoding = SAME
+
     def _bytes(self, text: Any) -> bytes:
         try:
-            return encoded(text, self._segment.encoding)
+            return encoded(text, self._encoding)
         except Error as error:
             raise self._named(error) from None
 
     def _texts(self, texts: Any) -> Texts:
         try:
-            return Texts(texts, self._segment.encoding)
+            return Texts(texts, self._encoding)
         except Error as error:
             raise self._named(error) from None
 
@@ -593,7 +628,7 @@ class Strings(_List, MutableSequence[str]):
         most = min(count, _AHEAD)
         room = max(256, 64 * most)
         ends, got = (ctypes.c_uint64 * max(1, most))(), ctypes.c_size_t()
-        encoding = self._segment.encoding
+        encoding = self._encoding
         memory = ctypes.create_string_buffer(room)
         while len(read) < count:
             code = self._segment._code(zx.zx_read_texts, self._raw, first + len(read), memory, room, ends,
@@ -670,6 +705,10 @@ class String(_Places):
         def __getitem__(self, index: Any) -> Any:
             raise NotImplementedError
 
+    def __init__(self, segment: Segment, key: Key, code: int) -> None:
+        super().__init__(segment, key, code)
+        self._own_encoding = SAME
+
     def view(self) -> memoryview:
         """Returns a memoryview of the bytes in place, as Vector.view does of elements."""
         return Lease(self, U8).view()
@@ -687,7 +726,7 @@ class String(_Places):
 
     def _bytes(self, text: Any) -> bytes:
         try:
-            return encoded(text, self._segment.encoding)
+            return encoded(text, self._encoding)
         except Error as error:
             raise self._named(error) from None
 
@@ -695,13 +734,13 @@ class String(_Places):
         return self._text()
 
     def __str__(self) -> str:
-        return str(decoded(self._text(), self._segment.encoding or "utf-8"))
+        return str(decoded(self._text(), self._encoding or "utf-8"))
 
     def __format__(self, form: str) -> str:
         return format(str(self), form)
 
     def _value(self) -> Any:
-        return decoded(self._text(), self._segment.encoding)
+        return decoded(self._text(), self._encoding)
 
     def _item(self, index: Any) -> Any:
         if isinstance(index, slice):
@@ -740,7 +779,7 @@ class String(_Places):
     def append(self, text: Any) -> None:
         """Appends a str or bytes. NoSpace, WrongKind."""
         passed = self._bytes(text)
-        self._change(zx.zx_append, passed, len(passed))
+        self._lengthen(len(passed), zx.zx_append, passed, len(passed))
 
     def __iadd__(self, text: Any) -> String:
         self.append(text)
@@ -748,7 +787,7 @@ class String(_Places):
 
     def __eq__(self, other: object) -> bool:
         if isinstance(other, (str, bytes, bytearray, String)):
-            return self._text() == encoded(other, self._segment.encoding)
+            return self._text() == encoded(other, self._encoding)
         return NotImplemented
 
     __hash__ = None  # type: ignore[assignment]
@@ -985,6 +1024,13 @@ class Map(_Pairs, Object, MutableMapping[int, int]):
         front = shown(dict(zip(keys[:_SHOWN], values)))
         return front if len(keys) <= _SHOWN else f"{front[:-1]}, ... {len(self)} in all}}"
 
+    def __array__(self, dtype: Any = None, copy: Any = None) -> Any:
+        """Returns a numpy array of its pairs, with the fields "key" and "value": a copy."""
+        numpy: Any = importlib.import_module("numpy")
+        forms = [_FORMS[SCALARS[code].letter] + str(SCALARS[code].size) for code in (self._key_code, self._value_code)]
+        pairs = numpy.array(list(self._pairs()), [("key", forms[0]), ("value", forms[1])])
+        return pairs if dtype is None or pairs.dtype == dtype else pairs.astype(dtype)
+
     def _ipython_key_completions_(self) -> List[int]:
         return self._rows(None, _AHEAD)[0]
 
@@ -1025,8 +1071,8 @@ class Map(_Pairs, Object, MutableMapping[int, int]):
         self._call(zx.zx_clear_map)
 
     def update(self, *others: Any, **named: Any) -> None:
-        """Puts the pairs of a mapping, or of a list of pairs. It puts none if one is outside the kinds of the map:
-        OutOfRange, WrongKind. After NoSpace the first ones are put."""
+        """Puts the pairs of a mapping, of a list of pairs, or of a numpy array with two fields. It puts none if one is
+        outside the kinds of the map: OutOfRange, WrongKind. After NoSpace the first ones are put."""
         if len(others) > 1:
             raise WrongKind(f"update of {self._key!r} takes one mapping, not {len(others)}")
         self._put_all(dict_of(self, *others, **named))
@@ -1059,13 +1105,21 @@ _ABSENT = 10
 def dict_of(about: Any, *others: Any, **named: Any) -> Dict[Any, Any]:
     """Returns the pairs that an update gets."""
     try:
-        return dict(*(other._value() if isinstance(other, Map) else other for other in others), **named)
+        return dict(*map(_plain_pairs, others), **named)
     except Error:
         raise
     except TypeError as error:
         raise WrongKind(f"{about._key!r}: {error}") from None
     except ValueError as error:
         raise BadValue(f"{about._key!r}: {error}") from None
+
+
+def _plain_pairs(other: Any) -> Any:
+    """Returns the pairs of a map, or of an array with two fields, as dict takes them quickly."""
+    names = getattr(getattr(other, "dtype", None), "names", None)
+    if names is not None and len(names) == 2 and getattr(other, "ndim", 0) == 1:
+        return zip(other[names[0]].tolist(), other[names[1]].tolist())
+    return other._value() if isinstance(other, Map) else other
 
 
 def bytes_in(arguments: Tuple[Any, ...], count: int) -> Optional[int]:
@@ -1092,11 +1146,13 @@ def is_list_for(code: int, value: Any) -> bool:
     return isinstance(value, collections.abc.Sequence) or hasattr(value, "tolist")
 
 
-def object_of(segment: Any, key: Key, code: int) -> Any:
-    """Returns the object of a key that has a kind."""
+def object_of(segment: Any, key: Key, code: int, encoding: Optional[str] = SAME) -> Any:
+    """Returns the object of a key that has a kind. `encoding` says how its texts are decoded."""
     classes = segment._classes
     if is_scalar(code):
         return classes[Array](segment, key, code)
     if code in (STRING, STRINGS):
-        return classes[String if code == STRING else Strings](segment, key, code)
+        made = classes[String if code == STRING else Strings](segment, key, code)
+        made._own_encoding = encoding
+        return made
     return classes[Vector if code < MAP else Map](segment, key, code)

@@ -2,9 +2,11 @@
 from __future__ import annotations
 
 import ctypes
+import dataclasses
 import importlib
 import operator
 import struct
+import typing
 from typing import TYPE_CHECKING, Any, Callable, Iterable, Iterator, List, MutableSequence
 
 from ._errors import BadCount, BadValue, Error, NoElement, OutOfRange, WrongKind, shown
@@ -47,6 +49,39 @@ def _fields_of(value: Any) -> Any:
     return bytes(value) if isinstance(value, ctypes.Union) else value
 
 
+_LETTERS = {float: "d", int: "q", bool: "?"}
+
+
+def _form_of_dataclass(form: Any) -> _Form:
+    """Lays its fields out as C lays out a structure of them."""
+    extras: Any = {"include_extras": True} if hasattr(typing, "Annotated") else {}
+    try:
+        hints = typing.get_type_hints(form, **extras)
+    except (NameError, TypeError) as error:
+        raise WrongKind(f"{form.__name__}: {error}") from None
+    names = [field.name for field in dataclasses.fields(form) if field.init]
+    letters = [_letter_of(form, name, hints[name]) for name in names]
+    longest = max(letters, key=struct.calcsize, default="B")
+    spelled = struct.Struct(f"@{''.join(letters)}0{longest}")
+
+    def to_bytes(value: Any) -> bytes:
+        return spelled.pack(*([getattr(value, name) for name in names] if isinstance(value, form) else value))
+
+    def plain(value: Any) -> Any:
+        return tuple(getattr(value, name) for name in names) if isinstance(value, form) else value
+    return _Form(spelled.size, to_bytes, lambda record: form(**dict(zip(names, spelled.unpack(record)))), plain)
+
+
+def _letter_of(form: Any, name: str, hint: Any) -> str:
+    """Returns the letter of `struct` for a field: of float, int, bool, Annotated[int, "i"] or ctypes.c_int32."""
+    letters = [each for each in (*getattr(hint, "__metadata__", ()), _LETTERS.get(hint), getattr(hint, "_type_", None))
+               if isinstance(each, str) and len(each) == 1 and each in "?bBhHiIlLqQfd"]
+    if not letters:
+        raise WrongKind(f"{form.__name__}.{name} is no number: records have fields of float, int, bool, "
+                        'Annotated[int, "i"] or ctypes.c_int32')
+    return letters[0]
+
+
 def _form_of_dtype(form: Any) -> _Form:
     numpy: Any = importlib.import_module("numpy")
 
@@ -71,12 +106,14 @@ def _is_form(values: Any, form: Any, size: int) -> bool:
 
 
 def _form_of(form: Any) -> _Form:
-    """Returns the form of a struct format, a ctypes.Structure or a numpy dtype."""
+    """Returns the form of a struct format, a ctypes.Structure, a dataclass or a dtype of numpy."""
     try:
         if isinstance(form, (str, bytes, struct.Struct)):
             made = _form_of_struct(form if isinstance(form, struct.Struct) else struct.Struct(form))
         elif isinstance(form, type) and issubclass(form, (ctypes.Structure, ctypes.Union)):
             made = _form_of_ctypes(form)
+        elif isinstance(form, type) and dataclasses.is_dataclass(form):
+            made = _form_of_dataclass(form)
         elif hasattr(form, "itemsize") and not getattr(form, "hasobject", True):
             made = _form_of_dtype(form)
         else:
@@ -90,8 +127,9 @@ def _form_of(form: Any) -> _Form:
 
 class Records(MutableSequence[Any]):
     """Records of one form, used as a list: those of a vector of u8, or of an array of u8, whose length is fixed. A form
-    is a struct format ("d" for doubles, whose records are numbers; "<ihx" for tuples), a ctypes.Structure, or a numpy
-    dtype. The bytes are those of the form, as C and C++ lay it out. `Segment.records` makes one."""
+    is a struct format ("d" for doubles, whose records are numbers; "<ihx" for tuples), a ctypes.Structure, a dataclass
+    whose fields are numbers, or a numpy dtype. The bytes are those of the form, as C and C++ lay it out.
+    `Segment.records` makes one."""
     __slots__ = ("_elements", "_form", "_given", "_lock")
 
     def __init__(self, elements: Any, form: Any) -> None:

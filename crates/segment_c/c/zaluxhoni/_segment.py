@@ -18,11 +18,12 @@ from typing import (TYPE_CHECKING, Any, Callable, Dict, ItemsView, Iterator, Key
 from . import _library
 from ._errors import (BadCount, BadKey, BadName, BadValue, Error, FileForked, FileUnsynced, Lent, NotFound,
                       WrongKind, WrongTask, WrongThread, error_of, file_error_of, named, no_space, shown)
-from ._library import BOOL, I32, I64, MAP, NO_SPACE, STRING, STRINGS, U8, VECTOR, quick, zx
-from ._objects import Array, Map, Object, _Pairs, String, Strings, Vector, bytes_in, object_of
+from ._library import BOOL, I32, I64, MAP, NO_SPACE, STRING, STRINGS, U8, U64, VECTOR, quick, zx
+from ._objects import SAME, Array, Map, Object, _Pairs, String, Strings, Vector, bytes_in, object_of
 from ._records import Records
 from ._values import (KINDS, MOST, TEXTS, Key, MapKind, ScalarKind, Texts, VectorKind, code_of, counted, encoded,
-                      handle, is_scalar, is_truth, listed, natural, pairs_of, raw_key, row, scalar, value_of, whole)
+                      handle, is_scalar, is_truth, listed, natural, number_in, pairs_of, raw_key, row, scalar, value_of,
+                      whole)
 
 _ABSENT, _OUT_OF_RANGE, _CLOSED = 10, 8, 16
 _NO_OBJECT = (6, 17, 18)
@@ -77,6 +78,7 @@ class _Named(_Pairs, MutableMapping[str, Any]):
     __slots__ = ()
     _segment: Segment
     _prefix: str
+    _own_encoding: Optional[str]
     if TYPE_CHECKING:
         def keys(self) -> KeysView[str]:
             raise NotImplementedError
@@ -119,7 +121,7 @@ class _Named(_Pairs, MutableMapping[str, Any]):
         BadValue, BadCount, WrongKind."""
         full, made = self._full(key), ctypes.c_uint64()
         code = self._make("construct", kind, full, value, made)
-        return object_of(self._segment, full if full is not None else handle(made.value), code)
+        return self._object(full if full is not None else handle(made.value), code)
 
     @overload
     def find_or_construct(self, kind: ScalarKind, key: Key, value: Any = None) -> Array: ...
@@ -144,7 +146,7 @@ class _Named(_Pairs, MutableMapping[str, Any]):
         kind has the key."""
         full = self._full(key)
         code = self._make("find_or_construct", kind, full, value, ctypes.c_uint64(), ctypes.c_uint32())
-        return object_of(self._segment, full, code)
+        return self._object(full, code)
 
     def _make(self, call: str, kind: str, key: Any, value: Any, *told: Any) -> int:
         segment = self._segment
@@ -153,10 +155,10 @@ class _Named(_Pairs, MutableMapping[str, Any]):
             if is_scalar(code):
                 self._make_scalars(call, code, count, key, value, told)
             elif code == STRING:
-                text = encoded("" if value is None else value, segment.encoding)
+                text = encoded("" if value is None else value, self._texts)
                 segment._change(f"{call}_string", key, text, len(text), *told)
             elif code == STRINGS:
-                texts = Texts(() if value is None else value, segment.encoding)
+                texts = Texts(() if value is None else value, self._texts)
                 segment._change(f"{call}_strings", key, texts.passed, texts.count, *told)
             elif code < MAP:
                 values = row(code - VECTOR, () if value is None else value, BadValue)
@@ -202,7 +204,7 @@ class _Named(_Pairs, MutableMapping[str, Any]):
 
     def _is_new(self, call: str, code: int, key: Any) -> bool:
         """Tells whether the call will make an object."""
-        return call == "construct" or self._segment._find(code, key) is None
+        return call == "construct" or not self._segment._has(code, key)
 
     def vector(self, key: Key, kind: str = "i64") -> Vector:
         """Returns the vector of a name, and makes an empty one if there is none: vector("queue", "i64"). WrongKind,
@@ -247,13 +249,14 @@ class _Named(_Pairs, MutableMapping[str, Any]):
     def find(self, kind: str, key: Key) -> Any:
         """Returns the object of a kind under a name or unique(kind), or None. WrongKind, if an object of another kind
         has the key."""
-        return self._segment._find(code_of(kind), self._full(key))
+        code, full = code_of(kind), self._full(key)
+        return self._object(full, code) if self._segment._has(code, full) else None
 
     def object(self, key: Key) -> Any:
         """Returns the object of a name, of unique(kind) or of handle(number); one number as an Array, a text as a
         String. NotFound."""
         full = self._full(key)
-        return object_of(self._segment, full, code_of(self._segment._info(full).kind))
+        return self._object(full, code_of(self._segment._info(full).kind))
 
     def destroy(self, key: Key) -> bool:
         """Destroys the object of a name or of unique(kind), and returns whether it existed; or destroys that of
@@ -269,18 +272,30 @@ class _Named(_Pairs, MutableMapping[str, Any]):
         return self._segment._info(self._full(key))
 
     def records(self, key: Key, form: Any) -> Records:
-        """Returns the records that the bytes of a name spell in a form; the bytes are a vector or an array of u8. If
-        the name is new, makes an empty vector: records("points", "dd"). WrongKind, NoSpace."""
+        """Returns the records that the bytes of a name hold, in a form; the bytes are a vector or an array of u8. If
+        the name is new, makes an empty vector: records("points", "dd"), records("points", Point) of a
+        ctypes.Structure, of a dataclass or of a numpy dtype. WrongKind, NoSpace."""
         told = self._segment._told(self._full(key))
         if told is not None and told.kind == U8:
             return self._segment._classes[Records](self.object(key), form)  # type: ignore[no-any-return]
         return self._segment._classes[Records](self.vector(key, "u8"), form)  # type: ignore[no-any-return]
 
-    def group(self, prefix: str) -> Group:
-        """Returns the names that begin with a text, as a mapping from the rest of each name: group("prices/")."""
+    def group(self, prefix: str, *, encoding: Optional[str] = SAME) -> Group:
+        """Returns the names that begin with a text, as a mapping from the rest of each name: group("prices/"). Its
+        texts are decoded as here, or by another encoding; with None they are bytes: group("images/", encoding=None)."""
         if not isinstance(prefix, str):
             raise BadName(f"{shown(prefix)} is no front of names")
-        return self._segment._classes[Group](self._segment, self._prefix + prefix)  # type: ignore[no-any-return]
+        own = self._own_encoding if encoding is SAME else known_encoding(encoding)
+        return self._segment._classes[Group](self._segment, self._prefix + prefix, own)  # type: ignore[no-any-return]
+
+    @property
+    def _texts(self) -> Optional[str]:
+        """How its texts are encoded and decoded."""
+        return self._segment.encoding if self._own_encoding is SAME else self._own_encoding
+
+    def _object(self, key: Any, code: int) -> Any:
+        """Returns the object of a key that has a kind."""
+        return object_of(self._segment, key, code, self._own_encoding)
 
     # -- as a mapping
 
@@ -289,23 +304,27 @@ class _Named(_Pairs, MutableMapping[str, Any]):
         told = self._segment._told(full)
         if told is None:
             raise NotFound(f"no object is {shown(full)}")
-        found = object_of(self._segment, full, told.kind)
-        if told.kind == STRING:
-            return found._value()
-        return found[0] if told.count == 1 and is_scalar(told.kind) else found
+        if told.count == 1 and is_scalar(told.kind):
+            return self._segment._number_of(raw_key(full), full)
+        found = self._object(full, told.kind)
+        return found._value() if told.kind == STRING else found
 
     def __setitem__(self, key: Any, value: Any) -> None:
         """Gives an object another value of its kind. If the name is new, makes an object: a bool of a bool, an i64 of a
         number (above its range a u64), a string of a text, a vector of a list, a map of a dict."""
-        full = self._full(key)
-        told = self._segment._told(full)
-        if told is None:
-            if key is None:
-                raise WrongKind("None is no name")
-            raw_key(full)
+        if key is None:
+            raise WrongKind("None is no name")
+        full, kind = self._full(key), _kind_of_number(value)
+        raw = raw_key(full)
+        told = self._segment._told_by(raw, full)
+        if told is None and kind:
+            self._segment._make_number(raw, full, value_of(kind, value))
+        elif told is None:
             self.construct(_kind_for(value, full), key, value._value() if isinstance(value, Object) else value)
+        elif kind and told.count == 1 and is_scalar(told.kind):
+            self._segment._set_number(raw, full, told.kind, value)
         else:
-            object_of(self._segment, full, told.kind)._become(value)
+            self._object(full, told.kind)._become(value)
 
     def __delitem__(self, key: Any) -> None:
         full = self._full(key)
@@ -375,7 +394,7 @@ class _Named(_Pairs, MutableMapping[str, Any]):
         for name, kind, _, _, value in self._rows():
             found: Any = value
             if value is None:
-                found = object_of(segment, name, kind)
+                found = self._object(name, kind)
                 found = found._value() if kind == STRING else found
             yield name[begin:], found
 
@@ -418,6 +437,24 @@ def _pairs_in(other: Any = ()) -> List[Tuple[Any, Any]]:
 def _is_number(value: Any) -> bool:
     """Whether a value is one whole number or bool; numpy arrays have __index__ too."""
     return is_truth(value) or hasattr(value, "__index__") and not hasattr(value, "__len__")
+
+
+def _kind_of_number(value: Any) -> int:
+    """Returns the kind of a new object for one whole number or bool of Python, or 0."""
+    if type(value) is bool:
+        return BOOL
+    if type(value) is int and -MOST <= value < 2 * MOST:
+        return I64 if value < MOST else U64
+    return 0
+
+
+def known_encoding(encoding: Optional[str]) -> Optional[str]:
+    """Returns the name of an encoding. BadValue."""
+    try:
+        codecs.lookup(encoding or "utf-8")
+    except (LookupError, TypeError):
+        raise BadValue(f"no encoding is {shown(encoding)}") from None
+    return encoding
 
 
 def _new_scalar(code: int, value: Any) -> int:
@@ -478,19 +515,19 @@ class _Left:
 class Segment(_Named, _library.Block):
     """A segment, used as a mapping from names to objects, in the order of the names' bytes. `open`, `create` and `load`
     make one."""
-    __slots__ = ("_file", "_handle", "_prefix", "_thread_number", "_may_ask", "_opener", "_thread", "_process",
-                 "_changes_at_fork", "_is_told", "_lock", "_changes", "_lent", "_any_name", "_was_lent", "_left",
-                 "_path", "_is_mapped", "_is_durable", "_classes", "_steps", "_task", "_restored", "_held", "_was_refused", "growing",
-                 "encoding", "__weakref__")
+    __slots__ = ("_file", "_handle", "_prefix", "_own_encoding", "_thread_number", "_may_ask", "_opener", "_thread",
+                 "_process", "_changes_at_fork", "_is_told", "_lock", "_changes", "_lent", "_any_name", "_was_lent",
+                 "_left", "_path", "_is_mapped", "_is_durable", "_classes", "_steps", "_task", "_restored", "_held",
+                 "_was_refused", "growing", "encoding", "__weakref__")
     if TYPE_CHECKING:
         def __enter__(self) -> Segment:
             raise NotImplementedError
 
-    def __init__(self, *, grow: bool = False, encoding: Optional[str] = "utf-8",
+    def __init__(self, *, grow: bool = True, encoding: Optional[str] = "utf-8",
                  check_same_thread: bool = True) -> None:
         self._file = _library.File()
         self._handle = self._file.segment
-        self._prefix = ""
+        self._prefix, self._own_encoding = "", SAME
         # the number of the thread whose calls are not checked; 0: no call is checked; _NOBODY: each call is checked
         self._thread_number: int = _here.number if check_same_thread else 0
         self._may_ask = ctypes.c_uint64(self._thread_number)
@@ -512,13 +549,9 @@ class Segment(_Named, _library.Block):
         self._classes: Dict[Any, Any] = _plain if check_same_thread else _locked_classes()
         self.growing = grow
         """Whether a call that finds no space makes the segment longer by half and goes on."""
-        self.encoding = encoding
+        self.encoding = known_encoding(encoding)
         """The encoding of texts; with None, texts are bytes. Bytes that cannot be decoded become surrogates (PEP
         383)."""
-        try:
-            codecs.lookup(encoding or "utf-8")
-        except (LookupError, TypeError):
-            raise BadValue(f"no encoding is {shown(encoding)}") from None
 
     @property
     def _segment(self) -> Segment:  # type: ignore[override]
@@ -606,11 +639,12 @@ class Segment(_Named, _library.Block):
         self._call(call, truth)
         return truth.value
 
-    def _find(self, code: int, key: Any) -> Any:
+    def _has(self, code: int, key: Any) -> bool:
+        """Tells whether an object of the kind has the key. WrongKind."""
         found = self._code(zx.zx_find, raw_key(key), code, ctypes.c_uint64(), ctypes.c_uint32())
         if found and found != _ABSENT:
             raise self._error(found, key)
-        return None if found else object_of(self, key, code)
+        return not found
 
     def _info(self, key: Any) -> Info:
         told, name = _library.Info(), ctypes.create_string_buffer(_LONGEST_NAME)
@@ -621,14 +655,44 @@ class Segment(_Named, _library.Block):
 
     def _told(self, key: Any) -> Optional[_library.Info]:
         """Tells about an object, except its name; None also for a key that no object can have."""
-        told = _library.Info()
         try:
-            code = self._code(zx.zx_tell, raw_key(key), told, self._any_name, _LONGEST_NAME)
+            raw = raw_key(key)
         except (BadKey, BadName):
             return None
+        return self._told_by(raw, key)
+
+    def _told_by(self, raw: _library.Key, key: Any) -> Optional[_library.Info]:
+        told = _library.Info()
+        code = self._code(zx.zx_tell, raw, told, self._any_name, _LONGEST_NAME)
         if code and code not in _NO_OBJECT:
             raise self._error(code, key)
         return None if code else told
+
+    def _make_number(self, raw: _library.Key, key: Any, value: _library.Value) -> None:
+        """Makes a single scalar."""
+        self._changes += 1
+        code = self._code(zx.zx_construct, raw, 1, value, ctypes.c_uint64())
+        if code:
+            raise self._error(code, key, (value,))
+
+    def _number_of(self, raw: _library.Key, key: Any) -> int:
+        """Returns the value of a single scalar."""
+        value = _library.Value()
+        code = self._code(zx.zx_get, raw, 0, value)
+        if code:
+            raise self._error(code, key)
+        return number_in(value)
+
+    def _set_number(self, raw: _library.Key, key: Any, kind: int, value: int) -> None:
+        """Gives a single scalar another value."""
+        try:
+            passed = value_of(kind, scalar(kind, value))
+        except Error as error:
+            raise named(error, key) from None
+        self._changes += 1
+        code = self._code(zx.zx_set, raw, 0, passed)
+        if code:
+            raise self._error(code, key)
 
     def _is_lent(self) -> bool:
         """Tells whether a view exists. Views that are gone leave the list here, and not at the moment when they go: a
@@ -989,10 +1053,11 @@ class Segment(_Named, _library.Block):
 class Group(_Named):
     """The names of a segment that begin with a text: a mapping from the rest of each name to its object.
     `Segment.group` makes one; it stays valid as long as the segment is open."""
-    __slots__ = ("_segment", "_prefix", "_lock")
+    __slots__ = ("_segment", "_prefix", "_own_encoding", "_lock")
 
-    def __init__(self, segment: Segment, prefix: str) -> None:
+    def __init__(self, segment: Segment, prefix: str, encoding: Optional[str] = SAME) -> None:
         self._segment, self._prefix, self._lock = segment, prefix, segment._lock
+        self._own_encoding = encoding
 
     @property
     def prefix(self) -> str:

@@ -51,8 +51,15 @@ def code_of(kind: str) -> int:
     """Returns the code of a kind as docs/LANGUAGE.md spells it, such as "map<i32,i64>"."""
     code = _codes.get(kind.replace(" ", "")) if isinstance(kind, str) else None
     if code is None:
-        raise BadKind(f"no kind is {shown(kind)}")
+        raise BadKind(f"no kind is {shown(kind)}{_way_for_kind(kind)}")
     return code
+
+
+def _way_for_kind(kind: Any) -> str:
+    """Says how a segment keeps what has no kind."""
+    if isinstance(kind, str) and re.search(r"f(32|64)|float|double", kind):
+        return _way_for(0.0)
+    return _way_for("") if isinstance(kind, str) and re.match(r"map<(str|text)", kind) else ""
 
 
 def counted(kind: str) -> Tuple[int, Optional[int]]:
@@ -224,11 +231,11 @@ def unpacked(code: int, memory: Any, count: int) -> List[int]:
 
 def words(code: int, values: Iterable[Any], refused: Type[Error] = OutOfRange) -> Any:
     """Returns numbers of a kind in 64 bits each, as rows of pairs have them."""
-    numbers = values if isinstance(values, list) else list(values)
-    packed = None if code in (U8, I32) else _packed(SCALARS[U64 if code == BOOL else code], code, numbers)
-    if packed is None:
-        checked = [scalar(code, value, refused) for value in numbers]
-        packed = struct.pack(f"{len(checked)}{'q' if code in (I32, I64) else 'Q'}", *checked)
+    numbers, own = values if isinstance(values, list) else list(values), SCALARS[code]
+    is_plain = set(map(type, numbers)) <= {bool if code == BOOL else int}
+    if not is_plain or numbers and not own.least <= min(numbers) <= max(numbers) <= own.most:
+        numbers = [scalar(code, value, refused) for value in numbers]
+    packed = struct.pack(f"{len(numbers)}{'q' if code in (I32, I64) else 'Q'}", *numbers)
     return ctypes.create_string_buffer(packed, max(8, len(packed)))
 
 

@@ -65,48 +65,52 @@ static void keep_page(struct commits *commits, const uint8_t *at, uint64_t size,
 
 /* What a commit writes. */
 struct record {
-    uint64_t size;    /* of the image */
-    uint64_t pages;   /* of the image */
-    uint64_t count;   /* of the pages that changed */
-    uint8_t *changed; /* whether a page changed */
-    uint64_t after;   /* the fingerprint of the image */
+    uint64_t size;        /* of the image */
+    uint64_t pages;       /* of the image */
+    uint64_t count;       /* of the pages that changed */
+    uint8_t *changed;     /* 1 for each page that changed */
+    uint64_t share;       /* what the fingerprint gains by these pages */
+    struct image payload; /* room for it */
+    uint64_t len;         /* of the payload */
     struct image body;
 };
 
-/* Makes room for each changed page, which keeps what was committed until the record counts. */
-static zx_code make_rooms(zx_file *file, const struct zx_held_file *held, const struct record *record) {
-    for (uint64_t page = 0; page < record->pages; page++) {
-        if (!record->changed[page] || held->commits->kept[page]) continue;
-        uint8_t *room = malloc(PAGE);
-        if (!room) return ZX_NO_MEMORY;
-        if (!committed_page(held, page, room)) {
-            zx_code code = fault(file);
-            free(room);
-            return code;
-        }
-        held->commits->kept[page] = room;
-    }
-    return ZX_DONE;
-}
-
 static void free_record(struct record *record) {
     free(record->changed);
+    free(record->payload.bytes);
     free(record->body.bytes);
 }
 
-/* Finds the pages that changed since the last commit. Behind an end that moved all did. */
-static zx_code find_record(zx_file *file, const struct zx_held_file *held, struct record *record) {
-    zx_code code = zx_size(&file->segment, &record->size);
-    if (code != ZX_DONE) return code;
-    record->pages = pages_of(record->size);
-    record->changed = malloc(record->pages);
-    if (!record->changed) return ZX_NO_MEMORY;
-    errno = 0;
-    if (!find_changed(held, record->pages, record->changed)) return errno ? fault(file) : (zx_code)ZX_NO_MEMORY;
-    uint64_t before = held->commits->len, first = (before < record->size ? before : record->size) / PAGE;
-    if (before != record->size && first < record->pages) memset(record->changed + first, 1, record->pages - first);
-    for (uint64_t page = 0; page < record->pages; page++) record->count += record->changed[page];
-    return ZX_DONE;
+/* Makes room for a payload of `len` bytes. */
+static bool make_payload_room(struct record *record, uint64_t len) {
+    if (len <= record->payload.len) return true;
+    struct image more = room_for(2 * len);
+    if (!more.bytes) return false;
+    if (record->payload.bytes) memcpy(more.bytes, record->payload.bytes, record->len);
+    free(record->payload.bytes);
+    record->payload = more;
+    return true;
+}
+
+/* Returns how many bytes of two pages are the same from an offset on, in whole words. */
+static size_t same_words(const uint8_t *old, const uint8_t *now, size_t at, size_t len) {
+    size_t from = at;
+    while (at < len && memcmp(old + at, now + at, 8) == 0) at += 8;
+    return at - from;
+}
+
+/* Finds the next bytes of a page that changed, from `behind` on. They end before as many bytes that did not change as
+   another edit costs. Returns false if there are none. */
+static bool next_run(const uint8_t *old, const uint8_t *now, size_t len, size_t *from, size_t *behind) {
+    size_t at = *behind + same_words(old, now, *behind, len);
+    if (at == len) return false;
+    *from = at;
+    for (size_t same = 0; at < len && same <= EDIT; at += same) {
+        while (at < len && memcmp(old + at, now + at, 8) != 0) at += 8;
+        *behind = at;
+        same = same_words(old, now, at, len);
+    }
+    return true;
 }
 
 /* The share that a page of a length has in a fingerprint. */
@@ -114,48 +118,87 @@ static uint64_t share_of(uint64_t page, const uint8_t *bytes, size_t len) {
     return len > 0 ? zx_log_page_mark(page, bytes, len) : 0;
 }
 
-/* Computes the fingerprint of the image from the one before and the pages that changed. */
-static bool mark_record(const struct zx_held_file *held, struct record *record) {
+/* Adds the edits of a page that changed, and its share. */
+static zx_code add_page(const struct zx_held_file *held, struct record *record, uint64_t page, const uint8_t *old) {
+    const uint8_t *now = held->at + page * PAGE;
+    size_t len = page_len(record->size, page), from, behind = 0;
+    zx_code code = ZX_DONE;
+    record->changed[page] = 1;
+    record->count++;
+    record->share -= share_of(page, old, page_len(held->commits->len, page));
+    record->share += share_of(page, now, len);
+    while (code == ZX_DONE && next_run(old, now, len, &from, &behind)) {
+        uint64_t end = record->len + EDIT + behind - from;
+        if (!make_payload_room(record, end)) return ZX_NO_MEMORY;
+        code = zx_log_edit(page * PAGE + from, now + from, behind - from, record->payload.bytes + record->len,
+                           end - record->len);
+        record->len = end;
+    }
+    return code;
+}
+
+/* Compares a page with what the last commit left of it, and keeps that if they differ or the image's end moved. A page
+   that is as its file has it is given back. */
+static zx_code compare_page(zx_file *file, const struct zx_held_file *held, struct record *record, uint64_t page,
+                            bool has_moved) {
+    struct commits *commits = held->commits;
+    uint8_t *old = commits->kept[page] ? commits->kept[page] : malloc(PAGE);
+    if (!old) return ZX_NO_MEMORY;
+    bool is_done = commits->kept[page] || committed_page(held, page, old);
+    bool is_same = is_done && !has_moved && memcmp(old, held->at + page * PAGE, page_len(record->size, page)) == 0;
+    commits->compared += is_same;
+    record->changed[page] = 0;
+    if (is_same && !commits->kept[page]) is_done = forget(held, page, page + 1);
+    zx_code code = is_done ? (zx_code)ZX_DONE : fault(file);
+    if (is_done && !is_same) commits->kept[page] = old;
+    if (is_done && !is_same) return add_page(held, record, page, old);
+    if (!commits->kept[page]) free(old);
+    return code;
+}
+
+/* Finds the pages that changed since the last commit, and their edits. */
+static zx_code find_record(zx_file *file, const struct zx_held_file *held, struct record *record) {
+    zx_code code = zx_size(&file->segment, &record->size);
+    if (code != ZX_DONE) return code;
+    record->len = FRONT;
+    record->pages = pages_of(record->size);
+    record->changed = malloc(record->pages);
+    if (!record->changed || !make_payload_room(record, FRONT)) return ZX_NO_MEMORY;
+    (void)find_own(held, record->pages, record->changed);
+    // behind an end that moved each page has another share
+    uint64_t before = held->commits->len, moved = record->pages;
+    if (before != record->size) moved = (before < record->size ? before : record->size) / PAGE;
+    memset(record->changed + moved, 1, record->pages - moved);
+    for (uint64_t page = 0; code == ZX_DONE; page++) {
+        page = next_noted(record->changed, record->pages, page);
+        if (page == record->pages) break;
+        code = compare_page(file, held, record, page, page >= moved);
+    }
+    return code;
+}
+
+/* Takes away the shares of the pages that are cut off. */
+static bool cut_shares(const struct zx_held_file *held, struct record *record) {
     uint8_t bytes[PAGE];
-    uint64_t before = held->commits->len;
-    record->after = held->commits->after;
-    for (uint64_t page = 0; page < record->pages || page < pages_of(before); page++) {
-        if (page < record->pages && !record->changed[page]) continue;
+    for (uint64_t page = record->pages; page < pages_of(held->commits->len); page++) {
         if (!committed_page(held, page, bytes)) return false;
-        record->after -= share_of(page, bytes, page_len(before, page));
-        if (page < record->pages)
-            record->after += share_of(page, held->at + page * PAGE, page_len(record->size, page));
+        record->share -= share_of(page, bytes, page_len(held->commits->len, page));
     }
     return true;
 }
 
-/* Makes the payload: the changed pages, and zeros up to whole blocks of a disk, so that each gate has its own. */
-static zx_code make_payload(const struct zx_held_file *held, const struct record *record, struct image *payload) {
-    uint64_t most = 8 + FRONT + record->count * (EDIT + PAGE), at = FRONT;
-    *payload = room_for((most + GATE - 1) / GATE * GATE - 8);
-    if (!payload->bytes) return ZX_NO_MEMORY;
-    zx_code code = zx_log_front(record->size, held->commits->base, record->after, payload->bytes, payload->len);
-    for (uint64_t page = 0; code == ZX_DONE && page < record->pages; page++) {
-        if (!record->changed[page]) continue;
-        size_t len = page_len(record->size, page);
-        code = zx_log_edit(page * PAGE, held->at + page * PAGE, len, payload->bytes + at, payload->len - at);
-        at += EDIT + len;
-    }
-    if (code == ZX_DONE) memset(payload->bytes + at, 0, payload->len - at);
-    return code;
-}
-
+/* Makes what the record writes behind its gate. The payload is filled up to whole blocks of a disk, so that each gate has
+   its own. */
 static zx_code make_body(const struct zx_held_file *held, struct record *record) {
-    struct image payload;
-    zx_code code = make_payload(held, record, &payload);
-    if (code == ZX_DONE) {
-        record->body = room_for(8 + payload.len + GATE);
-        code = !record->body.bytes
-                   ? (zx_code)ZX_NO_MEMORY
-                   : zx_log_body(payload.bytes, payload.len, record->body.bytes, record->body.len);
-    }
-    free(payload.bytes);
-    return code;
+    const struct commits *commits = held->commits;
+    uint64_t len = (8 + record->len + GATE - 1) / GATE * GATE - 8;
+    if (!make_payload_room(record, len)) return ZX_NO_MEMORY;
+    memset(record->payload.bytes + record->len, 0, len - record->len);
+    zx_code code = zx_log_front(record->size, commits->base, commits->after + record->share, record->payload.bytes, len);
+    if (code != ZX_DONE) return code;
+    record->body = room_for(8 + len + GATE);
+    if (!record->body.bytes) return ZX_NO_MEMORY;
+    return zx_log_body(record->payload.bytes, len, record->body.bytes, record->body.len);
 }
 
 /* Computes the fingerprint of the file, by which its log is known. */
@@ -203,10 +246,24 @@ static zx_code ready_log(zx_file *file, struct zx_held_file *held) {
     return held->state == SAVED ? (zx_code)ZX_DONE : synced(sync_name(file, held));
 }
 
+/* The length at which a log is emptied. */
+static uint64_t longest_log(const struct commits *commits) {
+    return commits->len / 4 > LONG_LOG ? commits->len / 4 : LONG_LOG;
+}
+
+/* Allocates blocks up to `end` in a log, and for the records after it: a sync of bytes that have blocks writes only these
+   bytes. If the disk refuses them, a write allocates them. */
+static void allot_log(struct zx_held_file *held, uint64_t end) {
+    struct commits *commits = held->commits;
+    uint64_t step = (longest_log(commits) / 8 / GATE + 1) * GATE, room = (end / step + 1) * step;
+    if (end > commits->room && fallocate(held->log, 0, 0, (off_t)room) == 0) commits->room = room;
+}
+
 /* Adds the record to the log. Behind the first byte that is synced nobody knows whether a failed one counts. */
 static zx_code write_record(zx_file *file, struct zx_held_file *held, const struct record *record) {
     struct commits *commits = held->commits;
     const struct image *body = &record->body;
+    allot_log(held, commits->end + GATE + body->len);
     if (!write_at(held->log, body->bytes, body->len, (off_t)(commits->end + GATE))) return fault(file);
     if (sync_log(held->log) && write_gate(held, true, commits->end) && sync_log(held->log)) return ZX_DONE;
     commits->is_unsure = true;
@@ -216,11 +273,11 @@ static zx_code write_record(zx_file *file, struct zx_held_file *held, const stru
 /* Notes what was committed. */
 static void note_record(const zx_file *file, struct zx_held_file *held, const struct record *record) {
     struct commits *commits = held->commits;
-    for (uint64_t page = 0; page < record->pages; page++)
-        if (record->changed[page]) keep_page(commits, held->at, record->size, page);
+    for (uint64_t page = 0; (page = next_noted(record->changed, record->pages, page)) < record->pages; page++)
+        keep_page(commits, held->at, record->size, page);
     free_pages(commits, record->pages, pages_of(commits->len));
     commits->len = record->size;
-    commits->after = record->after;
+    commits->after += record->share;
     commits->end += record->body.len;
     held->saved = file->segment.changes;
 }
@@ -230,6 +287,7 @@ static bool remove_log(struct zx_held_file *held) {
     char log[PATH_MAX + 8];
     if (!name_log(held->name, log) || (unlinkat(held->folder, log, 0) != 0 && errno != ENOENT)) return false;
     close_listed(&held->log);
+    if (held->commits) held->commits->room = 0;
     return true;
 }
 
@@ -268,6 +326,7 @@ static zx_code renew_log(zx_file *file, struct zx_held_file *held, uint64_t end)
     pthread_mutex_lock(&guard);
     int before = held->log;
     if (is_done) held->log = held->made, held->made = before;
+    if (is_done && held->commits) held->commits->room = 0;
     pthread_mutex_unlock(&guard);
     close_listed(&held->made);
     return is_done ? synced(sync_name(file, held)) : code;
@@ -312,8 +371,7 @@ static zx_code commit_pages(zx_file *file, struct zx_held_file *held) {
     bool is_same_image = code == ZX_DONE && record.count == 0 && record.size == held->commits->len;
     if (code == ZX_DONE && !is_same_image) {
         code = mark_base(file, held);
-        if (code == ZX_DONE && !mark_record(held, &record)) code = fault(file);
-        if (code == ZX_DONE) code = make_rooms(file, held, &record);
+        if (code == ZX_DONE && !cut_shares(held, &record)) code = fault(file);
         if (code == ZX_DONE) code = make_body(held, &record);
         if (code == ZX_DONE) code = ready_log(file, held);
         if (code == ZX_DONE) code = write_record(file, held, &record);
@@ -354,15 +412,16 @@ static zx_code checkpoint(zx_file *file, struct zx_held_file *held) {
     code = empty_log(file, held);
     if (code != ZX_DONE) return code;
     commits->base = commits->after;
-    commits->end = 0;
+    commits->end = commits->compared = 0;
     return ZX_DONE;
 }
 
-/* Makes a checkpoint where the log is long. The commit is done, whatever becomes of it. */
+/* Makes a checkpoint where the log is long, or where comparisons in vain took as much time as a checkpoint does. The
+   commit is done, whatever becomes of it. */
 static void shorten_log(zx_file *file, struct zx_held_file *held) {
     const struct commits *commits = held->commits;
-    uint64_t quarter = commits->len / 4;
-    if (held->steps == 0 && commits->end > (quarter > LONG_LOG ? quarter : LONG_LOG)) (void)checkpoint(file, held);
+    bool is_due = commits->end > longest_log(commits) || commits->compared / IN_VAIN > pages_of(commits->len);
+    if (held->steps == 0 && is_due) (void)checkpoint(file, held);
     file->error = 0;
 }
 

@@ -9,6 +9,9 @@ enum { GATE = 4096, FRONT = 40, EDIT = 16 };
 #define LONG_LOG (1 << 20)
 #endif
 
+/* A checkpoint writes a page in the time in which commits compare so many. */
+enum { IN_VAIN = 32 };
+
 /* Syncs the bytes and the length of a log. */
 static bool sync_log(int log) {
     int tries = 0;

@@ -63,12 +63,15 @@ static void keep_page(struct commits *commits, const uint8_t *at, uint64_t size,
     memset(commits->kept[page] + len, 0, PAGE - len);
 }
 
+/* A note on a page that is its process' own, and has the bytes that its file has. */
+enum { ALIKE = 2 };
+
 /* What a commit writes. */
 struct record {
     uint64_t size;        /* of the image */
     uint64_t pages;       /* of the image */
     uint64_t count;       /* of the pages that changed */
-    uint8_t *changed;     /* 1 for each page that changed */
+    uint8_t *changed;     /* of each page: 1 if it changed, or ALIKE */
     uint64_t share;       /* what the fingerprint gains by these pages */
     struct image payload; /* room for it */
     uint64_t len;         /* of the payload */
@@ -138,22 +141,37 @@ static zx_code add_page(const struct zx_held_file *held, struct record *record, 
 }
 
 /* Compares a page with what the last commit left of it, and keeps that if they differ or the image's end moved. A page
-   that is as its file has it is given back. */
+   that is as its file has it is noted by ALIKE. */
 static zx_code compare_page(zx_file *file, const struct zx_held_file *held, struct record *record, uint64_t page,
                             bool has_moved) {
     struct commits *commits = held->commits;
     uint8_t *old = commits->kept[page] ? commits->kept[page] : malloc(PAGE);
     if (!old) return ZX_NO_MEMORY;
-    bool is_done = commits->kept[page] || committed_page(held, page, old);
-    bool is_same = is_done && !has_moved && memcmp(old, held->at + page * PAGE, page_len(record->size, page)) == 0;
-    commits->compared += is_same;
-    record->changed[page] = 0;
-    if (is_same && !commits->kept[page]) is_done = forget(held, page, page + 1);
-    zx_code code = is_done ? (zx_code)ZX_DONE : fault(file);
-    if (is_done && !is_same) commits->kept[page] = old;
-    if (is_done && !is_same) return add_page(held, record, page, old);
-    if (!commits->kept[page]) free(old);
-    return code;
+    if (!commits->kept[page] && !committed_page(held, page, old)) {
+        zx_code code = fault(file);
+        free(old);
+        return code;
+    }
+    if (has_moved || memcmp(old, held->at + page * PAGE, page_len(record->size, page)) != 0) {
+        commits->kept[page] = old;
+        return add_page(held, record, page, old);
+    }
+    record->changed[page] = commits->kept[page] ? 0 : ALIKE;
+    if (commits->kept[page]) commits->compared++;
+    else free(old);
+    return ZX_DONE;
+}
+
+/* Gives back the pages that are as their file has them, so that they are not compared again. */
+static bool forget_alike(const struct zx_held_file *held, const struct record *record) {
+    for (uint64_t page = 0; page < record->pages;) {
+        const uint8_t *first = memchr(record->changed + page, ALIKE, record->pages - page);
+        if (!first) return true;
+        uint64_t from = (uint64_t)(first - record->changed);
+        for (page = from; page < record->pages && record->changed[page] == ALIKE;) page++;
+        if (!forget(held, from, page)) return false;
+    }
+    return true;
 }
 
 /* Finds the pages that changed since the last commit, and their edits. */
@@ -164,7 +182,7 @@ static zx_code find_record(zx_file *file, const struct zx_held_file *held, struc
     record->pages = pages_of(record->size);
     record->changed = malloc(record->pages);
     if (!record->changed || !make_payload_room(record, FRONT)) return ZX_NO_MEMORY;
-    (void)find_own(held, record->pages, record->changed);
+    bool is_told = find_own(held, record->pages, record->changed);
     // behind an end that moved each page has another share
     uint64_t before = held->commits->len, moved = record->pages;
     if (before != record->size) moved = (before < record->size ? before : record->size) / PAGE;
@@ -174,7 +192,7 @@ static zx_code find_record(zx_file *file, const struct zx_held_file *held, struc
         if (page == record->pages) break;
         code = compare_page(file, held, record, page, page >= moved);
     }
-    return code;
+    return code == ZX_DONE && is_told && !forget_alike(held, record) ? fault(file) : code;
 }
 
 /* Takes away the shares of the pages that are cut off. */

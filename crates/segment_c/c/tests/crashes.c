@@ -162,6 +162,15 @@ static int disk_ftruncate(int file, off_t len) {
     return done;
 }
 
+static int disk_fallocate(int file, int how, off_t from, off_t len) {
+    struct stat found;
+    if (fails() || (fstat)(file, &found) != 0) return -1;
+    int done = (fallocate)(file, how, from, len);
+    if (is_noted && done == 0 && from + len > found.st_size) note_write(file, NULL, 0, (uint64_t)(from + len));
+    noted();
+    return done;
+}
+
 static int disk_sync(int file) {
     struct stat found;
     if (!is_noted) return 0;
@@ -220,13 +229,24 @@ static int disk_unlinkat(int in, const char *name, int how) {
 static void *disk_mremap(void *at, size_t len, size_t wanted, int how) { return (mremap)(at, len, wanted, how); }
 static void *disk_malloc(size_t size) { return (malloc)(size); }
 static void *disk_calloc(size_t count, size_t size) { return (calloc)(count, size); }
-static int disk_open(const char *name, int how) { return (open)(name, how); }
+
+/* How the pages that changed are found in a run: as today, as before Linux 6.7, or without a page map. */
+static enum { BY_SCAN, BY_ENTRIES, BY_COMPARISON } way;
+
+static int disk_ioctl(int file, unsigned long call, void *words) {
+    return way == BY_SCAN ? (ioctl)(file, call, words) : -1;
+}
+
+static int disk_open(const char *name, int how) {
+    return way == BY_COMPARISON && strcmp(name, "/proc/self/pagemap") == 0 ? -1 : (open)(name, how);
+}
+
 static int disk_syncfs(int file) { return disk_sync(file); }
 
 struct zx_system zx_system = {
     .open = disk_open, .openat = disk_openat, .pread = pread, .pwrite = disk_pwrite, .ftruncate = disk_ftruncate,
-    .fallocate = fallocate, .lseek = lseek, .fsync = disk_sync, .fdatasync = disk_sync, .syncfs = disk_syncfs,
-    .flock = flock, .lstat = lstat, .stat = stat, .fstat = fstat, .fstatat = fstatat, .fstatfs = fstatfs,
+    .fallocate = disk_fallocate, .lseek = lseek, .fsync = disk_sync, .fdatasync = disk_sync, .syncfs = disk_syncfs,
+    .flock = flock, .ioctl = disk_ioctl, .lstat = lstat, .stat = stat, .fstat = fstat, .fstatat = fstatat, .fstatfs = fstatfs,
     .fchmod = fchmod, .fchown = fchown, .fgetxattr = fgetxattr, .fsetxattr = fsetxattr, .fremovexattr = fremovexattr,
     .flistxattr = flistxattr, .linkat = disk_linkat, .renameat = disk_renameat, .unlinkat = disk_unlinkat, .mmap = mmap,
     .mremap = disk_mremap, .munmap = munmap, .msync = msync, .madvise = madvise, .close = close, .malloc = disk_malloc,
@@ -496,6 +516,7 @@ static void run(void) {
     (unlinkat)(AT_FDCWD, path, 0);
     (unlinkat)(AT_FDCWD, log_path, 0);
     is_harsh = some(2);
+    way = some(3);
     zx_key numbers = zx_name("numbers");
     zx_value none = zx_u64(0);
     zx_values first = zx_u64s(&none.natural, 1);

@@ -36,14 +36,6 @@ static zx_code lengthen(zx_file *file, struct zx_held_file *held, uint64_t size,
     return attach(file, held, size, ZX_WRITE);
 }
 
-/* Puts an image into the mapping: only the pages that differ become own. */
-static void lay_over(const struct zx_held_file *held, const struct image *image) {
-    for (uint64_t at = 0; at < image->len; at += PAGE) {
-        size_t len = at_most(image->len - at, PAGE);
-        if (memcmp(held->at + at, image->bytes + at, len) != 0) memcpy(held->at + at, image->bytes + at, len);
-    }
-}
-
 /* ---- commits */
 
 /* What a call returns that needs a name to be on the disk before it goes on. */
@@ -57,10 +49,15 @@ static void free_pages(struct commits *commits, uint64_t first, uint64_t behind)
 }
 
 /* Keeps the bytes of a page as committed. The room for them is there. */
-static void keep_page(struct commits *commits, const uint8_t *at, uint64_t size, uint64_t page) {
+static void keep_page(struct commits *commits, const uint8_t *image, uint64_t size, uint64_t page) {
     size_t len = page_len(size, page);
-    memcpy(commits->kept[page], at + page * PAGE, len);
+    memcpy(commits->kept[page], image + page * PAGE, len);
     memset(commits->kept[page] + len, 0, PAGE - len);
+}
+
+/* The share that a page of a length has in a fingerprint. */
+static uint64_t share_of(uint64_t page, const uint8_t *bytes, size_t len) {
+    return len > 0 ? zx_log_page_mark(page, bytes, len) : 0;
 }
 
 /* A note on a page that is its process' own, and has the bytes that its file has. */
@@ -114,11 +111,6 @@ static bool next_run(const uint8_t *old, const uint8_t *now, size_t len, size_t 
         same = same_words(old, now, at, len);
     }
     return true;
-}
-
-/* The share that a page of a length has in a fingerprint. */
-static uint64_t share_of(uint64_t page, const uint8_t *bytes, size_t len) {
-    return len > 0 ? zx_log_page_mark(page, bytes, len) : 0;
 }
 
 /* Adds the edits of a page that changed, and its share. */
@@ -417,8 +409,8 @@ static void map_committed(struct zx_held_file *held) {
     free_pages(commits, 0, pages_of(held->len));
 }
 
-/* Puts the image, which is committed, into the file, and begins the log anew. If the file's name is not synced, the
-   log keeps its records. */
+/* Replaces the file by a new one that has the committed image, and empties the log. If the name of the new file can't be
+   synced, the log keeps its records. */
 static zx_code checkpoint(zx_file *file, struct zx_held_file *held) {
     struct commits *commits = held->commits;
     struct image image = { held->at, commits->len };

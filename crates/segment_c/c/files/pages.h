@@ -290,7 +290,7 @@ static bool share_again(struct zx_held_file *held, uint64_t len) {
     return is_done && set_length(held->file, len);
 }
 
-/* Restores what a transaction kept, and opens the segment anew. */
+/* Undoes a transaction: restores the bytes of the mapping, and opens the segment in it again. */
 static zx_code undo_pages(zx_file *file, struct zx_held_file *held, const struct zx_kept *kept) {
     uint64_t pages = pages_of(kept->size), size = 0;
     zx_memory memory;

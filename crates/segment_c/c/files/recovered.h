@@ -172,8 +172,8 @@ static zx_code drop_log(zx_file *file, struct zx_held_file *held) {
 
 /* ---- a file that is read while another may write it */
 
-/* Opens the segment of what a file stands for with its log. The log was read first: if it does not belong to the file,
-   that changed meanwhile, and AGAIN is returned. */
+/* Opens the segment of the image that a file stands for with its log, which was read before. Returns
+   ZX_FILE_LOG_FOREIGN if another process changed the file between the two readings. */
 static zx_code read_with_log(zx_file *file, int from, const struct image *log, uint32_t how) {
     struct stat found;
     struct recovered made;

@@ -32,7 +32,7 @@ struct bytes {
     uint64_t len, room;
 };
 
-/* A write that was not synced, or a length that was set if `bytes` is null. */
+/* A write that is not synced, or a new length if `bytes` is null. */
 struct write {
     uint64_t at, len;
     uint8_t *bytes;
@@ -49,7 +49,8 @@ static int disk_count;
 
 enum name { THE_FILE, THE_LOG, OTHER };
 
-/* A name that was given to a file, or taken from one (-1), and whether that was synced. */
+/* The names that files got (-1: the name was removed) since the last sync of the folder; and the file that each name
+   leads to, in memory and on the disk. */
 static struct {
     enum name name;
     int file;
@@ -57,8 +58,8 @@ static struct {
 static int name_count, now_at[2], durable_at[2];
 
 static char folder[200], path[240], log_path[250];
-static bool is_noted;         /* whether calls are noted */
-static uint64_t calls, fuse;  /* which call fails */
+static bool is_noted;         /* the disk in memory follows the calls */
+static uint64_t calls, fuse;  /* the number of calls, and the number of the call that fails */
 static bool has_failed;
 static void at_moment(void);
 
@@ -230,7 +231,7 @@ static void *disk_mremap(void *at, size_t len, size_t wanted, int how) { return 
 static void *disk_malloc(size_t size) { return (malloc)(size); }
 static void *disk_calloc(size_t count, size_t size) { return (calloc)(count, size); }
 
-/* How the pages that changed are found in a run: as today, as before Linux 6.7, or without a page map. */
+/* The way in which a run finds the pages that changed: as Linux 6.7 does, as older systems do, or without a page map. */
 static enum { BY_SCAN, BY_ENTRIES, BY_COMPARISON } way;
 
 static int disk_ioctl(int file, unsigned long call, void *words) {
@@ -258,9 +259,9 @@ struct zx_system zx_system = {
 static struct bytes state_file, state_log;
 static bool has_log;
 static uint64_t states, wrong, most_states;
-static bool is_harsh; /* whether sectors may be garbage */
+static bool is_harsh; /* sectors can be garbage */
 
-/* Puts a write into a file, sector by sector: old, new or garbage. */
+/* Applies a write to a file: each sector stays old, becomes new, or becomes garbage. */
 static void cut_write(struct bytes *to, const struct write *write, unsigned mode) {
     for (uint64_t at = write->at; at < write->at + write->len;) {
         uint64_t end = (at / SECTOR + 1) * SECTOR, rest = write->at + write->len;
@@ -291,7 +292,7 @@ static void cut_file(struct bytes *to, const struct on_disk *from) {
     if (to->len > from->durable.len && some(2)) to->len = from->durable.len + some(to->len - from->durable.len + 1);
 }
 
-/* Builds a state. Returns whether a file is there. */
+/* Builds a state that a power cut can leave. Returns false if the file does not exist in it. */
 static bool cut_power(void) {
     int at[2] = { durable_at[0], durable_at[1] };
     unsigned mode = (unsigned)some(4);
@@ -305,7 +306,8 @@ static bool cut_power(void) {
     return true;
 }
 
-/* The images that a state may stand for: that of the last commit that was answered, and those under way. */
+/* The images that a state may stand for: the image of the last commit that was answered, and the images of the calls
+   after it. */
 enum { MAY = 6 };
 static struct bytes may[MAY];
 static int may_count;
@@ -345,7 +347,7 @@ static void at_moment(void) {
 static zx_file file;
 static bool is_unsure;
 
-/* Notes what the folder has as the disk's. */
+/* Makes the disk in memory a copy of the folder. */
 static void begin_disk(void) {
     const char *all[2] = { path, log_path };
     for (int i = 0; i < disk_count; i++)
@@ -372,13 +374,13 @@ static void image_now(struct bytes *to) {
     if (zx_save(&file.segment, to->at, size) != ZX_DONE) abort();
 }
 
-/* The image is under way: it may be what a state stands for from now on. */
+/* Adds the segment's image to the images that a state may stand for. */
 static void add_image(void) {
     if (may_count == MAY) abort();
     image_now(&may[may_count++]);
 }
 
-/* The image is the only one that may be. */
+/* Makes the segment's image the only one that a state may stand for. */
 static void set_image(void) {
     image_now(&may[0]);
     may_count = 1;
@@ -401,7 +403,7 @@ static void change_length(void) {
     else (void)zx_file_shrink(&file);
 }
 
-/* What a commit or a save answered, for the image that was added. */
+/* Takes the answer of a commit or a save, and drops the images that a state may stand for no more. */
 static void note_answer(zx_code code, bool is_commit) {
     if (code == ZX_DONE || (code == ZX_FILE_UNSYNCED && !is_commit)) set_image();
     else if (code == ZX_FILE_UNSURE) is_unsure = true;
@@ -469,7 +471,7 @@ static void save_bytes(const char *name, const struct bytes *bytes) {
     close(to);
 }
 
-/* The power is cut, and a new process goes on with what that left. */
+/* Cuts the power, and goes on with the state that this left, as a new process. */
 static bool reboot(void) {
     bool is_there = cut_power();
     is_noted = false;

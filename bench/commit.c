@@ -277,7 +277,7 @@ static void time_transactions(uint32_t how, const char *name, uint64_t size, int
     unlink(in_folder("steps.seg-log"));
 }
 
-/* Fills a segment with texts, and lets a log of commits grow beside it to a quarter of the image. */
+/* Fills a segment with texts, and lets a log grow beside it to 19 in 20 of the length at which it is emptied. */
 static void make_log(zx_file *file, uint64_t size) {
     static const uint8_t text[40] = "a text that has a block of its own ....";
     zx_key key = zx_name("texts"), numbers = zx_name("numbers");
@@ -290,8 +290,8 @@ static void make_log(zx_file *file, uint64_t size) {
     done((int)zx_construct_strings(&file->segment, &key, &one, 1, &handle), "construct");
     while (zx_push_text(&file->segment, &key, text, sizeof text) == ZX_DONE) {}
     done((int)zx_file_save(file), "save");
-    for (uint64_t at = 0; at < quarter; at += quarter / 20) {
-        uint64_t len = quarter - at < quarter / 20 ? quarter - at : quarter / 20;
+    uint64_t len = quarter / 20;
+    for (uint64_t at = 0; at < 19 * len; at += len) {
         for (uint64_t i = 0; i < len; i++) all[i] = some();
         zx_values row = zx_u64s(all, len);
         done((int)zx_write_elements(&file->segment, &numbers, at, &row), "write");
@@ -300,7 +300,7 @@ static void make_log(zx_file *file, uint64_t size) {
     free(all);
 }
 
-/* How long an opening takes with a log of a quarter of the image, and after a save, beside the check of the image. */
+/* Times an opening with a log of a quarter of the image, an opening after a save, and the check of the image. */
 static void time_opening(uint64_t mib, int count) {
     zx_file file = ZX_CLOSED_FILE;
     char what[100], path[400];

@@ -70,26 +70,27 @@ struct record {
     uint64_t count;       /* of the pages that changed */
     uint8_t *changed;     /* of each page: 1 if it changed, or ALIKE */
     uint64_t share;       /* what the fingerprint gains by these pages */
-    struct image payload; /* room for it */
-    uint64_t len;         /* of the payload */
-    struct image body;
+    uint64_t len;         /* of its bytes, which are in the buffer */
 };
 
-static void free_record(struct record *record) {
-    free(record->changed);
-    free(record->payload.bytes);
-    free(record->body.bytes);
+/* A longer buffer is freed after a commit. */
+enum { LONG_BUFFER = 1 << 24 };
+
+/* Makes the buffer long enough for `len` bytes of a record. */
+static bool make_buffer(struct commits *commits, const struct record *record, uint64_t len) {
+    struct image *buffer = &commits->buffer, more;
+    if (len <= buffer->len) return true;
+    more = room_for(2 * len);
+    if (!more.bytes) return false;
+    if (buffer->bytes) memcpy(more.bytes, buffer->bytes, record->len);
+    free(buffer->bytes);
+    *buffer = more;
+    return true;
 }
 
-/* Makes room for a payload of `len` bytes. */
-static bool make_payload_room(struct record *record, uint64_t len) {
-    if (len <= record->payload.len) return true;
-    struct image more = room_for(2 * len);
-    if (!more.bytes) return false;
-    if (record->payload.bytes) memcpy(more.bytes, record->payload.bytes, record->len);
-    free(record->payload.bytes);
-    record->payload = more;
-    return true;
+static void free_buffer(struct commits *commits) {
+    free(commits->buffer.bytes);
+    commits->buffer = (struct image){ NULL, 0 };
 }
 
 /* Returns how many bytes of two pages are the same from an offset on, in whole words. */
@@ -115,19 +116,19 @@ static bool next_run(const uint8_t *old, const uint8_t *now, size_t len, size_t 
 
 /* Adds the edits of a page that changed, and its share. */
 static zx_code add_page(const struct zx_held_file *held, struct record *record, uint64_t page, const uint8_t *old) {
+    struct commits *commits = held->commits;
     const uint8_t *now = held->at + page * PAGE;
     size_t len = page_len(record->size, page), from, behind = 0;
     zx_code code = ZX_DONE;
     record->changed[page] = 1;
     record->count++;
-    record->share -= share_of(page, old, page_len(held->commits->len, page));
+    record->share -= share_of(page, old, page_len(commits->len, page));
     record->share += share_of(page, now, len);
     while (code == ZX_DONE && next_run(old, now, len, &from, &behind)) {
-        uint64_t end = record->len + EDIT + behind - from;
-        if (!make_payload_room(record, end)) return ZX_NO_MEMORY;
-        code = zx_log_edit(page * PAGE + from, now + from, behind - from, record->payload.bytes + record->len,
-                           end - record->len);
-        record->len = end;
+        size_t edit = EDIT + behind - from;
+        if (!make_buffer(commits, record, record->len + edit)) return ZX_NO_MEMORY;
+        code = zx_log_edit(page * PAGE + from, now + from, behind - from, commits->buffer.bytes + record->len, edit);
+        record->len += edit;
     }
     return code;
 }
@@ -170,10 +171,10 @@ static bool forget_alike(const struct zx_held_file *held, const struct record *r
 static zx_code find_record(zx_file *file, const struct zx_held_file *held, struct record *record) {
     zx_code code = zx_size(&file->segment, &record->size);
     if (code != ZX_DONE) return code;
-    record->len = FRONT;
+    record->len = 8 + FRONT;
     record->pages = pages_of(record->size);
     record->changed = malloc(record->pages);
-    if (!record->changed || !make_payload_room(record, FRONT)) return ZX_NO_MEMORY;
+    if (!record->changed) return ZX_NO_MEMORY;
     bool is_told = find_own(held, record->pages, record->changed);
     // behind an end that moved each page has another share
     uint64_t before = held->commits->len, moved = record->pages;
@@ -197,18 +198,17 @@ static bool cut_shares(const struct zx_held_file *held, struct record *record) {
     return true;
 }
 
-/* Makes what the record writes behind its gate. The payload is filled up to whole blocks of a disk, so that each gate has
-   its own. */
-static zx_code make_body(const struct zx_held_file *held, struct record *record) {
-    const struct commits *commits = held->commits;
-    uint64_t len = (8 + record->len + GATE - 1) / GATE * GATE - 8;
-    if (!make_payload_room(record, len)) return ZX_NO_MEMORY;
-    memset(record->payload.bytes + record->len, 0, len - record->len);
-    zx_code code = zx_log_front(record->size, commits->base, commits->after + record->share, record->payload.bytes, len);
-    if (code != ZX_DONE) return code;
-    record->body = room_for(8 + len + GATE);
-    if (!record->body.bytes) return ZX_NO_MEMORY;
-    return zx_log_body(record->payload.bytes, len, record->body.bytes, record->body.len);
+/* Completes what the record writes behind its gate: the length of the payload, which is spelled as the offset of an edit,
+   in front of it; zeros up to whole blocks of a disk, so that each gate has its own; and the next gate, shut. */
+static zx_code end_record(struct commits *commits, struct record *record) {
+    uint64_t gate = (record->len + GATE - 1) / GATE * GATE;
+    if (!make_buffer(commits, record, gate + GATE)) return ZX_NO_MEMORY;
+    uint8_t *bytes = commits->buffer.bytes;
+    memset(bytes + record->len, 0, gate - record->len);
+    record->len = gate + GATE;
+    zx_code code = zx_log_edit(gate - 8, bytes, 0, bytes, EDIT);
+    if (code == ZX_DONE) code = zx_log_front(record->size, commits->base, commits->after + record->share, bytes + 8, FRONT);
+    return code == ZX_DONE ? zx_log_gate(false, bytes + gate, GATE) : code;
 }
 
 /* Computes the fingerprint of the file, by which its log is known. */
@@ -272,9 +272,8 @@ static void allot_log(struct zx_held_file *held, uint64_t end) {
 /* Adds the record to the log. Behind the first byte that is synced nobody knows whether a failed one counts. */
 static zx_code write_record(zx_file *file, struct zx_held_file *held, const struct record *record) {
     struct commits *commits = held->commits;
-    const struct image *body = &record->body;
-    allot_log(held, commits->end + GATE + body->len);
-    if (!write_at(held->log, body->bytes, body->len, (off_t)(commits->end + GATE))) return fault(file);
+    allot_log(held, commits->end + GATE + record->len);
+    if (!write_at(held->log, commits->buffer.bytes, record->len, (off_t)(commits->end + GATE))) return fault(file);
     if (sync_log(held->log) && write_gate(held, true, commits->end) && sync_log(held->log)) return ZX_DONE;
     commits->is_unsure = true;
     return faulty(file, ZX_FILE_UNSURE, errno);
@@ -288,7 +287,7 @@ static void note_record(const zx_file *file, struct zx_held_file *held, const st
     free_pages(commits, record->pages, pages_of(commits->len));
     commits->len = record->size;
     commits->after += record->share;
-    commits->end += record->body.len;
+    commits->end += record->len;
     held->saved = file->segment.changes;
 }
 
@@ -382,13 +381,14 @@ static zx_code commit_pages(zx_file *file, struct zx_held_file *held) {
     if (code == ZX_DONE && !is_same_image) {
         code = mark_base(file, held);
         if (code == ZX_DONE && !cut_shares(held, &record)) code = fault(file);
-        if (code == ZX_DONE) code = make_body(held, &record);
+        if (code == ZX_DONE) code = end_record(held->commits, &record);
         if (code == ZX_DONE) code = ready_log(file, held);
         if (code == ZX_DONE) code = write_record(file, held, &record);
         if (code == ZX_DONE) note_record(file, held, &record);
     }
     if (is_same_image) held->saved = file->segment.changes;
-    free_record(&record);
+    free(record.changed);
+    if (held->commits->buffer.len > LONG_BUFFER) free_buffer(held->commits);
     return code;
 }
 
@@ -452,6 +452,7 @@ static void leave_log(struct zx_held_file *held) {
 static void free_commits(struct zx_held_file *held) {
     if (!held->commits) return;
     free_pages(held->commits, 0, pages_of(held->len));
+    free_buffer(held->commits);
     free(held->commits);
     held->commits = NULL;
 }

@@ -105,6 +105,7 @@ struct commits {
     uint64_t end;    /* where the records of the log end */
     uint64_t room;   /* the length up to which this process allocated the log's blocks */
     uint64_t compared; /* pages that commits found the same since the last checkpoint */
+    struct image buffer; /* room for a record */
     uint8_t *kept[]; /* of each page that a commit changed, what it left; null for those that are the file's */
 };
 

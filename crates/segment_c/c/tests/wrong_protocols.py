@@ -18,8 +18,9 @@ WRONG = [
      "    if (code == ZX_DONE) code = empty_log(file, held);\n    if (code == ZX_DONE) code = replace(file, held, &image);\n"
      "    if (code != ZX_DONE) return code;\n    map_committed"),
     ("a record has no shut gate behind it", "durable.h",
-     "    if (!write_at(held->log, body->bytes, body->len, (off_t)(commits->end + GATE))) return fault(file);",
-     "    if (!write_at(held->log, body->bytes, body->len - GATE, (off_t)(commits->end + GATE))) return fault(file);"),
+     "    if (!write_at(held->log, commits->buffer.bytes, record->len, (off_t)(commits->end + GATE))) return fault(file);",
+     "    if (!write_at(held->log, commits->buffer.bytes, record->len - GATE, (off_t)(commits->end + GATE)))\n"
+     "        return fault(file);"),
     ("a log that another process left is added to", "durable.h",
      "    if (!commits->is_left) return ZX_DONE;", "    if (commits) return ZX_DONE;"),
     ("a commit behind a failed sync is taken for done", "durable.h",

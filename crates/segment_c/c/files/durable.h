@@ -453,7 +453,7 @@ static void free_commits(struct zx_held_file *held) {
     if (!held->commits) return;
     free_pages(held->commits, 0, pages_of(held->len));
     free_buffer(held->commits);
-    free(held->commits);
+    munmap(held->commits, commits_size());
     held->commits = NULL;
 }
 

@@ -109,6 +109,9 @@ struct commits {
     uint8_t *kept[]; /* of each page that a commit changed, what it left; null for those that are the file's */
 };
 
+/* How many bytes that takes, for the largest image. They are mapped, since only those that are used take memory then. */
+static size_t commits_size(void) { return sizeof(struct commits) + pages_of(LARGEST) * sizeof(uint8_t *); }
+
 /* Reads what the last commit left of a page. */
 static bool committed_page(const struct zx_held_file *held, uint64_t page, uint8_t bytes[PAGE]) {
     const struct commits *commits = held->commits;

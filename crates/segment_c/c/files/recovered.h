@@ -87,8 +87,9 @@ static zx_code read_recovered(zx_file *file, struct zx_held_file *held, uint64_t
 static zx_code begin_commits(zx_file *file, struct zx_held_file *held, uint64_t len) {
     struct recovered made = { .end = 0 };
     uint64_t room = pages_of(LARGEST) * PAGE;
-    held->commits = calloc(1, sizeof *held->commits + pages_of(LARGEST) * sizeof held->commits->kept[0]);
-    if (!held->commits) return ZX_NO_MEMORY;
+    void *commits = mmap(NULL, commits_size(), PROT_READ | PROT_WRITE, MAP_PRIVATE | MAP_ANONYMOUS, -1, 0);
+    if (commits == MAP_FAILED) return ZX_NO_MEMORY;
+    held->commits = commits;
     zx_code code = open_log(file, held);
     if (code != ZX_DONE) return code;
     if (held->log < 0)

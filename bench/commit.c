@@ -12,10 +12,10 @@
 #include <sqlite3.h>
 #endif
 
-enum { MOST = 10000 };
+enum { MOST = 10000, CONTENDERS = 4 };
 
 static char folder[300];
-static double times[MOST];
+static double times[CONTENDERS][MOST];
 
 static double now(void) {
     struct timespec at;
@@ -28,9 +28,9 @@ static int compared(const void *a, const void *b) {
     return one < other ? -1 : one > other;
 }
 
-static void print(const char *what, int count) {
-    qsort(times, (size_t)count, sizeof *times, compared);
-    printf("%-60s %9.3f ms\n", what, times[count / 2]);
+static void print(const char *what, double *all, int count) {
+    qsort(all, (size_t)count, sizeof *all, compared);
+    printf("%-56s %9.3f ms  least %9.3f\n", what, all[count / 2], all[0]);
     fflush(stdout);
 }
 
@@ -56,8 +56,9 @@ static uint64_t some(void) {
 static uint64_t fill(zx_file *file, uint64_t size) {
     zx_key key = zx_name("numbers");
     uint64_t count = size / 8 - 200, handle;
-    uint64_t *numbers = calloc(count, 8);
+    uint64_t *numbers = malloc(count * 8);
     if (!numbers) exit(1);
+    for (uint64_t i = 0; i < count; i++) numbers[i] = some();
     zx_values none = zx_u64s(numbers, 0), all = zx_u64s(numbers, count);
     done((int)zx_construct_vector(&file->segment, &key, &none, &handle), "construct");
     done((int)zx_reserve(&file->segment, &key, count), "reserve");
@@ -66,48 +67,181 @@ static uint64_t fill(zx_file *file, uint64_t size) {
     return count;
 }
 
-static void set_some(zx_file *file, uint64_t count, int pages) {
+/* How much of a row is changed: a number, or 3,000 bytes. */
+enum change { ONE_NUMBER, ALL_OF_IT };
+
+static void set_some(zx_file *file, uint64_t count, int rows, enum change change) {
+    static uint64_t row[375];
     zx_key key = zx_name("numbers");
-    for (int i = 0; i < pages; i++) {
+    for (int i = 0; i < rows; i++) {
         zx_value value = zx_u64(some());
-        done((int)zx_set(&file->segment, &key, some() % count, &value), "set");
+        uint64_t at = some() % (count / 512) * 512;
+        for (int k = 0; change == ALL_OF_IT && k < 375; k++) row[k] = value.natural + (uint64_t)k * at;
+        zx_values values = zx_u64s(row, 375);
+        done(change == ONE_NUMBER ? (int)zx_set(&file->segment, &key, at, &value)
+                                  : (int)zx_write_elements(&file->segment, &key, at, &values), "set");
     }
 }
 
-static void time_durable(uint64_t size, int pages, int count) {
-    zx_file file = ZX_CLOSED_FILE;
-    char what[100], *path = in_folder("durable.seg");
+/* ---- the contenders: each changes rows, one a page, and commits them */
+
+static zx_file durable = ZX_CLOSED_FILE;
+static uint64_t durable_count;
+
+static void begin_durable(uint64_t size) {
+    char *path = in_folder("durable.seg");
     unlink(path);
-    done((int)zx_file_open(&file, path, ZX_CREATE_ONLY | ZX_DURABLE, size), "open");
-    uint64_t numbers = fill(&file, size);
-    done((int)zx_file_save(&file), "save");
-    for (int i = 0; i < count; i++) {
-        set_some(&file, numbers, pages);
-        double from = now();
-        done((int)zx_file_commit(&file), "commit");
-        times[i] = now() - from;
-    }
-    snprintf(what, sizeof what, "durable, %d pages of %llu MiB", pages, (unsigned long long)size >> 20);
-    print(what, count);
-    zx_file_discard(&file);
-    unlink(path);
+    done((int)zx_file_open(&durable, path, ZX_CREATE_ONLY | ZX_DURABLE, size), "open");
+    durable_count = fill(&durable, size);
+    done((int)zx_file_save(&durable), "save");
+}
+
+static void commit_durable(int rows, enum change change) {
+    set_some(&durable, durable_count, rows, change);
+    done((int)zx_file_commit(&durable), "commit");
+}
+
+static void end_durable(void) {
+    zx_file_discard(&durable);
+    unlink(in_folder("durable.seg"));
     unlink(in_folder("durable.seg-log"));
 }
 
-static void time_whole(uint64_t size, int count) {
+#ifdef HAS_LMDB
+static MDB_env *env;
+static MDB_dbi dbi;
+static uint64_t lmdb_count;
+
+static void begin_lmdb(uint64_t size) {
+    MDB_txn *txn;
+    char page[3000] = { 0 }, *path = in_folder("lmdb");
+    unlink(path);
+    lmdb_count = size / 4096;
+    done(mdb_env_create(&env), "lmdb");
+    done(mdb_env_set_mapsize(env, size * 4), "lmdb");
+    done(mdb_env_open(env, path, MDB_NOSUBDIR, 0600), "lmdb");
+    done(mdb_txn_begin(env, 0, 0, &txn), "lmdb");
+    done(mdb_dbi_open(txn, 0, MDB_INTEGERKEY, &dbi), "lmdb");
+    for (uint64_t i = 0; i < lmdb_count; i++) {
+        MDB_val key = { 8, &i }, value = { sizeof page, page };
+        done(mdb_put(txn, dbi, &key, &value, MDB_APPEND), "lmdb");
+    }
+    done(mdb_txn_commit(txn), "lmdb");
+}
+
+static void commit_lmdb(int rows, enum change change) {
+    static char page[3000];
+    MDB_txn *txn;
+    (void)change;
+    done(mdb_txn_begin(env, 0, 0, &txn), "lmdb");
+    for (int i = 0; i < rows; i++) {
+        uint64_t row = some() % lmdb_count;
+        MDB_val key = { 8, &row }, value = { sizeof page, page };
+        page[0]++;
+        done(mdb_put(txn, dbi, &key, &value, 0), "lmdb");
+    }
+    done(mdb_txn_commit(txn), "lmdb");
+}
+
+static void end_lmdb(void) {
+    mdb_env_close(env);
+    unlink(in_folder("lmdb"));
+    unlink(in_folder("lmdb-lock"));
+}
+#endif
+
+#ifdef HAS_SQLITE
+static sqlite3 *base;
+static sqlite3_stmt *set;
+static uint64_t sqlite_count;
+
+static void sql(const char *text) { done(sqlite3_exec(base, text, 0, 0, 0), text); }
+
+static void begin_sqlite(uint64_t size) {
+    char text[200], *path = in_folder("sqlite");
+    unlink(path);
+    sqlite_count = size / 4096;
+    done(sqlite3_open(path, &base), "sqlite");
+    sql("pragma journal_mode=wal; pragma synchronous=full; create table t(k integer primary key, v blob); begin");
+    snprintf(text, sizeof text,
+             "with recursive c(x) as (select 1 union all select x+1 from c where x < %llu) insert into t select x, zeroblob(3000) from c",
+             (unsigned long long)sqlite_count);
+    sql(text);
+    sql("commit");
+    done(sqlite3_prepare_v2(base, "update t set v=randomblob(3000) where k=?", -1, &set, 0), "sqlite");
+}
+
+static void commit_sqlite(int rows, enum change change) {
+    (void)change;
+    sql("begin");
+    for (int i = 0; i < rows; i++) {
+        sqlite3_bind_int64(set, 1, (sqlite3_int64)(some() % sqlite_count + 1));
+        if (sqlite3_step(set) != SQLITE_DONE) exit(1);
+        sqlite3_reset(set);
+    }
+    sql("commit");
+}
+
+static void end_sqlite(void) {
+    sqlite3_finalize(set);
+    sqlite3_close(base);
+    unlink(in_folder("sqlite"));
+    unlink(in_folder("sqlite-wal"));
+    unlink(in_folder("sqlite-shm"));
+}
+#endif
+
+static const struct contender {
+    const char *name;
+    void (*begin)(uint64_t size);
+    void (*commit)(int rows, enum change change);
+    void (*end)(void);
+} contenders[] = {
+    { "durable", begin_durable, commit_durable, end_durable },
+#ifdef HAS_LMDB
+    { "LMDB", begin_lmdb, commit_lmdb, end_lmdb },
+#endif
+#ifdef HAS_SQLITE
+    { "SQLite, write-ahead log", begin_sqlite, commit_sqlite, end_sqlite },
+#endif
+};
+
+enum { MANY = sizeof contenders / sizeof contenders[0] };
+
+static void time_commits(uint64_t mib, int rows, enum change change, int count) {
+    char what[100];
+    for (int k = 0; k < MANY; k++) contenders[k].begin(mib << 20);
+    for (int i = 0; i < count; i++) {
+        for (int k = 0; k < MANY; k++) {
+            double from = now();
+            contenders[k].commit(rows, change);
+            times[k][i] = now() - from;
+        }
+    }
+    for (int k = 0; k < MANY; k++) {
+        double sum = 0;
+        for (int i = 0; i < count; i++) sum += times[k][i];
+        snprintf(what, sizeof what, "%s, %d %s in %d MiB, mean %.3f", contenders[k].name, rows,
+                 change == ONE_NUMBER ? "changes" : "rows", (int)mib, sum / count);
+        print(what, times[k], count);
+        contenders[k].end();
+    }
+}
+
+static void time_whole(uint64_t mib, int count) {
     zx_file file = ZX_CLOSED_FILE;
     char what[100], *path = in_folder("whole.seg");
     unlink(path);
-    done((int)zx_file_open(&file, path, ZX_CREATE_ONLY, size), "open");
-    uint64_t numbers = fill(&file, size);
+    done((int)zx_file_open(&file, path, ZX_CREATE_ONLY, mib << 20), "open");
+    uint64_t numbers = fill(&file, mib << 20);
     for (int i = 0; i < count; i++) {
-        set_some(&file, numbers, 1);
+        set_some(&file, numbers, 1, ONE_NUMBER);
         double from = now();
         done((int)zx_file_save(&file), "save");
-        times[i] = now() - from;
+        times[0][i] = now() - from;
     }
-    snprintf(what, sizeof what, "a whole save of %llu MiB", (unsigned long long)size >> 20);
-    print(what, count);
+    snprintf(what, sizeof what, "a whole save of %d MiB", (int)mib);
+    print(what, times[0], count);
     zx_file_discard(&file);
     unlink(path);
 }
@@ -122,123 +256,101 @@ static void time_transactions(uint32_t how, const char *name, uint64_t size, int
     for (int i = 0; i < count; i++) {
         double from = now();
         done((int)zx_file_begin(&file, &before), "begin");
-        set_some(&file, numbers, 1);
+        set_some(&file, numbers, 1, ONE_NUMBER);
         done((int)zx_file_keep(&file, &before), "keep");
-        times[i] = now() - from;
+        times[0][i] = now() - from;
     }
     snprintf(what, sizeof what, "a transaction of one change, %s, %llu MB", name, (unsigned long long)size / 1000000);
-    print(what, count);
+    print(what, times[0], count);
     for (int i = 0; i < 5; i++) {
         done((int)zx_file_begin(&file, &before), "begin");
-        set_some(&file, numbers, 1);
+        set_some(&file, numbers, 1, ONE_NUMBER);
         double from = now();
         done((int)zx_file_undo(&file, &before), "undo");
-        times[i] = now() - from;
+        times[0][i] = now() - from;
     }
     snprintf(what, sizeof what, "one that is undone, %s, %llu MB", name, (unsigned long long)size / 1000000);
-    print(what, 5);
+    print(what, times[0], 5);
     zx_file_discard(&file);
     unlink(path);
     unlink(in_folder("steps.seg-log"));
 }
 
-#ifdef HAS_LMDB
-static void time_lmdb(uint64_t size, int rows, int count) {
-    MDB_env *env;
-    MDB_txn *txn;
-    MDB_dbi dbi;
-    char what[100], page[3000] = { 0 }, *path = in_folder("lmdb");
-    uint64_t all = size / 4096;
-    unlink(path);
-    done(mdb_env_create(&env), "lmdb");
-    done(mdb_env_set_mapsize(env, size * 4), "lmdb");
-    done(mdb_env_open(env, path, MDB_NOSUBDIR, 0600), "lmdb");
-    done(mdb_txn_begin(env, 0, 0, &txn), "lmdb");
-    done(mdb_dbi_open(txn, 0, MDB_INTEGERKEY, &dbi), "lmdb");
-    for (uint64_t i = 0; i < all; i++) {
-        MDB_val key = { 8, &i }, value = { sizeof page, page };
-        done(mdb_put(txn, dbi, &key, &value, MDB_APPEND), "lmdb");
+/* Fills a segment with texts, and lets a log grow beside it to 19 in 20 of the length at which it is emptied. */
+static void make_log(zx_file *file, uint64_t size) {
+    static const uint8_t text[40] = "a text that has a block of its own ....";
+    zx_key key = zx_name("texts"), numbers = zx_name("numbers");
+    zx_text one = { text, sizeof text };
+    uint64_t handle, quarter = size / 32;
+    uint64_t *all = calloc(quarter, 8);
+    if (!all) exit(1);
+    zx_values values = zx_u64s(all, quarter);
+    done((int)zx_construct_vector(&file->segment, &numbers, &values, &handle), "construct");
+    done((int)zx_construct_strings(&file->segment, &key, &one, 1, &handle), "construct");
+    while (zx_push_text(&file->segment, &key, text, sizeof text) == ZX_DONE) {}
+    done((int)zx_file_save(file), "save");
+    uint64_t len = quarter / 20;
+    for (uint64_t at = 0; at < 19 * len; at += len) {
+        for (uint64_t i = 0; i < len; i++) all[i] = some();
+        zx_values row = zx_u64s(all, len);
+        done((int)zx_write_elements(&file->segment, &numbers, at, &row), "write");
+        done((int)zx_file_commit(file), "commit");
     }
-    done(mdb_txn_commit(txn), "lmdb");
+    free(all);
+}
+
+/* Times an opening with a log of a quarter of the image, an opening after a save, and the check of the image. */
+static void time_opening(uint64_t mib, int count) {
+    zx_file file = ZX_CLOSED_FILE;
+    char what[100], path[400];
+    snprintf(path, sizeof path, "%s", in_folder("opened.seg"));
+    unlink(path);
+    done((int)zx_file_open(&file, path, ZX_CREATE_ONLY | ZX_DURABLE, mib << 20), "open");
+    make_log(&file, mib << 20);
+    uint64_t size = mib << 20;
+    uint8_t *image = malloc(size);
+    if (!image) exit(1);
+    done((int)zx_save(&file.segment, image, size), "save");
+    zx_file_discard(&file);
+    for (int i = 0; i < 2 * count; i++) {
+        double from = now();
+        if (i % 2) done((int)zx_file_open(&file, path, ZX_OPEN_ONLY | ZX_DURABLE, 0), "open");
+        else done((int)zx_check(image, size), "check");
+        times[i % 2][i / 2] = now() - from;
+        if (i % 2) zx_file_discard(&file);
+    }
+    snprintf(what, sizeof what, "the check of %d MiB", (int)mib);
+    print(what, times[0], count);
+    snprintf(what, sizeof what, "an opening with a log of %.1f MiB", (double)mib * 19 / 80);
+    print(what, times[1], count);
+    done((int)zx_file_open(&file, path, ZX_OPEN_ONLY | ZX_DURABLE, 0), "open");
+    done((int)zx_file_close(&file), "close");
     for (int i = 0; i < count; i++) {
         double from = now();
-        done(mdb_txn_begin(env, 0, 0, &txn), "lmdb");
-        for (int k = 0; k < rows; k++) {
-            uint64_t row = some() % all;
-            MDB_val key = { 8, &row }, value = { sizeof page, page };
-            page[0]++;
-            done(mdb_put(txn, dbi, &key, &value, 0), "lmdb");
-        }
-        done(mdb_txn_commit(txn), "lmdb");
-        times[i] = now() - from;
+        done((int)zx_file_open(&file, path, ZX_OPEN_ONLY | ZX_DURABLE, 0), "open");
+        times[0][i] = now() - from;
+        zx_file_discard(&file);
     }
-    snprintf(what, sizeof what, "LMDB, %d rows of a page each of %llu MiB", rows, (unsigned long long)size >> 20);
-    print(what, count);
-    mdb_env_close(env);
+    print("an opening without a log", times[0], count);
+    free(image);
     unlink(path);
-    unlink(in_folder("lmdb-lock"));
 }
-#endif
-
-#ifdef HAS_SQLITE
-static void sql(sqlite3 *base, const char *text) { done(sqlite3_exec(base, text, 0, 0, 0), text); }
-
-static void time_sqlite(const char *journal, uint64_t size, int rows, int count) {
-    sqlite3 *base;
-    sqlite3_stmt *set;
-    char what[100], text[200], *path = in_folder("sqlite");
-    uint64_t all = size / 4096;
-    unlink(path);
-    done(sqlite3_open(path, &base), "sqlite");
-    snprintf(text, sizeof text, "pragma journal_mode=%s", journal);
-    sql(base, text);
-    sql(base, "pragma synchronous=full; create table t(k integer primary key, v blob); begin");
-    snprintf(text, sizeof text,
-             "with recursive c(x) as (select 1 union all select x+1 from c where x < %llu) insert into t select x, zeroblob(3000) from c",
-             (unsigned long long)all);
-    sql(base, text);
-    sql(base, "commit");
-    done(sqlite3_prepare_v2(base, "update t set v=randomblob(3000) where k=?", -1, &set, 0), "sqlite");
-    for (int i = 0; i < count; i++) {
-        double from = now();
-        sql(base, "begin");
-        for (int k = 0; k < rows; k++) {
-            sqlite3_bind_int64(set, 1, (sqlite3_int64)(some() % all + 1));
-            if (sqlite3_step(set) != SQLITE_DONE) exit(1);
-            sqlite3_reset(set);
-        }
-        sql(base, "commit");
-        times[i] = now() - from;
-    }
-    snprintf(what, sizeof what, "SQLite, %s, %d rows of a page each of %llu MiB", journal, rows, (unsigned long long)size >> 20);
-    print(what, count);
-    sqlite3_finalize(set);
-    sqlite3_close(base);
-    unlink(path);
-    unlink(in_folder("sqlite-wal"));
-    unlink(in_folder("sqlite-shm"));
-}
-#endif
 
 int main(int words, char **word) {
     if (words < 3) return 2;
     int count = atoi(word[2]);
     if (count < 1 || count > MOST) return 2;
     snprintf(folder, sizeof folder, "%s", word[1]);
+    double load = 0;
+    (void)getloadavg(&load, 1);
+    printf("medians of %d or %d, in turns; load %.1f\n", count, count / 4 + 1, load);
     for (uint64_t mib = 32; mib <= 256; mib *= 8) {
-        for (int pages = 1; pages <= 1000; pages *= 1000) {
-            int many = pages == 1 ? count : count / 10 + 1;
-            time_durable(mib << 20, pages, many);
-#ifdef HAS_LMDB
-            time_lmdb(mib << 20, pages, many);
-#endif
-#ifdef HAS_SQLITE
-            time_sqlite("wal", mib << 20, pages, many);
-            time_sqlite("delete", mib << 20, pages, many);
-#endif
-        }
-        time_whole(mib << 20, 5);
+        time_commits(mib, 1, ONE_NUMBER, count);
+        time_commits(mib, 1000, ONE_NUMBER, count / 4 + 1);
+        time_commits(mib, 1000, ALL_OF_IT, count / 4 + 1);
+        time_whole(mib, 5);
     }
+    time_opening(32, 9);
     time_transactions(ZX_MAPPED, "mapped", 200000000, count);
     time_transactions(ZX_DURABLE, "durable", 200000000, count);
     return 0;

@@ -1,8 +1,8 @@
 #!/usr/bin/env bash
-# commit.sh [ARCHIVE [FOLDER [COUNT]]]: how long a durable commit takes, beside LMDB and SQLite where they are installed
-# (liblmdb-dev, libsqlite3-dev): one changed number, and 1,000 changed pages, in 32 MiB and in 256 MiB; and a transaction
-# of one put in 200 MB, kept in a mapped file, and undone. FOLDER is on the disk to measure. It prints medians in
-# milliseconds, of COUNT commits each, in turns.
+# commit.sh [ARCHIVE [FOLDER [COUNT]]]: times changes with their durable commit, beside LMDB and SQLite where they are
+# installed (liblmdb-dev, libsqlite3-dev): one number, a number in each of 1,000 pages, and 3,000 bytes in each of them, in
+# 32 MiB and in 256 MiB. Each library commits once in turn. Then openings with a log and without, and a transaction of one
+# number in 200 MB, kept and undone. FOLDER is on the disk to measure. It prints medians of COUNT commits in milliseconds.
 set -euo pipefail
 cd "$(dirname "$0")/.."
 archive=${1:-crates/segment_c/out/libsegment_c.a}

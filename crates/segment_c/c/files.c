@@ -15,7 +15,8 @@
 
 /* ---- a file opened */
 
-/* How often a file is read beside its log, until the two belong together. */
+/* The most times that a file and its log are read, until the log belongs to the file: another process may replace both
+   between the two readings. */
 enum { READINGS = 8 };
 
 /* Opens what a path leads to, and its segment with what the log says that was read before. */

@@ -159,8 +159,8 @@ void zx_file_leave(zx_file *file, zx_step *before);
    zx_file_commit, and for another file zx_file_save. */
 zx_code zx_file_flush(zx_file *file);
 
-/* The bytes of a log (docs/FORMAT.md). The calls above make these calls, which are proved. A program needs them only if
-   it reads or writes logs itself. No pointer is null. Each writes to the front of a buffer, and returns
+/* The bytes of a log (docs/FORMAT.md). The calls above make these calls, which are proved, all but zx_log_body: they
+   write its parts in place. A program needs them only if it reads or writes logs itself. No pointer is null. Each writes to the front of a buffer, and returns
    ZX_SHORT_BUFFER if that has too little room, or ZX_NO_MEMORY; then the buffer is unchanged. */
 
 /* Returns the fingerprint of an image, and the share that a page of 4096 bytes, or the last one, has in it. */

@@ -36,14 +36,6 @@ static zx_code lengthen(zx_file *file, struct zx_held_file *held, uint64_t size,
     return attach(file, held, size, ZX_WRITE);
 }
 
-/* Puts an image into the mapping: only the pages that differ become own. */
-static void lay_over(const struct zx_held_file *held, const struct image *image) {
-    for (uint64_t at = 0; at < image->len; at += PAGE) {
-        size_t len = at_most(image->len - at, PAGE);
-        if (memcmp(held->at + at, image->bytes + at, len) != 0) memcpy(held->at + at, image->bytes + at, len);
-    }
-}
-
 /* ---- commits */
 
 /* What a call returns that needs a name to be on the disk before it goes on. */
@@ -57,56 +49,10 @@ static void free_pages(struct commits *commits, uint64_t first, uint64_t behind)
 }
 
 /* Keeps the bytes of a page as committed. The room for them is there. */
-static void keep_page(struct commits *commits, const uint8_t *at, uint64_t size, uint64_t page) {
+static void keep_page(struct commits *commits, const uint8_t *image, uint64_t size, uint64_t page) {
     size_t len = page_len(size, page);
-    memcpy(commits->kept[page], at + page * PAGE, len);
+    memcpy(commits->kept[page], image + page * PAGE, len);
     memset(commits->kept[page] + len, 0, PAGE - len);
-}
-
-/* What a commit writes. */
-struct record {
-    uint64_t size;    /* of the image */
-    uint64_t pages;   /* of the image */
-    uint64_t count;   /* of the pages that changed */
-    uint8_t *changed; /* whether a page changed */
-    uint64_t after;   /* the fingerprint of the image */
-    struct image body;
-};
-
-/* Makes room for each changed page, which keeps what was committed until the record counts. */
-static zx_code make_rooms(zx_file *file, const struct zx_held_file *held, const struct record *record) {
-    for (uint64_t page = 0; page < record->pages; page++) {
-        if (!record->changed[page] || held->commits->kept[page]) continue;
-        uint8_t *room = malloc(PAGE);
-        if (!room) return ZX_NO_MEMORY;
-        if (!committed_page(held, page, room)) {
-            zx_code code = fault(file);
-            free(room);
-            return code;
-        }
-        held->commits->kept[page] = room;
-    }
-    return ZX_DONE;
-}
-
-static void free_record(struct record *record) {
-    free(record->changed);
-    free(record->body.bytes);
-}
-
-/* Finds the pages that changed since the last commit. Behind an end that moved all did. */
-static zx_code find_record(zx_file *file, const struct zx_held_file *held, struct record *record) {
-    zx_code code = zx_size(&file->segment, &record->size);
-    if (code != ZX_DONE) return code;
-    record->pages = pages_of(record->size);
-    record->changed = malloc(record->pages);
-    if (!record->changed) return ZX_NO_MEMORY;
-    errno = 0;
-    if (!find_changed(held, record->pages, record->changed)) return errno ? fault(file) : (zx_code)ZX_NO_MEMORY;
-    uint64_t before = held->commits->len, first = (before < record->size ? before : record->size) / PAGE;
-    if (before != record->size && first < record->pages) memset(record->changed + first, 1, record->pages - first);
-    for (uint64_t page = 0; page < record->pages; page++) record->count += record->changed[page];
-    return ZX_DONE;
 }
 
 /* The share that a page of a length has in a fingerprint. */
@@ -114,48 +60,155 @@ static uint64_t share_of(uint64_t page, const uint8_t *bytes, size_t len) {
     return len > 0 ? zx_log_page_mark(page, bytes, len) : 0;
 }
 
-/* Computes the fingerprint of the image from the one before and the pages that changed. */
-static bool mark_record(const struct zx_held_file *held, struct record *record) {
-    uint8_t bytes[PAGE];
-    uint64_t before = held->commits->len;
-    record->after = held->commits->after;
-    for (uint64_t page = 0; page < record->pages || page < pages_of(before); page++) {
-        if (page < record->pages && !record->changed[page]) continue;
-        if (!committed_page(held, page, bytes)) return false;
-        record->after -= share_of(page, bytes, page_len(before, page));
-        if (page < record->pages)
-            record->after += share_of(page, held->at + page * PAGE, page_len(record->size, page));
+/* A note on a page that is its process' own, and has the bytes that its file has. */
+enum { ALIKE = 2 };
+
+/* What a commit writes. */
+struct record {
+    uint64_t size;        /* of the image */
+    uint64_t pages;       /* of the image */
+    uint64_t count;       /* of the pages that changed */
+    uint8_t *changed;     /* of each page: 1 if it changed, or ALIKE */
+    uint64_t share;       /* what the fingerprint gains by these pages */
+    uint64_t len;         /* of its bytes, which are in the buffer */
+};
+
+/* A longer buffer is freed after a commit. */
+enum { LONG_BUFFER = 1 << 24 };
+
+/* Makes the buffer long enough for `len` bytes of a record. */
+static bool make_buffer(struct commits *commits, const struct record *record, uint64_t len) {
+    struct image *buffer = &commits->buffer, more;
+    if (len <= buffer->len) return true;
+    more = room_for(2 * len);
+    if (!more.bytes) return false;
+    if (buffer->bytes) memcpy(more.bytes, buffer->bytes, record->len);
+    free(buffer->bytes);
+    *buffer = more;
+    return true;
+}
+
+static void free_buffer(struct commits *commits) {
+    free(commits->buffer.bytes);
+    commits->buffer = (struct image){ NULL, 0 };
+}
+
+/* Returns how many bytes of two pages are the same from an offset on, in whole words. */
+static size_t same_words(const uint8_t *old, const uint8_t *now, size_t at, size_t len) {
+    size_t from = at;
+    while (at < len && memcmp(old + at, now + at, 8) == 0) at += 8;
+    return at - from;
+}
+
+/* Finds the next bytes of a page that changed, from `behind` on. They end before as many bytes that did not change as
+   another edit costs. Returns false if there are none. */
+static bool next_run(const uint8_t *old, const uint8_t *now, size_t len, size_t *from, size_t *behind) {
+    size_t at = *behind + same_words(old, now, *behind, len);
+    if (at == len) return false;
+    *from = at;
+    for (size_t same = 0; at < len && same <= EDIT; at += same) {
+        while (at < len && memcmp(old + at, now + at, 8) != 0) at += 8;
+        *behind = at;
+        same = same_words(old, now, at, len);
     }
     return true;
 }
 
-/* Makes the payload: the changed pages, and zeros up to whole blocks of a disk, so that each gate has its own. */
-static zx_code make_payload(const struct zx_held_file *held, const struct record *record, struct image *payload) {
-    uint64_t most = 8 + FRONT + record->count * (EDIT + PAGE), at = FRONT;
-    *payload = room_for((most + GATE - 1) / GATE * GATE - 8);
-    if (!payload->bytes) return ZX_NO_MEMORY;
-    zx_code code = zx_log_front(record->size, held->commits->base, record->after, payload->bytes, payload->len);
-    for (uint64_t page = 0; code == ZX_DONE && page < record->pages; page++) {
-        if (!record->changed[page]) continue;
-        size_t len = page_len(record->size, page);
-        code = zx_log_edit(page * PAGE, held->at + page * PAGE, len, payload->bytes + at, payload->len - at);
-        at += EDIT + len;
+/* Adds the edits of a page that changed, and its share. */
+static zx_code add_page(const struct zx_held_file *held, struct record *record, uint64_t page, const uint8_t *old) {
+    struct commits *commits = held->commits;
+    const uint8_t *now = held->at + page * PAGE;
+    size_t len = page_len(record->size, page), from, behind = 0;
+    zx_code code = ZX_DONE;
+    record->changed[page] = 1;
+    record->count++;
+    record->share -= share_of(page, old, page_len(commits->len, page));
+    record->share += share_of(page, now, len);
+    while (code == ZX_DONE && next_run(old, now, len, &from, &behind)) {
+        size_t edit = EDIT + behind - from;
+        if (!make_buffer(commits, record, record->len + edit)) return ZX_NO_MEMORY;
+        code = zx_log_edit(page * PAGE + from, now + from, behind - from, commits->buffer.bytes + record->len, edit);
+        record->len += edit;
     }
-    if (code == ZX_DONE) memset(payload->bytes + at, 0, payload->len - at);
     return code;
 }
 
-static zx_code make_body(const struct zx_held_file *held, struct record *record) {
-    struct image payload;
-    zx_code code = make_payload(held, record, &payload);
-    if (code == ZX_DONE) {
-        record->body = room_for(8 + payload.len + GATE);
-        code = !record->body.bytes
-                   ? (zx_code)ZX_NO_MEMORY
-                   : zx_log_body(payload.bytes, payload.len, record->body.bytes, record->body.len);
+/* Compares a page with what the last commit left of it, and keeps that if they differ or the image's end moved. A page
+   that is as its file has it is noted by ALIKE. */
+static zx_code compare_page(zx_file *file, const struct zx_held_file *held, struct record *record, uint64_t page,
+                            bool has_moved) {
+    struct commits *commits = held->commits;
+    uint8_t *old = commits->kept[page] ? commits->kept[page] : malloc(PAGE);
+    if (!old) return ZX_NO_MEMORY;
+    if (!commits->kept[page] && !committed_page(held, page, old)) {
+        zx_code code = fault(file);
+        free(old);
+        return code;
     }
-    free(payload.bytes);
-    return code;
+    if (has_moved || memcmp(old, held->at + page * PAGE, page_len(record->size, page)) != 0) {
+        commits->kept[page] = old;
+        return add_page(held, record, page, old);
+    }
+    record->changed[page] = commits->kept[page] ? 0 : ALIKE;
+    if (commits->kept[page]) commits->compared++;
+    else free(old);
+    return ZX_DONE;
+}
+
+/* Gives back the pages that are as their file has them, so that they are not compared again. */
+static bool forget_alike(const struct zx_held_file *held, const struct record *record) {
+    for (uint64_t page = 0; page < record->pages;) {
+        const uint8_t *first = memchr(record->changed + page, ALIKE, record->pages - page);
+        if (!first) return true;
+        uint64_t from = (uint64_t)(first - record->changed);
+        for (page = from; page < record->pages && record->changed[page] == ALIKE;) page++;
+        if (!forget(held, from, page)) return false;
+    }
+    return true;
+}
+
+/* Finds the pages that changed since the last commit, and their edits. */
+static zx_code find_record(zx_file *file, const struct zx_held_file *held, struct record *record) {
+    zx_code code = zx_size(&file->segment, &record->size);
+    if (code != ZX_DONE) return code;
+    record->len = 8 + FRONT;
+    record->pages = pages_of(record->size);
+    record->changed = malloc(record->pages);
+    if (!record->changed) return ZX_NO_MEMORY;
+    bool is_told = find_own(held, record->pages, record->changed);
+    // behind an end that moved each page has another share
+    uint64_t before = held->commits->len, moved = record->pages;
+    if (before != record->size) moved = (before < record->size ? before : record->size) / PAGE;
+    memset(record->changed + moved, 1, record->pages - moved);
+    for (uint64_t page = 0; code == ZX_DONE; page++) {
+        page = next_noted(record->changed, record->pages, page);
+        if (page == record->pages) break;
+        code = compare_page(file, held, record, page, page >= moved);
+    }
+    return code == ZX_DONE && is_told && !forget_alike(held, record) ? fault(file) : code;
+}
+
+/* Takes away the shares of the pages that are cut off. */
+static bool cut_shares(const struct zx_held_file *held, struct record *record) {
+    uint8_t bytes[PAGE];
+    for (uint64_t page = record->pages; page < pages_of(held->commits->len); page++) {
+        if (!committed_page(held, page, bytes)) return false;
+        record->share -= share_of(page, bytes, page_len(held->commits->len, page));
+    }
+    return true;
+}
+
+/* Completes what the record writes behind its gate: the length of the payload, which is spelled as the offset of an edit,
+   in front of it; zeros up to whole blocks of a disk, so that each gate has its own; and the next gate, shut. */
+static zx_code end_record(struct commits *commits, struct record *record) {
+    uint64_t gate = (record->len + GATE - 1) / GATE * GATE;
+    if (!make_buffer(commits, record, gate + GATE)) return ZX_NO_MEMORY;
+    uint8_t *bytes = commits->buffer.bytes;
+    memset(bytes + record->len, 0, gate - record->len);
+    record->len = gate + GATE;
+    zx_code code = zx_log_edit(gate - 8, bytes, 0, bytes, EDIT);
+    if (code == ZX_DONE) code = zx_log_front(record->size, commits->base, commits->after + record->share, bytes + 8, FRONT);
+    return code == ZX_DONE ? zx_log_gate(false, bytes + gate, GATE) : code;
 }
 
 /* Computes the fingerprint of the file, by which its log is known. */
@@ -203,11 +256,24 @@ static zx_code ready_log(zx_file *file, struct zx_held_file *held) {
     return held->state == SAVED ? (zx_code)ZX_DONE : synced(sync_name(file, held));
 }
 
+/* The length at which a log is emptied. */
+static uint64_t longest_log(const struct commits *commits) {
+    return commits->len / 4 > LONG_LOG ? commits->len / 4 : LONG_LOG;
+}
+
+/* Allocates blocks up to `end` in a log, and for the records after it: a sync of bytes that have blocks writes only these
+   bytes. If the disk refuses them, a write allocates them. */
+static void allot_log(struct zx_held_file *held, uint64_t end) {
+    struct commits *commits = held->commits;
+    uint64_t step = (longest_log(commits) / 8 / GATE + 1) * GATE, room = (end / step + 1) * step;
+    if (end > commits->room && fallocate(held->log, 0, 0, (off_t)room) == 0) commits->room = room;
+}
+
 /* Adds the record to the log. Behind the first byte that is synced nobody knows whether a failed one counts. */
 static zx_code write_record(zx_file *file, struct zx_held_file *held, const struct record *record) {
     struct commits *commits = held->commits;
-    const struct image *body = &record->body;
-    if (!write_at(held->log, body->bytes, body->len, (off_t)(commits->end + GATE))) return fault(file);
+    allot_log(held, commits->end + GATE + record->len);
+    if (!write_at(held->log, commits->buffer.bytes, record->len, (off_t)(commits->end + GATE))) return fault(file);
     if (sync_log(held->log) && write_gate(held, true, commits->end) && sync_log(held->log)) return ZX_DONE;
     commits->is_unsure = true;
     return faulty(file, ZX_FILE_UNSURE, errno);
@@ -216,12 +282,12 @@ static zx_code write_record(zx_file *file, struct zx_held_file *held, const stru
 /* Notes what was committed. */
 static void note_record(const zx_file *file, struct zx_held_file *held, const struct record *record) {
     struct commits *commits = held->commits;
-    for (uint64_t page = 0; page < record->pages; page++)
-        if (record->changed[page]) keep_page(commits, held->at, record->size, page);
+    for (uint64_t page = 0; (page = next_noted(record->changed, record->pages, page)) < record->pages; page++)
+        keep_page(commits, held->at, record->size, page);
     free_pages(commits, record->pages, pages_of(commits->len));
     commits->len = record->size;
-    commits->after = record->after;
-    commits->end += record->body.len;
+    commits->after += record->share;
+    commits->end += record->len;
     held->saved = file->segment.changes;
 }
 
@@ -230,6 +296,7 @@ static bool remove_log(struct zx_held_file *held) {
     char log[PATH_MAX + 8];
     if (!name_log(held->name, log) || (unlinkat(held->folder, log, 0) != 0 && errno != ENOENT)) return false;
     close_listed(&held->log);
+    if (held->commits) held->commits->room = 0;
     return true;
 }
 
@@ -268,6 +335,7 @@ static zx_code renew_log(zx_file *file, struct zx_held_file *held, uint64_t end)
     pthread_mutex_lock(&guard);
     int before = held->log;
     if (is_done) held->log = held->made, held->made = before;
+    if (is_done && held->commits) held->commits->room = 0;
     pthread_mutex_unlock(&guard);
     close_listed(&held->made);
     return is_done ? synced(sync_name(file, held)) : code;
@@ -312,15 +380,15 @@ static zx_code commit_pages(zx_file *file, struct zx_held_file *held) {
     bool is_same_image = code == ZX_DONE && record.count == 0 && record.size == held->commits->len;
     if (code == ZX_DONE && !is_same_image) {
         code = mark_base(file, held);
-        if (code == ZX_DONE && !mark_record(held, &record)) code = fault(file);
-        if (code == ZX_DONE) code = make_rooms(file, held, &record);
-        if (code == ZX_DONE) code = make_body(held, &record);
+        if (code == ZX_DONE && !cut_shares(held, &record)) code = fault(file);
+        if (code == ZX_DONE) code = end_record(held->commits, &record);
         if (code == ZX_DONE) code = ready_log(file, held);
         if (code == ZX_DONE) code = write_record(file, held, &record);
         if (code == ZX_DONE) note_record(file, held, &record);
     }
     if (is_same_image) held->saved = file->segment.changes;
-    free_record(&record);
+    free(record.changed);
+    if (held->commits->buffer.len > LONG_BUFFER) free_buffer(held->commits);
     return code;
 }
 
@@ -341,8 +409,8 @@ static void map_committed(struct zx_held_file *held) {
     free_pages(commits, 0, pages_of(held->len));
 }
 
-/* Puts the image, which is committed, into the file, and begins the log anew. If the file's name is not synced, the
-   log keeps its records. */
+/* Replaces the file by a new one that has the committed image, and empties the log. If the name of the new file can't be
+   synced, the log keeps its records. */
 static zx_code checkpoint(zx_file *file, struct zx_held_file *held) {
     struct commits *commits = held->commits;
     struct image image = { held->at, commits->len };
@@ -354,15 +422,16 @@ static zx_code checkpoint(zx_file *file, struct zx_held_file *held) {
     code = empty_log(file, held);
     if (code != ZX_DONE) return code;
     commits->base = commits->after;
-    commits->end = 0;
+    commits->end = commits->compared = 0;
     return ZX_DONE;
 }
 
-/* Makes a checkpoint where the log is long. The commit is done, whatever becomes of it. */
+/* Makes a checkpoint where the log is long, or where comparisons in vain took as much time as a checkpoint does. The
+   commit is done, whatever becomes of it. */
 static void shorten_log(zx_file *file, struct zx_held_file *held) {
     const struct commits *commits = held->commits;
-    uint64_t quarter = commits->len / 4;
-    if (held->steps == 0 && commits->end > (quarter > LONG_LOG ? quarter : LONG_LOG)) (void)checkpoint(file, held);
+    bool is_due = commits->end > longest_log(commits) || commits->compared / IN_VAIN > pages_of(commits->len);
+    if (held->steps == 0 && is_due) (void)checkpoint(file, held);
     file->error = 0;
 }
 
@@ -383,7 +452,8 @@ static void leave_log(struct zx_held_file *held) {
 static void free_commits(struct zx_held_file *held) {
     if (!held->commits) return;
     free_pages(held->commits, 0, pages_of(held->len));
-    free(held->commits);
+    free_buffer(held->commits);
+    munmap(held->commits, commits_size());
     held->commits = NULL;
 }
 

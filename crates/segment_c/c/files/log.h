@@ -9,6 +9,9 @@ enum { GATE = 4096, FRONT = 40, EDIT = 16 };
 #define LONG_LOG (1 << 20)
 #endif
 
+/* A checkpoint writes a page in the time in which commits compare so many. */
+enum { IN_VAIN = 32 };
+
 /* Syncs the bytes and the length of a log. */
 static bool sync_log(int log) {
     int tries = 0;
@@ -61,8 +64,9 @@ static zx_code read_log(zx_file *file, int from, struct image *log) {
 
 /* What a file stands for with its log. */
 struct recovered {
-    struct image image; /* no bytes: that of the file */
-    uint64_t base, after, end;
+    struct image image; /* without bytes if the log has no record: then FILE is the image */
+    uint64_t base;      /* the fingerprint of the file */
+    uint64_t end;       /* where the records of the log end */
 };
 
 /* Makes the image of a log that has records. */
@@ -74,8 +78,7 @@ static zx_code recover_image(const uint8_t *image, uint64_t len, const struct im
                                   &made->end, &made->base);
     bool has_size = made->end == 0 || (made->image.len > 0 && made->image.len % 16 == 0);
     if (code == ZX_SHORT_BUFFER || (code == ZX_DONE && !has_size)) code = ZX_FILE_LOG_FOREIGN;
-    if (code == ZX_DONE) made->after = zx_log_fingerprint(made->image.bytes, made->image.len);
-    else free(made->image.bytes);
+    if (code != ZX_DONE) free(made->image.bytes);
     return code;
 }
 

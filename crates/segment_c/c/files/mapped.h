@@ -44,8 +44,9 @@ static bool is_in_memory(int file, const struct stat *found) {
            disk.f_type == TMPFS_MAGIC;
 }
 
-/* Returns true if the file can have a hole. The number of its blocks does not tell, since it includes those of its
-   attributes. On tmpfs that number is used: there a search for a hole would look at each page. */
+/* Returns true if the file can have a hole: a range without blocks. Its number of blocks alone does not show that, since
+   blocks that hold the file's attributes are counted too. On tmpfs attributes have no blocks, so the number is used: a
+   search for a hole would look at each page there. */
 static bool has_hole(int file, const struct stat *found) {
     uint64_t len = (uint64_t)found->st_size, page = page_size(), blocks = (uint64_t)found->st_blocks * 512;
     if (blocks < len) return true;

@@ -26,22 +26,63 @@ static int open_page_map(void) {
     return -1;
 }
 
-/* Sets own[i] for each page that is own, or may be. Returns whether the page map told. */
-static bool find_own(const struct zx_held_file *held, uint64_t pages, uint8_t *own) {
+/* A call of the page map by which Linux 6.7 and later find the own pages without a look at each: what it takes, and the
+   ranges that it returns (linux/fs.h, which older systems have without it). */
+struct scan {
+    uint64_t size, flags, start, end, stop, found, room, most, inverted, all, any, told;
+};
+
+struct range {
+    uint64_t start, end, kinds;
+};
+
+enum { RANGES = 256, IS_FILE = 4, IS_PRESENT = 8, IS_SWAPPED = 16 };
+
+#define SCAN _IOWR('f', 16, struct scan)
+
+/* Notes the own pages by that call. Returns false if the system does not have it. */
+static bool scan_own(int map, const struct zx_held_file *held, uint64_t pages, uint8_t *own) {
+    struct range found[RANGES];
+    uint64_t from = (uintptr_t)held->at, end = from + pages * PAGE;
+    memset(own, 0, pages);
+    for (uint64_t at = from; at < end;) {
+        struct scan scan = { .size = sizeof scan, .start = at, .end = end, .found = (uintptr_t)found, .room = RANGES,
+                             .inverted = IS_FILE, .all = IS_FILE, .any = IS_PRESENT | IS_SWAPPED, .told = IS_PRESENT };
+        int count = ioctl(map, SCAN, &scan);
+        if (count < 0 || scan.stop <= at) return false;
+        for (int i = 0; i < count; i++)
+            memset(own + (found[i].start - from) / PAGE, 1, (found[i].end - found[i].start) / PAGE);
+        at = scan.stop;
+    }
+    return true;
+}
+
+/* Notes the own pages by their entries in the page map. */
+static bool read_own(int map, const struct zx_held_file *held, uint64_t pages, uint8_t *own) {
     uint64_t entries[ENTRIES];
-    int map = open_page_map();
-    uint64_t at = 0;
-    while (map >= 0 && at < pages) {
+    for (uint64_t at = 0; at < pages;) {
         size_t many = at_most(pages - at, ENTRIES);
         ssize_t got = pread(map, entries, many * 8, (off_t)(((uintptr_t)held->at / PAGE + at) * 8));
-        if (got <= 0) break;
+        if (got <= 0) return false;
         for (size_t i = 0; i < (size_t)got / 8; i++) own[at + i] = is_own_page(entries[i]);
         at += (size_t)got / 8;
     }
+    return true;
+}
+
+/* Sets own[i] to 1 for each page that is own, or may be, and to 0 for the others. Returns whether the page map told. */
+static bool find_own(const struct zx_held_file *held, uint64_t pages, uint8_t *own) {
+    int map = open_page_map();
+    bool is_told = map >= 0 && (scan_own(map, held, pages, own) || read_own(map, held, pages, own));
     if (map >= 0) close(map);
-    bool is_told = map >= 0 && at == pages;
     if (!is_told) memset(own, 1, pages);
     return is_told;
+}
+
+/* Returns the first page from `page` on that is noted by a 1, or `pages`. */
+static uint64_t next_noted(const uint8_t *noted, uint64_t pages, uint64_t page) {
+    const uint8_t *found = page < pages ? memchr(noted + page, 1, pages - page) : NULL;
+    return found ? (uint64_t)(found - noted) : pages;
 }
 
 /* Reads a page of the file behind a mapping. What is behind the file's end is 0. */
@@ -62,8 +103,14 @@ struct commits {
     bool is_unsure;  /* a commit failed, and may be in the log or not */
     bool is_left;    /* another process left the log: nothing is added to it, since a sync of it may have failed */
     uint64_t end;    /* where the records of the log end */
+    uint64_t room;   /* the length up to which this process allocated the log's blocks */
+    uint64_t compared; /* pages that commits found the same since the last checkpoint */
+    struct image buffer; /* room for a record */
     uint8_t *kept[]; /* of each page that a commit changed, what it left; null for those that are the file's */
 };
+
+/* How many bytes that takes, for the largest image. They are mapped, since only those that are used take memory then. */
+static size_t commits_size(void) { return sizeof(struct commits) + pages_of(LARGEST) * sizeof(uint8_t *); }
 
 /* Reads what the last commit left of a page. */
 static bool committed_page(const struct zx_held_file *held, uint64_t page, uint8_t bytes[PAGE]) {
@@ -247,7 +294,7 @@ static bool share_again(struct zx_held_file *held, uint64_t len) {
     return is_done && set_length(held->file, len);
 }
 
-/* Restores what a transaction kept, and opens the segment anew. */
+/* Undoes a transaction: restores the bytes of the mapping, and opens the segment in it again. */
 static zx_code undo_pages(zx_file *file, struct zx_held_file *held, const struct zx_kept *kept) {
     uint64_t pages = pages_of(kept->size), size = 0;
     zx_memory memory;

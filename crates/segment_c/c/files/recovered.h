@@ -6,17 +6,52 @@ static uint8_t *map_to_read(int file, uint64_t len) {
     return at == MAP_FAILED ? NULL : at;
 }
 
-/* Reads what the file that is held stands for with its log, which is open. */
+/* Makes the image that the held file stands for with its log, which is open. Nobody else writes either. */
 static zx_code recover(zx_file *file, const struct zx_held_file *held, uint64_t len, struct recovered *made) {
-    struct image log;
+    struct stat found;
+    uint8_t gate = 0;
     *made = (struct recovered){ .end = 0 };
-    zx_code code = read_log(file, held->log, &log);
-    if (code != ZX_DONE) return code;
-    uint8_t *base = map_to_read(held->file, len);
-    code = base ? replay(file, base, len, &log, made) : fault(file);
-    free(log.bytes);
+    if (fstat(held->log, &found) != 0 || read_at(held->log, &gate, 1, 0) < 0) return fault(file);
+    if (gate != 1) return ZX_DONE;
+    struct image log = { map_to_read(held->log, (uint64_t)found.st_size), (uint64_t)found.st_size };
+    uint8_t *base = log.bytes ? map_to_read(held->file, len) : NULL;
+    zx_code code = base ? replay(file, base, len, &log, made) : fault(file);
     if (base) munmap(base, len);
+    if (log.bytes) munmap(log.bytes, log.len);
     return code;
+}
+
+/* Keeps a page of the recovered image as committed. `old` is the page of the file, which has `len` bytes of it. */
+static bool keep_recovered(struct commits *commits, const struct image *image, uint64_t page, const uint8_t *old,
+                           size_t len) {
+    commits->kept[page] = malloc(PAGE);
+    if (!commits->kept[page]) return errno = 0, false;
+    keep_page(commits, image->bytes, image->len, page);
+    commits->after -= share_of(page, old, len);
+    commits->after += share_of(page, commits->kept[page], page_len(image->len, page));
+    return true;
+}
+
+/* Puts the recovered image into the mapping of a file of `len` bytes: only the pages that differ become own. For a file
+   that is committed these are kept, and those whose length differs. Returns false without memory (errno is 0), or if
+   the file can't be read. */
+static bool lay_over(const struct zx_held_file *held, uint64_t len, const struct image *image) {
+    struct commits *commits = held->commits;
+    uint8_t bytes[PAGE];
+    for (uint64_t page = 0; page < pages_of(image->len); page++) {
+        uint8_t *at = held->at + page * PAGE;
+        const uint8_t *now = image->bytes + page * PAGE;
+        size_t before = page_len(len, page), after = page_len(image->len, page);
+        bool is_same = memcmp(at, now, after) == 0;
+        if (is_same && before == after) continue;
+        if (commits && !keep_recovered(commits, image, page, at, before)) return false;
+        if (!is_same) memcpy(at, now, after);
+    }
+    for (uint64_t page = pages_of(image->len); commits && page < pages_of(len); page++) {
+        if (!read_page(held->file, page, page_len(len, page), bytes)) return false;
+        commits->after -= share_of(page, bytes, page_len(len, page));
+    }
+    return true;
 }
 
 /* Maps a file privately, with what its log says. */
@@ -27,7 +62,11 @@ static zx_code map_recovered(zx_file *file, struct zx_held_file *held, uint64_t 
     uint64_t now = made->end > 0 ? made->image.len : len;
     if (now > room) room = now;
     if (!map_private(held, len, now, room) && !map_private(held, len, now, pages_of(now) * PAGE)) code = fault(file);
-    if (code == ZX_DONE && made->end > 0) lay_over(held, &made->image);
+    if (held->commits) held->commits->base = held->commits->after = made->base;
+    if (code == ZX_DONE && made->end > 0 && !lay_over(held, len, &made->image)) {
+        code = errno ? fault(file) : (zx_code)ZX_NO_MEMORY;
+        unmap_listed(held);
+    }
     free(made->image.bytes);
     return code;
 }
@@ -44,27 +83,13 @@ static zx_code read_recovered(zx_file *file, struct zx_held_file *held, uint64_t
     return code;
 }
 
-/* Keeps each page in which the recovered image differs from the file. Behind an end that moved all do. */
-static bool keep_recovered(struct zx_held_file *held, uint64_t len) {
-    struct commits *commits = held->commits;
-    uint8_t bytes[PAGE];
-    uint64_t moved = len == held->len ? pages_of(held->len) : (len < held->len ? len : held->len) / PAGE;
-    for (uint64_t page = 0; page < pages_of(held->len); page++) {
-        if (!read_page(held->file, page, page_len(held->len, page), bytes)) return false;
-        if (page < moved && memcmp(bytes, held->at + page * PAGE, page_len(held->len, page)) == 0) continue;
-        commits->kept[page] = malloc(PAGE);
-        if (!commits->kept[page]) return errno = 0, false;
-        keep_page(commits, held->at, held->len, page);
-    }
-    return true;
-}
-
 /* Begins the commits of a file that is mapped, with what its log, if there is one, says. */
 static zx_code begin_commits(zx_file *file, struct zx_held_file *held, uint64_t len) {
     struct recovered made = { .end = 0 };
     uint64_t room = pages_of(LARGEST) * PAGE;
-    held->commits = calloc(1, sizeof *held->commits + pages_of(LARGEST) * sizeof held->commits->kept[0]);
-    if (!held->commits) return ZX_NO_MEMORY;
+    void *commits = mmap(NULL, commits_size(), PROT_READ | PROT_WRITE, MAP_PRIVATE | MAP_ANONYMOUS, -1, 0);
+    if (commits == MAP_FAILED) return ZX_NO_MEMORY;
+    held->commits = commits;
     zx_code code = open_log(file, held);
     if (code != ZX_DONE) return code;
     if (held->log < 0)
@@ -72,13 +97,10 @@ static zx_code begin_commits(zx_file *file, struct zx_held_file *held, uint64_t 
                                                                                                   : fault(file);
     code = map_recovered(file, held, len, room, &made);
     if (code != ZX_DONE) return code;
-    held->commits->base = made.base, held->commits->after = made.after;
-    held->commits->end = made.end, held->commits->is_left = true;
+    held->commits->end = made.end;
+    held->commits->is_left = true;
     held->commits->is_marked = made.end > 0;
-    if (made.end == 0 || keep_recovered(held, len)) return ZX_DONE;
-    code = errno ? fault(file) : (zx_code)ZX_NO_MEMORY;
-    unmap_listed(held);
-    return code;
+    return ZX_DONE;
 }
 
 /* Opens the segment of a file that is to be committed. */
@@ -151,8 +173,8 @@ static zx_code drop_log(zx_file *file, struct zx_held_file *held) {
 
 /* ---- a file that is read while another may write it */
 
-/* Opens the segment of what a file stands for with its log. The log was read first: if it does not belong to the file,
-   that changed meanwhile, and AGAIN is returned. */
+/* Opens the segment of the image that a file stands for with its log, which was read before. Returns
+   ZX_FILE_LOG_FOREIGN if another process changed the file between the two readings. */
 static zx_code read_with_log(zx_file *file, int from, const struct image *log, uint32_t how) {
     struct stat found;
     struct recovered made;

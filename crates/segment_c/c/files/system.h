@@ -15,6 +15,7 @@ struct zx_system {
     int (*fdatasync)(int file);
     int (*syncfs)(int file);
     int (*flock)(int file, int how);
+    int (*ioctl)(int file, unsigned long call, void *words);
     int (*lstat)(const char *path, struct stat *found);
     int (*stat)(const char *path, struct stat *found);
     int (*fstat)(int file, struct stat *found);
@@ -57,6 +58,7 @@ extern struct zx_system zx_system;
 #define fdatasync(file) zx_system.fdatasync(file)
 #define syncfs(file) zx_system.syncfs(file)
 #define flock(file, how) zx_system.flock(file, how)
+#define ioctl(file, call, words) zx_system.ioctl(file, call, words)
 #define lstat(path, found) zx_system.lstat(path, found)
 #define stat(path, found) zx_system.stat(path, found)
 #define fstat(file, found) zx_system.fstat(file, found)

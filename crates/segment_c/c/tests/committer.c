@@ -1,5 +1,5 @@
 /* committer FILE: adds 1 to two numbers of a durable file in a transaction, again and again, until it is killed, and prints
-   each number that is committed. At times it opens the file anew. killed_committers.py starts it. */
+   each number that is committed. At times it closes the file and opens it again. killed_committers.py starts it. */
 #include "zaluxhoni_files.h"
 
 #include <stdio.h>

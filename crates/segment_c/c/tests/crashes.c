@@ -32,7 +32,7 @@ struct bytes {
     uint64_t len, room;
 };
 
-/* A write that was not synced, or a length that was set if `bytes` is null. */
+/* A write that is not synced, or a new length if `bytes` is null. */
 struct write {
     uint64_t at, len;
     uint8_t *bytes;
@@ -49,7 +49,8 @@ static int disk_count;
 
 enum name { THE_FILE, THE_LOG, OTHER };
 
-/* A name that was given to a file, or taken from one (-1), and whether that was synced. */
+/* The names that files got (-1: the name was removed) since the last sync of the folder; and the file that each name
+   leads to, in memory and on the disk. */
 static struct {
     enum name name;
     int file;
@@ -57,8 +58,8 @@ static struct {
 static int name_count, now_at[2], durable_at[2];
 
 static char folder[200], path[240], log_path[250];
-static bool is_noted;         /* whether calls are noted */
-static uint64_t calls, fuse;  /* which call fails */
+static bool is_noted;         /* the disk in memory follows the calls */
+static uint64_t calls, fuse;  /* the number of calls, and the number of the call that fails */
 static bool has_failed;
 static void at_moment(void);
 
@@ -162,6 +163,15 @@ static int disk_ftruncate(int file, off_t len) {
     return done;
 }
 
+static int disk_fallocate(int file, int how, off_t from, off_t len) {
+    struct stat found;
+    if (fails() || (fstat)(file, &found) != 0) return -1;
+    int done = (fallocate)(file, how, from, len);
+    if (is_noted && done == 0 && from + len > found.st_size) note_write(file, NULL, 0, (uint64_t)(from + len));
+    noted();
+    return done;
+}
+
 static int disk_sync(int file) {
     struct stat found;
     if (!is_noted) return 0;
@@ -220,13 +230,24 @@ static int disk_unlinkat(int in, const char *name, int how) {
 static void *disk_mremap(void *at, size_t len, size_t wanted, int how) { return (mremap)(at, len, wanted, how); }
 static void *disk_malloc(size_t size) { return (malloc)(size); }
 static void *disk_calloc(size_t count, size_t size) { return (calloc)(count, size); }
-static int disk_open(const char *name, int how) { return (open)(name, how); }
+
+/* The way in which a run finds the pages that changed: as Linux 6.7 does, as older systems do, or without a page map. */
+static enum { BY_SCAN, BY_ENTRIES, BY_COMPARISON } way;
+
+static int disk_ioctl(int file, unsigned long call, void *words) {
+    return way == BY_SCAN ? (ioctl)(file, call, words) : -1;
+}
+
+static int disk_open(const char *name, int how) {
+    return way == BY_COMPARISON && strcmp(name, "/proc/self/pagemap") == 0 ? -1 : (open)(name, how);
+}
+
 static int disk_syncfs(int file) { return disk_sync(file); }
 
 struct zx_system zx_system = {
     .open = disk_open, .openat = disk_openat, .pread = pread, .pwrite = disk_pwrite, .ftruncate = disk_ftruncate,
-    .fallocate = fallocate, .lseek = lseek, .fsync = disk_sync, .fdatasync = disk_sync, .syncfs = disk_syncfs,
-    .flock = flock, .lstat = lstat, .stat = stat, .fstat = fstat, .fstatat = fstatat, .fstatfs = fstatfs,
+    .fallocate = disk_fallocate, .lseek = lseek, .fsync = disk_sync, .fdatasync = disk_sync, .syncfs = disk_syncfs,
+    .flock = flock, .ioctl = disk_ioctl, .lstat = lstat, .stat = stat, .fstat = fstat, .fstatat = fstatat, .fstatfs = fstatfs,
     .fchmod = fchmod, .fchown = fchown, .fgetxattr = fgetxattr, .fsetxattr = fsetxattr, .fremovexattr = fremovexattr,
     .flistxattr = flistxattr, .linkat = disk_linkat, .renameat = disk_renameat, .unlinkat = disk_unlinkat, .mmap = mmap,
     .mremap = disk_mremap, .munmap = munmap, .msync = msync, .madvise = madvise, .close = close, .malloc = disk_malloc,
@@ -238,9 +259,9 @@ struct zx_system zx_system = {
 static struct bytes state_file, state_log;
 static bool has_log;
 static uint64_t states, wrong, most_states;
-static bool is_harsh; /* whether sectors may be garbage */
+static bool is_harsh; /* sectors can be garbage */
 
-/* Puts a write into a file, sector by sector: old, new or garbage. */
+/* Applies a write to a file: each sector stays old, becomes new, or becomes garbage. */
 static void cut_write(struct bytes *to, const struct write *write, unsigned mode) {
     for (uint64_t at = write->at; at < write->at + write->len;) {
         uint64_t end = (at / SECTOR + 1) * SECTOR, rest = write->at + write->len;
@@ -271,7 +292,7 @@ static void cut_file(struct bytes *to, const struct on_disk *from) {
     if (to->len > from->durable.len && some(2)) to->len = from->durable.len + some(to->len - from->durable.len + 1);
 }
 
-/* Builds a state. Returns whether a file is there. */
+/* Builds a state that a power cut can leave. Returns false if the file does not exist in it. */
 static bool cut_power(void) {
     int at[2] = { durable_at[0], durable_at[1] };
     unsigned mode = (unsigned)some(4);
@@ -285,7 +306,8 @@ static bool cut_power(void) {
     return true;
 }
 
-/* The images that a state may stand for: that of the last commit that was answered, and those under way. */
+/* The images that a state may stand for: the image of the last commit that was answered, and the images of the calls
+   after it. */
 enum { MAY = 6 };
 static struct bytes may[MAY];
 static int may_count;
@@ -325,7 +347,7 @@ static void at_moment(void) {
 static zx_file file;
 static bool is_unsure;
 
-/* Notes what the folder has as the disk's. */
+/* Makes the disk in memory a copy of the folder. */
 static void begin_disk(void) {
     const char *all[2] = { path, log_path };
     for (int i = 0; i < disk_count; i++)
@@ -352,13 +374,13 @@ static void image_now(struct bytes *to) {
     if (zx_save(&file.segment, to->at, size) != ZX_DONE) abort();
 }
 
-/* The image is under way: it may be what a state stands for from now on. */
+/* Adds the segment's image to the images that a state may stand for. */
 static void add_image(void) {
     if (may_count == MAY) abort();
     image_now(&may[may_count++]);
 }
 
-/* The image is the only one that may be. */
+/* Makes the segment's image the only one that a state may stand for. */
 static void set_image(void) {
     image_now(&may[0]);
     may_count = 1;
@@ -381,7 +403,7 @@ static void change_length(void) {
     else (void)zx_file_shrink(&file);
 }
 
-/* What a commit or a save answered, for the image that was added. */
+/* Takes the answer of a commit or a save, and drops the images that a state may stand for no more. */
 static void note_answer(zx_code code, bool is_commit) {
     if (code == ZX_DONE || (code == ZX_FILE_UNSYNCED && !is_commit)) set_image();
     else if (code == ZX_FILE_UNSURE) is_unsure = true;
@@ -449,7 +471,7 @@ static void save_bytes(const char *name, const struct bytes *bytes) {
     close(to);
 }
 
-/* The power is cut, and a new process goes on with what that left. */
+/* Cuts the power, and goes on with the state that this left, as a new process. */
 static bool reboot(void) {
     bool is_there = cut_power();
     is_noted = false;
@@ -496,6 +518,7 @@ static void run(void) {
     (unlinkat)(AT_FDCWD, path, 0);
     (unlinkat)(AT_FDCWD, log_path, 0);
     is_harsh = some(2);
+    way = some(3);
     zx_key numbers = zx_name("numbers");
     zx_value none = zx_u64(0);
     zx_values first = zx_u64s(&none.natural, 1);

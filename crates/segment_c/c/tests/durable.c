@@ -1,5 +1,5 @@
-/* durable FOLDER [SMALL]: files that are committed, beside what may stand in their way: a fork, readers, other files under
-   the name, a hard link, a folder that may not be written, and with SMALL, a disk of 1 MiB, a full disk. */
+/* durable FOLDER [SMALL]: commits meet a fork, readers, other files under the name, a hard link, a folder that may not be
+   written, and with SMALL, a disk of 1 MiB, a full disk. */
 #define _GNU_SOURCE
 #include "zaluxhoni_files.h"
 
@@ -40,7 +40,7 @@ static void set(zx_file *file, const char *name, int64_t to) {
     DONE(zx_set(&file->segment, &key, 0, &value));
 }
 
-/* Makes a new durable file with the numbers n and m, which are 1. */
+/* Creates a durable file with the numbers n and m, both 1. */
 static void make(zx_file *file, const char *folder, uint64_t size) {
     snprintf(path, sizeof path, "%s/durable.seg", folder);
     snprintf(log_path, sizeof log_path, "%s-log", path);
@@ -71,7 +71,7 @@ static void a_fork(const char *folder) {
     DONE(zx_file_close(&file));
 }
 
-/* One process commits, with checkpoints, and this one reads: both numbers are one, and never smaller than before. */
+/* A child commits, with checkpoints, and this process reads: n and m are always equal, and never become smaller. */
 static void a_reader(const char *folder) {
     zx_file file = ZX_CLOSED_FILE, reader = ZX_CLOSED_FILE;
     make(&file, folder, 300000);
@@ -104,18 +104,18 @@ static void a_reader(const char *folder) {
 static void another_file(const char *folder) {
     zx_file file = ZX_CLOSED_FILE, second = ZX_CLOSED_FILE;
     make(&file, folder, 8192);
-    // the file moves away
+    // another process renames the file
     set(&file, "n", 2);
     IS(rename(path, other), 0);
     IS(zx_file_commit(&file), ZX_FILE_REPLACED);
     IS(rename(other, path), 0);
     DONE(zx_file_commit(&file));
-    // the log is removed
+    // another process removes the log
     set(&file, "n", 3);
     IS(unlink(log_path), 0);
     IS(zx_file_commit(&file), ZX_FILE_REPLACED);
     zx_file_discard(&file);
-    // another file comes in its place
+    // another process puts another file in its place
     make(&file, folder, 8192);
     zx_file_discard(&file);
     DONE(zx_file_open(&second, other, ZX_CREATE_ONLY, 4096));
@@ -130,7 +130,7 @@ static void another_file(const char *folder) {
     DONE(zx_file_close(&file));
 }
 
-/* By another name the file is found as it was saved last, and each name keeps what it has. */
+/* A reader by another name of the file finds the last save, without the log. A save leaves the other name as it is. */
 static void a_hard_link(const char *folder) {
     zx_file file = ZX_CLOSED_FILE;
     make(&file, folder, 8192);
@@ -151,7 +151,7 @@ static void a_hard_link(const char *folder) {
     unlink(other);
 }
 
-/* In a folder that may not be written, what is committed is read, and nothing new is committed. */
+/* In a folder that the process may not write, it reads what was committed, and its own commits fail. */
 static void a_closed_folder(const char *folder) {
     zx_file file = ZX_CLOSED_FILE;
     make(&file, folder, 8192);
@@ -177,7 +177,7 @@ static void a_closed_folder(const char *folder) {
     IS(status, 0);
 }
 
-/* A commit that finds the disk full commits nothing, and may be called again. */
+/* On a full disk commits go on as long as the log has blocks. Then one fails, commits nothing, and may be called again. */
 static void a_full_disk(const char *small) {
     zx_file file = ZX_CLOSED_FILE;
     make(&file, small, 200000);
@@ -187,18 +187,21 @@ static void a_full_disk(const char *small) {
     FILE *fill = fopen(filling, "w");
     while (fill && fwrite(zeros, 1, sizeof zeros, fill) == sizeof zeros && fflush(fill) == 0) {}
     if (fill) fclose(fill);
+    int64_t last = 1;
     set(&file, "n", 2);
-    IS(zx_file_commit(&file), ZX_FILE_FAULT);
+    zx_code code = zx_file_commit(&file);
+    for (; code == ZX_DONE && last < 1000; code = zx_file_commit(&file)) set(&file, "n", ++last + 1);
+    IS(code, ZX_FILE_FAULT);
     IS(file.error, ENOSPC);
     zx_file other_file = ZX_CLOSED_FILE;
     DONE(zx_file_open(&other_file, path, ZX_OPEN_READ_ONLY, 0));
-    IS(number(&other_file, "n"), 1);
+    IS(number(&other_file, "n"), last);
     zx_file_discard(&other_file);
     unlink(filling);
     DONE(zx_file_commit(&file));
     zx_file_discard(&file);
     DONE(zx_file_open(&file, path, ZX_OPEN_ONLY | ZX_DURABLE, 0));
-    IS(number(&file, "n"), 2);
+    IS(number(&file, "n"), last + 1);
     DONE(zx_file_close(&file));
     unlink(path);
 }

@@ -16,6 +16,7 @@
 #include <stdio.h>
 #include <stdlib.h>
 #include <sys/file.h>
+#include <sys/ioctl.h>
 #include <sys/mman.h>
 #include <sys/stat.h>
 #include <sys/statfs.h>
@@ -129,6 +130,7 @@ WRAPPED(int, fchmod, (int file, mode_t mode), file, mode)
 WRAPPED(int, unlinkat, (int folder, const char *path, int flags), folder, path, flags)
 WRAPPED(int, msync, (void *at, size_t len, int flags), at, len, flags)
 WRAPPED(int, madvise, (void *at, size_t len, int advice), at, len, advice)
+WRAPPED(int, ioctl, (int file, unsigned long call, void *words), file, call, words)
 INTERRUPTIBLE(int, fallocate, (int file, int mode, off_t at, off_t len), file, mode, at, len)
 
 /* How often no file becomes shorter or longer. */
@@ -296,6 +298,7 @@ struct zx_system zx_system = {
     .fdatasync = system_fdatasync,
     .syncfs = system_syncfs,
     .flock = system_flock,
+    .ioctl = system_ioctl,
     .lstat = system_lstat,
     .stat = system_stat,
     .fstat = system_fstat,

@@ -17,6 +17,7 @@
 #include <stdio.h>
 #include <stdlib.h>
 #include <sys/file.h>
+#include <sys/ioctl.h>
 #include <sys/mman.h>
 #include <sys/stat.h>
 #include <sys/statfs.h>
@@ -64,6 +65,7 @@ CALL(int, -1, fsync, (int file), file)
 CALL(int, -1, fdatasync, (int file), file)
 CALL(int, -1, syncfs, (int file), file)
 CALL(int, -1, flock, (int file, int how), file, how)
+CALL(int, -1, ioctl, (int file, unsigned long call, void *words), file, call, words)
 CALL(int, -1, lstat, (const char *path, struct stat *found), path, found)
 CALL(int, -1, stat, (const char *path, struct stat *found), path, found)
 CALL(int, -1, fstat, (int file, struct stat *found), file, found)
@@ -91,7 +93,7 @@ CALL(char *, NULL, realpath, (const char *path, char *found), path, found)
 struct zx_system zx_system = {
     .open = fuzzed_open, .openat = fuzzed_openat, .pread = fuzzed_pread, .pwrite = fuzzed_pwrite,
     .ftruncate = fuzzed_ftruncate, .fallocate = fuzzed_fallocate, .lseek = fuzzed_lseek, .fsync = fuzzed_fsync,
-    .fdatasync = fuzzed_fdatasync, .madvise = fuzzed_madvise, .syncfs = fuzzed_syncfs, .flock = fuzzed_flock, .lstat = fuzzed_lstat, .stat = fuzzed_stat, .fstat = fuzzed_fstat,
+    .fdatasync = fuzzed_fdatasync, .madvise = fuzzed_madvise, .syncfs = fuzzed_syncfs, .flock = fuzzed_flock, .ioctl = fuzzed_ioctl, .lstat = fuzzed_lstat, .stat = fuzzed_stat, .fstat = fuzzed_fstat,
     .fstatat = fuzzed_fstatat, .fstatfs = fuzzed_fstatfs, .fchmod = fuzzed_fchmod, .fchown = fuzzed_fchown,
     .fgetxattr = fuzzed_fgetxattr, .fsetxattr = fuzzed_fsetxattr, .fremovexattr = fuzzed_fremovexattr,
     .flistxattr = fuzzed_flistxattr, .linkat = fuzzed_linkat, .renameat = fuzzed_renameat, .unlinkat = fuzzed_unlinkat,

@@ -51,7 +51,7 @@ static int64_t get(zx_file *file) {
     return code == ZX_DONE ? value.number : -(int64_t)code;
 }
 
-/* What a reader by copy finds; -1000 and the code if it is refused. */
+/* Returns the number that a reader by copy finds, or -1000 minus the code if the opening fails. */
 static int64_t stands(void) {
     zx_file file = ZX_CLOSED_FILE;
     zx_code code = zx_file_open(&file, path, ZX_OPEN_READ_ONLY, 0);
@@ -73,7 +73,7 @@ static void seed(int64_t number) {
     DONE(zx_file_close(&file));
 }
 
-/* A change is in the file at once; saving waits for the disk; closing and discarding leave what is there. */
+/* A change is in the file at once. A save waits for the disk. Neither a close nor a discard reverts it. */
 static void in_place(void) {
     zx_file file = ZX_CLOSED_FILE;
     struct stat before, after;
@@ -101,7 +101,7 @@ static void in_place(void) {
     IS(zx_file_open(&file, path, ZX_MAPPED, 0), ZX_BAD_MODE);
 }
 
-/* Where elements stand: in the file. */
+/* The elements of a view lie in the mapping of the file. */
 static void views(void) {
     zx_file file = ZX_CLOSED_FILE;
     zx_key key = zx_name("n");
@@ -124,7 +124,7 @@ static void views(void) {
     DONE(zx_file_close(&file));
 }
 
-/* Where a file is mapped. */
+/* Returns the address at which a file is mapped. */
 static uintptr_t start(zx_file *file) {
     zx_key key = zx_name("n");
     zx_elements number = { NULL, 0, 0, 0, 0 };
@@ -170,7 +170,7 @@ static void one_place(void) {
     IS(unlink(beside), 0);
 }
 
-/* Several calls as one, also where the file became longer. */
+/* A transaction can be undone, even if the file became longer in it. */
 static void taken_back(void) {
     zx_file file = ZX_CLOSED_FILE;
     zx_segment before = ZX_CLOSED_HANDLE;
@@ -464,7 +464,7 @@ static void forked_meanwhile(void) {
     IS(stands(), number);
 }
 
-/* What was changed until a process is killed is there. */
+/* After a kill, the file has every change that the process made. */
 static void killed(void) {
     int ends[2];
     char one;
@@ -495,7 +495,7 @@ static void killed(void) {
     DONE(zx_file_close(&file));
 }
 
-/* Changes until it is killed: of elements, objects and lengths. */
+/* Changes elements, objects and lengths until the process is killed. */
 static void change_for_ever(void) {
     zx_file file = ZX_CLOSED_FILE;
     zx_key key = zx_name("v");
@@ -547,7 +547,7 @@ static void killed_within_a_call(int kills) {
     IS(images > 0, true);
 }
 
-/* Another process wants the file meanwhile. */
+/* Another process opens the file while this one has it. */
 static void two_processes(void) {
     zx_file file = ZX_CLOSED_FILE;
     int status = -1;
@@ -570,7 +570,7 @@ static void two_processes(void) {
     DONE(zx_file_close(&file));
 }
 
-/* A disk that is full is met by a code, and never by a signal. */
+/* On a full disk a call returns a code, and the process gets no signal. */
 static void full_disk(const char *small) {
     char there[430];
     zx_file file = ZX_CLOSED_FILE;

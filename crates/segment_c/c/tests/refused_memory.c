@@ -47,7 +47,7 @@ static void must(int line, bool holds) {
 
 static uint8_t image[4096], other[4096];
 
-/* The segment is as it was, and has the number 5. */
+/* Checks that the segment is unchanged: it has the number 5. */
 static bool is_as_it_was(zx_segment *s) {
     zx_key a = zx_name("a");
     zx_value value = { 0, 0, 0 };
@@ -56,13 +56,13 @@ static bool is_as_it_was(zx_segment *s) {
            zx_save(s, other, sizeof other) == ZX_DONE && memcmp(image, other, 1024) == 0;
 }
 
-/* Whether the call was done; else memory was refused in it. */
+/* Returns true if the call is done; otherwise its code must be ZX_NO_MEMORY. */
 static bool is_done(zx_code code) {
     MUST(code == ZX_DONE || code == ZX_NO_MEMORY);
     return code == ZX_DONE;
 }
 
-/* One run, in which one request is refused. Whether there was one of this number. */
+/* Makes one run, in which one request is refused. Returns false if the run made fewer requests. */
 static bool run(long number) {
     zx_segment s = ZX_CLOSED_HANDLE;
     zx_key a = zx_name("a");

@@ -12,8 +12,8 @@ use requests::{NoAnswerMemory, as_strs, buffered_writer, command_words, read_req
 use segment_answers::{LineOutput, NumberedOutput};
 use segment_cli::{ProgramFault, SessionFault};
 use segment_commands::{
-    CommandFault, change, check, check_all, create, explain, lint, load, load_over, names, print,
-    print_language, put_trouble, report, report_no_memory, tell_segment,
+    CommandFault, change, check, check_all, create, explain, is_stand_in, lint, load, load_over,
+    names, print, print_language, put_trouble, report, report_no_memory, tell_segment,
 };
 use segment_disk::{Disk, FileProblem, HostDisk, OpenedFile, StdOutput};
 use segment_invocation::{
@@ -47,20 +47,41 @@ fn tell(rt: &HostRuntime, fault: CommandFault) -> u8 {
     report(fault, &mut StdSink::new(rt.stderr()))
 }
 
-/// Does what the program's own command line asks for, and returns the status. Words that are no text are a wrong
-/// command line.
+/// Does what the program's own command line asks for, and returns the status. Words that are no UTF-8 are a wrong
+/// command line, unless they are paths.
 fn obey(rt: &HostRuntime) -> Result<u8, NoAnswerMemory> {
     let Some(owned) = command_words(rt)? else {
-        let _ = eprintln!(rt; "error: the command line is no UTF-8");
-        return Ok(tell(rt, USAGE));
+        return Ok(tell_no_text(rt));
     };
     let words = as_strs(rt.alloc(), owned.as_slice())?;
+    let stand_ins = count_stand_ins(words.as_slice());
     match read_request(rt.alloc(), words.as_slice())? {
-        Ok(asked) => perform(rt, &asked),
-        Err(wrong) => {
+        Ok(asked) if stand_ins == unusable_paths(&asked.options) => perform(rt, &asked),
+        Err(wrong) if stand_ins == 0 => {
             let _ = eprint!(rt; "{wrong}");
             Ok(tell(rt, USAGE))
         }
+        _ => Ok(tell_no_text(rt)),
+    }
+}
+
+/// Says that a word is no UTF-8 that has to be, and returns the status.
+fn tell_no_text(rt: &HostRuntime) -> u8 {
+    let _ = eprintln!(rt; "error: the command line is no UTF-8");
+    tell(rt, USAGE)
+}
+
+/// Returns how many words stand for words that are no UTF-8.
+fn count_stand_ins(words: &[&str]) -> usize {
+    words.iter().filter(|word| is_stand_in(word)).count()
+}
+
+/// Returns how many paths of a command stand for paths that are no UTF-8: those of its files, and of its script.
+fn unusable_paths(options: &Options<'_>) -> usize {
+    let files = count_stand_ins(options.files.as_slice());
+    match options.script {
+        Script::File(path) if is_stand_in(path) => files.saturating_add(1),
+        _ => files,
     }
 }
 
@@ -103,12 +124,16 @@ struct Host<'a> {
 }
 
 impl<'a> Host<'a> {
-    /// Returns what the system said of the script that was to be opened, or else of the file, and its path.
+    /// Returns what the system said of the script that was to be opened, or else of the file, and its path. Of a path
+    /// that is no UTF-8 the system is told nothing.
     fn trouble_of<'b>(&self, options: &Options<'b>) -> Option<(&'b str, FileProblem)> {
-        match (&options.script, self.scripts.trouble()) {
-            (Script::File(path), Some(trouble)) => Some((*path, trouble)),
-            _ => Some((file_of(options)?, self.disk.trouble()?)),
+        if let Script::File(path) = options.script {
+            if let Some(trouble) = problem_with(path, self.scripts.trouble()) {
+                return Some((path, trouble));
+            }
         }
+        let file = file_of(options)?;
+        Some((file, problem_with(file, self.disk.trouble())?))
     }
 
     /// Returns a fault as it is told: an image that another may have written while it was read is in use, whatever it
@@ -389,6 +414,15 @@ impl<'a, R: Read> ReadOnce for Prompted<'a, R> {
             );
         }
         Ok(count)
+    }
+}
+
+/// Returns what is told of a file of which the system said this.
+fn problem_with(path: &str, said: Option<FileProblem>) -> Option<FileProblem> {
+    if is_stand_in(path) {
+        Some(FileProblem::Unnamed)
+    } else {
+        said
     }
 }
 

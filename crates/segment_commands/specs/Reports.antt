@@ -7,7 +7,7 @@ use Rattle.segment_cli.specs.Reports.{fault_text, line, status_of}
 use Rattle.segment_commands.specs.declared.command_faults.CommandFault.{CommandFault}
 use Rattle.segment_commands.specs.declared.command_faults.CommandFault.TheVariants.{Program, InUse, Stopped, Misspelled}
 use Rattle.segment_commands.specs.declared.command_faults.CommandFault.TheVariants.{BadDump, NoSpace}
-use Rattle.segment_lang.specs.Texts.{quoted_text}
+use Rattle.segment_commands.specs.Paths.{path_text}
 use Rattle.segment_disk.specs.declared.presence.FileProblem.{FileProblem}
 use Rattle.segment_disk.specs.declared.presence.FileProblem.TheVariants.{Missing, NoParentFolder, Unnamed, Folder}
 use Rattle.segment_disk.specs.declared.presence.FileProblem.TheVariants.{Denied, Exists, Owner, Writer, Log}
@@ -61,7 +61,7 @@ trouble_words Log = codes ": has a log, which only the library for C, C++ and Py
 trouble_words Unwritten = codes ": could not be written whole\n"
 
 abbrev pub trouble_text : List ℕ → FileProblem → List ℕ
-trouble_text path trouble = codes "segment: " ++ (quoted_text path ++ (trouble_words trouble ++ []))
+trouble_text path trouble = codes "segment: " ++ (path_text path ++ (trouble_words trouble ++ []))
 
 -- the line of a trouble that may be none
 abbrev pub trouble_line : List ℕ → Option FileProblem → List ℕ

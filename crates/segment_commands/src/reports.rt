@@ -6,6 +6,7 @@ ghost use Rattle.segment_commands.specs.Reports.{bad_dump_line, command_status, 
 ghost use Rattle.segment_commands.specs.Reports.{no_space_line, trouble_line, trouble_words};
 
 use crate::command_faults::CommandFault;
+use crate::paths::path_piece;
 use raw_region::{DeviceFault, Sink, write_all};
 use segment_disk::FileProblem;
 use segment_dump::{BadDump, DumpFault};
@@ -153,7 +154,7 @@ pub fn put_trouble<S: Sink>(
         err,
         &[
             Piece::Bytes(b"segment: "),
-            Piece::Text(path.as_bytes()),
+            path_piece(path),
             Piece::Bytes(trouble_words(trouble)),
         ],
     )

@@ -8,20 +8,30 @@ use segment_lang::{Piece, digit_text};
 use std::alloc::{AllocError, Global};
 
 /// Returns how a path is printed: as a text of the language, whose bytes end no line and control no terminal.
+#[tactic(auto, using(crate::proofs::paths::Told::no_bytes, crate::proofs::paths::Told::marked, crate::proofs::paths::Told::unmarked))]
 pub(crate) fn path_piece(path: &str) -> Piece<'_>
     ensures { piece_text result ≡ path_text path.now }
 {
-    match path.as_bytes() {
-        [0, printed @ ..] => Piece::Bytes(printed),
-        bytes => Piece::Text(bytes),
+    let bytes = path.as_bytes();
+    let Some((first, printed)) = bytes.split_first() else {
+        return Piece::Text(bytes);
+    };
+    if *first == 0 {
+        Piece::Bytes(printed)
+    } else {
+        Piece::Text(bytes)
     }
 }
 
 /// Returns true for a word that stands for a path that is no UTF-8 ([`stand_in`]).
+#[tactic(auto, using(crate::proofs::paths::Told::none_in, crate::proofs::paths::Told::first_in))]
 pub fn is_stand_in(word: &str) -> bool
     ensures { result ≡ stands_in word.now }
 {
-    matches!(word.as_bytes(), [0, ..])
+    match word.as_bytes().split_first() {
+        Some((first, _)) => *first == 0,
+        None => false,
+    }
 }
 
 /// Appends a byte of a path as a text of the language spells it.

@@ -16,6 +16,7 @@ complete -c segment -n 'not __fish_seen_subcommand_from create lint language hel
 complete -c segment -n '__fish_seen_subcommand_from run' -s r -l read-only \
     -d 'refuse commands that change the segment'
 complete -c segment -n '__fish_seen_subcommand_from run' -l strict -d 'stop at the first error, and save nothing'
+complete -c segment -n '__fish_seen_subcommand_from run' -l fail -d 'tell an error by the status'
 complete -c segment -n '__fish_seen_subcommand_from run' -l numbered -d 'number the answers'
 complete -c segment -n '__fish_seen_subcommand_from check' -l explain -d 'tell where and why'
 complete -c segment -n '__fish_seen_subcommand_from check' -l quiet -d 'tell only of those that hold none'

@@ -12,8 +12,9 @@ use requests::{NoAnswerMemory, as_strs, buffered_writer, command_words, read_req
 use segment_answers::{LineOutput, NumberedOutput};
 use segment_cli::{ProgramFault, SessionFault};
 use segment_commands::{
-    CommandFault, change, check, check_all, create, explain, is_stand_in, lint, load, load_over,
-    names, print, print_language, put_trouble, report, report_no_memory, tell_segment,
+    CommandFault, RefusalWatch, change, check, check_all, create, explain, is_stand_in, lint,
+    load, load_over, names, print, print_language, put_trouble, report, report_no_memory,
+    tell_segment,
 };
 use segment_disk::{Disk, FileProblem, HostDisk, OpenedFile, StdOutput};
 use segment_invocation::{
@@ -29,6 +30,9 @@ const USAGE: CommandFault = CommandFault::Program(ProgramFault::Usage);
 
 /// If a second line says why a command failed, whatever standard error is.
 const VERBOSE: &str = "SEGMENT_VERBOSE";
+
+/// The status of a run with `--fail` that is done, if an answer was an error.
+const HAS_REFUSAL: u8 = 5;
 
 /// The status if the reader of standard output ended first, as of a program that SIGPIPE ends.
 const CLOSED_PIPE: u8 = 141;
@@ -283,7 +287,29 @@ impl<'a> Host<'a> {
         requires { O.history out ≡ nothing_taken }
     {
         if how.answering.numbered {
-            return self.answer_to(run, how, &mut NumberedOutput::new(out));
+            return self.answer_watched(run, how, NumberedOutput::new(out));
+        }
+        self.answer_watched(run, how, out)
+    }
+
+    /// Runs the script that the command line asks for, and returns the status: with `--fail` another one if an answer
+    /// is an error.
+    fn answer_watched<O: LineOutput + Drop>(
+        &mut self,
+        run: Run<'_>,
+        how: &Options<'_>,
+        out: O,
+    ) -> Result<u8, CommandFault>
+        requires { O.history out ≡ nothing_taken }
+    {
+        if how.answering.fail {
+            let mut watch = RefusalWatch::new(out);
+            let status = self.answer_to(run, how, &mut watch)?;
+            return Ok(if watch.has_refusal() {
+                HAS_REFUSAL
+            } else {
+                status
+            });
         }
         let mut plain = out;
         self.answer_to(run, how, &mut plain)

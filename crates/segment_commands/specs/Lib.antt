@@ -1,4 +1,5 @@
 pub mod Paths
+pub mod Refusals
 pub mod Faults
 pub mod Opening
 pub mod Telling

@@ -129,8 +129,8 @@ run_options = operand (codes "file") ∷ maybe (codes "script") ∷ option (code
 
 abbrev pub run_command : Shape
 run_command = taking (codes "run") (run_options
-    ++ (switch (codes "read-only") 114 ∷ flag (codes "replace") ∷ flag (codes "strict") ∷ flag (codes "numbered")
-    ∷ option (codes "wait") ∷ []))
+    ++ (switch (codes "read-only") 114 ∷ flag (codes "replace") ∷ flag (codes "strict") ∷ flag (codes "fail")
+    ∷ flag (codes "numbered") ∷ option (codes "wait") ∷ []))
 
 abbrev pub subcommands : List Shape
 subcommands = create_command ∷ run_command ∷ check_command ∷ grow_command ∷ kept_command (codes "shrink")
@@ -173,6 +173,7 @@ pub record OptionValues : Type 0 where
   pub saving : SaveMode
   pub wait : ℕ
   pub strict : Bool
+  pub fails : Bool
   pub numbered : Bool
   pub explains : Bool
   pub quiet : Bool
@@ -191,6 +192,7 @@ plain_options files = record {
   saving = InPlace;
   wait = 0;
   strict = false;
+  fails = false;
   numbered = false;
   explains = false;
   quiet = false;
@@ -238,6 +240,7 @@ options_by how = record {
   saving = how.keeping.saving;
   wait = how.keeping.wait;
   strict = how.answering.strict;
+  fails = how.answering.fail;
   numbered = how.answering.numbered;
   explains = how.explain;
   quiet = how.quiet;
@@ -400,6 +403,7 @@ options_with words wait origin = record {
   saving = saving_of (first_of (codes "replace") words);
   wait = wait;
   strict = is_set (first_of (codes "strict") words);
+  fails = is_set (first_of (codes "fail") words);
   numbered = is_set (first_of (codes "numbered") words);
   explains = is_set (first_of (codes "explain") words);
   quiet = is_set (first_of (codes "quiet") words);

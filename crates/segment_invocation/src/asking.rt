@@ -248,6 +248,7 @@ fn options_in<'a>(
         keeping,
         answering: AnswerOptions {
             strict: is_set(words, "strict"),
+            fail: is_set(words, "fail"),
             numbered: is_set(words, "numbered"),
         },
         explain,

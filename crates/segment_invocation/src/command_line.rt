@@ -86,6 +86,7 @@ Statuses:
   3  A FILE that is to be made exists, another program writes FILE, something could not be read or written, or the script
      is too long
   4  Memory was refused
+  5  Done, with --fail; an answer was an error
 
 Example:
   segment create a.seg 1024
@@ -208,6 +209,11 @@ const STRICT: CommandWord = CommandWord::Flag(
     "The first answer that is an error ends the run, with status 1, and nothing is saved",
 );
 
+const FAIL: CommandWord = CommandWord::Flag(
+    "fail",
+    "The status is 5 where an answer is an error; the segment is saved all the same",
+);
+
 const NUMBERED: CommandWord = CommandWord::Flag(
     "numbered",
     "Each line of an answer stands behind the number of the line that it answers, as in '3: #192'",
@@ -265,7 +271,8 @@ static COMMANDS: [Row; 13] = [
         RUN,
         Some(HelpEnd::Modes),
         &[
-            FILE, SCRIPT, MODE, RUN_SIZE, LINE, READ_ONLY, REPLACE, STRICT, NUMBERED, WAIT, VERBOSE,
+            FILE, SCRIPT, MODE, RUN_SIZE, LINE, READ_ONLY, REPLACE, STRICT, FAIL, NUMBERED, WAIT,
+            VERBOSE,
         ],
     ),
     (

@@ -127,6 +127,8 @@ pub enum FileChange {
 pub struct AnswerOptions {
     /// `--strict`: the first answer that is an error ends the run, and nothing is saved.
     pub strict: bool,
+    /// `--fail`: the status says whether an answer is an error.
+    pub fail: bool,
     /// `--numbered`: each line of an answer stands after the number of the line of the script that it answers.
     pub numbered: bool,
 }
@@ -230,6 +232,7 @@ impl<'a> Options<'a> {
             },
             answering: AnswerOptions {
                 strict: false,
+                fail: false,
                 numbered: false,
             },
             explain: false,

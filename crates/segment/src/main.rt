@@ -12,7 +12,7 @@ use requests::{NoAnswerMemory, as_strs, buffered_writer, command_words, read_req
 use segment_answers::{LineOutput, NumberedOutput};
 use segment_cli::{ProgramFault, SessionFault};
 use segment_commands::{
-    CommandFault, RefusalWatch, change, check, check_all, create, explain, is_stand_in, lint,
+    CommandFault, RefusalWatch, change, check, check_all, create, explain, get, is_stand_in, lint,
     load, load_over, names, print, print_language, put_trouble, report, report_no_memory,
     tell_segment,
 };
@@ -216,6 +216,10 @@ impl<'a> Host<'a> {
                 let most = most.unwrap_or(u64::MAX);
                 names(alloc, disk, file, prefix, most, &mut out)
             }
+            Invocation::Get(file, key, index) => {
+                let index = index.map(|index| index.as_bytes());
+                get(alloc, disk, file, key.as_bytes(), index, &mut out)
+            }
             Invocation::Load(file, size) => {
                 let mut text = StdSource::new(self.rt.reader());
                 match how.keeping.saving {
@@ -392,6 +396,7 @@ fn ends_quietly(asked: &Request<'_>) -> bool {
         asked.command,
         Invocation::Tell(_, _)
             | Invocation::Names(_, _, _)
+            | Invocation::Get(_, _, _)
             | Invocation::Lint
             | Invocation::Language
     );

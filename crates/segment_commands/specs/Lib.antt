@@ -17,3 +17,5 @@ pub mod Explaining
 pub mod Loading
 pub mod LoadOver
 pub mod Reports
+pub mod RawValues
+pub mod Getting

@@ -6,7 +6,7 @@ use Rattle.segment_dump.specs.declared.faults.DumpFault.TheVariants as dump
 use Rattle.segment_cli.specs.Reports.{fault_text, line, status_of}
 use Rattle.segment_commands.specs.declared.command_faults.CommandFault.{CommandFault}
 use Rattle.segment_commands.specs.declared.command_faults.CommandFault.TheVariants.{Program, InUse, Stopped, Misspelled}
-use Rattle.segment_commands.specs.declared.command_faults.CommandFault.TheVariants.{BadDump, NoSpace}
+use Rattle.segment_commands.specs.declared.command_faults.CommandFault.TheVariants.{BadDump, NoSpace, NoValue}
 use Rattle.segment_commands.specs.Paths.{path_text}
 use Rattle.segment_disk.specs.declared.presence.FileProblem.{FileProblem}
 use Rattle.segment_disk.specs.declared.presence.FileProblem.TheVariants.{Missing, NoParentFolder, Unnamed, Folder}
@@ -46,6 +46,7 @@ command_text Stopped = line (codes "stopped at an error, and nothing is saved")
 command_text Misspelled = line (codes "some lines are no commands")
 command_text (BadDump bad) = bad_dump_line bad
 command_text (NoSpace needed) = no_space_line needed
+command_text NoValue = line (codes "no such value")
 
 -- what a second line says of the file of a path, which stands there as a text of the language
 abbrev pub trouble_words : FileProblem → List ℕ
@@ -78,3 +79,4 @@ command_status Stopped = 1
 command_status Misspelled = 1
 command_status (BadDump bad) = 1
 command_status (NoSpace needed) = 1
+command_status NoValue = 1

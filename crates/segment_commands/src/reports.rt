@@ -75,8 +75,8 @@ fn put_line<S: Sink>(line: &[u8], status: u8, err: &mut S) -> u8
 }
 
 /// Writes the line of a fault, none for a wrong command line, and returns the status that the program ends with, even
-/// if the writer fails. It is 1 if an image, a size, a growth, a script or a dump is refused, and 2 for a wrong command
-/// line. It is 3 for a file that exists or is in use and for faults, and 4 for want of memory.
+/// if the writer fails. It is 1 if an image, a size, a growth, a script or a dump is refused or a value is missing, and
+/// 2 for a wrong command line. It is 3 for a file that exists or is in use and for faults, and 4 for want of memory.
 pub fn report<S: Sink>(fault: CommandFault, err: &mut S) -> u8
     requires { (S.history err.old).failures < 2 ^ 64 - 1 }
     ensures status { result ≡ command_status fault }
@@ -93,6 +93,7 @@ pub fn report<S: Sink>(fault: CommandFault, err: &mut S) -> u8
             )
         }
         CommandFault::Misspelled => put_line(b"segment: some lines are no commands\n", 1, err),
+        CommandFault::NoValue => put_line(b"segment: no such value\n", 1, err),
         CommandFault::NoSpace(needed) => {
             let _ = put_no_space(needed, err);
             1

@@ -76,7 +76,7 @@ fn after_bytes(seen: Seen, bytes: &[u8]) -> Seen
 pub struct RefusalWatch<O: Output> {
     inner: O,
     seen: Seen,
-    ghost seen_is: { seen_in (O.history inner).bytes ≡ seen },
+    ghost text: { seen_in (O.history inner).bytes ≡ seen },
 }
 
 impl<O: Output> RefusalWatch<O> {

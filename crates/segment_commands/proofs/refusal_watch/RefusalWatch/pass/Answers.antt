@@ -10,7 +10,7 @@ invariant_of-self g c =
     let old = (g.O.Sink.history was.inner).bytes in
     let more = take c.in-Ok.count c.args.bytes.now in
     record {
-      seen_is = ap seen_in c.in-Ok.ensures.bytes
+      text = ap seen_in c.in-Ok.ensures.bytes
           ∙ (fold-append after_byte (record { spot = 0; refusal = false }) old more
           ∙ (ap (λ s. fold after_byte s more) was.seen_is ∙ sym c.after_bytes-self.ensures));
     }

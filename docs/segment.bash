@@ -2,7 +2,7 @@
 # of bash's completions. Behind `-c` the words of the language are completed.
 _segment() {
     local word=${COMP_WORDS[COMP_CWORD]} before=${COMP_WORDS[COMP_CWORD - 1]}
-    local commands='create run check grow shrink migrate stat draw dump names load lint language help'
+    local commands='create run check grow shrink migrate stat draw dump names get load lint language help'
     local options= more=
     COMPREPLY=()
     if [ "$COMP_CWORD" = 1 ]; then
@@ -24,7 +24,7 @@ _segment() {
         --size | --wait | --prefix | --most) return ;;
     esac
     case ${COMP_WORDS[1]} in
-        run) options='-c -r --mode --read-only --size --replace --strict --numbered --wait' more=2 ;;
+        run) options='-c -r --mode --read-only --size --replace --strict --fail --numbered --wait' more=2 ;;
         check) options='--explain --quiet --wait' more=99 ;;
         create) options='--replace' more=1 ;;
         grow) options='--replace --wait' more=1 ;;
@@ -32,6 +32,7 @@ _segment() {
         draw) options='--html --wait' more=1 ;;
         dump) options='--capacities --json --wait' more=1 ;;
         names) options='--prefix --most --wait' more=1 ;;
+        get) options='--wait' more=1 ;;
         load) options='--size --replace --wait' more=1 ;;
         stat) options='--wait' more=1 ;;
         help)

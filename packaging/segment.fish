@@ -1,5 +1,5 @@
 # Completions of the words of `segment` for fish. After `-c` the words of the language are completed.
-set -l commands create run check grow shrink migrate stat draw dump names load lint language help
+set -l commands create run check grow shrink migrate stat draw dump names get load lint language help
 set -l modes create_only open_only open_or_create open_read_only open_copy_on_write
 complete -c segment -n "not __fish_seen_subcommand_from $commands" -f -a "$commands"
 complete -c segment -n "not __fish_seen_subcommand_from $commands" -l version -d 'which program this is'
@@ -16,6 +16,7 @@ complete -c segment -n 'not __fish_seen_subcommand_from create lint language hel
 complete -c segment -n '__fish_seen_subcommand_from run' -s r -l read-only \
     -d 'refuse commands that change the segment'
 complete -c segment -n '__fish_seen_subcommand_from run' -l strict -d 'stop at the first error, and save nothing'
+complete -c segment -n '__fish_seen_subcommand_from run' -l fail -d 'tell an error by the status'
 complete -c segment -n '__fish_seen_subcommand_from run' -l numbered -d 'number the answers'
 complete -c segment -n '__fish_seen_subcommand_from check' -l explain -d 'tell where and why'
 complete -c segment -n '__fish_seen_subcommand_from check' -l quiet -d 'tell only of those that hold none'

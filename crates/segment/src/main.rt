@@ -12,8 +12,9 @@ use requests::{NoAnswerMemory, as_strs, buffered_writer, command_words, read_req
 use segment_answers::{LineOutput, NumberedOutput};
 use segment_cli::{ProgramFault, SessionFault};
 use segment_commands::{
-    CommandFault, change, check, check_all, create, explain, lint, load, load_over, names, print,
-    print_language, put_trouble, report, report_no_memory, tell_segment,
+    CommandFault, RefusalWatch, change, check, check_all, create, explain, get, is_stand_in, lint,
+    load, load_over, names, print, print_language, put_trouble, report, report_no_memory,
+    tell_segment,
 };
 use segment_disk::{Disk, FileProblem, HostDisk, OpenedFile, StdOutput};
 use segment_invocation::{
@@ -29,6 +30,9 @@ const USAGE: CommandFault = CommandFault::Program(ProgramFault::Usage);
 
 /// If a second line says why a command failed, whatever standard error is.
 const VERBOSE: &str = "SEGMENT_VERBOSE";
+
+/// The status of a run with `--fail` that is done, if an answer was an error.
+const HAS_REFUSAL: u8 = 5;
 
 /// The status if the reader of standard output ended first, as of a program that SIGPIPE ends.
 const CLOSED_PIPE: u8 = 141;
@@ -47,20 +51,41 @@ fn tell(rt: &HostRuntime, fault: CommandFault) -> u8 {
     report(fault, &mut StdSink::new(rt.stderr()))
 }
 
-/// Does what the program's own command line asks for, and returns the status. Words that are no text are a wrong
-/// command line.
+/// Does what the program's own command line asks for, and returns the status. Words that are no UTF-8 are a wrong
+/// command line, unless they are paths.
 fn obey(rt: &HostRuntime) -> Result<u8, NoAnswerMemory> {
     let Some(owned) = command_words(rt)? else {
-        let _ = eprintln!(rt; "error: the command line is no UTF-8");
-        return Ok(tell(rt, USAGE));
+        return Ok(tell_no_text(rt));
     };
     let words = as_strs(rt.alloc(), owned.as_slice())?;
+    let stand_ins = count_stand_ins(words.as_slice());
     match read_request(rt.alloc(), words.as_slice())? {
-        Ok(asked) => perform(rt, &asked),
-        Err(wrong) => {
+        Ok(asked) if stand_ins == unusable_paths(&asked.options) => perform(rt, &asked),
+        Err(wrong) if stand_ins == 0 => {
             let _ = eprint!(rt; "{wrong}");
             Ok(tell(rt, USAGE))
         }
+        _ => Ok(tell_no_text(rt)),
+    }
+}
+
+/// Says that a word is no UTF-8 that has to be, and returns the status.
+fn tell_no_text(rt: &HostRuntime) -> u8 {
+    let _ = eprintln!(rt; "error: the command line is no UTF-8");
+    tell(rt, USAGE)
+}
+
+/// Returns how many words stand for words that are no UTF-8.
+fn count_stand_ins(words: &[&str]) -> usize {
+    words.iter().filter(|word| is_stand_in(word)).count()
+}
+
+/// Returns how many paths of a command stand for paths that are no UTF-8: those of its files, and of its script.
+fn unusable_paths(options: &Options<'_>) -> usize {
+    let files = count_stand_ins(options.files.as_slice());
+    match options.script {
+        Script::File(path) if is_stand_in(path) => files.saturating_add(1),
+        _ => files,
     }
 }
 
@@ -103,12 +128,16 @@ struct Host<'a> {
 }
 
 impl<'a> Host<'a> {
-    /// Returns what the system said of the script that was to be opened, or else of the file, and its path.
+    /// Returns what the system said of the script that was to be opened, or else of the file, and its path. Of a path
+    /// that is no UTF-8 the system is told nothing.
     fn trouble_of<'b>(&self, options: &Options<'b>) -> Option<(&'b str, FileProblem)> {
-        match (&options.script, self.scripts.trouble()) {
-            (Script::File(path), Some(trouble)) => Some((*path, trouble)),
-            _ => Some((file_of(options)?, self.disk.trouble()?)),
+        if let Script::File(path) = options.script {
+            if let Some(trouble) = problem_with(path, self.scripts.trouble()) {
+                return Some((path, trouble));
+            }
         }
+        let file = file_of(options)?;
+        Some((file, problem_with(file, self.disk.trouble())?))
     }
 
     /// Returns a fault as it is told: an image that another may have written while it was read is in use, whatever it
@@ -187,6 +216,10 @@ impl<'a> Host<'a> {
                 let most = most.unwrap_or(u64::MAX);
                 names(alloc, disk, file, prefix, most, &mut out)
             }
+            Invocation::Get(file, key, index) => {
+                let index = index.map(|index| index.as_bytes());
+                get(alloc, disk, file, key.as_bytes(), index, &mut out)
+            }
             Invocation::Load(file, size) => {
                 let mut text = StdSource::new(self.rt.reader());
                 match how.keeping.saving {
@@ -258,7 +291,29 @@ impl<'a> Host<'a> {
         requires { O.history out ≡ nothing_taken }
     {
         if how.answering.numbered {
-            return self.answer_to(run, how, &mut NumberedOutput::new(out));
+            return self.answer_watched(run, how, NumberedOutput::new(out));
+        }
+        self.answer_watched(run, how, out)
+    }
+
+    /// Runs the script that the command line asks for, and returns the status: with `--fail` another one if an answer
+    /// is an error.
+    fn answer_watched<O: LineOutput + Drop>(
+        &mut self,
+        run: Run<'_>,
+        how: &Options<'_>,
+        out: O,
+    ) -> Result<u8, CommandFault>
+        requires { O.history out ≡ nothing_taken }
+    {
+        if how.answering.fail {
+            let mut watch = RefusalWatch::new(out);
+            let status = self.answer_to(run, how, &mut watch)?;
+            return Ok(if watch.has_refusal() {
+                HAS_REFUSAL
+            } else {
+                status
+            });
         }
         let mut plain = out;
         self.answer_to(run, how, &mut plain)
@@ -341,6 +396,7 @@ fn ends_quietly(asked: &Request<'_>) -> bool {
         asked.command,
         Invocation::Tell(_, _)
             | Invocation::Names(_, _, _)
+            | Invocation::Get(_, _, _)
             | Invocation::Lint
             | Invocation::Language
     );
@@ -389,6 +445,15 @@ impl<'a, R: Read> ReadOnce for Prompted<'a, R> {
             );
         }
         Ok(count)
+    }
+}
+
+/// Returns what is told of a file of which the system said this.
+fn problem_with(path: &str, said: Option<FileProblem>) -> Option<FileProblem> {
+    if is_stand_in(path) {
+        Some(FileProblem::Unnamed)
+    } else {
+        said
     }
 }
 

@@ -1,12 +1,17 @@
 //! The requests for memory of the program itself, for its command line and its answers: each in a function that alone
 //! makes the token of its refusal.
 
+use segment_commands::stand_in;
 use segment_invocation::{InvocationFault, Request, UsageError, request};
-use std::alloc::Global;
+use std::alloc::{AllocError, Global};
+use std::env::{Env, FillError};
 use std::io::{BufWriter, ErrorKind, Write};
 
 /// How many bytes of answers go out at once, at most.
 const PIECE: usize = 65536;
+
+/// The most bytes that a word may have in a command line that is not all UTF-8: as many as Linux lets it have.
+const LONGEST_WORD: usize = 131072;
 
 /// The allocator refused memory for the command line or the answers. Its field is private: this module alone makes it,
 /// where it asked.
@@ -18,7 +23,8 @@ pub struct NoAnswerMemory {
 /// What the token of a refusal is.
 const REFUSED: NoAnswerMemory = NoAnswerMemory { _made: () };
 
-/// Returns the words of the command line, the program's name first, if they are texts.
+/// Returns the words of the command line, the program's name first. In the place of each that is no UTF-8 is its
+/// stand-in. Returns none if such a word begins with a hyphen, or one beside it is too long to be read.
 pub fn command_words(rt: &HostRuntime) -> Result<Option<Vec<String>>, NoAnswerMemory> {
     match std::env::args(rt) {
         Ok(words) => match words.collect(rt.alloc()) {
@@ -26,7 +32,40 @@ pub fn command_words(rt: &HostRuntime) -> Result<Option<Vec<String>>, NoAnswerMe
             Err(_) => Err(REFUSED),
         },
         Err(error) if error.kind() == ErrorKind::OutOfMemory => Err(REFUSED),
-        Err(_) => Ok(None),
+        Err(_) => raw_words(rt),
+    }
+}
+
+/// Returns the words of a command line that is not all UTF-8.
+fn raw_words(rt: &HostRuntime) -> Result<Option<Vec<String>>, NoAnswerMemory> {
+    let mut room = Vec::new(rt.alloc());
+    room.resize(LONGEST_WORD, 0u8).map_err(|_| REFUSED)?;
+    let mut words = Vec::new(rt.alloc());
+    for index in 0..usize::MAX {
+        let word = match rt.arg(index, room.as_mut_slice()) {
+            Ok(len) => word_of(rt.alloc(), room.get(..len).unwrap_or(&[])),
+            Err(FillError::NotPresent) => break,
+            Err(FillError::TooLong) => return Ok(None),
+        };
+        match word {
+            Ok(Some(word)) => words.push(word).map_err(|_| REFUSED)?,
+            Ok(None) => return Ok(None),
+            Err(_) => return Err(REFUSED),
+        }
+    }
+    Ok(Some(words))
+}
+
+/// Returns a word as text, or its stand-in, but none for an option that is no UTF-8.
+fn word_of(alloc: Global, bytes: &[u8]) -> Result<Option<String>, AllocError> {
+    match std::str::from_utf8(bytes) {
+        Ok(text) => {
+            let mut word = String::new(alloc);
+            word.push_str(text)?;
+            Ok(Some(word))
+        }
+        Err(_) if bytes.starts_with(b"-") => Ok(None),
+        Err(_) => Ok(Some(stand_in(alloc, bytes)?)),
     }
 }
 

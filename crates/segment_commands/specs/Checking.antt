@@ -10,11 +10,11 @@ use Rattle.segment_cli.specs.declared.faults.SessionFault.TheVariants.{WriteFaul
 use Rattle.segment_commands.specs.declared.command_faults.CommandFault.{CommandFault}
 use Rattle.segment_commands.specs.Faults.{Session}
 use Rattle.segment_commands.specs.Opening.{VerifiesFile}
+use Rattle.segment_commands.specs.Paths.{path_text}
 use Rattle.segment_commands.specs.Reports.{trouble_line}
 use Rattle.segment_commands.specs.Telling.{FailsOutput, FlushesText}
 use Rattle.segment_disk.specs.declared.presence.FileProblem.{FileProblem}
 use Rattle.segment_disk.specs.Events.{Event}
-use Rattle.segment_lang.specs.Texts.{quoted_text}
 
 -- ---- one file: its path, whether it holds a segment or why it holds none, and what is told of it by the disk
 
@@ -27,13 +27,13 @@ pub record Checked : Type 0 where
 -- the line of a good file on standard output, unless the check is quiet
 abbrev pub fit_line : Bool → List ℕ → Result (Unit {0}) SessionFault → List ℕ
 fit_line true path found = []
-fit_line false path (Ok u) = quoted_text path ++ (codes ": ok\n" ++ [])
+fit_line false path (Ok u) = path_text path ++ (codes ": ok\n" ++ [])
 fit_line false path (Err fault) = []
 
 -- the lines of a refused file on standard error
 abbrev pub reason_lines : List ℕ → SessionFault → Option FileProblem → List ℕ
 reason_lines path fault trouble =
-    (quoted_text path ++ (codes ": " ++ (line (session_words fault) ++ []))) ++ trouble_line path trouble
+    (path_text path ++ (codes ": " ++ (line (session_words fault) ++ []))) ++ trouble_line path trouble
 
 -- the lines of a refused file on standard error
 abbrev pub unfit_lines : List ℕ → Result (Unit {0}) SessionFault → Option FileProblem → List ℕ

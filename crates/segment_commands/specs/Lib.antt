@@ -1,3 +1,5 @@
+pub mod Paths
+pub mod Refusals
 pub mod Faults
 pub mod Opening
 pub mod Telling
@@ -15,3 +17,5 @@ pub mod Explaining
 pub mod Loading
 pub mod LoadOver
 pub mod Reports
+pub mod RawValues
+pub mod Getting

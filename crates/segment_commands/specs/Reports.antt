@@ -6,8 +6,8 @@ use Rattle.segment_dump.specs.declared.faults.DumpFault.TheVariants as dump
 use Rattle.segment_cli.specs.Reports.{fault_text, line, status_of}
 use Rattle.segment_commands.specs.declared.command_faults.CommandFault.{CommandFault}
 use Rattle.segment_commands.specs.declared.command_faults.CommandFault.TheVariants.{Program, InUse, Stopped, Misspelled}
-use Rattle.segment_commands.specs.declared.command_faults.CommandFault.TheVariants.{BadDump, NoSpace}
-use Rattle.segment_lang.specs.Texts.{quoted_text}
+use Rattle.segment_commands.specs.declared.command_faults.CommandFault.TheVariants.{BadDump, NoSpace, NoValue}
+use Rattle.segment_commands.specs.Paths.{path_text}
 use Rattle.segment_disk.specs.declared.presence.FileProblem.{FileProblem}
 use Rattle.segment_disk.specs.declared.presence.FileProblem.TheVariants.{Missing, NoParentFolder, Unnamed, Folder}
 use Rattle.segment_disk.specs.declared.presence.FileProblem.TheVariants.{Denied, Exists, Owner, Writer, Log}
@@ -46,6 +46,7 @@ command_text Stopped = line (codes "stopped at an error, and nothing is saved")
 command_text Misspelled = line (codes "some lines are no commands")
 command_text (BadDump bad) = bad_dump_line bad
 command_text (NoSpace needed) = no_space_line needed
+command_text NoValue = line (codes "no such value")
 
 -- what a second line says of the file of a path, which stands there as a text of the language
 abbrev pub trouble_words : FileProblem → List ℕ
@@ -61,7 +62,7 @@ trouble_words Log = codes ": has a log, which only the library for C, C++ and Py
 trouble_words Unwritten = codes ": could not be written whole\n"
 
 abbrev pub trouble_text : List ℕ → FileProblem → List ℕ
-trouble_text path trouble = codes "segment: " ++ (quoted_text path ++ (trouble_words trouble ++ []))
+trouble_text path trouble = codes "segment: " ++ (path_text path ++ (trouble_words trouble ++ []))
 
 -- the line of a trouble that may be none
 abbrev pub trouble_line : List ℕ → Option FileProblem → List ℕ
@@ -78,3 +79,4 @@ command_status Stopped = 1
 command_status Misspelled = 1
 command_status (BadDump bad) = 1
 command_status (NoSpace needed) = 1
+command_status NoValue = 1

@@ -7,6 +7,7 @@ ghost use Rattle.segment_commands.specs.Commands.{RunsCheck};
 
 use crate::command_faults::CommandFault;
 use crate::opening::verify_segment;
+use crate::paths::path_piece;
 use crate::reports::put_trouble;
 use crate::telling::write_and_flush;
 use raw_region::{DeviceFault, Sink};
@@ -47,10 +48,7 @@ fn tell_fit<O: Output>(
     if is_quiet || found.is_err() {
         return Ok(());
     }
-    put_pieces(
-        out,
-        &[Piece::Text(path.as_bytes()), Piece::Bytes(b": ok\n")],
-    )?;
+    put_pieces(out, &[path_piece(path), Piece::Bytes(b": ok\n")])?;
     Output::flush(out)
 }
 
@@ -68,7 +66,7 @@ fn put_reason<S: Sink>(
     put_pieces(
         err,
         &[
-            Piece::Text(path.as_bytes()),
+            path_piece(path),
             Piece::Bytes(b": "),
             Piece::Bytes(session_line(fault)),
         ],

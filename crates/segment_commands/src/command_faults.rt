@@ -34,6 +34,9 @@ pub enum CommandFault {
     /// The objects of a dump do not fit the size: they need this number of bytes.
     #[error("no space: the objects need {0} bytes")]
     NoSpace(u64),
+    /// There is no value of the key and the index that were given.
+    #[error("no such value")]
+    NoValue,
 }
 
 /// A file or standard output can't be written.

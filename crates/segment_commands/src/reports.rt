@@ -6,6 +6,7 @@ ghost use Rattle.segment_commands.specs.Reports.{bad_dump_line, command_status, 
 ghost use Rattle.segment_commands.specs.Reports.{no_space_line, trouble_line, trouble_words};
 
 use crate::command_faults::CommandFault;
+use crate::paths::path_piece;
 use raw_region::{DeviceFault, Sink, write_all};
 use segment_disk::FileProblem;
 use segment_dump::{BadDump, DumpFault};
@@ -74,8 +75,8 @@ fn put_line<S: Sink>(line: &[u8], status: u8, err: &mut S) -> u8
 }
 
 /// Writes the line of a fault, none for a wrong command line, and returns the status that the program ends with, even
-/// if the writer fails. It is 1 if an image, a size, a growth, a script or a dump is refused, and 2 for a wrong command
-/// line. It is 3 for a file that exists or is in use and for faults, and 4 for want of memory.
+/// if the writer fails. It is 1 if an image, a size, a growth, a script or a dump is refused or a value is missing, and
+/// 2 for a wrong command line. It is 3 for a file that exists or is in use and for faults, and 4 for want of memory.
 pub fn report<S: Sink>(fault: CommandFault, err: &mut S) -> u8
     requires { (S.history err.old).failures < 2 ^ 64 - 1 }
     ensures status { result ≡ command_status fault }
@@ -92,6 +93,7 @@ pub fn report<S: Sink>(fault: CommandFault, err: &mut S) -> u8
             )
         }
         CommandFault::Misspelled => put_line(b"segment: some lines are no commands\n", 1, err),
+        CommandFault::NoValue => put_line(b"segment: no such value\n", 1, err),
         CommandFault::NoSpace(needed) => {
             let _ = put_no_space(needed, err);
             1
@@ -153,7 +155,7 @@ pub fn put_trouble<S: Sink>(
         err,
         &[
             Piece::Bytes(b"segment: "),
-            Piece::Text(path.as_bytes()),
+            path_piece(path),
             Piece::Bytes(trouble_words(trouble)),
         ],
     )

@@ -16,7 +16,7 @@ use Rattle.clap.specs.declared.builder.action.ArgAction.TheVariants.{Append, Set
 use Rattle.segment_lang.specs.Words.{number_of}
 use Rattle.segment_invocation.specs.declared.invocations.Invocation.{Invocation}
 use Rattle.segment_invocation.specs.declared.invocations.Invocation.TheVariants.{Create, Run, Check, Grow, Shrink}
-use Rattle.segment_invocation.specs.declared.invocations.Invocation.TheVariants.{Migrate, Tell, Names, Load, Lint}
+use Rattle.segment_invocation.specs.declared.invocations.Invocation.TheVariants.{Migrate, Tell, Names, Get, Load, Lint}
 use Rattle.segment_invocation.specs.declared.invocations.Invocation.TheVariants.{Language, Version}
 use Rattle.segment_invocation.specs.declared.invocations.Options.{Options}
 use Rattle.segment_invocation.specs.declared.invocations.Request.{Request}
@@ -34,7 +34,7 @@ use Rattle.segment_invocation.specs.declared.invocations.Script.{Script}
 use Rattle.segment_invocation.specs.declared.invocations.Script.TheVariants as script
 use Rattle.segment_invocation.specs.declared.usage.UsageError.{UsageError}
 use Rattle.segment_invocation.specs.declared.usage.UsageError.TheVariants.{Words, Command, File, Number, Mode}
-use Rattle.segment_invocation.specs.declared.usage.UsageError.TheVariants.{Modes}
+use Rattle.segment_invocation.specs.declared.usage.UsageError.TheVariants.{Modes, Key}
 use Rattle.segment_invocation.specs.declared.usage.UsageError.TheVariants.{Size, Script as TwoScripts, Files}
 use Rattle.segment_invocation.specs.declared.usage.UsageError.TheVariants.{Capacities as JsonCapacities}
 
@@ -120,6 +120,10 @@ abbrev pub names_command : Shape
 names_command = taking (codes "names")
     (operand (codes "file") ∷ option (codes "prefix") ∷ option (codes "most") ∷ waited)
 
+abbrev pub get_command : Shape
+get_command = taking (codes "get")
+    (operand (codes "file") ∷ operand (codes "key") ∷ maybe (codes "index") ∷ waited)
+
 abbrev pub load_command : Shape
 load_command = taking (codes "load") (operand (codes "file") ∷ option (codes "size") ∷ kept)
 
@@ -129,13 +133,13 @@ run_options = operand (codes "file") ∷ maybe (codes "script") ∷ option (code
 
 abbrev pub run_command : Shape
 run_command = taking (codes "run") (run_options
-    ++ (switch (codes "read-only") 114 ∷ flag (codes "replace") ∷ flag (codes "strict") ∷ flag (codes "numbered")
-    ∷ option (codes "wait") ∷ []))
+    ++ (switch (codes "read-only") 114 ∷ flag (codes "replace") ∷ flag (codes "strict") ∷ flag (codes "fail")
+    ∷ flag (codes "numbered") ∷ option (codes "wait") ∷ []))
 
 abbrev pub subcommands : List Shape
 subcommands = create_command ∷ run_command ∷ check_command ∷ grow_command ∷ kept_command (codes "shrink")
     ∷ kept_command (codes "migrate")
-    ∷ file_command (codes "stat") ∷ draw_command ∷ dump_command ∷ names_command ∷ load_command
+    ∷ file_command (codes "stat") ∷ draw_command ∷ dump_command ∷ names_command ∷ get_command ∷ load_command
     ∷ taking (codes "lint") [] ∷ taking (codes "language") [] ∷ []
 
 -- the grammar of the command line
@@ -151,7 +155,7 @@ pub data Origin : Type 0 where
   from_lines : List Text → Origin
 
 -- a command: a file goes by its path; a run has a mode, and may have a size; names begin with a text and may be
--- limited; a load has a size or takes the least
+-- limited; a value has a key, and may have an index; a load has a size or takes the least
 pub data InvocationValue : Type 0 where
   create : Text → ℕ → InvocationValue
   run : Text → ModeName → Option ℕ → InvocationValue
@@ -161,6 +165,7 @@ pub data InvocationValue : Type 0 where
   migrate : Text → InvocationValue
   tell : Text → Report → InvocationValue
   names : Text → Text → Option ℕ → InvocationValue
+  get : Text → Text → Option Text → InvocationValue
   load : Text → Option ℕ → InvocationValue
   lint : InvocationValue
   language : InvocationValue
@@ -173,6 +178,7 @@ pub record OptionValues : Type 0 where
   pub saving : SaveMode
   pub wait : ℕ
   pub strict : Bool
+  pub fails : Bool
   pub numbered : Bool
   pub explains : Bool
   pub quiet : Bool
@@ -191,6 +197,7 @@ plain_options files = record {
   saving = InPlace;
   wait = 0;
   strict = false;
+  fails = false;
   numbered = false;
   explains = false;
   quiet = false;
@@ -225,6 +232,7 @@ asked_by (Shrink file) = shrink file.now
 asked_by (Migrate file) = migrate file.now
 asked_by (Tell file what) = tell file.now what
 asked_by (Names file prefix most) = names file.now prefix.now most
+asked_by (Get file key index) = get file.now key.now (option_map (λ i. i.now) index)
 asked_by (Load file size) = load file.now size
 asked_by Lint = lint
 asked_by Language = language
@@ -238,6 +246,7 @@ options_by how = record {
   saving = how.keeping.saving;
   wait = how.keeping.wait;
   strict = how.answering.strict;
+  fails = how.answering.fail;
   numbered = how.answering.numbered;
   explains = how.explain;
   quiet = how.quiet;
@@ -330,6 +339,11 @@ abbrev pub asked_names : Text → List Row → Option InvocationValue
 asked_names file words = option_map (names file (unwrap_or (first_of (codes "prefix") words) []))
     (size_of (first_of (codes "most") words))
 
+-- a file's value, by its key and its index
+abbrev pub asked_get : Text → List Row → Option InvocationValue
+asked_get file words = option_map (λ key. get file key (first_of (codes "index") words))
+    (first_of (codes "key") words)
+
 -- the mode of a run wants a size, and there is none
 abbrev pub lacks_size : ModeName → Option ℕ → Bool
 lacks_size mode size = wants_size mode && not (is_some size)
@@ -367,6 +381,7 @@ command_called word =
     else if bytes_eq word (codes "draw") then Some on_file.Draw
     else if bytes_eq word (codes "dump") then Some on_file.Dump
     else if bytes_eq word (codes "names") then Some on_file.Names
+    else if bytes_eq word (codes "get") then Some on_file.Get
     else if bytes_eq word (codes "load") then Some on_file.Load
     else None
 
@@ -382,6 +397,7 @@ asked_as (Some on_file.Stat) file words = Some (tell file Figures)
 asked_as (Some on_file.Draw) file words = Some (tell file (drawn_of words))
 asked_as (Some on_file.Dump) file words = option_map (tell file) (dumped_of words)
 asked_as (Some on_file.Names) file words = asked_names file words
+asked_as (Some on_file.Get) file words = asked_get file words
 asked_as (Some on_file.Load) file words = option_map (load file) (size_of (first_of (codes "size") words))
 asked_as None file words = None
 
@@ -400,6 +416,7 @@ options_with words wait origin = record {
   saving = saving_of (first_of (codes "replace") words);
   wait = wait;
   strict = is_set (first_of (codes "strict") words);
+  fails = is_set (first_of (codes "fail") words);
   numbered = is_set (first_of (codes "numbered") words);
   explains = is_set (first_of (codes "explain") words);
   quiet = is_set (first_of (codes "quiet") words);
@@ -450,11 +467,12 @@ ParsesTo wanted result = MatchResult result (λ a. wanted ≡ Some a) (λ e. wan
 
 -- ---- what is wrong with words that ask for nothing
 
--- there is no such command or mode, or no file, number or size; or two modes, two scripts, more files than are
+-- there is no such command or mode, or no file, key, number or size; or two modes, two scripts, more files than are
 -- explained, or a dump in JSON with capacities
 pub data Wrong : Type 0 where
   no_command : Wrong
   no_file : Wrong
+  no_key : Wrong
   no_number : Wrong
   no_mode : Wrong
   two_modes : Wrong
@@ -468,6 +486,7 @@ abbrev pub wrong_by : UsageError → Option Wrong
 wrong_by (Words misread) = None
 wrong_by Command = Some no_command
 wrong_by File = Some no_file
+wrong_by Key = Some no_key
 wrong_by Number = Some no_number
 wrong_by (Mode nearest) = Some no_mode
 wrong_by Modes = Some two_modes
@@ -487,10 +506,11 @@ wrong_run words =
     else if is_some (size_of (first_of (codes "size") words)) then no_size
     else no_number
 
--- of a command with a file: what is wrong with a run or a dump, or its number, or there is no such command
+-- of a command with a file: what is wrong with a run or a dump, or its key or number, or there is no such command
 abbrev pub wrong_filed : Option FileCommand → List Row → Wrong
 wrong_filed (Some on_file.Run) words = wrong_run words
 wrong_filed (Some on_file.Dump) words = json_capacities
+wrong_filed (Some on_file.Get) words = no_key
 wrong_filed (Some command) words = no_number
 wrong_filed None words = no_command
 
@@ -620,6 +640,15 @@ abbrev pub IsKeptWritten : List Text → Text → OptionValues → List Text →
 IsKeptWritten begun file how words = IsTrue (is_path file) × (waits : List Text) × IsWaitPart waits how.wait
     × (how ≡ kept_options file how.saving how.wait) × (words ≡ begun ++ (waits ++ saving_part how.saving))
 
+-- an index, which may be left out, is a word like a path
+abbrev pub is_index : Option Text → Bool
+is_index None = true
+is_index (Some index) = is_path index
+
+abbrev pub index_words : Option Text → List Text
+index_words None = []
+index_words (Some index) = index ∷ []
+
 -- what is told of a file: the command, and its flag
 abbrev pub report_words : Report → Text → List Text
 report_words Figures file = codes "stat" ∷ file ∷ []
@@ -648,6 +677,8 @@ IsWrittenWith (names file prefix most) how words = IsTrue (is_path file) × (how
     × (prefixes : List Text) × (mosts : List Text)
     × IsPart (codes "--prefix") prefixes prefix × IsNumberPart (codes "--most") mosts most
     × (words ≡ codes "names" ∷ file ∷ prefixes ++ mosts)
+IsWrittenWith (get file key index) how words = IsTrue (is_path file) × IsTrue (is_path key) × IsTrue (is_index index)
+    × (how ≡ plain_options (file ∷ [])) × (words ≡ codes "get" ∷ file ∷ key ∷ index_words index)
 IsWrittenWith (load file size) how words = (sizes : List Text) × IsNumberPart (codes "--size") sizes size
     × IsKeptWritten (codes "load" ∷ file ∷ sizes) file how words
 IsWrittenWith lint how words = (how ≡ no_options) × (words ≡ codes "lint" ∷ [])

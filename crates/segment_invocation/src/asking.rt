@@ -195,6 +195,10 @@ fn read_filed<'a>(
             let most = count_in(words, "most")?;
             Ok(Invocation::Names(file, word_of(words, "prefix").unwrap_or(""), most))
         }
+        FileCommand::Get => match word_of(words, "key") {
+            Some(key) => Ok(Invocation::Get(file, key, word_of(words, "index"))),
+            None => Err(UsageError::Key),
+        },
         FileCommand::Load => Ok(Invocation::Load(file, count_in(words, "size")?)),
     }
 }
@@ -248,6 +252,7 @@ fn options_in<'a>(
         keeping,
         answering: AnswerOptions {
             strict: is_set(words, "strict"),
+            fail: is_set(words, "fail"),
             numbered: is_set(words, "numbered"),
         },
         explain,

@@ -36,6 +36,9 @@ const DUMP: &str = "Prints the objects of the segment in FILE as text";
 
 const NAMES: &str = "Prints the names in the segment in FILE, in their order, a line each";
 
+const GET: &str =
+    "Prints one value of the segment in FILE as it is, without quotes; the status is 1 where there is none";
+
 const LOAD: &str =
     "Makes FILE with a segment of the dump of standard input; without --replace a FILE that exists is refused";
 
@@ -81,11 +84,12 @@ const STATUSES: &str = "\
 Statuses:
   0  Done; the answers of a script may have been errors
   1  FILE holds no segment, or the size or the growth is refused; an answer of a strict run is an error; a line of a
-     script that is linted is no command; or a dump is wrong, or does not fit its size
+     script that is linted is no command; a dump is wrong, or does not fit its size; or there is no such value
   2  The command line is wrong, or asks for help
   3  A FILE that is to be made exists, another program writes FILE, something could not be read or written, or the script
      is too long
   4  Memory was refused
+  5  Done, with --fail; an answer was an error
 
 Example:
   segment create a.seg 1024
@@ -208,6 +212,11 @@ const STRICT: CommandWord = CommandWord::Flag(
     "The first answer that is an error ends the run, with status 1, and nothing is saved",
 );
 
+const FAIL: CommandWord = CommandWord::Flag(
+    "fail",
+    "The status is 5 where an answer is an error; the segment is saved all the same",
+);
+
 const NUMBERED: CommandWord = CommandWord::Flag(
     "numbered",
     "Each line of an answer stands behind the number of the line that it answers, as in '3: #192'",
@@ -246,6 +255,18 @@ const PREFIX: CommandWord = CommandWord::Option(
 
 const MOST: CommandWord = CommandWord::Option("most", "N", "Prints the first N of them at most");
 
+const KEY: CommandWord = CommandWord::Operand(
+    "key",
+    "KEY",
+    "The object: a name, @KIND, or #n, as in a script",
+);
+
+const INDEX: CommandWord = CommandWord::Optional(
+    "index",
+    "INDEX",
+    "The place of the value, from 0, or its key in a map; without it the whole string, or the first value",
+);
+
 const LOADED: CommandWord = CommandWord::Option(
     "size",
     "SIZE",
@@ -258,14 +279,15 @@ const VERBOSE: CommandWord = CommandWord::Flag(
 );
 
 /// The commands, in the order in which help has them.
-static COMMANDS: [Row; 13] = [
+static COMMANDS: [Row; 14] = [
     ("create", CREATE, None, &[FILE, SIZE, WHOLE, VERBOSE]),
     (
         "run",
         RUN,
         Some(HelpEnd::Modes),
         &[
-            FILE, SCRIPT, MODE, RUN_SIZE, LINE, READ_ONLY, REPLACE, STRICT, NUMBERED, WAIT, VERBOSE,
+            FILE, SCRIPT, MODE, RUN_SIZE, LINE, READ_ONLY, REPLACE, STRICT, FAIL, NUMBERED, WAIT,
+            VERBOSE,
         ],
     ),
     (
@@ -291,6 +313,7 @@ static COMMANDS: [Row; 13] = [
         None,
         &[FILE, PREFIX, MOST, WAIT_TO_READ, VERBOSE],
     ),
+    ("get", GET, None, &[FILE, KEY, INDEX, WAIT_TO_READ, VERBOSE]),
     ("load", LOAD, None, &[FILE, LOADED, REPLACE, WAIT, VERBOSE]),
     ("lint", LINT, None, &[VERBOSE]),
     ("language", LANGUAGE, Some(HelpEnd::Words), &[VERBOSE]),

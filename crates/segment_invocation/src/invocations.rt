@@ -30,12 +30,14 @@ pub(crate) enum FileCommand {
     Dump,
     /// `names`: the names are told.
     Names,
+    /// `get`: one value is printed.
+    Get,
     /// `load`: a dump is loaded into the file.
     Load,
 }
 
 impl FileCommand {
-    /// Returns the command of a word. `None` is a word that is none of the eleven.
+    /// Returns the command of a word. `None` is a word that is none of the twelve.
     pub(crate) fn from_word(word: &str) -> Option<FileCommand>
         ensures { result ≡ command_called word.now }
     {
@@ -50,6 +52,7 @@ impl FileCommand {
             "draw" => Some(FileCommand::Draw),
             "dump" => Some(FileCommand::Dump),
             "names" => Some(FileCommand::Names),
+            "get" => Some(FileCommand::Get),
             "load" => Some(FileCommand::Load),
             _ => None,
         }
@@ -127,6 +130,8 @@ pub enum FileChange {
 pub struct AnswerOptions {
     /// `--strict`: the first answer that is an error ends the run, and nothing is saved.
     pub strict: bool,
+    /// `--fail`: the status says whether an answer is an error.
+    pub fail: bool,
     /// `--numbered`: each line of an answer stands after the number of the line of the script that it answers.
     pub numbered: bool,
 }
@@ -187,6 +192,8 @@ pub enum Invocation<'a> {
     Tell(&'a str, Report),
     /// To print the names of the segment in a file that begin with a text, in their order, at most this number.
     Names(&'a str, &'a str, Option<u64>),
+    /// To print the value at a key of the segment in a file: of a map by the key there, of another object by an index.
+    Get(&'a str, &'a str, Option<&'a str>),
     /// To make a segment of a dump, in a file: of this size, or as long as the dump says and cut after its last block.
     Load(&'a str, Option<u64>),
     /// To tell which lines of a script are no commands.
@@ -230,6 +237,7 @@ impl<'a> Options<'a> {
             },
             answering: AnswerOptions {
                 strict: false,
+                fail: false,
                 numbered: false,
             },
             explain: false,

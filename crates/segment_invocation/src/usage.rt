@@ -22,6 +22,9 @@ pub enum UsageError {
     /// A command has no file.
     #[error("error: a file is missing\n")]
     File,
+    /// A value is to be printed, and no key says which.
+    #[error("error: a key is missing\n")]
+    Key,
     /// A size or another number is none from 0 to 18446744073709551615 in plain decimal.
     #[error("error: a number has digits alone, with no zero in front, and is at most 18446744073709551615\n")]
     Number,

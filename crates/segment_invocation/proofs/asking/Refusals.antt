@@ -25,7 +25,8 @@ use Rattle.segment_invocation.specs.declared.invocations.Request.{Request}
 use Rattle.segment_invocation.specs.declared.usage.InvocationFault.{InvocationFault}
 use Rattle.segment_invocation.specs.declared.usage.UsageError.{UsageError}
 use Rattle.segment_invocation.specs.declared.usage.UsageError.TheVariants.{Words, Command as NoCommand, File, Number}
-use Rattle.segment_invocation.specs.declared.usage.UsageError.TheVariants.{Mode, Modes, Size, Script, Files, Capacities}
+use Rattle.segment_invocation.specs.declared.usage.UsageError.TheVariants.{Key, Mode, Modes, Size, Script, Files}
+use Rattle.segment_invocation.specs.declared.usage.UsageError.TheVariants.{Capacities}
 use Rattle.segment_invocation.specs.declared.usage.InvocationFault.TheVariants.{OutOfMemory, Usage}
 use Rattle.segment_invocation.proofs.command_lines.AllUnderstood.{IsUnderstood, WantsVersion, free, simple as plain}
 
@@ -144,6 +145,7 @@ wrong_if words f n Modes e = (f, n, e)
 wrong_if words f n Size e = (f, n, e)
 wrong_if words f n Script e = (f, n, e)
 wrong_if words f n Files e = (f, n, e)
+wrong_if words f n Key e = (f, n, e)
 wrong_if words f n Capacities e = (f, n, e)
 
 -- a command line without a fault has a subcommand

@@ -16,12 +16,12 @@ use Rattle.clap.specs.Faults.{built_fault, fault_of, is_simple_and_free}
 use Rattle.clap.specs.declared.error.kind.ErrorKind.TheVariants.{DisplayVersion}
 use Rattle.segment_lang.specs.Words.{between, is_digit, is_numeral, number_after, number_of}
 use Rattle.segment_invocation.specs.Invocations.{InvocationValue, OptionValues, Origin, RequestValue, create, run}
-use Rattle.segment_invocation.specs.Invocations.{check, grow, shrink, migrate, tell, names, load, lint, language}
+use Rattle.segment_invocation.specs.Invocations.{check, get, grow, shrink, migrate, tell, names, load, lint, language}
 use Rattle.segment_invocation.specs.Invocations.{version, input, from_file, from_lines}
 use Rattle.segment_invocation.specs.Invocations.{IsKeptWritten, IsModePart, IsNumberPart, IsOriginPart}
 use Rattle.segment_invocation.specs.Invocations.{IsPart, IsRequestWritten, IsRunWritten, IsSizePart, IsWaitPart}
 use Rattle.segment_invocation.specs.Invocations.{IsWrittenWith, check_options, check_words, command_line, flag_words}
-use Rattle.segment_invocation.specs.Invocations.{report_words}
+use Rattle.segment_invocation.specs.Invocations.{index_words, is_index, report_words}
 use Rattle.segment_invocation.specs.Invocations.{is_path, kept_options, lacks_size, mode_called, mode_of, mode_word}
 use Rattle.segment_invocation.specs.Invocations.{no_options, of_version, plain_options, requested, requested_in}
 use Rattle.segment_invocation.specs.Invocations.{requested_of, run_of, options_of_run, run_sized, saving_part}
@@ -42,7 +42,8 @@ use Rattle.segment_invocation.proofs.command_lines.Subcommands.{check_leaf, grow
 use Rattle.segment_invocation.proofs.command_lines.Subcommands.{names_leaf}
 use Rattle.segment_invocation.proofs.command_lines.Subcommands.{run_leaf, shrink_leaf}
 use Rattle.segment_invocation.proofs.command_lines.Subcommands.{capacities-asks, check-asks, create-asks, draw-asks}
-use Rattle.segment_invocation.proofs.command_lines.Subcommands.{dump-asks, grow-asks, html-asks, json-asks}
+use Rattle.segment_invocation.proofs.command_lines.Subcommands.{dump-asks, get-asks, get_at-asks, grow-asks}
+use Rattle.segment_invocation.proofs.command_lines.Subcommands.{html-asks, json-asks}
 use Rattle.segment_invocation.proofs.command_lines.Subcommands.{lines-ask, load-asks}
 use Rattle.segment_invocation.proofs.command_lines.Subcommands.{migrate-asks, names-asks, run-asks}
 use Rattle.segment_invocation.proofs.command_lines.Subcommands.{script-asks, shrink-asks}
@@ -162,6 +163,27 @@ behind-create f d n p h = record {
   asks = ap of_asking (create-asks f d p (number-plain d n h)).found
       ∙ ap (λ m. requested (option_map (create f) m) (Some (plain_options (f ∷ [])))) h;
 }
+
+behind-get : (f k : Text) → IsPlain f → IsPlain k
+    → Behind (codes "get" ∷ f ∷ k ∷ []) (plain_request f (get f k None))
+unfolding clap_on_literals
+behind-get f k p q = record {
+  takes = ap (λ b. b && true) (get-asks f k p q).passes;
+  asks = ap of_asking (get-asks f k p q).found;
+}
+
+behind-get_at : (f k i : Text) → IsPlain f → IsPlain k → IsPlain i
+    → Behind (codes "get" ∷ f ∷ k ∷ i ∷ []) (plain_request f (get f k (Some i)))
+unfolding clap_on_literals
+behind-get_at f k i p q r = record {
+  takes = ap (λ b. b && true) (get_at-asks f k i p q r).passes;
+  asks = ap of_asking (get_at-asks f k i p q r).found;
+}
+
+behind-value : (f k : Text) (index : Option Text) → IsPlain f → IsPlain k → IsTrue (is_index index)
+    → Behind (codes "get" ∷ f ∷ k ∷ index_words index) (plain_request f (get f k index))
+behind-value f k None p q h = behind-get f k p q
+behind-value f k (Some i) p q h = behind-get_at f k i p q (path-plain i h)
 
 behind-stat : (f : Text) → IsPlain f → Behind (codes "stat" ∷ f ∷ []) (plain_request f (tell f Figures))
 unfolding clap_on_literals
@@ -466,6 +488,8 @@ behind words (migrate f) how k = inl (behind-migrate f how words k)
 behind words (tell f what) how (p, o, e) = inl (rw (e, o) (behind-report f what (path-plain f p)))
 behind words (names f prefix most) how (p, o, prefixes, mosts, a, m, e) =
     inl (rw (e, o) (behind-names f prefix most prefixes mosts (path-plain f p) a m))
+behind words (get f k index) how (p, q, r, o, e) =
+    inl (rw (e, o) (behind-value f k index (path-plain f p) (path-plain k q) r))
 behind words (load f size) how (sizes, s, k) = inl (behind-load f size how sizes words s k)
 behind words lint how (o, e) = inl (rw (e, o) behind-lint)
 behind words language how (o, e) = inl (rw (e, o) behind-language)

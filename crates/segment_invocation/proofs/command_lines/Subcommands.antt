@@ -17,7 +17,8 @@ use Rattle.segment_lang.specs.Words.{number_of}
 use Rattle.segment_invocation.specs.Invocations.{mode_of}
 use Rattle.segment_invocation.specs.Invocations.{InvocationValue, OptionValues, Origin, asked_in, check, check_command}
 use Rattle.segment_invocation.specs.Invocations.{check_options, create, create_command, draw_command, dump_command}
-use Rattle.segment_invocation.specs.Invocations.{file_command, flag_part, flag_words, from_file, from_lines, grow}
+use Rattle.segment_invocation.specs.Invocations.{file_command, flag_part, flag_words, from_file, from_lines, get}
+use Rattle.segment_invocation.specs.Invocations.{get_command, grow}
 use Rattle.segment_invocation.specs.Invocations.{grow_command, input, kept_command, kept_options, line_words, load}
 use Rattle.segment_invocation.specs.Invocations.{load_command, migrate, names, names_command, options_of}
 use Rattle.segment_invocation.specs.Invocations.{plain_options, program, run_command, run_of, options_of_run}
@@ -259,6 +260,27 @@ create-asks f d p q =
     behind s (asking (codes "create")) f (d ∷ []) [] (plain_step s.rules (after_file s f) d)
     (option_map (create f) (number_of d), Some (plain_options (f ∷ []))) p refl
     (number s (after_file s f).held d q refl) refl refl refl
+
+-- `get` asks for the first value of an object
+pub get-asks : (f k : Text) → IsPlain f → IsPlain k
+    → IsAsk (leaf get_command) (asking (codes "get")) (f ∷ k ∷ []) (plainly f (get f k None))
+unfolding clap_on_literals
+get-asks f k p q =
+    let s : Shape = leaf get_command in
+    behind s (asking (codes "get")) f (k ∷ []) [] (plain_step s.rules (after_file s f) k)
+    (plainly f (get f k None)) p refl (number s (after_file s f).held k q refl) refl refl refl
+
+-- `get` with an index asks for the value there
+pub get_at-asks : (f k i : Text) → IsPlain f → IsPlain k → IsPlain i
+    → IsAsk (leaf get_command) (asking (codes "get")) (f ∷ k ∷ i ∷ []) (plainly f (get f k (Some i)))
+unfolding clap_on_literals
+get_at-asks f k i p q r =
+    let s : Shape = leaf get_command in
+    let at_key : Walk = plain_step s.rules (after_file s f) k in
+    behind s (asking (codes "get")) f (k ∷ i ∷ []) [] (plain_step s.rules at_key i)
+    (plainly f (get f k (Some i))) p refl
+    (steps s (after_file s f) at_key (plain_step s.rules at_key i) (k ∷ []) (i ∷ [])
+    (number s (after_file s f).held k q refl) (plain s at_key.held idle 3 i r refl)) refl refl refl
 
 -- ---- options that may be left out
 

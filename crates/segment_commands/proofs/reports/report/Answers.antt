@@ -27,6 +27,12 @@ returns-in-Misspelled-clause-text g c =
     (g.S.Sink.history c.put_line-in-Misspelled.new.err) (command_text f)) (sym c.in-Misspelled.is)
     c.put_line-in-Misspelled.ensures.text
 
+pub returns-in-NoValue-clause-text : goal.returns-in-NoValue-clause-text
+returns-in-NoValue-clause-text g c =
+    subst (λ (f : CommandFault). WritesText (g.S.Sink.history c.args.err.now)
+    (g.S.Sink.history c.put_line-in-NoValue.new.err) (command_text f)) (sym c.in-NoValue.is)
+    c.put_line-in-NoValue.ensures.text
+
 pub returns-in-NoSpace-clause-text : goal.returns-in-NoSpace-clause-text
 returns-in-NoSpace-clause-text g c =
     subst (λ (f : CommandFault). WritesText (g.S.Sink.history c.args.err.now) (g.S.Sink.history c.put_no_space.new.err)

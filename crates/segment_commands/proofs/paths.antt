@@ -1,0 +1,2 @@
+-- Paths: how one is printed, by its first byte (`Told`).
+pub mod Told

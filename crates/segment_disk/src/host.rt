@@ -8,6 +8,7 @@ use crate::locks::{
     FileLock, Identity, PAUSE, are_different, has_bytes, is_written, leads_to, lock, lock_made,
     open_to_write, sync_file,
 };
+use crate::logs::has_log;
 use crate::presence::{AlreadyLocked, Comparison, FileProblem, Presence, SaveMode};
 use crate::replacement_file::ReplacementFile;
 use crate::spare_file::{SpareFile, sync_folder};
@@ -210,17 +211,6 @@ impl<'a, R: Files<File = File> + AllocGlobal + Clock> HostDisk<'a, R> {
         is_written(file)
     }
 
-    /// Returns true if the library for C left a log beside the file of a path: commits that the file does not have yet.
-    fn has_log(&self, path: &str) -> bool {
-        let Ok(real) = fs::canonicalize(self.files, path) else {
-            return false;
-        };
-        match format!(in self.files.alloc(); "{}-log", real.as_str()) {
-            Ok(log) => fs::symlink_metadata(self.files, log.as_str()).is_ok(),
-            Err(_) => false,
-        }
-    }
-
     /// Tells whether another file has taken the name of the one that is locked, or one has come where nothing was.
     fn is_taken(&self, path: &str, hold: &HostLock) -> bool {
         are_different(hold.lock.identity(), Identity::at(self.files, path).ok())
@@ -255,7 +245,8 @@ impl<'a, R: Files<File = File> + AllocGlobal + Clock> Disk for HostDisk<'a, R> {
         }
         self.trouble = found.is_err().then_some(FileProblem::Writer);
         let lock = found?;
-        if self.has_log(path) {
+        // where that is not known, the file counts as one with a log
+        if has_log(self.files, path).unwrap_or(true) {
             self.trouble = Some(FileProblem::Log);
             return Err(AlreadyLocked);
         }

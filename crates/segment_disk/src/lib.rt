@@ -6,6 +6,7 @@ mod disk;
 mod file_problems;
 mod host;
 mod locks;
+mod logs;
 mod presence;
 mod replacement_file;
 mod spare_file;

@@ -57,8 +57,10 @@ pub enum FileProblem {
     Owner,
     /// Another has the right to write it.
     Writer,
-    /// A log beside it has commits that it has not.
+    /// It was read with the commits of the log beside it.
     Log,
+    /// The log beside it is of another file.
+    ForeignLog,
     /// It took not all, or need not last.
     Unwritten,
 }

@@ -4,9 +4,9 @@ ghost use Rattle.std.specs.Prelude.{◌≡◌, Bool, IfOk, MatchResult, None, So
 ghost use Rattle.raw_region.specs.Device.{read_delta, write_delta};
 ghost use Rattle.segment_disk.specs.Events.{Event, Looked, Held, Released, Opened as WasOpened, Read, Compared, Made};
 ghost use Rattle.segment_disk.specs.Events.{New, Wrote, Placed, Discarded, create_mode_of, nothing_given};
-ghost use Rattle.segment_disk.specs.Events.{nothing_taken};
+ghost use Rattle.segment_disk.specs.Events.{not_opened, nothing_taken};
 
-use crate::presence::{AlreadyLocked, Comparison, Presence, SaveMode};
+use crate::presence::{AlreadyLocked, Comparison, NotOpened, Presence, SaveMode};
 use raw_region::{DeviceFault, Sink, Source};
 
 /// A file that was opened for reading.
@@ -47,10 +47,10 @@ pub trait Disk {
         ensures { step self.old Released self.new };
 
     /// Opens a file for reading: what it stands for with the log beside it, if it has one.
-    fn open(&mut self, path: &str) -> Result<OpenedFile<Self::Reader>, DeviceFault>
+    fn open(&mut self, path: &str) -> Result<OpenedFile<Self::Reader>, NotOpened>
         ensures request { MatchResult result
             (λ opened. step self.old (WasOpened path.now (Some opened.len)) self.new)
-            (λ fault. step self.old (WasOpened path.now None) self.new) }
+            (λ why. step self.old (not_opened path.now why) self.new) }
         ensures fresh { IfOk result (λ opened. Self.Reader.history opened.reader ≡ nothing_given) };
 
     /// Closes a file that was open for reading.

@@ -10,7 +10,7 @@ use crate::locks::{
     open_to_write, sync_file,
 };
 use crate::logs::{has_log, read_recovered};
-use crate::presence::{AlreadyLocked, Comparison, FileProblem, Presence, SaveMode};
+use crate::presence::{AlreadyLocked, Comparison, FileProblem, NotOpened, Presence, SaveMode};
 use crate::replacement_file::ReplacementFile;
 use crate::settling::{drop_log, settle};
 use crate::spare_file::{SpareFile, sync_folder};
@@ -253,7 +253,7 @@ impl<'a, R: Files<File = File> + AllocGlobal + Clock> HostDisk<'a, R> {
         path: &str,
         file: File,
         found: &Metadata,
-    ) -> Result<OpenedFile<StdSource<HostReader>>, DeviceFault>
+    ) -> Result<OpenedFile<StdSource<HostReader>>, NotOpened>
         ensures { IfOk result (λ opened. opened.reader.history ≡ nothing_given) }
     {
         let may_have_log = self.has_logs && found.is_file();
@@ -273,7 +273,10 @@ impl<'a, R: Files<File = File> + AllocGlobal + Clock> HostDisk<'a, R> {
             }
             Err(trouble) => {
                 self.trouble = trouble;
-                Err(DeviceFault)
+                Err(match trouble {
+                    Some(FileProblem::ForeignLog) => NotOpened::ForeignLog,
+                    _ => NotOpened::Fault,
+                })
             }
         }
     }
@@ -322,7 +325,7 @@ impl<'a, R: Files<File = File> + AllocGlobal + Clock> Disk for HostDisk<'a, R> {
         self.held = None;
     }
 
-    fn open(&mut self, path: &str) -> Result<OpenedFile<StdSource<HostReader>>, DeviceFault> {
+    fn open(&mut self, path: &str) -> Result<OpenedFile<StdSource<HostReader>>, NotOpened> {
         match self.opened(path) {
             Ok((file, found, trouble)) => {
                 self.trouble = trouble;
@@ -330,7 +333,7 @@ impl<'a, R: Files<File = File> + AllocGlobal + Clock> Disk for HostDisk<'a, R> {
             }
             Err(error) => {
                 self.trouble = problem_of(error.kind());
-                Err(DeviceFault)
+                Err(NotOpened::Fault)
             }
         }
     }

@@ -20,5 +20,5 @@ pub use disk::{Disk, OpenedFile, Output};
 pub use host::{HostDisk, HostLock};
 pub use host_reader::HostReader;
 pub use image_reader::ImageReader;
-pub use presence::{AlreadyLocked, Comparison, FileProblem, Presence, SaveMode};
+pub use presence::{AlreadyLocked, Comparison, FileProblem, NotOpened, Presence, SaveMode};
 pub use std_output::{PassThrough, StdOutput};

@@ -38,6 +38,15 @@ pub enum Comparison {
 #[error("file in use")]
 pub struct AlreadyLocked;
 
+/// Why a file is not opened for reading.
+#[derive(Clone, Copy, Debug, PartialEq, Eq)]
+pub enum NotOpened {
+    /// It can't be opened or read with its log.
+    Fault,
+    /// The log beside it is of another file.
+    ForeignLog,
+}
+
 /// Why a file can't be opened, read, made or written, as far as the system tells, or what became of it.
 #[derive(Clone, Copy, Debug, PartialEq, Eq)]
 pub enum FileProblem {

@@ -98,7 +98,7 @@ fn perform(rt: &HostRuntime, asked: &Request<'_>) -> Result<u8, NoAnswerMemory> 
     let mut host = Host {
         rt,
         disk: HostDisk::with_options(rt, options.keeping.wait, options.keeping.saving),
-        scripts: HostDisk::new(rt),
+        scripts: HostDisk::without_logs(rt),
         is_verbose: options.verbose || rt.stderr().is_terminal() || var(rt, VERBOSE).is_ok(),
     };
     let answer = host.command(asked, out);
@@ -376,12 +376,15 @@ impl<'a> Host<'a> {
 /// Returns true if the problem of the file explains the answer.
 fn is_told(answer: Result<u8, CommandFault>, trouble: FileProblem) -> bool {
     match answer {
-        Ok(_) => trouble == FileProblem::Owner,
+        Ok(_) => matches!(trouble, FileProblem::Owner | FileProblem::Log),
         Err(CommandFault::InUse) => true,
         Err(CommandFault::Program(ProgramFault::Session(fault))) => match fault {
-            SessionFault::ReadFault => true,
+            SessionFault::ReadFault => trouble != FileProblem::Log,
             SessionFault::WriteFault => {
-                !matches!(trouble, FileProblem::Writer | FileProblem::Owner)
+                !matches!(
+                    trouble,
+                    FileProblem::Writer | FileProblem::Owner | FileProblem::Log
+                )
             }
             SessionFault::Image(_) => trouble == FileProblem::Writer,
             _ => false,

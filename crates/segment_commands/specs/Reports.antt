@@ -10,7 +10,7 @@ use Rattle.segment_commands.specs.declared.command_faults.CommandFault.TheVarian
 use Rattle.segment_commands.specs.Paths.{path_text}
 use Rattle.segment_disk.specs.declared.presence.FileProblem.{FileProblem}
 use Rattle.segment_disk.specs.declared.presence.FileProblem.TheVariants.{Missing, NoParentFolder, Unnamed, Folder}
-use Rattle.segment_disk.specs.declared.presence.FileProblem.TheVariants.{Denied, Exists, Owner, Writer, Log}
+use Rattle.segment_disk.specs.declared.presence.FileProblem.TheVariants.{Denied, Exists, Owner, Writer, Log, ForeignLog}
 use Rattle.segment_disk.specs.declared.presence.FileProblem.TheVariants.{Unwritten}
 
 -- ---- the line of a fault
@@ -58,7 +58,8 @@ trouble_words Denied = codes ": permission denied\n"
 trouble_words Exists = codes ": another file is there\n"
 trouble_words Owner = codes ": had another owner, who could not be kept\n"
 trouble_words Writer = codes ": a writer holds it\n"
-trouble_words Log = codes ": has a log, which only the library for C, C++ and Python reads\n"
+trouble_words Log = codes ": was read with the commits of its log\n"
+trouble_words ForeignLog = codes ": its log is of another file\n"
 trouble_words Unwritten = codes ": could not be written whole\n"
 
 abbrev pub trouble_text : List ℕ → FileProblem → List ℕ

@@ -88,5 +88,6 @@ pub fn explain<D: Disk, O: Output>(
             Err(CommandFault::from(SessionFault::OutOfMemory(refusal)))
         }
         Err(OpenFault::ReadFault) => Err(CommandFault::from(SessionFault::ReadFault)),
+        Err(OpenFault::ForeignLog) => Err(CommandFault::from(SessionFault::ReadFault)),
     }
 }

@@ -128,7 +128,8 @@ fn trouble_words(trouble: FileProblem) -> &'static [u8]
         FileProblem::Exists => b": another file is there\n",
         FileProblem::Owner => b": had another owner, who could not be kept\n",
         FileProblem::Writer => b": a writer holds it\n",
-        FileProblem::Log => b": has a log, which only the library for C, C++ and Python reads\n",
+        FileProblem::Log => b": was read with the commits of its log\n",
+        FileProblem::ForeignLog => b": its log is of another file\n",
         FileProblem::Unwritten => b": could not be written whole\n",
     }
 }

@@ -1,7 +1,9 @@
 -- What a disk was asked, and what it answered.
-use Rattle.std.specs.Prelude.{◌≡◌, ℕ, Bool, false, List, [], ◌∷◌, Option}
+use Rattle.std.specs.Prelude.{◌≡◌, ℕ, Bool, false, List, [], ◌∷◌, Option, None}
 use Rattle.raw_region.specs.Device.{ReaderHistory, ReadDelta, WriterHistory, WriteDelta}
 use Rattle.segment_disk.specs.declared.presence.Comparison.{Comparison}
+use Rattle.segment_disk.specs.declared.presence.NotOpened.{NotOpened}
+use Rattle.segment_disk.specs.declared.presence.NotOpened.TheVariants.{Fault, ForeignLog}
 use Rattle.segment_disk.specs.declared.presence.Presence.{Presence}
 use Rattle.segment_disk.specs.declared.presence.SaveMode.{SaveMode}
 use Rattle.segment_disk.specs.declared.presence.SaveMode.TheVariants.{InPlace, Replacing}
@@ -28,6 +30,8 @@ pub data Event : Type 0 where
   Released : Event
   -- a file was to be opened for reading; it was, and has this many bytes, as far as that is known, or it was not
   Opened : List ℕ → Option ℕ → Event
+  -- a file was to be opened for reading, and was not, since the log beside it is of another file
+  HasForeignLog : List ℕ → Event
   -- the file that was opened last was closed, which had given this
   Read : ReadDelta → Event
   -- the file of this path was compared with the one that the right to write was given for last, and its bytes with an
@@ -41,6 +45,11 @@ pub data Event : Type 0 where
   Placed : List ℕ → Bool → Event
   -- it was to be removed
   Discarded : List ℕ → Event
+
+-- a file was not opened for reading
+abbrev pub not_opened : List ℕ → NotOpened → Event
+not_opened path Fault = Opened path None
+not_opened path ForeignLog = HasForeignLog path
 
 -- Of a disk, where one question leads from a state to a state: these were asked in this order, and no others.
 abbrev pub After : {D : Type 0} → (D → Event → D → Type 0) → D → List Event → D → Type 0

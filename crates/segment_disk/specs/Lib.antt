@@ -1,3 +1,5 @@
 pub mod Events
 pub mod StdOutputs
 pub mod FileProblems
+pub mod HostReaders
+pub mod Logs

@@ -4,9 +4,9 @@ ghost use Rattle.std.specs.Prelude.{◌≡◌, Bool, IfOk, MatchResult, None, So
 ghost use Rattle.raw_region.specs.Device.{read_delta, write_delta};
 ghost use Rattle.segment_disk.specs.Events.{Event, Looked, Held, Released, Opened as WasOpened, Read, Compared, Made};
 ghost use Rattle.segment_disk.specs.Events.{New, Wrote, Placed, Discarded, create_mode_of, nothing_given};
-ghost use Rattle.segment_disk.specs.Events.{nothing_taken};
+ghost use Rattle.segment_disk.specs.Events.{not_opened, nothing_taken};
 
-use crate::presence::{AlreadyLocked, Comparison, Presence, SaveMode};
+use crate::presence::{AlreadyLocked, Comparison, NotOpened, Presence, SaveMode};
 use raw_region::{DeviceFault, Sink, Source};
 
 /// A file that was opened for reading.
@@ -17,7 +17,8 @@ pub struct OpenedFile<R> {
     pub len: u64,
 }
 
-/// Where files are kept. A reader or a writer that it hands out comes back to it.
+/// Where files are kept. A file with a log beside it is the image of the last commit. A reader or a writer that it
+/// hands out comes back to it.
 pub trait Disk {
     // One question with its answer leads from one state of the disk to another.
     ghost step: { Self → Event → Self → Type 0 };
@@ -34,9 +35,10 @@ pub trait Disk {
     fn path_status(&mut self, path: &str) -> Presence
         ensures { step self.old (Looked path.now result) self.new };
 
-    /// Takes the right to write a file, which no other has until it is given back. If another has it, the answer is
-    /// `AlreadyLocked`, at once or after a wait that ends. A file that can't be held, or is not there, is nobody's, and
-    /// the answer is Ok.
+    /// Takes the right to write a file, which no other has until it is given back. The commits of its log are put into
+    /// the file; if that can't be done, the file is neither emptied nor replaced later. If another has it, the answer
+    /// is `AlreadyLocked`, at once or after a wait that ends. A file that can't be held, or is not there, is nobody's,
+    /// and the answer is Ok.
     fn lock(&mut self, path: &str) -> Result<Self::Hold, AlreadyLocked>
         ensures { step self.old (Held path.now (is_ok result)) self.new };
 
@@ -44,11 +46,11 @@ pub trait Disk {
     fn unlock(&mut self, hold: Self::Hold)
         ensures { step self.old Released self.new };
 
-    /// Opens a file for reading.
-    fn open(&mut self, path: &str) -> Result<OpenedFile<Self::Reader>, DeviceFault>
+    /// Opens a file for reading: what it stands for with the log beside it, if it has one.
+    fn open(&mut self, path: &str) -> Result<OpenedFile<Self::Reader>, NotOpened>
         ensures request { MatchResult result
             (λ opened. step self.old (WasOpened path.now (Some opened.len)) self.new)
-            (λ fault. step self.old (WasOpened path.now None) self.new) }
+            (λ why. step self.old (not_opened path.now why) self.new) }
         ensures fresh { IfOk result (λ opened. Self.Reader.history opened.reader ≡ nothing_given) };
 
     /// Closes a file that was open for reading.

@@ -1,15 +1,18 @@
 //! The files of the system as a `Disk`.
-ghost use Rattle.std.specs.Prelude.{◌≡◌, ⊤};
-ghost use Rattle.segment_disk.specs.Events.{nothing_taken};
+ghost use Rattle.std.specs.Prelude.{◌≡◌, ⊤, IfOk};
+ghost use Rattle.segment_disk.specs.Events.{nothing_given, nothing_taken};
 
 use crate::disk::{Disk, OpenedFile};
 use crate::file_problems::{creation_problem, names_none, problem_of};
+use crate::host_reader::HostReader;
 use crate::locks::{
     FileLock, Identity, PAUSE, are_different, has_bytes, is_written, leads_to, lock, lock_made,
     open_to_write, sync_file,
 };
-use crate::presence::{AlreadyLocked, Comparison, FileProblem, Presence, SaveMode};
+use crate::logs::{has_log, read_recovered};
+use crate::presence::{AlreadyLocked, Comparison, FileProblem, NotOpened, Presence, SaveMode};
 use crate::replacement_file::ReplacementFile;
+use crate::settling::{drop_log, settle};
 use crate::spare_file::{SpareFile, sync_folder};
 use crate::sparse::{SparseFile, longest_file};
 use crate::std_output::StdOutput;
@@ -32,6 +35,8 @@ pub struct HostDisk<'a, R: Files> {
     wait: u64,
     /// How a file that is made gets its name: at once, or when it is whole.
     naming: SaveMode,
+    /// Whether its files may have logs.
+    has_logs: bool,
     /// What the system said last of a file that was to be opened or made, or what became of it.
     trouble: Option<FileProblem>,
     /// The file that the right to write was given for last.
@@ -54,11 +59,17 @@ pub struct HostLock {
     lock: FileLock,
     /// The file that was made beside it last, while its fate is open.
     beside: Option<ReplacementFile>,
+    /// Why the file can't be written, if its log is still there.
+    log: Option<FileProblem>,
 }
 
 impl HostLock {
     fn new(lock: FileLock) -> HostLock {
-        HostLock { lock, beside: None }
+        HostLock {
+            lock,
+            beside: None,
+            log: None,
+        }
     }
 }
 
@@ -76,9 +87,18 @@ impl<'a, R: Files> HostDisk<'a, R> {
             files,
             wait,
             naming,
+            has_logs: true,
             trouble: None,
             held: None,
             unnamed: None,
+        }
+    }
+
+    /// Makes files that have no logs, as those of scripts.
+    pub fn without_logs(files: &'a R) -> HostDisk<'a, R> {
+        HostDisk {
+            has_logs: false,
+            ..HostDisk::new(files)
         }
     }
 
@@ -110,6 +130,7 @@ impl<'a, R: Files<File = File> + AllocGlobal + Clock> HostDisk<'a, R> {
         }
         let file = File::create_new(self.files, path)?;
         hold.lock = lock_made(self.files, &file)?;
+        drop_log(self.files, path);
         Ok(file)
     }
 
@@ -133,8 +154,13 @@ impl<'a, R: Files<File = File> + AllocGlobal + Clock> HostDisk<'a, R> {
         let UnnamedFile { path, spare } = unnamed;
         if is_whole {
             match spare.give_name(self.files, path.as_str()) {
-                Ok(()) if sync_folder(self.files, path.as_str()) => return Ok(()),
-                Ok(()) => return Err(self.not_written(None)),
+                Ok(()) => {
+                    drop_log(self.files, path.as_str());
+                    if sync_folder(self.files, path.as_str()) {
+                        return Ok(());
+                    }
+                    return Err(self.not_written(None));
+                }
                 Err(error) => {
                     spare.discard(self.files);
                     return Err(self.not_written(creation_problem(error.kind(), path.as_str())));
@@ -210,14 +236,48 @@ impl<'a, R: Files<File = File> + AllocGlobal + Clock> HostDisk<'a, R> {
         is_written(file)
     }
 
-    /// Returns true if the library for C left a log beside the file of a path: commits that the file does not have yet.
-    fn has_log(&self, path: &str) -> bool {
-        let Ok(real) = fs::canonicalize(self.files, path) else {
-            return false;
-        };
-        match format!(in self.files.alloc(); "{}-log", real.as_str()) {
-            Ok(log) => fs::symlink_metadata(self.files, log.as_str()).is_ok(),
-            Err(_) => false,
+    /// Puts the commits of the log beside a file into the file that is held, and removes the log. If that can't be
+    /// done, the file can't be written.
+    fn settle(&self, path: &str, hold: &mut HostLock) {
+        if !self.has_logs || matches!(hold.lock, FileLock::Absent) {
+            return;
+        }
+        if let Err(trouble) = settle(self.files, path, &mut hold.lock) {
+            hold.log = Some(trouble.unwrap_or(FileProblem::Unwritten));
+        }
+    }
+
+    /// Returns a reader of a file that was opened, or of what it stands for with its log, and how many bytes it gives.
+    fn read_with_log(
+        &mut self,
+        path: &str,
+        file: File,
+        found: &Metadata,
+    ) -> Result<OpenedFile<StdSource<HostReader>>, NotOpened>
+        ensures { IfOk result (λ opened. opened.reader.history ≡ nothing_given) }
+    {
+        let may_have_log = self.has_logs && found.is_file();
+        if !may_have_log || matches!(has_log(self.files, path), Ok(false)) {
+            let reader = StdSource::new(HostReader::Plain(file));
+            let len = found.len();
+            return Ok(OpenedFile { reader, len });
+        }
+        match read_recovered(self.files, path, file) {
+            Ok(made) => {
+                if made.end > 0 {
+                    self.trouble = self.trouble.or(Some(FileProblem::Log));
+                }
+                let len = made.image.len() as u64;
+                let reader = StdSource::new(HostReader::recovered(made.image));
+                Ok(OpenedFile { reader, len })
+            }
+            Err(trouble) => {
+                self.trouble = trouble;
+                Err(match trouble {
+                    Some(FileProblem::ForeignLog) => NotOpened::ForeignLog,
+                    _ => NotOpened::Fault,
+                })
+            }
         }
     }
 
@@ -230,7 +290,7 @@ impl<'a, R: Files<File = File> + AllocGlobal + Clock> HostDisk<'a, R> {
 impl<'a, R: Files<File = File> + AllocGlobal + Clock> Disk for HostDisk<'a, R> {
     ghost step = { λ old event new. ⊤ };
 
-    type Reader = StdSource<File>;
+    type Reader = StdSource<HostReader>;
 
     type Writer = StdOutput<SparseFile>;
 
@@ -255,39 +315,39 @@ impl<'a, R: Files<File = File> + AllocGlobal + Clock> Disk for HostDisk<'a, R> {
         }
         self.trouble = found.is_err().then_some(FileProblem::Writer);
         let lock = found?;
-        if self.has_log(path) {
-            self.trouble = Some(FileProblem::Log);
-            return Err(AlreadyLocked);
-        }
-        self.held = lock.identity();
-        Ok(HostLock::new(lock))
+        let mut hold = HostLock::new(lock);
+        self.settle(path, &mut hold);
+        self.held = hold.lock.identity();
+        Ok(hold)
     }
 
     fn unlock(&mut self, _hold: HostLock) {
         self.held = None;
     }
 
-    fn open(&mut self, path: &str) -> Result<OpenedFile<StdSource<File>>, DeviceFault> {
+    fn open(&mut self, path: &str) -> Result<OpenedFile<StdSource<HostReader>>, NotOpened> {
         match self.opened(path) {
             Ok((file, found, trouble)) => {
                 self.trouble = trouble;
-                let reader = StdSource::new(file);
-                let len = found.len();
-                Ok(OpenedFile { reader, len })
+                self.read_with_log(path, file, &found)
             }
             Err(error) => {
                 self.trouble = problem_of(error.kind());
-                Err(DeviceFault)
+                Err(NotOpened::Fault)
             }
         }
     }
 
-    fn close(&mut self, _reader: StdSource<File>) {}
+    fn close(&mut self, _reader: StdSource<HostReader>) {}
 
     fn compare(&mut self, path: &str, hold: &HostLock, image: &[u8]) -> Comparison {
         if self.is_taken(path, hold) {
             self.trouble = Some(FileProblem::Exists);
             return Comparison::Other;
+        }
+        // a file that has a log stands for another image than its bytes
+        if hold.log.is_some() {
+            return Comparison::Different;
         }
         match has_bytes(self.files, path, hold.lock.identity(), image) {
             Ok(true) => Comparison::Equal,
@@ -309,6 +369,9 @@ impl<'a, R: Files<File = File> + AllocGlobal + Clock> Disk for HostDisk<'a, R> {
         how: SaveMode,
         hold: &mut HostLock,
     ) -> Result<StdOutput<SparseFile>, DeviceFault> {
+        if hold.log.is_some() {
+            return Err(self.not_written(hold.log));
+        }
         match self.file_for(path, how, hold) {
             Ok(file) => Ok(self.writer_of(file)),
             Err(error) => Err(self.not_written(problem_of(error.kind()))),

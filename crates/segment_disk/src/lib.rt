@@ -5,14 +5,20 @@
 mod disk;
 mod file_problems;
 mod host;
+mod host_reader;
+mod image_reader;
 mod locks;
+mod logs;
 mod presence;
 mod replacement_file;
+mod settling;
 mod spare_file;
 mod sparse;
 mod std_output;
 
 pub use disk::{Disk, OpenedFile, Output};
 pub use host::{HostDisk, HostLock};
-pub use presence::{AlreadyLocked, Comparison, FileProblem, Presence, SaveMode};
+pub use host_reader::HostReader;
+pub use image_reader::ImageReader;
+pub use presence::{AlreadyLocked, Comparison, FileProblem, NotOpened, Presence, SaveMode};
 pub use std_output::{PassThrough, StdOutput};

@@ -38,6 +38,15 @@ pub enum Comparison {
 #[error("file in use")]
 pub struct AlreadyLocked;
 
+/// Why a file is not opened for reading.
+#[derive(Clone, Copy, Debug, PartialEq, Eq)]
+pub enum NotOpened {
+    /// It can't be opened or read with its log.
+    Fault,
+    /// The log beside it is of another file.
+    ForeignLog,
+}
+
 /// A problem with a file: why it can't be opened, read, made or written, or that its replacement has another owner.
 #[derive(Clone, Copy, Debug, PartialEq, Eq)]
 pub enum FileProblem {
@@ -57,8 +66,10 @@ pub enum FileProblem {
     Owner,
     /// Another writer has the right to write it.
     Writer,
-    /// A log beside it has commits that it lacks.
+    /// It was read with the commits of the log beside it.
     Log,
+    /// The log beside it is of another file.
+    ForeignLog,
     /// It was not written completely, or the system did not confirm that it is on the disk.
     Unwritten,
 }

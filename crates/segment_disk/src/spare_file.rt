@@ -114,13 +114,18 @@ impl SpareFile {
 
 /// Writes the folder of a path through, which has the names of its files, if it can be opened.
 pub(crate) fn sync_folder<R: Files<File = File>>(files: &R, path: &str) -> bool {
+    is_folder_synced(files, path).unwrap_or(true)
+}
+
+/// Writes the folder of a path through, and tells whether that was done. `None` if it can't be opened.
+pub(crate) fn is_folder_synced<R: Files<File = File>>(files: &R, path: &str) -> Option<bool> {
     let folder = match Path::new(path).parent() {
         Some(folder) if !folder.as_str().is_empty() => folder.as_str(),
         Some(_) => ".",
-        None => return true,
+        None => return None,
     };
     match fs::open(files, folder) {
-        Ok(folder) => sync_file(&folder),
-        Err(_) => true,
+        Ok(folder) => Some(sync_file(&folder)),
+        Err(_) => None,
     }
 }

@@ -1,5 +1,5 @@
 -- How the file of an image is read, and how it is written.
-use Rattle.std.specs.Prelude.{◌≡◌, ◌≢◌, ◌⊎◌, ⊤, Bool, true, false, List, [], ◌∷◌, ℕ, Some, None, Result, MatchResult}
+use Rattle.std.specs.Prelude.{◌≡◌, ◌≢◌, ◌⊎◌, ⊤, Bool, true, false, List, [], ◌∷◌, ℕ, Some, Result, MatchResult}
 use Rattle.std.specs.Prelude.{Ok, Err}
 use Rattle.raw_region.specs.Device.{ReadDelta, WriteDelta, IsProperPrefix}
 use Rattle.segment_manager.specs.Directory.{Directory}
@@ -7,7 +7,8 @@ use Rattle.segment_manager.specs.State.{DenotesCurrent}
 use Rattle.image_check.specs.Saving.{IsSaved}
 use Rattle.segment_disk.specs.declared.presence.Comparison.{Comparison}
 use Rattle.segment_disk.specs.declared.presence.Comparison.TheVariants.{Other, Different, Equal}
-use Rattle.segment_disk.specs.Events.{CreateMode, New, Truncate, Replacement}
+use Rattle.segment_disk.specs.declared.presence.NotOpened.{NotOpened}
+use Rattle.segment_disk.specs.Events.{CreateMode, New, Truncate, Replacement, not_opened}
 use Rattle.segment_disk.specs.Events.{Event, Opened, Read, Compared, Made, Wrote, Placed, Discarded, After}
 
 -- ---- a file that is read
@@ -16,9 +17,9 @@ use Rattle.segment_disk.specs.Events.{Event, Opened, Read, Compared, Made, Wrote
 abbrev pub open_events : List ℕ → ℕ → ReadDelta → List Event
 open_events path len image = Opened path (Some len) ∷ Read image ∷ []
 
--- the events of a file that could not be opened
-abbrev pub failed_open_events : List ℕ → List Event
-failed_open_events path = Opened path None ∷ []
+-- the events of a file that was not opened, for this reason
+abbrev pub failed_open_events : List ℕ → NotOpened → List Event
+failed_open_events path why = not_opened path why ∷ []
 
 -- ---- a file that is written
 

@@ -21,13 +21,16 @@ use Rattle.image_check.specs.Opening.{IsImage, OpensOk, IsOutOfMemory, IsReadToE
 use Rattle.image_check.specs.Passes.{IsRefusalFor}
 use Rattle.image_check.specs.Verdicts.{IsVerdict}
 use Rattle.grow_shrink.specs.LargerRegion.{region_len}
+use Rattle.segment_disk.specs.declared.presence.NotOpened.{NotOpened}
+use Rattle.segment_disk.specs.declared.presence.NotOpened.TheVariants.{Fault, ForeignLog as HasForeignLog}
 use Rattle.segment_disk.specs.Events.{Event, After}
 use Rattle.segment_file.specs.declared.file_errors.FileError.{FileError}
-use Rattle.segment_file.specs.declared.file_errors.FileError.TheVariants.{Image, OutOfMemory, ReadFault}
+use Rattle.segment_file.specs.declared.file_errors.FileError.TheVariants.{ForeignLog, Image, OutOfMemory, ReadFault}
 use Rattle.segment_file.specs.declared.file_errors.OpenFault.{OpenFault}
 use Rattle.segment_file.specs.declared.file_errors.OpenFault.TheVariants.{Image as Unfitting}
 use Rattle.segment_file.specs.declared.file_errors.OpenFault.TheVariants.{OutOfMemory as Unremembered}
 use Rattle.segment_file.specs.declared.file_errors.OpenFault.TheVariants.{ReadFault as Unreadable}
+use Rattle.segment_file.specs.declared.file_errors.OpenFault.TheVariants.{ForeignLog as LogNotItsOwn}
 use Rattle.segment_file.specs.Files.{open_events, failed_open_events}
 
 -- ---- how much room a segment has
@@ -91,12 +94,23 @@ abbrev pub open_fault_error : OpenFault → FileError
 open_fault_error (Unfitting v) = Image v.class
 open_fault_error (Unremembered refusal) = OutOfMemory refusal
 open_fault_error Unreadable = ReadFault
+open_fault_error LogNotItsOwn = ForeignLog
+
+-- why a file has no segment that was not opened
+abbrev pub unopened_error : NotOpened → FileError
+unopened_error Fault = ReadFault
+unopened_error HasForeignLog = ForeignLog
+
+abbrev pub unopened_fault : NotOpened → OpenFault
+unopened_fault Fault = Unreadable
+unopened_fault HasForeignLog = LogNotItsOwn
 
 -- a class is told with the place that shows it
 abbrev pub IsTold : List ℕ → OpenFault → Type 0
 IsTold b (Unfitting v) = IsVerdict current b v
 IsTold b (Unremembered refusal) = ⊤
 IsTold b Unreadable = ⊤
+IsTold b LogNotItsOwn = ⊤
 
 -- a file has no segment, for this reason, with the place of a class
 pub record IsWhyUnfit (most : ℕ) (image : ReadDelta) (unfit : OpenFault) : Type 0 where
@@ -111,10 +125,11 @@ ExaminesImage len image result =
 -- ---- the image in a file
 
 module _ {D A E : Type 0} (step : D → Event → D → Type 0) (old new : D) (path : List ℕ) where
-  -- the file could not be opened, and nothing else was asked
-  pub record ReadsFileErr (fault : E) (result : Result A E) : Type 0 where
-    pub asked : After step old (failed_open_events path) new
-    pub refused : result ≡ Err fault
+  -- the file was not opened, for this reason, and nothing else was asked
+  pub record ReadsFileErr (fault_of : NotOpened → E) (result : Result A E) : Type 0 where
+    pub why : NotOpened
+    pub asked : After step old (failed_open_events path why) new
+    pub refused : result ≡ Err (fault_of why)
 
   -- the file was opened, and had this many bytes by what the disk told, was read and closed, and nothing else was asked
   pub record ReadsFileAs (answers : ℕ → ReadDelta → Result A E → Type 0) (result : Result A E) : Type 0 where
@@ -124,19 +139,19 @@ module _ {D A E : Type 0} (step : D → Event → D → Type 0) (old new : D) (p
     pub answer : answers len image result
 
   -- the file could not be opened, or it was opened, read and closed
-  abbrev pub ReadsFile : E → (ℕ → ReadDelta → Result A E → Type 0) → Result A E → Type 0
-  ReadsFile fault answers result = ReadsFileErr fault result ⊎ ReadsFileAs answers result
+  abbrev pub ReadsFile : (NotOpened → E) → (ℕ → ReadDelta → Result A E → Type 0) → Result A E → Type 0
+  ReadsFile fault_of answers result = ReadsFileErr fault_of result ⊎ ReadsFileAs answers result
 
 -- the call opens the segment of a file, or says why there is none
 abbrev pub OpensFile : {D : Type 0} → (D → Event → D → Type 0) → D → D → List ℕ → AcceptedVersions → Mode → ℕ
     → Result SegmentState FileError → Type 0
 OpensFile step old new path versions mode more result =
-    ReadsFile step old new path ReadFault (OpensImage versions more mode) result
+    ReadsFile step old new path unopened_error (OpensImage versions more mode) result
 
 -- whether it has one, and why it has none
 abbrev pub ExaminesFile : {D : Type 0} → (D → Event → D → Type 0) → D → D → List ℕ → Result (Unit {0}) OpenFault
     → Type 0
-ExaminesFile step old new path result = ReadsFile step old new path Unreadable ExaminesImage result
+ExaminesFile step old new path result = ReadsFile step old new path unopened_fault ExaminesImage result
 
 -- ---- the parts of an opening
 

@@ -4,8 +4,8 @@ use Rattle.std.specs.Prelude.{if◌then◌else◌}
 use Rattle.std.specs.Str.{bytes_eq}
 use Rattle.raw_region.specs.Device.{WriteDelta}
 use Rattle.segment_disk.specs.Events.{CreateMode, New, Truncate, Replacement}
-use Rattle.segment_disk.specs.Events.{Event, Looked, Held, Released, Opened, Read, Compared, Made, Wrote, Placed}
-use Rattle.segment_disk.specs.Events.{Discarded}
+use Rattle.segment_disk.specs.Events.{Event, Looked, Held, Released, Opened, HasForeignLog, Read, Compared, Made, Wrote}
+use Rattle.segment_disk.specs.Events.{Placed, Discarded}
 use Rattle.segment_file.specs.Files.{WriteOutcome, Overtaken, Unchanged, NotMade, Closed, Offered, IsUnwritten}
 use Rattle.segment_file.specs.Files.{HasImage, whole_outcome, write_events}
 use Rattle.segment_disk.specs.declared.presence.Comparison.{Comparison}
@@ -74,6 +74,7 @@ after_event path s (Looked p found) = s
 after_event path s (Held p given) = s
 after_event path s Released = s
 after_event path s (Opened p is_open) = s
+after_event path s (HasForeignLog p) = s
 after_event path s (Read image) = s
 after_event path s (Compared p image found) = if bytes_eq p path then compared image found s else s
 after_event path s (Made how p true) = if bytes_eq p path then made how s else record s { target = Neither }

@@ -8,7 +8,7 @@ use Rattle.image_check.specs.declared.errors.MemoryFault.TheVariants.{Bytes}
 use Rattle.image_check.specs.EarlyTests.{has_front, size_word}
 use Rattle.image_check.specs.Formats.{format_of}
 use Rattle.segment_file.specs.declared.file_errors.OpenFault.{OpenFault}
-use Rattle.segment_file.specs.declared.file_errors.OpenFault.TheVariants.{Image, OutOfMemory, ReadFault}
+use Rattle.segment_file.specs.declared.file_errors.OpenFault.TheVariants.{ForeignLog, Image, OutOfMemory, ReadFault}
 
 -- these are all bytes that a reader gave, and no read failed
 pub record IsReadUpTo (gave : ReaderHistory) (bytes : List ℕ) : Type 0 where
@@ -46,6 +46,7 @@ abbrev pub IsWhyNotUpTo : ℕ → ReaderHistory → OpenFault → Type 0
 IsWhyNotUpTo said gave (Image v) = (v.class ≡ Truncated) × (v.place ≡ length gave.bytes) × IsCutShort said gave
 IsWhyNotUpTo said gave (OutOfMemory refusal) = IsUnkept said gave refusal
 IsWhyNotUpTo said gave ReadFault = IsBroken said gave
+IsWhyNotUpTo said gave ForeignLog = ⊥
 
 -- all of an image, which has as many bytes as it says
 pub record IsWhole (said : ℕ) (gave : ReaderHistory) (text : List ℕ) : Type 0 where
@@ -65,6 +66,7 @@ IsWhyNotWhole said gave (Image v) =
     ⊎ ((v.class ≡ Truncated) × (v.place ≡ length gave.bytes) × IsCutShort said gave)
 IsWhyNotWhole said gave (OutOfMemory refusal) = IsUnkept said gave refusal
 IsWhyNotWhole said gave ReadFault = IsBroken said gave
+IsWhyNotWhole said gave ForeignLog = ⊥
 
 -- ---- as the front says it
 

@@ -82,8 +82,9 @@ fn examine_image<S: Source>(
 pub fn examine_file<D: Disk>(alloc: Global, disk: &mut D, path: &str) -> Result<(), OpenFault>
     ensures { ExaminesFile D.step disk.old disk.new path.now result }
 {
-    let Ok(OpenedFile { reader, len }) = disk.open(path) else {
-        return Err(OpenFault::ReadFault);
+    let OpenedFile { reader, len } = match disk.open(path) {
+        Ok(opened) => opened,
+        Err(why) => return Err(OpenFault::from(why)),
     };
     let mut reader = Headed::new(reader);
     let examined = examine_image(alloc, &mut reader, len);

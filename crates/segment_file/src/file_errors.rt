@@ -4,11 +4,13 @@ ghost use Rattle.image_check.specs.declared.errors.MemoryFault.TheVariants.{Byte
 ghost use Rattle.segment_file.specs.declared.file_errors.FileError.TheVariants.{Growth, OutOfMemory as NoMemory};
 ghost use Rattle.segment_file.specs.declared.file_errors.FileError.TheVariants.{WriteFault as NotWritten};
 ghost use Rattle.segment_file.specs.declared.file_errors.OpenFault.TheVariants.{OutOfMemory as NoMemoryForIt};
-ghost use Rattle.segment_file.specs.{Opening.open_fault_error, SegmentFiles.growth_file_error};
+ghost use Rattle.segment_file.specs.Opening.{open_fault_error, unopened_error, unopened_fault};
+ghost use Rattle.segment_file.specs.SegmentFiles.{growth_file_error};
 
 use grow_shrink::{GrowError, GrowOrMoveError};
 use image_check::{ImageClass, MemoryFault, Verdict};
 use raw_region::{DeviceFault, OutOfMemory};
+use segment_disk::NotOpened;
 use thiserror::Error;
 
 /// Why a call of a [`SegmentFile`](crate::SegmentFile) is refused.
@@ -33,6 +35,9 @@ pub enum FileError {
     /// The file can't be made or emptied, takes not the whole image, or need not last.
     #[error("the file can't be written")]
     WriteFault,
+    /// The log beside the file is of another file. Neither was changed.
+    #[error("the log beside the file is of another file")]
+    ForeignLog,
     /// Another has the right to write the file.
     #[error("the file is in use")]
     InUse,
@@ -49,6 +54,18 @@ impl From<OpenFault> for FileError {
             OpenFault::Image(verdict) => FileError::Image(verdict.class),
             OpenFault::OutOfMemory(refusal) => FileError::OutOfMemory(refusal),
             OpenFault::ReadFault => FileError::ReadFault,
+            OpenFault::ForeignLog => FileError::ForeignLog,
+        }
+    }
+}
+
+impl From<NotOpened> for FileError {
+    ghost from_gives = { λ why error. error ≡ unopened_error why };
+
+    fn from(why: NotOpened) -> FileError {
+        match why {
+            NotOpened::Fault => FileError::ReadFault,
+            NotOpened::ForeignLog => FileError::ForeignLog,
         }
     }
 }
@@ -100,6 +117,19 @@ pub enum OpenFault {
     OutOfMemory(MemoryFault),
     /// The file can't be opened, or reading it failed.
     ReadFault,
+    /// The log beside the file is of another file.
+    ForeignLog,
+}
+
+impl From<NotOpened> for OpenFault {
+    ghost from_gives = { λ why unfit. unfit ≡ unopened_fault why };
+
+    fn from(why: NotOpened) -> OpenFault {
+        match why {
+            NotOpened::Fault => OpenFault::ReadFault,
+            NotOpened::ForeignLog => OpenFault::ForeignLog,
+        }
+    }
 }
 
 impl From<OutOfMemory> for OpenFault {

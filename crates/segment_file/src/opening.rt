@@ -136,7 +136,7 @@ fn open_image<S: Source>(
 /// # Errors
 ///
 /// `Image` with the class if the bytes of the file denote no directory. `ReadFault` if the file can't be opened or
-/// read, and `OutOfMemory`.
+/// read, `ForeignLog` if the log beside it is of another file, and `OutOfMemory`.
 pub fn open_file<D: Disk>(
     alloc: Global,
     disk: &mut D,
@@ -147,8 +147,9 @@ pub fn open_file<D: Disk>(
 ) -> Result<Segment, FileError>
     ensures { OpensFile D.step disk.old disk.new path.now versions mode more result }
 {
-    let Ok(OpenedFile { reader, len }) = disk.open(path) else {
-        return Err(FileError::ReadFault);
+    let OpenedFile { reader, len } = match disk.open(path) {
+        Ok(opened) => opened,
+        Err(why) => return Err(FileError::from(why)),
     };
     let mut reader = Headed::new(reader);
     let read = open_image(alloc, versions, mode, &mut reader, len, more);

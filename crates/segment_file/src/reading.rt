@@ -21,7 +21,7 @@ use std::alloc::Global;
 /// # Errors
 ///
 /// `Image` with the class if the bytes of the file denote no directory. `ReadFault` if the file can't be opened or
-/// read, and `OutOfMemory`.
+/// read, `ForeignLog` if the log beside it is of another file, and `OutOfMemory`.
 pub fn read<D: Disk>(
     alloc: Global,
     disk: &mut D,

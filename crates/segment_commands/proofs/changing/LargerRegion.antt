@@ -13,9 +13,8 @@ use Rattle.grow_shrink.specs.declared.refusals.GrowError.TheVariants.{ReadOnly, 
 use Rattle.grow_shrink.specs.Resized.{IsRefusedBy}
 use Rattle.segment_disk.specs.Events.{Event}
 use Rattle.segment_file.specs.declared.file_errors.FileError.{FileError}
-use Rattle.segment_file.specs.declared.file_errors.FileError.TheVariants.{ReadFault}
 use Rattle.segment_file.specs.Opening.{OpensImageOk, OpensImage}
-use Rattle.segment_file.specs.Opening.{OpensFile as ReadsFile}
+use Rattle.segment_file.specs.Opening.{OpensFile as ReadsFile, unopened_error}
 use Rattle.segment_file.proofs.Laws.{grows-in-place, segment-of}
 use Rattle.segment_commands.specs.declared.changing.Resize.{Resize}
 use Rattle.segment_commands.specs.declared.changing.Resize.TheVariants.{Grow, Shrink}
@@ -38,7 +37,7 @@ is_reading false error e is = cc
 module _ {D : Type 0} (step : D → Event → D → Type 0) (old new : D) (path : List ℕ) (s : SegmentState) where
   read_in : (more : ℕ) (x : Result SegmentState FileError) → ReadsFile step old new path Current Write more x
       → x ≡ Ok s → IsReadIn more s
-  read_in more x (inl u) e = absurd (no_error s ReadFault (sym e ∙ u.refused))
+  read_in more x (inl u) e = absurd (no_error s (unopened_error u.why) (sym e ∙ u.refused))
   read_in more x (inr r) e = record {
     len = r.len;
     image = r.image;

@@ -12,10 +12,9 @@ use Rattle.segment_scripts.specs.declared.ends.Until.{Until}
 use Rattle.segment_disk.specs.Events.{CreateMode, New, Event, After}
 use Rattle.image_check.specs.declared.versions.AcceptedVersions.TheVariants.{Current}
 use Rattle.segment_file.specs.declared.file_errors.FileError.{FileError}
-use Rattle.segment_file.specs.declared.file_errors.FileError.TheVariants.{ReadFault}
 use Rattle.segment_file.specs.Files.{open_events}
 use Rattle.segment_file.specs.Opening.{OpensImageOk, OpensImage}
-use Rattle.segment_file.specs.Opening.{OpensFile as ReadsFile}
+use Rattle.segment_file.specs.Opening.{OpensFile as ReadsFile, unopened_error}
 use Rattle.segment_file.proofs.Laws.{read-fits}
 use Rattle.segment_commands.proofs.running.Session.{begun}
 use Rattle.segment_commands.specs.Opening.{OpensFile, as_session, session_fault}
@@ -73,7 +72,7 @@ module _ {D O : Type 0} (step : D → Event → D
 
     read_run : (x : Result SegmentState FileError) → ReadsFile step old read path Current mode 0 x → x ≡ Ok s
         → RunsOpened step old new path mode how until script script' history flushes out out' result
-    read_run x (inl u) e = absurd (no_error s ReadFault (sym e ∙ u.refused))
+    read_run x (inl u) e = absurd (no_error s (unopened_error u.why) (sym e ∙ u.refused))
     read_run x (inr r) e = begun_run r.len r.image r.asked (subst (OpensImage Current 0 mode r.len r.image) e r.answer)
 
     -- a run goes on from an opened segment

@@ -24,7 +24,8 @@ use Rattle.segment_disk.specs.Events.{nothing_given}
 use Rattle.segment_file.specs.declared.file_errors.FileError.{FileError}
 use Rattle.segment_file.specs.declared.file_errors.FileError.TheVariants.{OutOfMemory}
 use Rattle.segment_file.specs.declared.file_errors.OpenFault.{OpenFault}
-use Rattle.segment_file.specs.declared.file_errors.OpenFault.TheVariants.{Image, OutOfMemory as NoMemory, ReadFault}
+use Rattle.segment_file.specs.declared.file_errors.OpenFault.TheVariants.{ForeignLog, Image, ReadFault}
+use Rattle.segment_file.specs.declared.file_errors.OpenFault.TheVariants.{OutOfMemory as NoMemory}
 use Rattle.segment_file.specs.Opening.{IsTold, IsWhyUnopened, IsWithoutMemory, file_region, open_fault_error}
 use Rattle.segment_file.specs.ReadingOn.{IsWhole, IsWhyNotWhole, Says}
 use Rattle.segment_file.proofs.opening.Fronts.{ends-early, format-grown, goes-past, passed, said-most, said-least}
@@ -72,6 +73,7 @@ module _ (format : ℕ) (new : ReaderHistory) (said : ℕ) (s : Says format new.
         failed = lt-ltb 0 new.failures b.failed;
         open_class = (all_decided format new.bytes).none (undecided format new.bytes said s b.few);
       }
+  not-whole most ForeignLog fits b = absurd b
 
 -- and what is told of it
 module _ (new : ReaderHistory) (said : ℕ) (s : Says current new.bytes said) where
@@ -90,6 +92,7 @@ module _ (new : ReaderHistory) (said : ℕ) (s : Says current new.bytes said) wh
   )
   told-whole (NoMemory refusal) u = tt
   told-whole ReadFault b = tt
+  told-whole ForeignLog b = tt
 
 -- ---- after an image for which there was no room
 

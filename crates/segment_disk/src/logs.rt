@@ -1,0 +1,169 @@
+//! Logs beside the files of the system: commits that the files do not have yet.
+ghost use Rattle.std.specs.Prelude.{◌≡◌, IfErr, IfOk, OnOk, Some};
+ghost use Rattle.segment_disk.specs.Logs.{Recovers, RefusesLog};
+
+use crate::file_problems::problem_of;
+use crate::locks::leads_to;
+use crate::presence::FileProblem;
+use segment_log::{RecoverError, RecoveredImage, recover};
+use std::alloc::Global;
+use std::fs::{self, File};
+use std::io::{self, ErrorKind, Read};
+use std::path::PathBuf;
+use std::rt::Files;
+
+/// No path of the system is longer.
+const MAX_PATH_LEN: usize = 4096;
+
+/// How the name of a log ends, behind that of its file.
+const SUFFIX: [u8; 4] = *b"-log";
+
+/// How often a file is read with its log, until the two belong together.
+const READINGS: usize = 8;
+
+/// Why a file can't be read or written with its log, as far as that is known.
+pub(crate) type LogTrouble = Option<FileProblem>;
+
+/// Returns what an error of the system says.
+pub(crate) fn trouble_of(error: io::Error) -> LogTrouble {
+    problem_of(error.kind())
+}
+
+/// Tells whether a path leads to a file that begins as a log with a record does. Asks for no memory.
+fn is_marked<R: Files<File = File>>(files: &R, log: &str) -> io::Result<bool> {
+    match fs::symlink_metadata(files, log) {
+        Ok(found) if found.is_file() => {}
+        Ok(_) => return Ok(false),
+        Err(error) => match error.kind() {
+            ErrorKind::NotFound | ErrorKind::InvalidFilename => return Ok(false),
+            _ => return Err(error),
+        },
+    }
+    let mut first = [0];
+    let mut file = fs::open(files, log)?;
+    let count = file.read(&mut first)?;
+    Ok(count == 1 && first[0] == 1)
+}
+
+/// Tells whether a log with a record stands beside a file, which is no link. Asks for no memory.
+fn is_beside<R: Files<File = File>>(files: &R, file: &str) -> io::Result<bool> {
+    let mut room = [0; MAX_PATH_LEN];
+    let len = file.len();
+    if len > MAX_PATH_LEN - SUFFIX.len() {
+        return Ok(false);
+    }
+    room[..len].copy_from_slice(file.as_bytes());
+    room[len..len + SUFFIX.len()].copy_from_slice(&SUFFIX);
+    let Ok(log) = str::from_utf8(&room[..len + SUFFIX.len()]) else {
+        return Err(io::Error::from(ErrorKind::InvalidInput));
+    };
+    is_marked(files, log)
+}
+
+/// Tells whether a log with a record stands beside the file of a path: beside the file itself, if the path is a link.
+/// Only for a link it asks for memory. A file that can't be looked at has none, and what has the name of a log and no
+/// record is nobody's business.
+///
+/// # Errors
+///
+/// Memory was refused, or the system does not tell.
+pub(crate) fn has_log<R: Files<File = File> + AllocGlobal>(rt: &R, path: &str) -> io::Result<bool> {
+    let Ok(found) = fs::symlink_metadata(rt, path) else {
+        return Ok(false);
+    };
+    if !found.is_symlink() {
+        return is_beside(rt, path);
+    }
+    match fs::canonicalize(rt, path) {
+        Ok(real) => is_beside(rt, real.as_str()),
+        Err(error) if error.kind() == ErrorKind::OutOfMemory => Err(error),
+        Err(_) => Ok(false),
+    }
+}
+
+/// Returns the path of a file, which leads through no link, and that of the log beside it.
+pub(crate) fn log_paths<R: Files + AllocGlobal>(
+    rt: &R,
+    path: &str,
+) -> io::Result<(PathBuf, String)> {
+    let real = fs::canonicalize(rt, path)?;
+    let log = format!(in rt.alloc(); "{}-log", real.as_str())?;
+    Ok((real, log))
+}
+
+/// Returns the bytes of a log, and none if it is not there. What is no file on a disk is no log of a file.
+pub(crate) fn read_log<R: Files<File = File> + AllocGlobal>(
+    rt: &R,
+    log: &str,
+) -> Result<Vec<u8>, LogTrouble> {
+    let mut bytes = Vec::new(rt.alloc());
+    let found = match fs::symlink_metadata(rt, log) {
+        Ok(found) => found,
+        Err(error) if error.kind() == ErrorKind::NotFound => return Ok(bytes),
+        Err(error) => return Err(trouble_of(error)),
+    };
+    if !found.is_file() {
+        return Err(Some(FileProblem::ForeignLog));
+    }
+    let mut file = fs::open(rt, log).map_err(trouble_of)?;
+    file.read_to_end(&mut bytes).map_err(trouble_of)?;
+    Ok(bytes)
+}
+
+/// Returns what the bytes of a file stand for with those of its log. The log of another file is refused.
+pub(crate) fn recovered(
+    alloc: Global,
+    base: Vec<u8>,
+    log: &[u8],
+) -> Result<RecoveredImage, LogTrouble>
+    ensures image { IfOk result (λ made. Recovers base.items log.now made) }
+    ensures refused { IfErr result (λ why. RefusesLog base.items log.now why) }
+{
+    match recover(alloc, base, log) {
+        Ok(made) => Ok(made),
+        Err(RecoverError::ForeignLog) => Err(Some(FileProblem::ForeignLog)),
+        Err(RecoverError::OutOfMemory) => Err(None),
+    }
+}
+
+/// Reads a file that is open, and returns what it stands for with the bytes of its log.
+pub(crate) fn recover_file(
+    alloc: Global,
+    file: &mut File,
+    log: &[u8],
+) -> Result<RecoveredImage, LogTrouble> {
+    let mut base = Vec::new(alloc);
+    file.read_to_end(&mut base).map_err(trouble_of)?;
+    recovered(alloc, base, log)
+}
+
+/// Returns what a file that was opened by a path stands for with its log, which is read first.
+fn read_once<R: Files<File = File> + AllocGlobal>(
+    rt: &R,
+    path: &str,
+    file: &mut File,
+) -> Result<RecoveredImage, LogTrouble> {
+    let (_, log) = log_paths(rt, path).map_err(trouble_of)?;
+    let bytes = read_log(rt, log.as_str())?;
+    recover_file(rt.alloc(), file, &bytes)
+}
+
+/// Returns what the file of a path, which was opened, stands for with its log. Both are read again if another file took
+/// the name meanwhile, and if they do not belong together.
+pub(crate) fn read_recovered<R: Files<File = File> + AllocGlobal>(
+    rt: &R,
+    path: &str,
+    opened: File,
+) -> Result<RecoveredImage, LogTrouble> {
+    let mut file = opened;
+    for _ in 1..READINGS {
+        let read = read_once(rt, path, &mut file);
+        // what a writer changed between two readings may look like the log of another file
+        let is_foreign = matches!(read, Err(Some(FileProblem::ForeignLog)));
+        if !is_foreign && leads_to(rt, path, &file) {
+            return read;
+        }
+        file = fs::open(rt, path).map_err(trouble_of)?;
+    }
+    read_once(rt, path, &mut file)
+}

@@ -1,0 +1,175 @@
+//! The end of a log: its commits become the file, before the file is written otherwise.
+ghost use Rattle.std.specs.Prelude.{⊤};
+
+use crate::locks::{FileLock, Identity, open_to_write, sync_file};
+use crate::logs::{LogTrouble, has_log, log_paths, read_log, recover_file, trouble_of};
+use crate::presence::FileProblem;
+use crate::replacement_file::ReplacementFile;
+use crate::spare_file::is_folder_synced;
+use crate::sparse::{SparseFile, longest_file};
+use segment_log::{LogDisk, LogFault, checkpoint, next_record, shut_gate};
+use std::fs::{self, File};
+use std::io::{self, ErrorKind, Write};
+use std::os::unix::fs::FileExt;
+use std::rt::Files;
+use std::time::Clock;
+
+/// Writes all bytes to a new file, and writes it through.
+fn write_through(file: SparseFile, bytes: &[u8]) -> io::Result<()> {
+    let mut writer = file;
+    writer.write_all(bytes)?;
+    writer.end()?;
+    if sync_file(writer.file()) {
+        Ok(())
+    } else {
+        Err(io::Error::from(ErrorKind::Other))
+    }
+}
+
+/// Puts a new file of these bytes in the place of a file, with its rights. Returns what there is to hold of the new
+/// one, and whether it has its name for good.
+fn put_in_place<R: Files<File = File> + AllocGlobal + Clock>(
+    rt: &R,
+    path: &str,
+    held: Option<Identity>,
+    bytes: &[u8],
+) -> io::Result<(FileLock, bool)> {
+    let (file, beside) = ReplacementFile::make(rt, path, held)?;
+    let written = write_through(SparseFile::new(file, longest_file(rt)), bytes);
+    let placed = match written {
+        Ok(()) => beside.place(rt),
+        Err(error) => Err(error),
+    };
+    match placed {
+        Ok(()) => Ok((beside.into_lock(), is_folder_synced(rt, path) == Some(true))),
+        Err(error) => {
+            beside.discard(rt);
+            Err(error)
+        }
+    }
+}
+
+/// A file of the system with its log.
+#[derive(Drop)]
+struct LoggedFile<'a, R: Files> {
+    rt: &'a R,
+    /// The path of the file, which leads through no link.
+    path: &'a str,
+    log: File,
+    /// What the system said last of the file.
+    trouble: LogTrouble,
+}
+
+impl<'a, R: Files<File = File> + AllocGlobal + Clock> LogDisk for LoggedFile<'a, R> {
+    ghost step = { λ old event new. ⊤ };
+
+    type Hold = FileLock;
+
+    fn write_log(&mut self, _hold: &mut FileLock, at: usize, bytes: &[u8]) -> Result<(), LogFault> {
+        self.log
+            .write_all_at(bytes, at as u64)
+            .map_err(|_| LogFault)
+    }
+
+    fn sync_log(&mut self, _hold: &mut FileLock) -> Result<(), LogFault> {
+        if sync_file(&self.log) {
+            Ok(())
+        } else {
+            Err(LogFault)
+        }
+    }
+
+    fn place(&mut self, hold: &mut FileLock, image: &[u8]) -> Result<(), LogFault> {
+        match put_in_place(self.rt, self.path, hold.identity(), image) {
+            Ok((lock, lasts)) => {
+                *hold = lock;
+                if lasts { Ok(()) } else { Err(LogFault) }
+            }
+            Err(error) => {
+                self.trouble = trouble_of(error);
+                Err(LogFault)
+            }
+        }
+    }
+}
+
+/// Puts a copy of the records in the place of the log: a sync of the log may have failed, so that its bytes are read
+/// and are not on the disk.
+fn renew_log<R: Files<File = File> + AllocGlobal + Clock>(
+    rt: &R,
+    log: &str,
+    records: Vec<u8>,
+) -> io::Result<File> {
+    let mut bytes = records;
+    bytes.extend_from_slice(&shut_gate(rt.alloc())?)?;
+    let (_, lasts) = put_in_place(rt, log, None, &bytes)?;
+    if !lasts {
+        return Err(io::Error::from(ErrorKind::Other));
+    }
+    open_to_write(rt, log)
+}
+
+/// Makes a file the image that it stands for with the records of its log, and tells whether there is one.
+fn settle_records<R: Files<File = File> + AllocGlobal + Clock>(
+    rt: &R,
+    path: &str,
+    log: &str,
+    lock: &mut FileLock,
+) -> Result<bool, LogTrouble> {
+    let mut records = read_log(rt, log)?;
+    let mut file = fs::open(rt, path).map_err(trouble_of)?;
+    if lock.identity().is_some() && Identity::of(&file) != lock.identity() {
+        return Err(Some(FileProblem::Exists));
+    }
+    let made = recover_file(rt.alloc(), &mut file, &records)?;
+    if made.end == 0 {
+        return Ok(false);
+    }
+    records.truncate(made.end);
+    let mut files = LoggedFile {
+        rt,
+        path,
+        log: renew_log(rt, log, records).map_err(trouble_of)?,
+        trouble: None,
+    };
+    match checkpoint(rt.alloc(), &mut files, lock, &made.image) {
+        Ok(()) => Ok(true),
+        Err(_) => Err(files.trouble),
+    }
+}
+
+/// Puts the commits of the log beside a file, if there is one, into the file, which is replaced by a new one, and
+/// removes the log. A crash at any moment leaves the image.
+///
+/// # Errors
+///
+/// Why that can't be done, as far as that is known. The log stays, and both stand for the same image.
+pub(crate) fn settle<R: Files<File = File> + AllocGlobal + Clock>(
+    rt: &R,
+    path: &str,
+    lock: &mut FileLock,
+) -> Result<(), LogTrouble> {
+    if !has_log(rt, path).map_err(trouble_of)? {
+        return Ok(());
+    }
+    let (real, log) = log_paths(rt, path).map_err(trouble_of)?;
+    if settle_records(rt, real.as_str(), log.as_str(), lock)? {
+        fs::remove_file(rt, log.as_str()).map_err(trouble_of)?;
+        is_folder_synced(rt, real.as_str());
+    }
+    Ok(())
+}
+
+/// Removes a log with records that was left beside the name of a file that was just made: it stands for nothing. If it
+/// can't be removed, the file is refused from then on.
+pub(crate) fn drop_log<R: Files<File = File> + AllocGlobal>(rt: &R, path: &str) {
+    if !matches!(has_log(rt, path), Ok(true)) {
+        return;
+    }
+    let Ok((_, log)) = log_paths(rt, path) else {
+        return;
+    };
+    if read_log(rt, log.as_str()).is_ok_and(|bytes| next_record(&bytes).is_some()) {
+        let _ = fs::remove_file(rt, log.as_str());
+    }
+}

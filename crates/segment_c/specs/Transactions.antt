@@ -1,13 +1,14 @@
 -- Several calls as one: what is copied before them, and what is put back.
 use Rattle.std.specs.Prelude.{◌≡◌, ◌≤◌, ℕ, nat_le, length, false, true, if◌then◌else◌}
-use Rattle.raw_region.specs.Memory.{SameSurroundings, cut_at, whole}
+use Rattle.raw_region.specs.Memory.{SameSurroundings, cut_at, whole, zeros}
 use Rattle.segment_manager.specs.{declared.modes.Mode.Mode, State.SegmentState, Step.is_read_only}
-use Rattle.grow_shrink.specs.Resized.{room_of}
+use Rattle.grow_shrink.specs.{LargerRegion.region_len, Resized.room_of}
 
--- the segment with its bytes and its mode, wherever it lies
+-- the segment with its bytes and its mode, at the front of a region of the capacity for them, of which the others are 0
 pub record CopiesSegment (s t : SegmentState) : Type 0 where
   pub bytes : t.cut.bytes ≡ s.cut.bytes
   pub mode : t.mode ≡ s.mode
+  pub place : SameSurroundings (cut_at (zeros (region_len (length s.cut.bytes))) 0 (length s.cut.bytes)) t.cut
 
 -- a segment that is open for reading is not copied, and for another there may be no memory
 pub record IsBeginCode (mode : Mode) (code : ℕ) : Type 0 where

@@ -1,7 +1,10 @@
 -- A segment that grows, in a larger region if its own has no room.
 use Rattle.std.specs.Prelude.{◌≡◌, ◌≤◌, ◌<◌, ◌⊎◌, ℕ, ◌+◌, ◌*◌, ◌/◌, ◌%◌, false, Option, Some, None, Result, MatchResult}
 use Rattle.std.specs.Prelude.{length, max, min}
+use Rattle.std.specs.List.{AllByRecursion}
+use Rattle.raw_region.specs.{Memory.SameSurroundings, Memory.bytes_of, Memory.cut_at, Memory.zeros}
 use Rattle.raw_region.specs.Refusals.{out_of_memory_of}
+use Rattle.best_fit.specs.Heap.{SameBlock, live_of}
 use Rattle.segment_manager.specs.declared.modes.Mode.{Mode}
 use Rattle.segment_manager.specs.Directory.{Directory}
 use Rattle.segment_manager.specs.blocks.Resized.{Resizes, grown}
@@ -37,12 +40,21 @@ pub record IsShortOfRoom (s : SegmentState) (extra : ℕ) : Type 0 where
   pub may : MayGrow s extra
   pub short : IsTooLongFor s extra
 
+-- The region was too short. The segment stands at the front of another of the capacity for its bytes, which has 0 after
+-- them; the payload and the colour of each block stay.
+pub record MovesOut (old new : SegmentState) (extra : ℕ) : Type 0 where
+  pub short : IsTooLongFor old extra
+  pub place : SameSurroundings
+      (cut_at (zeros (region_len (length new.cut.bytes))) 0 (length new.cut.bytes)) new.cut
+  pub blocks : AllByRecursion (SameBlock (bytes_of old.cut.bytes) (bytes_of new.cut.bytes))
+      (live_of old.cut.bytes).extents
+
 -- the segment is open as before, and each directory has this many bytes more; it moves only if its region is too short
 pub record GrowsOrMovesOk (old new : SegmentState) (extra : ℕ) : Type 0 where
   pub may : MayGrow old extra
   pub mode : new.mode ≡ old.mode
   pub denotes : (d : Directory) → DenotesCurrent old.cut.bytes d → DenotesCurrent new.cut.bytes (grown d extra)
-  pub place : Resizes old new (λ d. grown d extra) ⊎ IsTooLongFor old extra
+  pub place : Resizes old new (λ d. grown d extra) ⊎ MovesOut old new extra
 
 -- a reason stands against it, which is the one that is told
 pub record HasGrowthReason (s : SegmentState) (extra : ℕ) (reason : GrowError) : Type 0 where

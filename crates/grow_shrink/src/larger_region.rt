@@ -89,6 +89,7 @@ fn grow_elsewhere(
     extra: u64,
 ) -> Result<(), GrowOrMoveError>
     requires size { size ≡ length segment.old.cut.bytes }
+    requires denotation { IsSegment segment.old.cut.bytes }
     requires max_len { IsShortOfRoom segment.old extra }
     ensures { GrowsOrMoves segment.old segment.new extra result }
 {
@@ -109,6 +110,7 @@ fn grown_copy(
     extra: u64,
 ) -> Result<Segment, OutOfMemory>
     requires size { size ≡ length segment.now.cut.bytes }
+    requires denotation { IsSegment segment.now.cut.bytes }
     requires max_len { IsShortOfRoom segment.now extra }
     ensures changes { IfOk result (λ copy. GrowsOrMovesOk segment.now copy extra) }
     ensures refused { IfErr result (λ refusal. refusal ≡ out_of_memory_of (region_len (size + extra))) }

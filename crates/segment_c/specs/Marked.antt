@@ -1,6 +1,6 @@
 -- What is noted of the segment of a handle: how often it was changed, whether C lent its memory, and whether C may
 -- write elements where they stand.
-use Rattle.std.specs.Prelude.{◌≡◌, ◌≤◌, ℕ, ◌+◌, ◌%◌, Bool, false, true}
+use Rattle.std.specs.Prelude.{◌≡◌, ◌≤◌, ◌⊎◌, ℕ, ◌+◌, ◌%◌, Bool, false, true}
 use Rattle.segment_c.specs.declared.segment_slot.Marks.{Marks}
 
 -- the counter has risen, or begins anew, and no element that C was told of is where it was told
@@ -15,10 +15,11 @@ placed m is_lent = record { changes = (m.changes + 1) % 18446744073709551616; is
 abbrev pub shared : Marks → Marks
 shared m = record { changes = m.changes; is_lent = m.is_lent; is_shared = true }
 
--- A call that may have moved elements raises the counter where it is done; the memory stays whose it was.
+-- A call that may have moved elements raises the counter where it is done. If it is refused, the marks stay, or the
+-- counter is raised too. So what C was told before is never taken for good when it is not, and what C wrote is saved.
 pub record RaisesMoves (code : ℕ) (old new : Marks) : Type 0 where
   pub counted : code ≡ 0 → new ≡ raised old
-  pub lent : new.is_lent ≡ old.is_lent
+  pub refused : 1 ≤ code → (new ≡ old) ⊎ (new ≡ raised old)
 
 -- a call puts another segment into the handle, or none: the memory is C's or not then
 pub record PlacesSegment (code : ℕ) (old new : Marks) (is_lent : Bool) : Type 0 where

@@ -1,13 +1,14 @@
 -- A transaction over several calls: a copy of the segment before them, and a rollback to the copy.
 use Rattle.std.specs.Prelude.{◌≡◌, ◌≤◌, ℕ, nat_le, length, false, true, if◌then◌else◌}
-use Rattle.raw_region.specs.Memory.{SameSurroundings, cut_at, whole}
+use Rattle.raw_region.specs.Memory.{SameSurroundings, cut_at, whole, zeros}
 use Rattle.segment_manager.specs.{declared.modes.Mode.Mode, State.SegmentState, Step.is_read_only}
-use Rattle.grow_shrink.specs.Resized.{room_of}
+use Rattle.grow_shrink.specs.{LargerRegion.region_len, Resized.room_of}
 
--- the copy has the segment's bytes and its mode, at any place
+-- the copy has the segment's bytes and its mode, and begins a region of its own, whose other bytes are 0
 pub record CopiesSegment (s t : SegmentState) : Type 0 where
   pub bytes : t.cut.bytes ≡ s.cut.bytes
   pub mode : t.mode ≡ s.mode
+  pub place : SameSurroundings (cut_at (zeros (region_len (length s.cut.bytes))) 0 (length s.cut.bytes)) t.cut
 
 -- the code of a begin: 4 if the segment is open for reading; otherwise 0, or 26 if memory for the copy was refused
 pub record IsBeginCode (mode : Mode) (code : ℕ) : Type 0 where

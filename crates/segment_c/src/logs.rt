@@ -1,5 +1,5 @@
 //! The bytes of the log beside a file: C makes and reads them by these calls alone.
-ghost use Rattle.std.specs.Prelude.{◌≡◌, ◌≢◌, ◌≤◌, ◌<◌, ◌++◌, ◌^◌, IfOk, MatchResult, length};
+ghost use Rattle.std.specs.Prelude.{◌≡◌, ◌≢◌, ◌≤◌, ◌<◌, ◌⊎◌, ◌++◌, ◌^◌, IfOk, MatchResult, length};
 ghost use Rattle.segment_log.specs.Crashes.{with_log};
 ghost use Rattle.segment_log.specs.Edits.{edit_text};
 ghost use Rattle.segment_log.specs.Fingerprints.{fingerprint, page_mark};
@@ -107,7 +107,8 @@ fn copy_of(alloc: Global, bytes: &[u8]) -> Result<Vec<u8>, AllocError>
 }
 
 /// Writes the image that a file stands for with its log, and says its length, where the records of the log end, and
-/// the fingerprint of the file. Nothing is written unless the code is 0.
+/// the fingerprint of the file. The image is written if the code is 0, and the others also if the buffer is too short;
+/// else nothing changes.
 #[unsafe(no_mangle)]
 pub extern "C" fn zx_log_recover(
     alloc: Global,
@@ -123,6 +124,8 @@ pub extern "C" fn zx_log_recover(
     ensures tags { result ≢ 26 → result ≢ 54 → AreTogether (with_log base.now log.now) }
     ensures cause { result ≡ 54 → AreTogether (with_log base.now log.now) → ⊥ }
     ensures unchanged_on_error { 1 ≤ result → out.new ≡ out.old }
+    ensures refused { (result ≡ 26) ⊎ (result ≡ 54)
+        → (len.new ≡ len.old) × (end.new ≡ end.old) × (mark.new ≡ mark.old) }
 {
     let Ok(copy) = copy_of(alloc, base) else {
         return NO_MEMORY;

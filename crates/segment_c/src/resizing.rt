@@ -1,10 +1,11 @@
 //! Segments that become longer or shorter, and that move into other regions.
 ghost use Rattle.std.specs.Prelude.{◌≡◌, ◌<◌, ◌≤◌, ◌⊎◌, Some, false, if◌then◌else◌, length, true};
 ghost use Rattle.std.specs.declared.option.Option.TheVariants.{Some as Held};
+ghost use Rattle.grow_shrink.specs.LargerRegion.{GrowsOrMovesOk};
 ghost use Rattle.grow_shrink.specs.Resized.{growth_refusal, room_of, shrink_refusal};
 ghost use Rattle.raw_region.specs.Regions.{IsCapacity};
 ghost use Rattle.segment_c.specs.Calls.{RefusesClosed, RefusesArgument, HoldsSegment};
-ghost use Rattle.segment_c.specs.Growing.{IsGrowthCode, GrowsSegment, growing_code};
+ghost use Rattle.segment_c.specs.Growing.{IsGrowthCode, growing_code};
 ghost use Rattle.segment_c.specs.Opening.{capacity_wrong};
 ghost use Rattle.segment_c.specs.Resizing.{MovesSegment, size_code};
 ghost use Rattle.segment_c.specs.Marked.{RaisesMoves};
@@ -127,9 +128,9 @@ fn relocate(alloc: Global, segment: &mut Segment, capacity: u64) -> u32
 pub extern "C" fn zx_grow(alloc: Global, h: &mut SegmentSlot, extra: u64) -> u32
     ensures closed { RefusesClosed 0 result h.old.segment.value h.new.segment.value }
     ensures code { (s : SegmentState) → h.old.segment.value ≡ Held s → h.old.marks.is_lent ≡ false → (d : Directory)
-        → DenotesCurrent s.cut.bytes d → IsGrowthCode s.mode extra result d }
+        → DenotesCurrent s.cut.bytes d → IsGrowthCode s extra result d }
     ensures growth { (s : SegmentState) → h.old.segment.value ≡ Held s → h.old.marks.is_lent ≡ false → result ≡ 0
-        → HoldsSegment h.new.segment.value (λ t. GrowsSegment s t extra) }
+        → HoldsSegment h.new.segment.value (λ t. GrowsOrMovesOk s t extra) }
     ensures loan_code { (s : SegmentState) → h.old.segment.value ≡ Held s → h.old.marks.is_lent ≡ true
         → (d : Directory) → DenotesCurrent s.cut.bytes d
         → result ≡ size_code (growth_refusal s.mode d.size extra (room_of s.cut)) }
@@ -150,8 +151,8 @@ pub extern "C" fn zx_grow(alloc: Global, h: &mut SegmentSlot, extra: u64) -> u32
 /// Makes a segment longer by `extra` bytes, in a larger region if its own has no room.
 fn grow(alloc: Global, segment: &mut Segment, extra: u64) -> u32
     ensures code { (d : Directory) → DenotesCurrent segment.old.cut.bytes d
-        → IsGrowthCode segment.old.mode extra result d }
-    ensures growth { result ≡ 0 → GrowsSegment segment.old segment.new extra }
+        → IsGrowthCode segment.old extra result d }
+    ensures growth { result ≡ 0 → GrowsOrMovesOk segment.old segment.new extra }
     ensures unchanged_on_error { 1 ≤ result → segment.new ≡ segment.old }
 {
     match grow_or_move(alloc, segment, extra) {

@@ -10,14 +10,14 @@ use Rattle.segment_c.specs.{Growing.IsGrowthCode, Growing.growing_code, Resizing
 
 -- a segment that grew or moved has the directory's code
 pub grown_code : (old new : SegmentState) (extra : ℕ)
-    → GrowsOrMovesOk old new extra → (d : Directory) → DenotesCurrent old.cut.bytes d → IsGrowthCode old.mode extra 0 d
+    → GrowsOrMovesOk old new extra → (d : Directory) → DenotesCurrent old.cut.bytes d → IsGrowthCode old extra 0 d
 grown_code old new extra g d h = inl (sym (ap size_code (g.may.may d h)))
 
 -- a segment that did not has the code of its refusal
 pub refused_code : (old new : SegmentState) (extra : ℕ) (why : GrowOrMoveError) → GrowsOrMovesErr old new extra why
-    → (d : Directory) → DenotesCurrent old.cut.bytes d → IsGrowthCode old.mode extra (growing_code why) d
+    → (d : Directory) → DenotesCurrent old.cut.bytes d → IsGrowthCode old extra (growing_code why) d
 refused_code old new extra (Growth reason) g d h = inl (sym (ap size_code (g.1.applies d h)))
-refused_code old new extra (OutOfMemory refusal) g d h = inr (refl, g.1.may.may d h)
+refused_code old new extra (OutOfMemory refusal) g d h = inr (refl, g.1.may.may d h, g.1.short)
 
 coded : (reason : GrowError) → 1 ≤ size_code (Some reason)
 coded ReadOnly = omega arith

@@ -7,11 +7,11 @@ pub returns-in-Ok-clause-code : goal.returns-in-Ok-clause-code
 returns-in-Ok-clause-code c = grown_code c.args.segment.now c.grow_or_move.new.segment c.args.extra c.in-Ok.ensures
 
 pub returns-in-Ok-clause-growth : goal.returns-in-Ok-clause-growth
-returns-in-Ok-clause-growth c = λ _. record { mode = c.in-Ok.ensures.mode; denotes = c.in-Ok.ensures.denotes }
+returns-in-Ok-clause-growth c = λ _. c.in-Ok.ensures
 
 pub returns-in-Err-clause-code : goal.returns-in-Err-clause-code
 returns-in-Err-clause-code c = λ d st.
-    subst (λ n. IsGrowthCode c.args.segment.now.mode c.args.extra n d) (sym c.code_of_growing.ensures.code)
+    subst (λ n. IsGrowthCode c.args.segment.now c.args.extra n d) (sym c.code_of_growing.ensures.code)
     (refused_code c.args.segment.now c.grow_or_move.new.segment c.args.extra c.in-Err.why c.in-Err.ensures d st)
 
 pub returns-in-Err-clause-growth : goal.returns-in-Err-clause-growth

@@ -1,0 +1,2 @@
+-- Growing in another region: where the segment stands then (`MovedSegments.still-around`).
+pub mod MovedSegments

@@ -2,18 +2,18 @@
 use crate::checks::{holds, same};
 use seg_types::Key;
 use segment_lang::{
-    CommandForm, Deed, DeedForm, LineBuffer, LineError, Literal, Reading, Word, next_word,
-    number_of, only_word, parse_line, whole_of,
+    CommandForm, LineBuffer, LineError, Literal, Operation, OperationForm, Reading, Word,
+    next_word, number_of, only_word, parse_line, whole_of,
 };
 use std::mem::size_of;
 use std::process::Abort;
 
-// A deed is moved as it is, so it is small.
+// An operation is moved as it is, so it is small.
 const _: () = prove!(size_of::<Key<'static>>() <= 24);
 
 const _: () = prove!(size_of::<Literal<'static>>() <= 24);
 
-const _: () = prove!(size_of::<Deed<'static>>() <= 64);
+const _: () = prove!(size_of::<Operation<'static>>() <= 64);
 
 /// Returns the whole number that a word spells.
 fn whole(word: &[u8]) -> Option<i128> {
@@ -88,7 +88,7 @@ fn a_line_has_one_reading(rt: HostRuntime) {
         &rt,
         matches!(
             parse_line(b"show \"\\x61\"\r"),
-            Reading::Command(CommandForm::Deed(DeedForm::Show), _)
+            Reading::Command(CommandForm::Operation(OperationForm::Show), _)
         ),
     );
     holds(

@@ -4,7 +4,7 @@ use Rattle.seg_types.specs.declared.kinds.ScalarKind.TheVariants.{I64, U8}
 use Rattle.seg_types.specs.declared.kinds.Kind.TheVariants.{Map}
 use Rattle.seg_types.specs.Names.{ByName, ByKind, NoKey}
 use Rattle.seg_types.specs.Commands.{Reading, Nothing, Asked, UnknownCommand, LineTooLong, BadSyntax, Size, Append, Set}
-use Rattle.seg_types.specs.Commands.{Whole, Truth, Quoted, Construct, Numbers, NoPairs, Assign}
+use Rattle.seg_types.specs.Commands.{Integer, Boolean, Quoted, Construct, Numbers, NoPairs, Assign}
 use Rattle.segment_lang.specs.Language.{whole_language}
 use Rattle.segment_lang.specs.Reading.{reading}
 
@@ -36,7 +36,7 @@ long_lines = refl
 numbers : AreRead (
     (codes "destroy_ptr #01", BadSyntax)
     ∷ (codes "set w 0 -0", BadSyntax)
-    ∷ (codes "set w 0 -9223372036854775808", Asked (Set (ByName (codes "w")) 0 (Whole (negsuc 9223372036854775807))))
+    ∷ (codes "set w 0 -9223372036854775808", Asked (Set (ByName (codes "w")) 0 (Integer (negsuc 9223372036854775807))))
     ∷ (codes "set w 0 18446744073709551616", BadSyntax)
     ∷ []
     )
@@ -62,7 +62,7 @@ kinds : AreRead (
     ∷ (codes "construct map<u8,i64> @map<u8,i64>", Asked (Construct (ByKind (Map U8 I64)) (NoPairs U8 I64)))
     ∷ (
       codes "assign v 1 true \"x\"",
-      Asked (Assign (ByName (codes "v")) (Whole (pos 1) ∷ Truth true ∷ Quoted (codes "x") ∷ [])),
+      Asked (Assign (ByName (codes "v")) (Integer (pos 1) ∷ Boolean true ∷ Quoted (codes "x") ∷ [])),
     )
     ∷ []
     )

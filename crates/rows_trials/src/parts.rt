@@ -6,7 +6,7 @@ use crate::scripts::Script;
 
 /// What a part of a row does.
 #[derive(Clone, Copy)]
-pub enum Deed {
+pub enum PartKind {
     /// The part runs nothing: it is only what stands before the parts.
     Nothing,
     /// Its lines are a script, in mode `Write`.
@@ -23,7 +23,7 @@ pub enum Deed {
 /// Each is empty if the part says none.
 #[derive(Drop)]
 pub struct Part<'a> {
-    pub deed: Deed,
+    pub kind: PartKind,
     pub script: Script,
     pub fault: &'a str,
     pub saves: &'a str,
@@ -37,7 +37,7 @@ impl<'a> Part<'a> {
     /// Reads the lines of a part, or those before the parts with the first one, if no line begins it.
     pub fn read(notes: &Notes, lines: &[Line<'a>]) -> Part<'a> {
         let mut part = Part {
-            deed: Deed::Nothing,
+            kind: PartKind::Nothing,
             script: Script::new(notes.alloc),
             fault: "",
             saves: "",
@@ -61,17 +61,17 @@ impl<'a> Part<'a> {
             notes.is_placed(answers.is_empty(), line);
             self.add_said(notes, line);
         }
-        if matches!(self.deed, Deed::Nothing) && !is_of_row(line) {
-            self.deed = Deed::Write;
+        if matches!(self.kind, PartKind::Nothing) && !is_of_row(line) {
+            self.kind = PartKind::Write;
         }
     }
 
     /// Adds a line that is none of a script.
     fn add_said(&mut self, notes: &Notes, line: &Line<'a>) {
         match line.word {
-            "read" => self.deed = Deed::Read,
-            "alone" => self.deed = Deed::Alone,
-            "migrate" => self.deed = Deed::Migrate,
+            "read" => self.kind = PartKind::Read,
+            "alone" => self.kind = PartKind::Alone,
+            "migrate" => self.kind = PartKind::Migrate,
             "saves" => self.saves = line.rest,
             "keeps" => self.keeps = line.rest,
             "class" => self.fault = line.rest,

@@ -1,7 +1,7 @@
 //! The parts of a row, each in every way.
 
 use crate::cases::{Call, Case};
-use crate::parts::{Deed, Part};
+use crate::parts::{Part, PartKind};
 use crate::row_runners::{RowRunner, Runner};
 use crate::scripts::{Script, front_of, has_piece};
 
@@ -10,14 +10,14 @@ impl<R: Runner> RowRunner<R> {
     /// with a fault.
     pub fn saved_by<'x>(&self, case: &Case<'x>, part: &'x Part<'x>, once: bool) -> Option<Vec<u8>> {
         let script = &part.script;
-        match part.deed {
-            Deed::Nothing => return None,
-            Deed::Read => self.read(case, script),
-            Deed::Alone => self.alone(case, script),
-            Deed::Migrate if part.fault.is_empty() => return Some(self.migrate(case)),
-            Deed::Migrate => self.refuse_to_migrate(case, part.fault),
-            Deed::Write if part.fault.is_empty() => return Some(self.write(case, script, once)),
-            Deed::Write => {
+        match part.kind {
+            PartKind::Nothing => return None,
+            PartKind::Read => self.read(case, script),
+            PartKind::Alone => self.alone(case, script),
+            PartKind::Migrate if part.fault.is_empty() => return Some(self.migrate(case)),
+            PartKind::Migrate => self.refuse_to_migrate(case, part.fault),
+            PartKind::Write if part.fault.is_empty() => return Some(self.write(case, script, once)),
+            PartKind::Write => {
                 let case = case.with_script(script).failing(part.fault);
                 self.refuse(&case.saving(&[]), once);
             }

@@ -5,14 +5,14 @@ use Rattle.byteorder.specs.Endian.{little_number}
 use Rattle.seg_types.specs.declared.kinds.ScalarKind.{ScalarKind}
 use Rattle.seg_types.specs.declared.kinds.ScalarKind.TheVariants as kind
 use Rattle.seg_types.specs.declared.values.ScalarValue.{ScalarValue}
-use Rattle.seg_types.specs.declared.values.ScalarValue.TheVariants.{Bool as Truth, U8, I32, I64, U64}
+use Rattle.seg_types.specs.declared.values.ScalarValue.TheVariants.{Bool as Boolean, U8, I32, I64, U64}
 use Rattle.seg_types.specs.declared.refusals.Refusal.{Refusal}
 use Rattle.seg_types.specs.declared.refusals.Refusal.TheVariants.{WrongKind}
 use Rattle.seg_types.specs.Kinds.{is_spelling, size_of, truth_number, value_of}
 
 -- the kind of a value
 abbrev pub kind_of_scalar : ScalarValue → ScalarKind
-kind_of_scalar (Truth b) = kind.Bool
+kind_of_scalar (Boolean b) = kind.Bool
 kind_of_scalar (U8 n) = kind.U8
 kind_of_scalar (I32 z) = kind.I32
 kind_of_scalar (I64 z) = kind.I64
@@ -20,7 +20,7 @@ kind_of_scalar (U64 n) = kind.U64
 
 -- the value as a whole number
 abbrev pub value_of_scalar : ScalarValue → ℤ
-value_of_scalar (Truth b) = truth_number b
+value_of_scalar (Boolean b) = truth_number b
 value_of_scalar (U8 n) = pos n
 value_of_scalar (I32 z) = z
 value_of_scalar (I64 z) = z
@@ -28,7 +28,7 @@ value_of_scalar (U64 n) = pos n
 
 -- a number in the range of a kind as a value of the kind
 abbrev pub scalar_of : ScalarKind → ℤ → ScalarValue
-scalar_of kind.Bool z = Truth (nat_lt 0 (nat_abs z))
+scalar_of kind.Bool z = Boolean (nat_lt 0 (nat_abs z))
 scalar_of kind.U8 z = U8 (nat_abs z)
 scalar_of kind.I32 z = I32 z
 scalar_of kind.I64 z = I64 z

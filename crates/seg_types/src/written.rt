@@ -1,6 +1,6 @@
 //! Values as callers write them. They are converted to a kind that is known only at run time.
 ghost use Rattle.std.specs.Prelude.{◌≡◌, MatchOption, ⊤};
-ghost use Rattle.seg_types.specs.Commands.{Literal, Quoted, Truth, Whole, value_of_literal};
+ghost use Rattle.seg_types.specs.Commands.{Literal, Quoted, Boolean, Integer, value_of_literal};
 ghost use Rattle.seg_types.specs.Literals.{ConvertsPair, IsValueOf, pair_values};
 ghost use Rattle.seg_types.specs.Values.{kind_of_scalar};
 ghost use Rattle.seg_types.specs.Written.{NoText, literal_seen};
@@ -79,7 +79,7 @@ fn own_value(value: ScalarValue) -> Result<ScalarValue, Refusal>
 ///
 /// `WrongKind` unless the kind is `Bool`.
 pub fn truth_as(kind: ScalarKind, truth: bool) -> Result<ScalarValue, Refusal>
-    ensures { IsValueOf kind (value_of_literal kind (Truth truth)) result }
+    ensures { IsValueOf kind (value_of_literal kind (Boolean truth)) result }
 {
     match kind {
         ScalarKind::Bool => Ok(ScalarValue::Bool(truth)),
@@ -93,7 +93,7 @@ pub fn truth_as(kind: ScalarKind, truth: bool) -> Result<ScalarValue, Refusal>
 ///
 /// `WrongKind` if the kind is `Bool`, `OutOfRange` if the number is outside the range of the kind.
 pub fn whole_as(kind: ScalarKind, number: i128) -> Result<ScalarValue, Refusal>
-    ensures { IsValueOf kind (value_of_literal kind (Whole number)) result }
+    ensures { IsValueOf kind (value_of_literal kind (Integer number)) result }
 {
     match kind {
         ScalarKind::Bool => Err(Refusal::WrongKind),

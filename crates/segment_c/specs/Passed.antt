@@ -1,7 +1,8 @@
 -- What the keys and the values that C passes stand for, and by which code they are refused that stand for nothing.
 use Rattle.std.specs.Prelude.{ℕ, ℤ, pos, ◌&&◌, ◌==◌, nat_le, List, length, map, Option, Some, None, if◌then◌else◌}
 use Rattle.seg_types.specs.{declared.kinds.Kind.Kind, declared.kinds.Kind.TheVariants.String}
-use Rattle.seg_types.specs.{declared.kinds.ScalarKind.ScalarKind, Commands.Literal, Commands.Whole, Commands.literal_of}
+use Rattle.seg_types.specs.declared.kinds.ScalarKind.{ScalarKind}
+use Rattle.seg_types.specs.Commands.{Literal, Integer, literal_of}
 use Rattle.seg_types.specs.declared.kinds.ScalarKind.TheVariants.{Bool as BoolKind, U8, I32, I64, U64}
 use Rattle.segment_manager.specs.Answers.{Answer, Done, Element}
 use Rattle.seg_types.specs.Kinds.{code_of, is_value, kind_of_code, scalar_of_code, truth_number}
@@ -91,7 +92,7 @@ value_wrong v = elim (scalar_in v) [ None ↦ 20 | Some s ↦ 0 ]
 
 -- a value that is passed is the literal that a script writes for it
 abbrev pub literal_in : CScalar → Literal
-literal_in v = elim (scalar_in v) as (λ _. Literal) [ None ↦ Whole (pos 0) | Some s ↦ literal_of s.0 s.1 ]
+literal_in v = elim (scalar_in v) as (λ _. Literal) [ None ↦ Integer (pos 0) | Some s ↦ literal_of s.0 s.1 ]
 
 -- a value that is given is an element; one that is no scalar is what no element is answered by
 abbrev pub element_in : CScalar → Answer

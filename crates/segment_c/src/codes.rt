@@ -6,7 +6,7 @@ ghost use Rattle.seg_types.specs.Refusals.{refusal_number};
 ghost use Rattle.segment_c.specs.Codes.{answer_for, is_answer};
 ghost use Rattle.segment_c.specs.Marked.{raised};
 ghost use Rattle.segment_c.specs.Passed.{element_in};
-ghost use Rattle.segment_manager.specs.Answers.{Answer, Done, Found, Made, Refused, Truth};
+ghost use Rattle.segment_manager.specs.Answers.{Answer, Done, Found, Made, Refused, Boolean};
 ghost use Rattle.segment_manager.specs.objects.Found.{found_answer, found_object_answer};
 ghost use Rattle.segment_manager.specs.containers.Maps.{any_value_answer};
 ghost use Rattle.segment_manager.specs.State.{done_answer, handle_answer, scalar_answer, truth_answer};
@@ -168,7 +168,7 @@ pub fn truth(
     h: &mut SegmentSlot,
     segment: Box<Segment>,
 ) -> u32
-    ensures outcome { answer_for result (Truth holds.new) ≡ truth_answer truth }
+    ensures outcome { answer_for result (Boolean holds.new) ≡ truth_answer truth }
     ensures answer { IsTrue (is_answer result) }
     ensures unchanged_on_error { 1 ≤ result → holds.new ≡ holds.old }
     ensures effect { h.new.segment.value ≡ Held segment.value }

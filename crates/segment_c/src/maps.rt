@@ -6,7 +6,7 @@ ghost use Rattle.segment_c.specs.{Calls.ReachesSegment, Handles.ChangesHandle, H
 ghost use Rattle.segment_c.specs.Codes.{answer_for};
 ghost use Rattle.segment_c.specs.Passed.{element_in, key_of, key_wrong, literal_in, or_else, value_wrong};
 ghost use Rattle.segment_c.specs.Reads.{TellsPair, TellsPairOf, first_at, next_at};
-ghost use Rattle.segment_manager.specs.Answers.{Truth};
+ghost use Rattle.segment_manager.specs.Answers.{Boolean};
 ghost use Rattle.segment_manager.specs.Directory.{Directory};
 ghost use Rattle.segment_manager.specs.Keeping.{UnchangedWhere};
 ghost use Rattle.segment_manager.specs.State.{AnswersQuery, TakesStep, DenotesCurrent};
@@ -54,7 +54,7 @@ pub extern "C" fn zx_map_put(
     ensures call { ChangesHandle (or_else (key_wrong key.now) (or_else (value_wrong at.now) (value_wrong value.now)))
         result h.old h.new
         (λ s t. TakesStep s t (Put (key_of key.now) (literal_in at.now) (literal_in value.now))
-        (answer_for result (Truth is_new.new))) }
+        (answer_for result (Boolean is_new.new))) }
     ensures outputs_on_error { 1 ≤ result → is_new.new ≡ is_new.old }
 {
     let (which, new_key, new_value, mut segment) = passed!(enter_pair(alloc, h, key, at, value));
@@ -72,7 +72,8 @@ pub extern "C" fn zx_map_erase(
     was_there: &mut bool,
 ) -> u32
     ensures call { ChangesHandle (or_else (key_wrong key.now) (value_wrong at.now)) result h.old h.new
-        (λ s t. TakesStep s t (Remove (key_of key.now) (literal_in at.now)) (answer_for result (Truth was_there.new))) }
+        (λ s t. TakesStep s t (Remove (key_of key.now) (literal_in at.now))
+        (answer_for result (Boolean was_there.new))) }
     ensures absent { ReachesSegment (or_else (key_wrong key.now) (value_wrong at.now)) result h.old.segment.value
         h.new.segment.value
         (λ s t. UnchangedWhere s t (LacksLiteral (key_of key.now) (literal_in at.now))) }

@@ -13,7 +13,7 @@ ghost use Rattle.segment_c.specs.Destroying.{destroy_command};
 ghost use Rattle.segment_c.specs.Passed.{count_wrong, entry_of, entry_wrong, key_of, key_wrong, kind_in, kind_wrong};
 ghost use Rattle.segment_c.specs.Passed.{new_of, new_wrong, object_kind_in, or_else, scalar_in};
 ghost use Rattle.segment_c.specs.Passed.{scalar_kind_in, scalar_kind_wrong, value_wrong, whole_in};
-ghost use Rattle.segment_manager.specs.Answers.{Found, Made, Truth};
+ghost use Rattle.segment_manager.specs.Answers.{Found, Made, Boolean};
 ghost use Rattle.segment_manager.specs.Keeping.{UnchangedWhere, LacksKey};
 ghost use Rattle.segment_manager.specs.State.{AnswersQuery, TakesStep, truth_answer};
 
@@ -270,7 +270,7 @@ pub extern "C" fn zx_destroy(
     was_there: &mut bool,
 ) -> u32
     ensures call { ChangesHandle (key_wrong key.now) result h.old h.new
-        (λ s t. TakesStep s t (destroy_command (key_of key.now)) (answer_for result (Truth was_there.new))) }
+        (λ s t. TakesStep s t (destroy_command (key_of key.now)) (answer_for result (Boolean was_there.new))) }
     ensures absent { ReachesSegment (key_wrong key.now) result h.old.segment.value h.new.segment.value (λ s t.
         UnchangedWhere s t (LacksKey (key_of key.now))) }
     ensures outputs_on_error { 1 ≤ result → was_there.new ≡ was_there.old }

@@ -6,7 +6,7 @@ ghost use Rattle.segment_c.specs.Calls.{ReachesSegment};
 ghost use Rattle.segment_c.specs.Handles.{ChangesHandle, MakesInHandle, AsksHandle};
 ghost use Rattle.segment_c.specs.Codes.{answer_for};
 ghost use Rattle.segment_c.specs.Passed.{key_of, key_wrong};
-ghost use Rattle.segment_manager.specs.Answers.{Done, Truth};
+ghost use Rattle.segment_manager.specs.Answers.{Done, Boolean};
 ghost use Rattle.segment_manager.specs.Calls.{HasZeroGaps};
 ghost use Rattle.segment_manager.specs.Keeping.{HasPlaces, UnchangedWhere};
 ghost use Rattle.segment_manager.specs.State.{AnswersQuery, TakesStep};
@@ -103,7 +103,7 @@ pub extern "C" fn zx_zero_free(alloc: Global, h: &mut SegmentSlot) -> u32
 #[unsafe(no_mangle)]
 pub extern "C" fn zx_sanity(alloc: Global, h: &mut SegmentSlot, is_whole: &mut bool) -> u32
     ensures call { AsksHandle 0 result h.old h.new
-        (λ s t. AnswersQuery s Sanity (answer_for result (Truth is_whole.new))) }
+        (λ s t. AnswersQuery s Sanity (answer_for result (Boolean is_whole.new))) }
     ensures outputs_on_error { 1 ≤ result → is_whole.new ≡ is_whole.old }
 {
     let segment = passed!(take(alloc, h));
@@ -115,7 +115,7 @@ pub extern "C" fn zx_sanity(alloc: Global, h: &mut SegmentSlot, is_whole: &mut b
 #[unsafe(no_mangle)]
 pub extern "C" fn zx_all_deallocated(alloc: Global, h: &mut SegmentSlot, is_empty: &mut bool) -> u32
     ensures call { AsksHandle 0 result h.old h.new
-        (λ s t. AnswersQuery s AllDeallocated (answer_for result (Truth is_empty.new))) }
+        (λ s t. AnswersQuery s AllDeallocated (answer_for result (Boolean is_empty.new))) }
     ensures outputs_on_error { 1 ≤ result → is_empty.new ≡ is_empty.old }
 {
     let segment = passed!(take(alloc, h));

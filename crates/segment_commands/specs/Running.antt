@@ -9,7 +9,7 @@ use Rattle.segment_manager.specs.Directory.{Directory}
 use Rattle.segment_manager.specs.State.{SegmentState}
 use Rattle.segment_lang.specs.Language.{whole_language as whole_language}
 use Rattle.segment_scripts.specs.declared.ends.End.{End}
-use Rattle.segment_scripts.specs.declared.ends.End.TheVariants.{Whole, Refused}
+use Rattle.segment_scripts.specs.declared.ends.End.TheVariants.{Complete, Refused}
 use Rattle.segment_scripts.specs.declared.ends.Until.{Until}
 use Rattle.segment_scripts.specs.Lines.{script_limit}
 use Rattle.segment_scripts.specs.Run.{lines, run}
@@ -114,7 +114,7 @@ pub record IsRefusedAct (act : Act) : Type 0 where
 
 -- the output took all answers up to this end
 abbrev pub IsAnsweredTo : Act → End → Type 0
-IsAnsweredTo act Whole = IsAnsweredAct act
+IsAnsweredTo act Complete = IsAnsweredAct act
 IsAnsweredTo act Refused = IsRefusedAct act
 
 -- what a run asks of the disk that saved this: in mode Write its file is made, emptied or replaced and takes it, or has
@@ -144,7 +144,7 @@ module _ {D : Type 0} (step : D → Event → D
 
   -- a run ends well: saved after all answers, or at a refusal
   abbrev pub EndsRunOk : End → Type 0
-  EndsRunOk Whole = EndsRunSaved
+  EndsRunOk Complete = EndsRunSaved
   EndsRunOk Refused = EndsRunRefused
 
   -- the session was stopped, and the disk was not asked for anything
@@ -188,13 +188,13 @@ module _ {D : Type 0} (step : D → Event → D
 
 -- the end of a run, as the program answers it
 abbrev pub as_program : Result End SessionFault → Result (Unit {0}) CommandFault
-as_program (Ok Whole) = Ok tt
+as_program (Ok Complete) = Ok tt
 as_program (Ok Refused) = Err Stopped
 as_program (Err fault) = Err (Session fault)
 
 -- the result of a run whose script ended, by the result of its save
 abbrev pub as_saved : {E : Type 0} → Result (Unit {0}) E → Result End SessionFault
-as_saved (Ok done) = Ok Whole
+as_saved (Ok done) = Ok Complete
 as_saved (Err why) = Err WriteFault
 
 -- the program answers as a run did

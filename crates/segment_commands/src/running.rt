@@ -1,6 +1,6 @@
 //! The command that runs a script on the segment in a file.
 ghost use Rattle.std.specs.Prelude.{◌≡◌, ◌≢◌, ◌+◌, ◌^◌, ◌-◌, ◌<◌, true, false, Ok};
-ghost use Rattle.segment_scripts.specs.declared.ends.End.TheVariants.{Whole};
+ghost use Rattle.segment_scripts.specs.declared.ends.End.TheVariants.{Complete};
 ghost use Rattle.segment_manager.specs.declared.modes.Mode.TheVariants.{Write};
 ghost use Rattle.segment_disk.specs.Events.{CreateMode, IsFlushed, create_mode_of};
 ghost use Rattle.segment_commands.specs.{Modes.RunsInMode, Running.as_program, Running.as_saved};
@@ -78,11 +78,11 @@ fn can_be_read<S: Source>(script: &mut S) -> bool
 
 /// Tells whether a run came to the end of its script, and all answers went out.
 fn is_whole(ended: Result<End, SessionFault>) -> bool
-    ensures complete { result ≡ true → ended ≡ Ok Whole }
-    ensures early_stop { result ≡ false → ended ≢ Ok Whole }
+    ensures complete { result ≡ true → ended ≡ Ok Complete }
+    ensures early_stop { result ≡ false → ended ≢ Ok Complete }
 {
     match ended {
-        Ok(End::Whole) => true,
+        Ok(End::Complete) => true,
         Ok(End::Refused) | Err(_) => false,
     }
 }
@@ -92,7 +92,7 @@ fn saved(answer: Result<(), DeviceFault>) -> Result<End, SessionFault>
     ensures { result ≡ as_saved answer }
 {
     match answer {
-        Ok(()) => Ok(End::Whole),
+        Ok(()) => Ok(End::Complete),
         Err(refused) => Err(SessionFault::from(refused)),
     }
 }
@@ -262,7 +262,7 @@ fn answered(answer: Result<End, SessionFault>) -> Result<(), CommandFault>
     ensures { result ≡ as_program answer }
 {
     match answer {
-        Ok(End::Whole) => Ok(()),
+        Ok(End::Complete) => Ok(()),
         Ok(End::Refused) => Err(CommandFault::Stopped),
         Err(fault) => Err(CommandFault::Program(ProgramFault::Session(fault))),
     }

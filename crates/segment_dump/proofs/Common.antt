@@ -43,7 +43,7 @@ pub use Rattle.segment_lang.specs.Words.{Bare, Text, Word, is_bare, number_of}
 pub use Rattle.segment_manager.proofs.Laws.{AllByRecursion-behind, AllByRecursion-front, IsStrict, all-ordered}
 pub use Rattle.segment_manager.proofs.Laws.{all-sorted, by_kind-strict, by_name-strict, index-parts, live-extents}
 pub use Rattle.segment_manager.proofs.Laws.{live-size, said-at}
-pub use Rattle.segment_manager.specs.Answers.{Answer, Done, Made, Number, Truth}
+pub use Rattle.segment_manager.specs.Answers.{Answer, Done, Made, Number, Boolean}
 pub use Rattle.segment_manager.specs.{Calls.IsWhy, Calls.elements_of, containers.Contents.sizes_at}
 pub use Rattle.segment_manager.specs.{containers.Contents.sizes_of, Directory.value_extents, Directory.value_len}
 pub use Rattle.segment_manager.specs.{objects.Instances.SaysAt, objects.Instances.SaysOf, Layout.head_len}

@@ -9,7 +9,7 @@ use Rattle.seg_types.specs.Names.{ByHandle, ByKind, ByName, NoKey}
 use Rattle.seg_types.specs.Commands.{Reading, Nothing, Asked, UnknownCommand, LineTooLong, BadSyntax, Construct}
 use Rattle.seg_types.specs.Commands.{ConstructIt, Find, FindOrConstruct, Append, Assign, Bytes, Elements, Get, Insert}
 use Rattle.seg_types.specs.Commands.{Lookup, NoPairs, Numbers, Push, Put, Quoted, Remove, ReserveNamed, Set, Show}
-use Rattle.seg_types.specs.Commands.{Strings, Truth, Whole}
+use Rattle.seg_types.specs.Commands.{Strings, Boolean, Integer}
 use Rattle.segment_lang.specs.Words.{Bare, Text}
 use Rattle.segment_lang.specs.Language.{whole_language}
 use Rattle.segment_lang.specs.Reading.{reading}
@@ -48,13 +48,16 @@ found = (refl, (refl, (refl, (refl, (refl, (refl, tt))))))
 -- elements; a literal that is no value of the element is for the command to refuse
 changed : Means (
     (codes "get a 18446744073709551615", Asked (Get (ByName (codes "a")) 18446744073709551615))
-    ∷ (codes "set #192 0 -3", Asked (Set (ByHandle 192) 0 (Whole (negsuc 2))))
-    ∷ (codes "push #192 300", Asked (Push (ByHandle 192) (Whole (pos 300))))
+    ∷ (codes "set #192 0 -3", Asked (Set (ByHandle 192) 0 (Integer (negsuc 2))))
+    ∷ (codes "push #192 300", Asked (Push (ByHandle 192) (Integer (pos 300))))
     ∷ (codes "insert w 3 \"\"", Asked (Insert (ByName (codes "w")) 3 (Quoted [])))
-    ∷ (codes "assign w 1 true \"\"", Asked (Assign (ByName (codes "w")) (Whole (pos 1) ∷ Truth true ∷ Quoted [] ∷ [])))
+    ∷ (
+      codes "assign w 1 true \"\"",
+      Asked (Assign (ByName (codes "w")) (Integer (pos 1) ∷ Boolean true ∷ Quoted [] ∷ [])),
+    )
     ∷ (codes "append s \"b\"", Asked (Append (ByName (codes "s")) (98 ∷ [])))
-    ∷ (codes "put m 4 true", Asked (Put (ByName (codes "m")) (Whole (pos 4)) (Truth true)))
-    ∷ (codes "lookup #192 -4", Asked (Lookup (ByHandle 192) (Whole (negsuc 3))))
+    ∷ (codes "put m 4 true", Asked (Put (ByName (codes "m")) (Integer (pos 4)) (Boolean true)))
+    ∷ (codes "lookup #192 -4", Asked (Lookup (ByHandle 192) (Integer (negsuc 3))))
     ∷ (codes "remove @map<i64,i64> \"a\"", Asked (Remove (ByKind (Map I64 I64)) (Quoted (97 ∷ []))))
     ∷ [])
 unfolding reading current

@@ -15,19 +15,19 @@ use Rattle.segment_lang.specs.Reading.{as_reading, assigning, destroying_ptr, pu
 use Rattle.segment_lang.specs.declared.words.Word.{Word}
 use Rattle.segment_lang.specs.declared.words.Word.TheVariants.{Bare, Text}
 use Rattle.segment_lang.specs.declared.literals.Literal.{Literal}
-use Rattle.segment_lang.specs.declared.literals.Literal.TheVariants.{Whole, Truth, Quoted}
+use Rattle.segment_lang.specs.declared.literals.Literal.TheVariants.{Integer, Boolean, Quoted}
 use Rattle.segment_lang.specs.declared.commands.Content.{Content}
 use Rattle.segment_lang.specs.declared.commands.Content.TheVariants.{Scalars, Elements, String as StringContent}
 use Rattle.segment_lang.specs.declared.commands.Content.TheVariants.{Strings as StringsContent, NoPairs}
-use Rattle.segment_lang.specs.declared.commands.Deed.{Deed}
-use Rattle.segment_lang.specs.declared.commands.Deed.TheVariants.{Construct, ConstructIt, Find, FindOrConstruct}
-use Rattle.segment_lang.specs.declared.commands.Deed.TheVariants.{Destroy}
-use Rattle.segment_lang.specs.declared.commands.Deed.TheVariants.{DestroyPtr, Show, Info, Set, Insert, Erase, Reserve}
-use Rattle.segment_lang.specs.declared.commands.Deed.TheVariants.{Shrink, Clear, Assign, Append, Lookup, Remove}
-use Rattle.segment_lang.specs.declared.commands.Deed.TheVariants.{ListNames}
-use Rattle.segment_lang.specs.declared.commands.Deed.TheVariants.{ListKinds, Blocks, Free, NumNamed, NumUnique}
-use Rattle.segment_lang.specs.declared.commands.Deed.TheVariants.{ReserveNamed, ReserveUnique, ShrinkIndexes, ZeroFree}
-use Rattle.segment_lang.specs.declared.commands.Deed.TheVariants.{Sanity, AllDeallocated}
+use Rattle.segment_lang.specs.declared.commands.Operation.{Operation}
+use Rattle.segment_lang.specs.declared.commands.Operation.TheVariants.{Construct, ConstructIt, Find, FindOrConstruct}
+use Rattle.segment_lang.specs.declared.commands.Operation.TheVariants.{Destroy, DestroyPtr}
+use Rattle.segment_lang.specs.declared.commands.Operation.TheVariants.{Show, Info, Set, Insert, Erase, Reserve}
+use Rattle.segment_lang.specs.declared.commands.Operation.TheVariants.{Shrink, Clear, Assign, Append, Lookup, Remove}
+use Rattle.segment_lang.specs.declared.commands.Operation.TheVariants.{ListNames}
+use Rattle.segment_lang.specs.declared.commands.Operation.TheVariants.{ListKinds, Blocks, Free, NumNamed, NumUnique}
+use Rattle.segment_lang.specs.declared.commands.Operation.TheVariants.{ReserveNamed, ReserveUnique, ShrinkIndexes}
+use Rattle.segment_lang.specs.declared.commands.Operation.TheVariants.{ZeroFree, Sanity, AllDeallocated}
 use Rattle.segment_lang.specs.declared.commands.LineStart.{LineStart}
 use Rattle.segment_lang.specs.declared.commands.LineStart.TheVariants as lead
 use Rattle.segment_lang.specs.declared.commands.Reading.{Reading}
@@ -36,8 +36,8 @@ use Rattle.seg_types.specs.declared.refusals.LineError.{LineError}
 use Rattle.seg_types.specs.declared.refusals.LineError.TheVariants.{UnknownCommand, LineTooLong, BadSyntax}
 use Rattle.segment_lang.specs.declared.forms.CommandForm.{CommandForm}
 use Rattle.segment_lang.specs.declared.forms.CommandForm.TheVariants as form
-use Rattle.segment_lang.specs.declared.forms.DeedForm.{DeedForm}
-use Rattle.segment_lang.specs.declared.forms.DeedForm.TheVariants as deed
+use Rattle.segment_lang.specs.declared.forms.OperationForm.{OperationForm}
+use Rattle.segment_lang.specs.declared.forms.OperationForm.TheVariants as operation
 
 -- which word a value of the code stands for
 abbrev pub word_of : Word → said.Word
@@ -51,8 +51,8 @@ bytes_said (Text t) = t
 
 -- which literal a value of the code stands for
 abbrev pub literal_of : Literal → asked.Literal
-literal_of (Whole z) = asked.Whole z
-literal_of (Truth b) = asked.Truth b
+literal_of (Integer z) = asked.Integer z
+literal_of (Boolean b) = asked.Boolean b
 literal_of (Quoted t) = asked.Quoted t
 
 -- a text of it has room if a line keeps one
@@ -62,8 +62,8 @@ HasLineRoom l = ⊤
 
 -- a value as the code has it
 abbrev pub literal_held : asked.Literal → Literal
-literal_held (asked.Whole z) = Whole z
-literal_held (asked.Truth b) = Truth b
+literal_held (asked.Integer z) = Integer z
+literal_held (asked.Boolean b) = Boolean b
 literal_held (asked.Quoted t) = Quoted t
 
 abbrev pub literals_held : List asked.Literal → List Literal
@@ -78,37 +78,37 @@ content_of (StringsContent ts) = asked.Strings ts
 content_of (NoPairs key value) = asked.NoPairs key value
 
 -- which changing command a value of the code stands for
-abbrev pub deed_of : Deed → asked.Command
-deed_of (Construct key content) = asked.Construct (new_key_seen key) (content_of content)
-deed_of (ConstructIt key count values) = asked.ConstructIt (new_key_seen key) values.kind count values.numbers
-deed_of (Find kind key) = asked.Find (index_key_seen key) kind
-deed_of (FindOrConstruct key content) = asked.FindOrConstruct (index_key_seen key) (content_of content)
-deed_of (Destroy key) = asked.Destroy (index_key_seen key)
-deed_of (DestroyPtr n) = asked.DestroyPtr n
-deed_of (Show key) = asked.Show (key_seen key)
-deed_of (Info key) = asked.Info (key_seen key)
-deed_of (Set key i value) = asked.Set (key_seen key) i (literal_of value)
-deed_of (Insert key i value) = asked.Insert (key_seen key) i (literal_of value)
-deed_of (Erase key i) = asked.Erase (key_seen key) i
-deed_of (Reserve key n) = asked.Reserve (key_seen key) n
-deed_of (Shrink key) = asked.Shrink (key_seen key)
-deed_of (Clear key) = asked.Clear (key_seen key)
-deed_of (Assign key values) = asked.Assign (key_seen key) values
-deed_of (Append key t) = asked.Append (key_seen key) t
-deed_of (Lookup key at) = asked.Lookup (key_seen key) (literal_of at)
-deed_of (Remove key at) = asked.Remove (key_seen key) (literal_of at)
-deed_of ListNames = asked.ListNames
-deed_of ListKinds = asked.ListKinds
-deed_of Blocks = asked.ListBlocks
-deed_of Free = asked.Free
-deed_of NumNamed = asked.NumNamed
-deed_of NumUnique = asked.NumUnique
-deed_of (ReserveNamed n) = asked.ReserveNamed n
-deed_of (ReserveUnique n) = asked.ReserveUnique n
-deed_of ShrinkIndexes = asked.ShrinkIndexes
-deed_of ZeroFree = asked.ZeroFree
-deed_of Sanity = asked.Sanity
-deed_of AllDeallocated = asked.AllDeallocated
+abbrev pub operation_of : Operation → asked.Command
+operation_of (Construct key content) = asked.Construct (new_key_seen key) (content_of content)
+operation_of (ConstructIt key count values) = asked.ConstructIt (new_key_seen key) values.kind count values.numbers
+operation_of (Find kind key) = asked.Find (index_key_seen key) kind
+operation_of (FindOrConstruct key content) = asked.FindOrConstruct (index_key_seen key) (content_of content)
+operation_of (Destroy key) = asked.Destroy (index_key_seen key)
+operation_of (DestroyPtr n) = asked.DestroyPtr n
+operation_of (Show key) = asked.Show (key_seen key)
+operation_of (Info key) = asked.Info (key_seen key)
+operation_of (Set key i value) = asked.Set (key_seen key) i (literal_of value)
+operation_of (Insert key i value) = asked.Insert (key_seen key) i (literal_of value)
+operation_of (Erase key i) = asked.Erase (key_seen key) i
+operation_of (Reserve key n) = asked.Reserve (key_seen key) n
+operation_of (Shrink key) = asked.Shrink (key_seen key)
+operation_of (Clear key) = asked.Clear (key_seen key)
+operation_of (Assign key values) = asked.Assign (key_seen key) values
+operation_of (Append key t) = asked.Append (key_seen key) t
+operation_of (Lookup key at) = asked.Lookup (key_seen key) (literal_of at)
+operation_of (Remove key at) = asked.Remove (key_seen key) (literal_of at)
+operation_of ListNames = asked.ListNames
+operation_of ListKinds = asked.ListKinds
+operation_of Blocks = asked.ListBlocks
+operation_of Free = asked.Free
+operation_of NumNamed = asked.NumNamed
+operation_of NumUnique = asked.NumUnique
+operation_of (ReserveNamed n) = asked.ReserveNamed n
+operation_of (ReserveUnique n) = asked.ReserveUnique n
+operation_of ShrinkIndexes = asked.ShrinkIndexes
+operation_of ZeroFree = asked.ZeroFree
+operation_of Sanity = asked.Sanity
+operation_of AllDeallocated = asked.AllDeallocated
 
 -- a line that is no command
 abbrev pub wrong_reading : LineError → asked.Reading
@@ -122,38 +122,38 @@ is_wrong asked.Nothing = false
 is_wrong (asked.Asked c) = false
 is_wrong r = true
 
--- the form of a deed's arguments
-abbrev pub deed_reader_of : DeedForm → Reader
-deed_reader_of deed.Construct = making asked.Construct new_key
-deed_reader_of deed.ConstructIt = making_each
-deed_reader_of deed.Find = finding
-deed_reader_of deed.FindOrConstruct = making asked.FindOrConstruct name_key
-deed_reader_of deed.Destroy = with_key asked.Destroy name_key
-deed_reader_of deed.DestroyPtr = destroying_ptr
-deed_reader_of deed.Show = with_key asked.Show key_of
-deed_reader_of deed.Info = with_key asked.Info key_of
-deed_reader_of deed.Set = with_key_number_literal asked.Set
-deed_reader_of deed.Insert = with_key_number_literal asked.Insert
-deed_reader_of deed.Erase = with_key_number asked.Erase
-deed_reader_of deed.Reserve = with_key_number asked.Reserve
-deed_reader_of deed.Shrink = with_key asked.Shrink key_of
-deed_reader_of deed.Clear = with_key asked.Clear key_of
-deed_reader_of deed.Assign = assigning
-deed_reader_of deed.Append = appending
-deed_reader_of deed.Lookup = with_key_literal asked.Lookup
-deed_reader_of deed.Remove = with_key_literal asked.Remove
-deed_reader_of deed.ListNames = alone asked.ListNames
-deed_reader_of deed.ListKinds = alone asked.ListKinds
-deed_reader_of deed.Blocks = alone asked.ListBlocks
-deed_reader_of deed.Free = alone asked.Free
-deed_reader_of deed.NumNamed = alone asked.NumNamed
-deed_reader_of deed.NumUnique = alone asked.NumUnique
-deed_reader_of deed.ReserveNamed = with_number asked.ReserveNamed
-deed_reader_of deed.ReserveUnique = with_number asked.ReserveUnique
-deed_reader_of deed.ShrinkIndexes = alone asked.ShrinkIndexes
-deed_reader_of deed.ZeroFree = alone asked.ZeroFree
-deed_reader_of deed.Sanity = alone asked.Sanity
-deed_reader_of deed.AllDeallocated = alone asked.AllDeallocated
+-- the form of an operation's arguments
+abbrev pub operation_reader_of : OperationForm → Reader
+operation_reader_of operation.Construct = making asked.Construct new_key
+operation_reader_of operation.ConstructIt = making_each
+operation_reader_of operation.Find = finding
+operation_reader_of operation.FindOrConstruct = making asked.FindOrConstruct name_key
+operation_reader_of operation.Destroy = with_key asked.Destroy name_key
+operation_reader_of operation.DestroyPtr = destroying_ptr
+operation_reader_of operation.Show = with_key asked.Show key_of
+operation_reader_of operation.Info = with_key asked.Info key_of
+operation_reader_of operation.Set = with_key_number_literal asked.Set
+operation_reader_of operation.Insert = with_key_number_literal asked.Insert
+operation_reader_of operation.Erase = with_key_number asked.Erase
+operation_reader_of operation.Reserve = with_key_number asked.Reserve
+operation_reader_of operation.Shrink = with_key asked.Shrink key_of
+operation_reader_of operation.Clear = with_key asked.Clear key_of
+operation_reader_of operation.Assign = assigning
+operation_reader_of operation.Append = appending
+operation_reader_of operation.Lookup = with_key_literal asked.Lookup
+operation_reader_of operation.Remove = with_key_literal asked.Remove
+operation_reader_of operation.ListNames = alone asked.ListNames
+operation_reader_of operation.ListKinds = alone asked.ListKinds
+operation_reader_of operation.Blocks = alone asked.ListBlocks
+operation_reader_of operation.Free = alone asked.Free
+operation_reader_of operation.NumNamed = alone asked.NumNamed
+operation_reader_of operation.NumUnique = alone asked.NumUnique
+operation_reader_of operation.ReserveNamed = with_number asked.ReserveNamed
+operation_reader_of operation.ReserveUnique = with_number asked.ReserveUnique
+operation_reader_of operation.ShrinkIndexes = alone asked.ShrinkIndexes
+operation_reader_of operation.ZeroFree = alone asked.ZeroFree
+operation_reader_of operation.Sanity = alone asked.Sanity
+operation_reader_of operation.AllDeallocated = alone asked.AllDeallocated
 
 -- the form of a command's arguments
 abbrev pub reader_of : CommandForm → Reader
@@ -162,7 +162,7 @@ reader_of form.Get = with_key_number asked.Get
 reader_of form.Push = with_key_literal asked.Push
 reader_of form.Put = putting
 reader_of form.Pop = with_key asked.Pop key_of
-reader_of (form.Deed d) = deed_reader_of d
+reader_of (form.Operation d) = operation_reader_of d
 
 -- the meaning of a command word's form with these arguments
 abbrev pub reading_by : CommandForm → List ℕ → asked.Reading

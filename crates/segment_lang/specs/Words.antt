@@ -4,7 +4,7 @@ use Rattle.std.specs.Prelude.{List, [], ◌∷◌, option_map, option_and_then, 
 use Rattle.std.specs.Prelude.{nat_eq}
 use Rattle.std.specs.List.{list_all}
 use Rattle.std.specs.Cmp.Lexicographic.{pointwise}
-use Rattle.seg_types.specs.Commands.{Literal, Whole, Truth, Quoted}
+use Rattle.seg_types.specs.Commands.{Literal, Integer, Boolean, Quoted}
 pub use Rattle.seg_types.specs.Texts.{between, is_bare_name, is_digit, is_letter}
 
 -- the byte is a space or a tab
@@ -121,5 +121,5 @@ is_word = pointwise nat_eq
 abbrev pub literal_of_word : Word → Option Literal
 literal_of_word (Text bs) = Some (Quoted bs)
 literal_of_word (Bare w) =
-    if is_word w (codes "true") then Some (Truth true)
-    else if is_word w (codes "false") then Some (Truth false) else option_map Whole (whole_of w)
+    if is_word w (codes "true") then Some (Boolean true)
+    else if is_word w (codes "false") then Some (Boolean false) else option_map Integer (whole_of w)

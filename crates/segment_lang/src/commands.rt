@@ -34,7 +34,7 @@ pub enum Content<'a> {
 
 /// A command that is executed once the whole line is read. [`CommandForm`] has the other commands.
 #[derive(Drop)]
-pub enum Deed<'a> {
+pub enum Operation<'a> {
     /// Make an object.
     Construct {
         /// The key that it gets.

@@ -9,12 +9,12 @@ ghost use Rattle.seg_types.specs.Commands as asked;
 ghost use Rattle.segment_lang.specs.Arguments.{command_of_three, command_of_two};
 ghost use Rattle.segment_lang.specs.Language.{whole_language};
 ghost use Rattle.segment_lang.specs.Reading.{form_of, with_key_literal, with_key_number, with_key_number_literal};
-ghost use Rattle.segment_lang.specs.Seen.{deed_of, deed_reader_of, found_in, place_of, reader_of, with_rest};
+ghost use Rattle.segment_lang.specs.Seen.{operation_of, operation_reader_of, found_in, place_of, reader_of, with_rest};
 ghost use Rattle.segment_lang.specs.Tokens.{behind_word, is_unbroken, up_to_blank};
 
 use crate::blanks::at_end;
 use crate::buffer::LineBuffer;
-use crate::commands::Deed;
+use crate::commands::Operation;
 use crate::readers::{
     key_and_literal, key_and_number, key_and_pair, key_number_literal, only_key, only_number,
     read_alone, read_append, read_assign, read_construct, read_construct_it, read_destroy,
@@ -35,13 +35,13 @@ pub enum CommandForm {
     Put,
     /// A key.
     Pop,
-    /// The form of a deed.
-    Deed(DeedForm),
+    /// The form of an operation.
+    Operation(OperationForm),
 }
 
-/// The form of a deed's arguments.
+/// The form of an operation's arguments.
 #[derive(Clone, Copy, Debug, PartialEq, Eq)]
-pub enum DeedForm {
+pub enum OperationForm {
     /// A kind with a count, a key and the initial contents: one value, any number of values, or none.
     Construct,
     /// A kind with a count, a key and as many values.
@@ -104,72 +104,78 @@ pub enum DeedForm {
     AllDeallocated,
 }
 
-/// The form of a deed.
-macro_rules! deed {
+/// The form of an operation.
+macro_rules! operation {
     ($form:ident) => {
-        CommandForm::Deed(DeedForm::$form)
+        CommandForm::Operation(OperationForm::$form)
     };
 }
 
 /// The command words, each with its form, by the place that `place_of` gives them.
 static FORMS: [&[(&[u8], CommandForm)]; 32] = [
-    &[(b"remove", deed!(Remove))],
-    &[(b"clear", deed!(Clear)), (b"append", deed!(Append))],
+    &[(b"remove", operation!(Remove))],
+    &[
+        (b"clear", operation!(Clear)),
+        (b"append", operation!(Append)),
+    ],
     &[(b"push", CommandForm::Push)],
     &[],
     &[
-        (b"reserve", deed!(Reserve)),
-        (b"free", deed!(Free)),
-        (b"reserve_named", deed!(ReserveNamed)),
-        (b"reserve_unique", deed!(ReserveUnique)),
+        (b"reserve", operation!(Reserve)),
+        (b"free", operation!(Free)),
+        (b"reserve_named", operation!(ReserveNamed)),
+        (b"reserve_unique", operation!(ReserveUnique)),
     ],
-    &[],
-    &[(b"lookup", deed!(Lookup)), (b"zero_free", deed!(ZeroFree))],
-    &[(b"sanity", deed!(Sanity))],
-    &[(b"put", CommandForm::Put)],
-    &[(b"all_deallocated", deed!(AllDeallocated))],
     &[],
     &[
-        (b"set", deed!(Set)),
-        (b"erase", deed!(Erase)),
-        (b"unique", deed!(ListKinds)),
+        (b"lookup", operation!(Lookup)),
+        (b"zero_free", operation!(ZeroFree)),
+    ],
+    &[(b"sanity", operation!(Sanity))],
+    &[(b"put", CommandForm::Put)],
+    &[(b"all_deallocated", operation!(AllDeallocated))],
+    &[],
+    &[
+        (b"set", operation!(Set)),
+        (b"erase", operation!(Erase)),
+        (b"unique", operation!(ListKinds)),
     ],
     &[],
-    &[(b"show", deed!(Show)), (b"info", deed!(Info))],
+    &[(b"show", operation!(Show)), (b"info", operation!(Info))],
     &[],
     &[(b"size", CommandForm::Size)],
     &[(b"pop", CommandForm::Pop)],
     &[],
     &[],
-    &[(b"assign", deed!(Assign))],
+    &[(b"assign", operation!(Assign))],
     &[],
     &[],
     &[
-        (b"destroy", deed!(Destroy)),
-        (b"destroy_ptr", deed!(DestroyPtr)),
+        (b"destroy", operation!(Destroy)),
+        (b"destroy_ptr", operation!(DestroyPtr)),
     ],
     &[
-        (b"construct", deed!(Construct)),
-        (b"construct_it", deed!(ConstructIt)),
+        (b"construct", operation!(Construct)),
+        (b"construct_it", operation!(ConstructIt)),
     ],
     &[],
     &[],
     &[
-        (b"find", deed!(Find)),
-        (b"find_or_construct", deed!(FindOrConstruct)),
+        (b"find", operation!(Find)),
+        (b"find_or_construct", operation!(FindOrConstruct)),
     ],
-    &[(b"insert", deed!(Insert))],
+    &[(b"insert", operation!(Insert))],
     &[
-        (b"blocks", deed!(Blocks)),
-        (b"num_named", deed!(NumNamed)),
-        (b"num_unique", deed!(NumUnique)),
+        (b"blocks", operation!(Blocks)),
+        (b"num_named", operation!(NumNamed)),
+        (b"num_unique", operation!(NumUnique)),
     ],
     &[],
-    &[(b"list", deed!(ListNames))],
+    &[(b"list", operation!(ListNames))],
     &[
         (b"get", CommandForm::Get),
-        (b"shrink", deed!(Shrink)),
-        (b"shrink_indexes", deed!(ShrinkIndexes)),
+        (b"shrink", operation!(Shrink)),
+        (b"shrink_indexes", operation!(ShrinkIndexes)),
     ],
 ];
 
@@ -240,98 +246,98 @@ pub fn split_form(line: &[u8]) -> Option<(CommandForm, &[u8])>
 
 /// Reads the arguments of the command word set.
 #[inline(never)]
-fn read_set<'a>(bytes: &'a [u8], scratch: &'a mut LineBuffer) -> Option<Deed<'a>>
-    ensures { option_map deed_of result ≡ command_of_three (with_key_number_literal asked.Set) bytes.now }
+fn read_set<'a>(bytes: &'a [u8], scratch: &'a mut LineBuffer) -> Option<Operation<'a>>
+    ensures { option_map operation_of result ≡ command_of_three (with_key_number_literal asked.Set) bytes.now }
 {
     let (key, index, value) = key_number_literal(bytes, scratch)?;
-    Some(Deed::Set(key, index, value))
+    Some(Operation::Set(key, index, value))
 }
 
 /// Reads the arguments of the command word insert.
 #[inline(never)]
-fn read_insert<'a>(bytes: &'a [u8], scratch: &'a mut LineBuffer) -> Option<Deed<'a>>
-    ensures { option_map deed_of result ≡ command_of_three (with_key_number_literal asked.Insert) bytes.now }
+fn read_insert<'a>(bytes: &'a [u8], scratch: &'a mut LineBuffer) -> Option<Operation<'a>>
+    ensures { option_map operation_of result ≡ command_of_three (with_key_number_literal asked.Insert) bytes.now }
 {
     let (key, index, value) = key_number_literal(bytes, scratch)?;
-    Some(Deed::Insert(key, index, value))
+    Some(Operation::Insert(key, index, value))
 }
 
 /// Reads the arguments of the command word erase.
 #[inline(never)]
-fn read_erase<'a>(bytes: &'a [u8], scratch: &'a mut LineBuffer) -> Option<Deed<'a>>
-    ensures { option_map deed_of result ≡ command_of_two (with_key_number asked.Erase) bytes.now }
+fn read_erase<'a>(bytes: &'a [u8], scratch: &'a mut LineBuffer) -> Option<Operation<'a>>
+    ensures { option_map operation_of result ≡ command_of_two (with_key_number asked.Erase) bytes.now }
 {
     let (key, index) = key_and_number(bytes, scratch)?;
-    Some(Deed::Erase(key, index))
+    Some(Operation::Erase(key, index))
 }
 
 /// Reads the arguments of the command word reserve.
 #[inline(never)]
-fn read_reserve<'a>(bytes: &'a [u8], scratch: &'a mut LineBuffer) -> Option<Deed<'a>>
-    ensures { option_map deed_of result ≡ command_of_two (with_key_number asked.Reserve) bytes.now }
+fn read_reserve<'a>(bytes: &'a [u8], scratch: &'a mut LineBuffer) -> Option<Operation<'a>>
+    ensures { option_map operation_of result ≡ command_of_two (with_key_number asked.Reserve) bytes.now }
 {
     let (key, count) = key_and_number(bytes, scratch)?;
-    Some(Deed::Reserve(key, count))
+    Some(Operation::Reserve(key, count))
 }
 
 /// Reads the arguments of the command word lookup.
 #[inline(never)]
-fn read_lookup<'a>(bytes: &'a [u8], scratch: &'a mut LineBuffer) -> Option<Deed<'a>>
-    ensures { option_map deed_of result ≡ command_of_two (with_key_literal asked.Lookup) bytes.now }
+fn read_lookup<'a>(bytes: &'a [u8], scratch: &'a mut LineBuffer) -> Option<Operation<'a>>
+    ensures { option_map operation_of result ≡ command_of_two (with_key_literal asked.Lookup) bytes.now }
 {
     let (key, at) = key_and_literal(bytes, scratch)?;
-    Some(Deed::Lookup(key, at))
+    Some(Operation::Lookup(key, at))
 }
 
 /// Reads the arguments of the command word remove.
 #[inline(never)]
-fn read_remove<'a>(bytes: &'a [u8], scratch: &'a mut LineBuffer) -> Option<Deed<'a>>
-    ensures { option_map deed_of result ≡ command_of_two (with_key_literal asked.Remove) bytes.now }
+fn read_remove<'a>(bytes: &'a [u8], scratch: &'a mut LineBuffer) -> Option<Operation<'a>>
+    ensures { option_map operation_of result ≡ command_of_two (with_key_literal asked.Remove) bytes.now }
 {
     let (key, at) = key_and_literal(bytes, scratch)?;
-    Some(Deed::Remove(key, at))
+    Some(Operation::Remove(key, at))
 }
 
 /// Reads the arguments of a command word of this form.
-pub fn read_deed<'a>(
-    form: DeedForm,
+pub fn read_operation<'a>(
+    form: OperationForm,
     bytes: &'a [u8],
     scratch: &'a mut LineBuffer,
-) -> Option<Deed<'a>>
-    ensures { option_map deed_of result
-        ≡ option_and_then (deed_reader_of form (whole_language current)) (words bytes.now) }
+) -> Option<Operation<'a>>
+    ensures { option_map operation_of result
+        ≡ option_and_then (operation_reader_of form (whole_language current)) (words bytes.now) }
 {
     match form {
-        DeedForm::Construct => read_construct(bytes, scratch),
-        DeedForm::ConstructIt => read_construct_it(bytes, scratch),
-        DeedForm::Find => read_find(bytes, scratch),
-        DeedForm::FindOrConstruct => read_find_or_construct(bytes, scratch),
-        DeedForm::Destroy => read_destroy(bytes, scratch),
-        DeedForm::DestroyPtr => read_destroy_ptr(bytes),
-        DeedForm::Show => only_key(bytes, scratch).map(Deed::Show),
-        DeedForm::Info => only_key(bytes, scratch).map(Deed::Info),
-        DeedForm::Set => read_set(bytes, scratch),
-        DeedForm::Insert => read_insert(bytes, scratch),
-        DeedForm::Erase => read_erase(bytes, scratch),
-        DeedForm::Reserve => read_reserve(bytes, scratch),
-        DeedForm::Shrink => only_key(bytes, scratch).map(Deed::Shrink),
-        DeedForm::Clear => only_key(bytes, scratch).map(Deed::Clear),
-        DeedForm::Assign => read_assign(bytes, scratch),
-        DeedForm::Append => read_append(bytes, scratch),
-        DeedForm::Lookup => read_lookup(bytes, scratch),
-        DeedForm::Remove => read_remove(bytes, scratch),
-        DeedForm::ListNames => read_alone(Deed::ListNames, bytes),
-        DeedForm::ListKinds => read_alone(Deed::ListKinds, bytes),
-        DeedForm::Blocks => read_alone(Deed::Blocks, bytes),
-        DeedForm::Free => read_alone(Deed::Free, bytes),
-        DeedForm::NumNamed => read_alone(Deed::NumNamed, bytes),
-        DeedForm::NumUnique => read_alone(Deed::NumUnique, bytes),
-        DeedForm::ReserveNamed => Some(Deed::ReserveNamed(only_number(bytes)?)),
-        DeedForm::ReserveUnique => Some(Deed::ReserveUnique(only_number(bytes)?)),
-        DeedForm::ShrinkIndexes => read_alone(Deed::ShrinkIndexes, bytes),
-        DeedForm::ZeroFree => read_alone(Deed::ZeroFree, bytes),
-        DeedForm::Sanity => read_alone(Deed::Sanity, bytes),
-        DeedForm::AllDeallocated => read_alone(Deed::AllDeallocated, bytes),
+        OperationForm::Construct => read_construct(bytes, scratch),
+        OperationForm::ConstructIt => read_construct_it(bytes, scratch),
+        OperationForm::Find => read_find(bytes, scratch),
+        OperationForm::FindOrConstruct => read_find_or_construct(bytes, scratch),
+        OperationForm::Destroy => read_destroy(bytes, scratch),
+        OperationForm::DestroyPtr => read_destroy_ptr(bytes),
+        OperationForm::Show => only_key(bytes, scratch).map(Operation::Show),
+        OperationForm::Info => only_key(bytes, scratch).map(Operation::Info),
+        OperationForm::Set => read_set(bytes, scratch),
+        OperationForm::Insert => read_insert(bytes, scratch),
+        OperationForm::Erase => read_erase(bytes, scratch),
+        OperationForm::Reserve => read_reserve(bytes, scratch),
+        OperationForm::Shrink => only_key(bytes, scratch).map(Operation::Shrink),
+        OperationForm::Clear => only_key(bytes, scratch).map(Operation::Clear),
+        OperationForm::Assign => read_assign(bytes, scratch),
+        OperationForm::Append => read_append(bytes, scratch),
+        OperationForm::Lookup => read_lookup(bytes, scratch),
+        OperationForm::Remove => read_remove(bytes, scratch),
+        OperationForm::ListNames => read_alone(Operation::ListNames, bytes),
+        OperationForm::ListKinds => read_alone(Operation::ListKinds, bytes),
+        OperationForm::Blocks => read_alone(Operation::Blocks, bytes),
+        OperationForm::Free => read_alone(Operation::Free, bytes),
+        OperationForm::NumNamed => read_alone(Operation::NumNamed, bytes),
+        OperationForm::NumUnique => read_alone(Operation::NumUnique, bytes),
+        OperationForm::ReserveNamed => Some(Operation::ReserveNamed(only_number(bytes)?)),
+        OperationForm::ReserveUnique => Some(Operation::ReserveUnique(only_number(bytes)?)),
+        OperationForm::ShrinkIndexes => read_alone(Operation::ShrinkIndexes, bytes),
+        OperationForm::ZeroFree => read_alone(Operation::ZeroFree, bytes),
+        OperationForm::Sanity => read_alone(Operation::Sanity, bytes),
+        OperationForm::AllDeallocated => read_alone(Operation::AllDeallocated, bytes),
     }
 }
 
@@ -345,6 +351,6 @@ pub fn is_command(form: CommandForm, bytes: &[u8], scratch: &mut LineBuffer) -> 
         CommandForm::Push => key_and_literal(bytes, scratch).is_some(),
         CommandForm::Put => key_and_pair(bytes, scratch).is_some(),
         CommandForm::Pop => only_key(bytes, scratch).is_some(),
-        CommandForm::Deed(form) => read_deed(form, bytes, scratch).is_some(),
+        CommandForm::Operation(form) => read_operation(form, bytes, scratch).is_some(),
     }
 }

@@ -31,9 +31,9 @@ mod theorems;
 
 pub use blanks::at_end;
 pub use buffer::{Buffer, LineBuffer};
-pub use commands::{Content, Deed, LineStart, Reading};
+pub use commands::{Content, LineStart, Operation, Reading};
 pub use errors::{put_line_error, put_refusal};
-pub use forms::{CommandForm, DeedForm, read_deed};
+pub use forms::{CommandForm, OperationForm, read_operation};
 pub use kinds::kind_of_word;
 pub use line::{MAX_LINE_LEN, line_error, line_start, parse_line, without_return};
 pub use lists::{Literals, TextLiterals};

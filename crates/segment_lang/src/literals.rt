@@ -15,9 +15,9 @@ use seg_types::{Refusal, ScalarKind, ScalarValue, WrittenValue, truth_as, whole_
 #[derive(Drop)]
 pub enum Literal<'a> {
     /// A whole number from -9223372036854775808 to 18446744073709551615.
-    Whole(WholeNumber),
+    Integer(WholeNumber),
     /// `true` or `false`.
-    Truth(bool),
+    Boolean(bool),
     /// A text.
     Quoted(Quoted<'a>),
 }
@@ -34,12 +34,12 @@ fn bare_literal(word: &[u8]) -> Option<Literal<'_>>
     ensures { option_map literal_of result ≡ literal_of_word (Bare word.now) }
 {
     if is_word(word, b"true") {
-        return Some(Literal::Truth(true));
+        return Some(Literal::Boolean(true));
     }
     if is_word(word, b"false") {
-        return Some(Literal::Truth(false));
+        return Some(Literal::Boolean(false));
     }
-    Some(Literal::Whole(whole_of(word)?))
+    Some(Literal::Integer(whole_of(word)?))
 }
 
 /// Returns the value that a word spells.
@@ -71,8 +71,8 @@ impl WrittenValue for Literal<'_> {
 
     fn value_of(&self, kind: ScalarKind) -> Result<ScalarValue, Refusal> {
         match self {
-            Literal::Whole(number) => whole_as(kind, number.get()),
-            Literal::Truth(truth) => truth_as(kind, *truth),
+            Literal::Integer(number) => whole_as(kind, number.get()),
+            Literal::Boolean(truth) => truth_as(kind, *truth),
             Literal::Quoted(_) => Err(Refusal::WrongKind),
         }
     }

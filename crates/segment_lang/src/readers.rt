@@ -9,11 +9,11 @@ ghost use Rattle.segment_lang.specs.Reading.{with_key_literal, with_key_number, 
 ghost use Rattle.segment_lang.specs.Tokens.{at_end, only_word};
 ghost use Rattle.segment_lang.specs.Arguments.{assigning_at, command_of_one, command_of_three, command_of_two};
 ghost use Rattle.segment_lang.specs.Arguments.{handle_of, making_at, making_each_at};
-ghost use Rattle.segment_lang.specs.Seen.{deed_of, literal_of};
+ghost use Rattle.segment_lang.specs.Seen.{operation_of, literal_of};
 
 use crate::blanks::at_end;
 use crate::buffer::LineBuffer;
-use crate::commands::Deed;
+use crate::commands::Operation;
 use crate::contents::read_content;
 use crate::keys::{handle_of, index_key, index_key_for, key_of, new_key_for};
 use crate::kinds::{counted_kind, kind_of_word};
@@ -27,34 +27,37 @@ use seg_types::{Key, Kind};
 /// Reads a kind with a count, a key and the initial contents: one value, any number of values, or none.
 #[tactic(auto, unfolding(crate::specs::Arguments::making_at))]
 #[inline(never)]
-pub fn read_construct<'a>(bytes: &'a [u8], scratch: &'a mut LineBuffer) -> Option<Deed<'a>>
-    ensures { option_map deed_of result ≡ making_at asked.Construct new_key bytes.now }
+pub fn read_construct<'a>(bytes: &'a [u8], scratch: &'a mut LineBuffer) -> Option<Operation<'a>>
+    ensures { option_map operation_of result ≡ making_at asked.Construct new_key bytes.now }
 {
     let (kind, key, rest) = next_two(bytes)?;
     let (kind, count) = counted_kind(kind)?;
     let key = new_key_for(kind, key, scratch)?;
     let content = read_content(kind, count, rest)?;
-    Some(Deed::Construct { key, content })
+    Some(Operation::Construct { key, content })
 }
 
 /// Reads a kind with a count, an entry of an index and the initial contents.
 #[tactic(auto, unfolding(crate::specs::Arguments::making_at))]
 #[inline(never)]
-pub fn read_find_or_construct<'a>(bytes: &'a [u8], scratch: &'a mut LineBuffer) -> Option<Deed<'a>>
-    ensures { option_map deed_of result ≡ making_at asked.FindOrConstruct name_key bytes.now }
+pub fn read_find_or_construct<'a>(
+    bytes: &'a [u8],
+    scratch: &'a mut LineBuffer,
+) -> Option<Operation<'a>>
+    ensures { option_map operation_of result ≡ making_at asked.FindOrConstruct name_key bytes.now }
 {
     let (kind, key, rest) = next_two(bytes)?;
     let (kind, count) = counted_kind(kind)?;
     let key = index_key_for(kind, key, scratch)?;
     let content = read_content(kind, count, rest)?;
-    Some(Deed::FindOrConstruct { key, content })
+    Some(Operation::FindOrConstruct { key, content })
 }
 
 /// Returns a kind with a count, a key and as many values.
 #[tactic(auto, unfolding(crate::specs::Arguments::making_each_at))]
 #[inline(never)]
-pub fn read_construct_it<'a>(bytes: &'a [u8], scratch: &'a mut LineBuffer) -> Option<Deed<'a>>
-    ensures { option_map deed_of result ≡ making_each_at bytes.now }
+pub fn read_construct_it<'a>(bytes: &'a [u8], scratch: &'a mut LineBuffer) -> Option<Operation<'a>>
+    ensures { option_map operation_of result ≡ making_each_at bytes.now }
 {
     let (kind, key, rest) = next_two(bytes)?;
     let (kind, count) = counted_kind(kind)?;
@@ -63,38 +66,38 @@ pub fn read_construct_it<'a>(bytes: &'a [u8], scratch: &'a mut LineBuffer) -> Op
         return None;
     };
     let values = read_values(kind, count, rest)?;
-    Some(Deed::ConstructIt { key, count, values })
+    Some(Operation::ConstructIt { key, count, values })
 }
 
 /// Returns a kind and an entry of an index.
 #[inline(never)]
-pub fn read_find<'a>(bytes: &'a [u8], scratch: &'a mut LineBuffer) -> Option<Deed<'a>>
-    ensures { option_map deed_of result ≡ command_of_two finding bytes.now }
+pub fn read_find<'a>(bytes: &'a [u8], scratch: &'a mut LineBuffer) -> Option<Operation<'a>>
+    ensures { option_map operation_of result ≡ command_of_two finding bytes.now }
 {
     let (kind, key) = two_words(bytes)?;
     let kind = kind_of_word(kind)?;
     let key = index_key_for(kind, key, scratch)?;
-    Some(Deed::Find { kind, key })
+    Some(Operation::Find { kind, key })
 }
 
 /// Returns an entry of an index.
 #[inline(never)]
-pub fn read_destroy<'a>(bytes: &'a [u8], scratch: &'a mut LineBuffer) -> Option<Deed<'a>>
-    ensures { option_map deed_of result ≡ command_of_one (with_key asked.Destroy name_key) bytes.now }
+pub fn read_destroy<'a>(bytes: &'a [u8], scratch: &'a mut LineBuffer) -> Option<Operation<'a>>
+    ensures { option_map operation_of result ≡ command_of_one (with_key asked.Destroy name_key) bytes.now }
 {
     let word = only_word(bytes)?;
-    Some(Deed::Destroy(index_key(word, scratch)?))
+    Some(Operation::Destroy(index_key(word, scratch)?))
 }
 
 /// Returns a handle.
 #[inline(never)]
-pub fn read_destroy_ptr(bytes: &[u8]) -> Option<Deed<'_>>
-    ensures { option_map deed_of result
+pub fn read_destroy_ptr(bytes: &[u8]) -> Option<Operation<'_>>
+    ensures { option_map operation_of result
         ≡ option_map asked.DestroyPtr (option_and_then handle_of (only_word bytes.now)) }
 {
     let word = only_word(bytes)?;
     let handle = handle_of(word)?;
-    Some(Deed::DestroyPtr(handle))
+    Some(Operation::DestroyPtr(handle))
 }
 
 /// Returns a key, whatever it is read for.
@@ -170,24 +173,24 @@ pub fn key_and_pair<'a>(
 /// Returns a key and any number of values, of all new elements.
 #[tactic(auto, unfolding(crate::specs::Arguments::assigning_at))]
 #[inline(never)]
-pub fn read_assign<'a>(bytes: &'a [u8], scratch: &'a mut LineBuffer) -> Option<Deed<'a>>
-    ensures { option_map deed_of result ≡ assigning_at bytes.now }
+pub fn read_assign<'a>(bytes: &'a [u8], scratch: &'a mut LineBuffer) -> Option<Operation<'a>>
+    ensures { option_map operation_of result ≡ assigning_at bytes.now }
 {
     let (key, rest) = next_word(bytes)?;
     let key = key_of(key, scratch)?;
     let values = read_literals(rest)?;
-    Some(Deed::Assign { key, values })
+    Some(Operation::Assign { key, values })
 }
 
 /// Returns a key and a text, of new last bytes.
 #[inline(never)]
-pub fn read_append<'a>(bytes: &'a [u8], scratch: &'a mut LineBuffer) -> Option<Deed<'a>>
-    ensures { option_map deed_of result ≡ command_of_two appending bytes.now }
+pub fn read_append<'a>(bytes: &'a [u8], scratch: &'a mut LineBuffer) -> Option<Operation<'a>>
+    ensures { option_map operation_of result ≡ command_of_two appending bytes.now }
 {
     let (key, text) = two_words(bytes)?;
     let key = key_of(key, scratch)?;
     let text = quoted_of(text)?;
-    Some(Deed::Append { key, text })
+    Some(Operation::Append { key, text })
 }
 
 /// Returns a number, whatever it is read for.
@@ -198,9 +201,10 @@ pub fn only_number(bytes: &[u8]) -> Option<u64>
     number(word)
 }
 
-/// Returns the deed, if nothing stands after its word.
-pub fn read_alone<'a>(deed: Deed<'a>, bytes: &[u8]) -> Option<Deed<'a>>
-    ensures { option_map deed_of result ≡ (if at_end bytes.now then Some (deed_of deed.entry) else None) }
+/// Returns the operation, if nothing stands after its word.
+pub fn read_alone<'a>(operation: Operation<'a>, bytes: &[u8]) -> Option<Operation<'a>>
+    ensures { option_map operation_of result
+        ≡ (if at_end bytes.now then Some (operation_of operation.entry) else None) }
 {
-    at_end(bytes).then_some(deed)
+    at_end(bytes).then_some(operation)
 }

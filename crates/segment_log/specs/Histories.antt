@@ -10,11 +10,11 @@ use Rattle.segment_log.specs.Tags.{IsMidCommit}
 
 -- What a program does with a file that it has open, each time with the answer Ok; or it crashes in a commit of an image
 -- or in a checkpoint, however far that came, and opens the file again, after openings that crashed.
-pub data LogDeed : Type 0 where
-  Commits : List ℕ → List ℕ → LogDeed
-  Checkpoints : LogDeed
-  CrashesInCommit : List ℕ → List ℕ → CommitOutcome → ℕ → List (Bool × Bool × ℕ) → LogDeed
-  CrashesInCheckpoint : Bool → Bool → Bool → ℕ → List (Bool × Bool × ℕ) → LogDeed
+pub data LogOperation : Type 0 where
+  Commits : List ℕ → List ℕ → LogOperation
+  Checkpoints : LogOperation
+  CrashesInCommit : List ℕ → List ℕ → CommitOutcome → ℕ → List (Bool × Bool × ℕ) → LogOperation
+  CrashesInCheckpoint : Bool → Bool → Bool → ℕ → List (Bool × Bool × ℕ) → LogOperation
 
 -- an opening that crashed while it shut the gate, or found it shut; then another that is done
 abbrev pub Reopens : LoggedFile → List (Bool × Bool × ℕ) → LoggedFile → ℕ → Type 0
@@ -35,24 +35,25 @@ pub record OpensAgain (left : LoggedFile) (crashes : List (Bool × Bool × ℕ))
   pub opens : Reopens left crashes now end
   pub goes : goes_on now end
 
--- From a file that is ready, with this image, these deeds lead to another.
-abbrev pub DeedsLead : List LogDeed → LoggedFile → ℕ → List ℕ → LoggedFile → ℕ → List ℕ → Type 0
-DeedsLead [] files end last now at found = (now ≡ files) × (at ≡ end) × (found ≡ last)
-DeedsLead (Commits payload image ∷ deeds) files end last now at found =
+-- From a file that is ready, with this image, these operations lead to another.
+abbrev pub OperationsLead : List LogOperation → LoggedFile → ℕ → List ℕ → LoggedFile → ℕ → List ℕ → Type 0
+OperationsLead [] files end last now at found = (now ≡ files) × (at ≡ end) × (found ≡ last)
+OperationsLead (Commits payload image ∷ operations) files end last now at found =
     IsPayloadFor files payload last image
-    × DeedsLead deeds (seen_in_the_end files (commit_events end payload Committed))
+    × OperationsLead operations (seen_in_the_end files (commit_events end payload Committed))
     (end + 4096 + 8 + length payload) image
     now at found
-DeedsLead (Checkpoints ∷ deeds) files end last now at found =
-    (0 < end) × DeedsLead deeds (seen_in_the_end files (checkpoint_events last true true true)) 0 last now at found
-DeedsLead (CrashesInCommit payload image how k crashes ∷ deeds) files end last now at found =
+OperationsLead (Checkpoints ∷ operations) files end last now at found =
+    (0 < end)
+    × OperationsLead operations (seen_in_the_end files (checkpoint_events last true true true)) 0 last now at found
+OperationsLead (CrashesInCommit payload image how k crashes ∷ operations) files end last now at found =
     IsPayloadFor files payload last image
     × ((c : LoggedFile) × leaves_after files (take k (commit_events end payload how)) c
-    × OpensAgain c crashes (λ opened from. DeedsLead deeds opened from (stands_for opened) now at found))
-DeedsLead (CrashesInCheckpoint placed written synced k crashes ∷ deeds) files end last now at found =
+    × OpensAgain c crashes (λ opened from. OperationsLead operations opened from (stands_for opened) now at found))
+OperationsLead (CrashesInCheckpoint placed written synced k crashes ∷ operations) files end last now at found =
     (0 < end)
     × ((c : LoggedFile) × leaves_after files (take k (checkpoint_events last placed written synced)) c
-    × OpensAgain c crashes (λ opened from. DeedsLead deeds opened from (stands_for opened) now at found))
+    × OpensAgain c crashes (λ opened from. OperationsLead operations opened from (stands_for opened) now at found))
 
 -- ---- the laws
 
@@ -66,5 +67,5 @@ OpeningFindsOne = (left now : LoggedFile) (crashes : List (Bool × Bool × ℕ))
 -- After any history a file stands for the image of the last commit that was answered, or for what the last opening
 -- found, with its own log, and can take another commit.
 abbrev pub HistoriesStayReady : Type 0
-HistoriesStayReady = (deeds : List LogDeed) (files now : LoggedFile) (end at : ℕ) (last found : List ℕ)
-    → IsReady files end last → DeedsLead deeds files end last now at found → IsReady now at found
+HistoriesStayReady = (operations : List LogOperation) (files now : LoggedFile) (end at : ℕ) (last found : List ℕ)
+    → IsReady files end last → OperationsLead operations files end last now at found → IsReady now at found

@@ -79,7 +79,7 @@ pub use Rattle.seg_index.specs.Capacities.{ReservesIndexOk, KeepsRoomyIndex, Shr
 pub use Rattle.seg_index.specs.{declared.index.Index.Index, declared.keys.Entry.Entry, Index.grown_capacity}
 pub use Rattle.seg_index.specs.{Index.IsIndexAt, Keys.name_len_at, Lookups.FindsPosition}
 pub use Rattle.seg_index.specs.declared.keys.Entry.TheVariants.{Code, Name}
-pub use Rattle.segment_manager.specs.Answers.{Answer, Done, Element, Made, Number, Refused, TextElement, Truth}
+pub use Rattle.segment_manager.specs.Answers.{Answer, Done, Element, Made, Number, Refused, TextElement, Boolean}
 pub use Rattle.segment_manager.specs.{Layout.head_len, Denotes.two_halves, objects.Heads.IsEntry}
 pub use Rattle.segment_manager.specs.{Staying.is_elementwise, declared.modes.Mode.Mode, objects.Located.IsLocated}
 pub use Rattle.segment_manager.specs.{declared.objects.head.Head.Head, Answers.is_untouched, Answers.refusal_of}

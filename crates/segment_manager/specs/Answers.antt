@@ -8,7 +8,7 @@ use Rattle.segment_manager.specs.Directory.{Value, Object}
 -- the answer of the directory machine to a command, before it is printed
 pub data Answer : Type 0 where
   Done Absent : Answer
-  Truth : Bool → Answer
+  Boolean : Bool → Answer
   Number : ℕ → Answer
   -- a handle, and a handle with a count
   Made : ℕ → Answer

@@ -5,7 +5,7 @@ use Rattle.seg_types.specs.{Names.Key, Commands.Command, declared.kinds.Kind.Kin
 use Rattle.seg_types.specs.{Values.kind_of_scalar, Values.value_of_scalar, declared.values.ScalarValue.ScalarValue}
 use Rattle.segment_manager.specs.declared.modes.Mode.{Mode}
 use Rattle.segment_manager.specs.{Directory.Directory, Step.step, Step.step_of_kind, Denotes.Denotes}
-use Rattle.segment_manager.specs.Answers.{Answer, Made, Truth, Element, Refused, Done, is_untouched, refusal_of}
+use Rattle.segment_manager.specs.Answers.{Answer, Made, Boolean, Element, Refused, Done, is_untouched, refusal_of}
 
 -- a window and a mode
 pub record SegmentState : Type 0 where
@@ -85,11 +85,11 @@ done_answer = answer_of (λ u. Done)
 
 -- the result of a call without a value, whose command prints `true`, as an answer
 abbrev pub gone_answer : Result (Unit {0}) Refusal → Answer
-gone_answer = answer_of (λ u. Truth true)
+gone_answer = answer_of (λ u. Boolean true)
 
 -- the result of a test, as an answer
 abbrev pub truth_answer : Result Bool Refusal → Answer
-truth_answer = answer_of Truth
+truth_answer = answer_of Boolean
 
 -- the result of a call that reads an element, as an answer
 abbrev pub scalar_answer : Result ScalarValue Refusal → Answer

@@ -19,8 +19,8 @@ use Rattle.segment_manager.specs.Directory.{Value, Numbers, Elements, Bytes, Pai
 use Rattle.segment_manager.specs.Directory.{object_at, kind_of, count_of, with_changed, without_object, named_objects}
 use Rattle.segment_manager.specs.Plan.{Plan, New, Refuse, Request, Reply, perform, with, with_new_index, with_storage}
 use Rattle.segment_manager.specs.Plan.{with_capacity, bare, with_owned_text, with_owned_texts, with_new_object}
-use Rattle.segment_manager.specs.Answers.{Answer, Done, Absent, Truth, Number, Made, Found, Element, TextElement, Shown}
-use Rattle.segment_manager.specs.Answers.{Told, Names, Kinds, Blocks, Refused}
+use Rattle.segment_manager.specs.Answers.{Answer, Done, Absent, Boolean, Number, Made, Found, Element, TextElement}
+use Rattle.segment_manager.specs.Answers.{Shown, Told, Names, Kinds, Blocks, Refused}
 
 -- ---- the parts of a value
 
@@ -175,9 +175,9 @@ erase d o v i =
 -- the plan of putting a pair into a map, from the numbers of key and value
 abbrev pub put : Directory → Object → ScalarKind → ScalarKind → List NumberPair → List ℤ → Plan
 put d o k v ps (x ∷ y ∷ []) = elim (pair_at int_lt ps x) [
-  | Some p ↦ Reply (Truth false) (changed d o (Pairs k v (put_pair int_lt (record p { value = y }) ps)))
+  | Some p ↦ Reply (Boolean false) (changed d o (Pairs k v (put_pair int_lt (record p { value = y }) ps)))
   | None ↦ Request (New Node (node_len (size_of k) (size_of v))) (λ n.
-      Reply (Truth true) (changed d o (Pairs k v (put_pair int_lt (record { key = x; value = y; node = n }) ps))))
+      Reply (Boolean true) (changed d o (Pairs k v (put_pair int_lt (record { key = x; value = y; node = n }) ps))))
 ]
 put d o k v ps other = Refuse WrongKind
 
@@ -208,10 +208,10 @@ effect d (asked.FindOrConstruct key content) = elim (object_at d key) [
   | Some o ↦ if same_kind (kind_of (bare content)) (kind_of o.value) then Reply (found o) d else Refuse WrongKind
 ]
 effect d (asked.Destroy key) = elim (object_at d key) [
-  | None ↦ Reply (Truth false) d
-  | Some o ↦ Reply (Truth true) (without_object d o)
+  | None ↦ Reply (Boolean false) d
+  | Some o ↦ Reply (Boolean true) (without_object d o)
 ]
-effect d (asked.DestroyPtr h) = with (found_at d (ByHandle h)) (λ o. Reply (Truth true) (without_object d o))
+effect d (asked.DestroyPtr h) = with (found_at d (ByHandle h)) (λ o. Reply (Boolean true) (without_object d o))
 effect d (asked.Show key) = with (found_at d key) (λ o. Reply (Shown o.value) d)
 effect d (asked.Info key) = with (found_at d key) (λ o. Reply (Told o) d)
 effect d (asked.Get key i) = with (found_at d key) (λ o. get d o.value i)
@@ -242,8 +242,8 @@ effect d (asked.Lookup key l) =
 effect d (asked.Remove key l) =
     with (found_at d key) (λ o. with (map_of o.value) (λ (k, v, ps). with (value_of_literal k l) (λ x.
     elim (pair_at int_lt ps x) [
-      | None ↦ Reply (Truth false) d
-      | Some p ↦ Reply (Truth true)
+      | None ↦ Reply (Boolean false) d
+      | Some p ↦ Reply (Boolean true)
           (changed d o (Pairs k v (remove_pair int_lt ps x)))
     ])))
 effect d asked.ListNames = Reply (Names (named_objects d)) d
@@ -260,8 +260,8 @@ effect d (asked.ReserveUnique n) =
 effect d asked.ShrinkIndexes = Reply Done (shrunk_indexes d)
 -- the bytes that it changes belong to no object
 effect d asked.ZeroFree = Reply Done d
-effect d asked.Sanity = Reply (Truth true) d
-effect d asked.AllDeallocated = Reply (Truth (length (live d).extents == 0)) d
+effect d asked.Sanity = Reply (Boolean true) d
+effect d asked.AllDeallocated = Reply (Boolean (length (live d).extents == 0)) d
 
 -- whether the mode refuses changes
 abbrev pub is_read_only : Mode → Bool

@@ -11,8 +11,8 @@ use Rattle.seg_map.specs.Numbers.{NumberPair}
 use Rattle.seg_vector.specs.Vector.{OwnedText}
 use Rattle.segment_lang.specs.Texts.{number_text, quoted_text, name_text, value_text, kind_text, refusal_text}
 use Rattle.segment_manager.specs.Directory.{Value, Numbers, Elements, Bytes, Pairs, Texts, Object, kind_of, count_of}
-use Rattle.segment_manager.specs.Answers.{Answer, Done, Absent, Truth, Number, Made, Found, Element, TextElement, Shown}
-use Rattle.segment_manager.specs.Answers.{Told, Names, Kinds, Blocks, Refused}
+use Rattle.segment_manager.specs.Answers.{Answer, Done, Absent, Boolean, Number, Made, Found, Element, TextElement}
+use Rattle.segment_manager.specs.Answers.{Shown, Told, Names, Kinds, Blocks, Refused}
 
 -- words of a line, parted by one blank, and the end of the line
 abbrev pub line : List (List ℕ) → List ℕ
@@ -81,7 +81,7 @@ listing words (x ∷ xs) = line (words x) ++ listing words xs
 abbrev pub answer_text : Answer → List ℕ
 answer_text Done = line (codes "ok" ∷ [])
 answer_text Absent = line (codes "none" ∷ [])
-answer_text (Truth b) = line (truth_word b ∷ [])
+answer_text (Boolean b) = line (truth_word b ∷ [])
 answer_text (Number n) = line (number_text n ∷ [])
 answer_text (Made h) = line (handle_text h ∷ [])
 answer_text (Found h n) = line (handle_text h ∷ number_text n ∷ [])

@@ -3,8 +3,8 @@ use Rattle.std.specs.Prelude.{ℕ, List, [], ◌∷◌, ◌++◌, codes, if◌th
 use Rattle.std.specs.Str.{bytes_eq}
 use Rattle.segment_lang.specs.declared.forms.CommandForm.{CommandForm}
 use Rattle.segment_lang.specs.declared.forms.CommandForm.TheVariants as form
-use Rattle.segment_lang.specs.declared.forms.DeedForm.{DeedForm}
-use Rattle.segment_lang.specs.declared.forms.DeedForm.TheVariants as deed
+use Rattle.segment_lang.specs.declared.forms.OperationForm.{OperationForm}
+use Rattle.segment_lang.specs.declared.forms.OperationForm.TheVariants as operation
 use Rattle.segment_lang.specs.Reading.{Form}
 use Rattle.segment_lang.specs.Seen.{reader_of}
 use Rattle.segment_scripts.specs.declared.language.CommandRow.{CommandRow}
@@ -19,38 +19,38 @@ abbrev pub usage_of : List CommandRow → List ℕ → List ℕ
 usage_of [] word = []
 usage_of (row ∷ rows) word = if bytes_eq row.word.now word then row.usage.now else usage_of rows word
 
--- the arguments of a deed's command word, as its usage words them
-abbrev pub deed_arguments : DeedForm → List ℕ
-deed_arguments deed.Construct = codes " KIND[k] NEWKEY ARGS"
-deed_arguments deed.ConstructIt = codes " KIND[k] NEWKEY V1 .. Vk"
-deed_arguments deed.Find = codes " KIND NAMEKEY"
-deed_arguments deed.FindOrConstruct = codes " KIND[k] NAMEKEY ARGS"
-deed_arguments deed.Destroy = codes " NAMEKEY"
-deed_arguments deed.DestroyPtr = codes " #n"
-deed_arguments deed.Show = codes " KEY"
-deed_arguments deed.Info = codes " KEY"
-deed_arguments deed.Set = codes " KEY I V"
-deed_arguments deed.Insert = codes " KEY I V"
-deed_arguments deed.Erase = codes " KEY I"
-deed_arguments deed.Reserve = codes " KEY N"
-deed_arguments deed.Shrink = codes " KEY"
-deed_arguments deed.Clear = codes " KEY"
-deed_arguments deed.Assign = codes " KEY V .."
-deed_arguments deed.Append = codes " KEY TEXT"
-deed_arguments deed.Lookup = codes " KEY K"
-deed_arguments deed.Remove = codes " KEY K"
-deed_arguments deed.ListNames = []
-deed_arguments deed.ListKinds = []
-deed_arguments deed.Blocks = []
-deed_arguments deed.Free = []
-deed_arguments deed.NumNamed = []
-deed_arguments deed.NumUnique = []
-deed_arguments deed.ReserveNamed = codes " N"
-deed_arguments deed.ReserveUnique = codes " N"
-deed_arguments deed.ShrinkIndexes = []
-deed_arguments deed.ZeroFree = []
-deed_arguments deed.Sanity = []
-deed_arguments deed.AllDeallocated = []
+-- the arguments of an operation's command word, as its usage words them
+abbrev pub operation_arguments : OperationForm → List ℕ
+operation_arguments operation.Construct = codes " KIND[k] NEWKEY ARGS"
+operation_arguments operation.ConstructIt = codes " KIND[k] NEWKEY V1 .. Vk"
+operation_arguments operation.Find = codes " KIND NAMEKEY"
+operation_arguments operation.FindOrConstruct = codes " KIND[k] NAMEKEY ARGS"
+operation_arguments operation.Destroy = codes " NAMEKEY"
+operation_arguments operation.DestroyPtr = codes " #n"
+operation_arguments operation.Show = codes " KEY"
+operation_arguments operation.Info = codes " KEY"
+operation_arguments operation.Set = codes " KEY I V"
+operation_arguments operation.Insert = codes " KEY I V"
+operation_arguments operation.Erase = codes " KEY I"
+operation_arguments operation.Reserve = codes " KEY N"
+operation_arguments operation.Shrink = codes " KEY"
+operation_arguments operation.Clear = codes " KEY"
+operation_arguments operation.Assign = codes " KEY V .."
+operation_arguments operation.Append = codes " KEY TEXT"
+operation_arguments operation.Lookup = codes " KEY K"
+operation_arguments operation.Remove = codes " KEY K"
+operation_arguments operation.ListNames = []
+operation_arguments operation.ListKinds = []
+operation_arguments operation.Blocks = []
+operation_arguments operation.Free = []
+operation_arguments operation.NumNamed = []
+operation_arguments operation.NumUnique = []
+operation_arguments operation.ReserveNamed = codes " N"
+operation_arguments operation.ReserveUnique = codes " N"
+operation_arguments operation.ShrinkIndexes = []
+operation_arguments operation.ZeroFree = []
+operation_arguments operation.Sanity = []
+operation_arguments operation.AllDeallocated = []
 
 -- the arguments of a command word, as its usage words them
 abbrev pub form_arguments : CommandForm → List ℕ
@@ -59,7 +59,7 @@ form_arguments form.Get = codes " KEY I"
 form_arguments form.Push = codes " KEY V"
 form_arguments form.Put = codes " KEY K V"
 form_arguments form.Pop = codes " KEY"
-form_arguments (form.Deed d) = deed_arguments d
+form_arguments (form.Operation d) = operation_arguments d
 
 -- a command word, and its form
 abbrev pub FormRow : Type 0
@@ -68,41 +68,41 @@ FormRow = List ℕ × CommandForm
 -- the command words in the order of the language, each with its form
 abbrev pub form_rows : List FormRow
 form_rows =
-    (codes "construct", form.Deed deed.Construct)
-    ∷ (codes "construct_it", form.Deed deed.ConstructIt)
-    ∷ (codes "find", form.Deed deed.Find)
-    ∷ (codes "find_or_construct", form.Deed deed.FindOrConstruct)
-    ∷ (codes "destroy", form.Deed deed.Destroy)
-    ∷ (codes "destroy_ptr", form.Deed deed.DestroyPtr)
-    ∷ (codes "show", form.Deed deed.Show)
-    ∷ (codes "info", form.Deed deed.Info)
+    (codes "construct", form.Operation operation.Construct)
+    ∷ (codes "construct_it", form.Operation operation.ConstructIt)
+    ∷ (codes "find", form.Operation operation.Find)
+    ∷ (codes "find_or_construct", form.Operation operation.FindOrConstruct)
+    ∷ (codes "destroy", form.Operation operation.Destroy)
+    ∷ (codes "destroy_ptr", form.Operation operation.DestroyPtr)
+    ∷ (codes "show", form.Operation operation.Show)
+    ∷ (codes "info", form.Operation operation.Info)
     ∷ (codes "get", form.Get)
-    ∷ (codes "set", form.Deed deed.Set)
+    ∷ (codes "set", form.Operation operation.Set)
     ∷ (codes "push", form.Push)
     ∷ (codes "pop", form.Pop)
-    ∷ (codes "insert", form.Deed deed.Insert)
-    ∷ (codes "erase", form.Deed deed.Erase)
-    ∷ (codes "reserve", form.Deed deed.Reserve)
-    ∷ (codes "shrink", form.Deed deed.Shrink)
-    ∷ (codes "clear", form.Deed deed.Clear)
-    ∷ (codes "assign", form.Deed deed.Assign)
-    ∷ (codes "append", form.Deed deed.Append)
+    ∷ (codes "insert", form.Operation operation.Insert)
+    ∷ (codes "erase", form.Operation operation.Erase)
+    ∷ (codes "reserve", form.Operation operation.Reserve)
+    ∷ (codes "shrink", form.Operation operation.Shrink)
+    ∷ (codes "clear", form.Operation operation.Clear)
+    ∷ (codes "assign", form.Operation operation.Assign)
+    ∷ (codes "append", form.Operation operation.Append)
     ∷ (codes "put", form.Put)
-    ∷ (codes "lookup", form.Deed deed.Lookup)
-    ∷ (codes "remove", form.Deed deed.Remove)
-    ∷ (codes "list", form.Deed deed.ListNames)
-    ∷ (codes "unique", form.Deed deed.ListKinds)
-    ∷ (codes "blocks", form.Deed deed.Blocks)
+    ∷ (codes "lookup", form.Operation operation.Lookup)
+    ∷ (codes "remove", form.Operation operation.Remove)
+    ∷ (codes "list", form.Operation operation.ListNames)
+    ∷ (codes "unique", form.Operation operation.ListKinds)
+    ∷ (codes "blocks", form.Operation operation.Blocks)
     ∷ (codes "size", form.Size)
-    ∷ (codes "free", form.Deed deed.Free)
-    ∷ (codes "num_named", form.Deed deed.NumNamed)
-    ∷ (codes "num_unique", form.Deed deed.NumUnique)
-    ∷ (codes "reserve_named", form.Deed deed.ReserveNamed)
-    ∷ (codes "reserve_unique", form.Deed deed.ReserveUnique)
-    ∷ (codes "shrink_indexes", form.Deed deed.ShrinkIndexes)
-    ∷ (codes "zero_free", form.Deed deed.ZeroFree)
-    ∷ (codes "sanity", form.Deed deed.Sanity)
-    ∷ (codes "all_deallocated", form.Deed deed.AllDeallocated)
+    ∷ (codes "free", form.Operation operation.Free)
+    ∷ (codes "num_named", form.Operation operation.NumNamed)
+    ∷ (codes "num_unique", form.Operation operation.NumUnique)
+    ∷ (codes "reserve_named", form.Operation operation.ReserveNamed)
+    ∷ (codes "reserve_unique", form.Operation operation.ReserveUnique)
+    ∷ (codes "shrink_indexes", form.Operation operation.ShrinkIndexes)
+    ∷ (codes "zero_free", form.Operation operation.ZeroFree)
+    ∷ (codes "sanity", form.Operation operation.Sanity)
+    ∷ (codes "all_deallocated", form.Operation operation.AllDeallocated)
     ∷ []
 
 -- the usage of a command: its word, and its arguments

@@ -10,8 +10,8 @@ use Rattle.seg_types.specs.Commands.{Command, Content, Literal, ZeroFree, is_cha
 use Rattle.seg_types.specs.Keys.{key_seen}
 use Rattle.seg_types.specs.Values.{kind_of_scalar, value_of_scalar}
 use Rattle.segment_lang.specs.Reading.{agrees}
-use Rattle.segment_manager.specs.Answers.{Answer, Done, Absent, Truth, Number, Made, Found, Element, TextElement, Shown}
-use Rattle.segment_manager.specs.Answers.{Told, Names, Kinds, Blocks, Refused}
+use Rattle.segment_manager.specs.Answers.{Answer, Done, Absent, Boolean, Number, Made, Found, Element, TextElement}
+use Rattle.segment_manager.specs.Answers.{Shown, Told, Names, Kinds, Blocks, Refused}
 use Rattle.segment_manager.specs.Directory.{Value, Texts, Directory, Object, live, named_objects, object_at}
 use Rattle.segment_manager.specs.Directory.{unique_objects}
 use Rattle.segment_manager.specs.State.{SegmentState, DenotesCurrent, KeepsModeAndPlace}
@@ -56,7 +56,7 @@ text_at d key i = text_in (object_at d key) i
 abbrev pub answer_seen : Directory → Reply → Answer
 answer_seen d said.Done = Done
 answer_seen d said.Absent = Absent
-answer_seen d (said.Truth b) = Truth b
+answer_seen d (said.Boolean b) = Boolean b
 answer_seen d (said.Number n) = Number n
 answer_seen d (said.Made h) = Made h
 answer_seen d (said.Found h n) = Found h n
@@ -86,8 +86,8 @@ IsLineContent key (asked.Strings bss) = (texts_taken bss ≤ 4097) × IsTrue (ag
 -- the least number of bytes that values take in a line, with one byte after each
 abbrev pub bytes_taken : List Literal → ℕ
 bytes_taken [] = 0
-bytes_taken (asked.Whole z ∷ ls) = 2 + bytes_taken ls
-bytes_taken (asked.Truth b ∷ ls) = 2 + bytes_taken ls
+bytes_taken (asked.Integer z ∷ ls) = 2 + bytes_taken ls
+bytes_taken (asked.Boolean b ∷ ls) = 2 + bytes_taken ls
 bytes_taken (asked.Quoted bs ∷ ls) = 1 + length bs + bytes_taken ls
 
 -- a line can ask for the command with these arguments

@@ -3,7 +3,7 @@ use Rattle.std.specs.Prelude.{◌≡◌, ◌≤◌, ℕ, Bool, true, List, [], �
 use Rattle.raw_region.specs.Device.{ReadDelta, WriteDelta}
 use Rattle.raw_region.specs.Answers.{AppendsProperPrefix}
 use Rattle.segment_scripts.specs.declared.ends.End.{End}
-use Rattle.segment_scripts.specs.declared.ends.End.TheVariants.{Whole, Refused}
+use Rattle.segment_scripts.specs.declared.ends.End.TheVariants.{Complete, Refused}
 use Rattle.segment_scripts.specs.Run.{lines}
 use Rattle.segment_scripts.specs.RunOutcome.{answer_all}
 use Rattle.segment_scripts.specs.Lines.{ended_lines, open_line, script_limit}
@@ -80,7 +80,7 @@ module _ {P : Type 0} (respond : P → List ℕ → List ℕ × P) (stops : P �
 
   -- the outcome of a piece: it was read to its end, or the run ended in it
   abbrev pub LeavesPiece : List ℕ → List ℕ → (P → Type 0) → List ℕ → List ℕ → End → Type 0
-  LeavesPiece read piece Stands line taken Whole = IsOn (read ++ piece) Stands line taken
+  LeavesPiece read piece Stands line taken Complete = IsOn (read ++ piece) Stands line taken
   LeavesPiece read piece Stands line taken Refused = EndsIn read piece Stands taken
 
   -- all lines were answered, and none of them ended the run
@@ -95,7 +95,7 @@ module _ {P : Type 0} (respond : P → List ℕ → List ℕ × P) (stops : P �
 
   -- the outcome of the last line
   abbrev pub LeavesLast : List ℕ → (P → Type 0) → List ℕ → End → Type 0
-  LeavesLast read Stands taken Whole = IsThrough read Stands taken
+  LeavesLast read Stands taken Complete = IsThrough read Stands taken
   LeavesLast read Stands taken Refused = EndsAtLast read Stands taken
 
 -- the script ended within its limit, and the run was not to end after a line that ended in it
@@ -108,7 +108,7 @@ pub record IsOnAtEnd {P : Type 0} (respond : P → List ℕ → List ℕ × P) (
 -- the outcome of the lines that end in a script: it was read to its end, or one of them ended the run
 abbrev pub LeavesEnded : {P : Type 0} → (P → List ℕ → List ℕ × P) → (P → List ℕ → Bool) → P → List ℕ → ReadDelta
     → (P → Type 0) → List ℕ → List ℕ → WriteDelta → End → Type 0
-LeavesEnded respond stops start before script Stands line taken out Whole =
+LeavesEnded respond stops start before script Stands line taken out Complete =
     IsOnAtEnd respond stops start before script Stands line taken
 LeavesEnded respond stops start before script Stands line taken out Refused =
     IsStoppedAt respond stops start script out Stands

@@ -4,7 +4,7 @@ use Rattle.std.specs.Prelude.{◌≡◌, ◌&&◌, ℕ, Bool, true, false, not, 
 use Rattle.raw_region.specs.Device.{ReadDelta, WriteDelta}
 use Rattle.segment_scripts.specs.declared.answered.Answered.{Answered}
 use Rattle.segment_scripts.specs.declared.ends.End.{End}
-use Rattle.segment_scripts.specs.declared.ends.End.TheVariants.{Whole, Refused}
+use Rattle.segment_scripts.specs.declared.ends.End.TheVariants.{Complete, Refused}
 use Rattle.segment_scripts.specs.declared.ends.Until.{Until}
 use Rattle.segment_scripts.specs.declared.ends.Until.TheVariants.{End as ToTheEnd, Refusal}
 use Rattle.segment_scripts.specs.declared.faults.RunFault.{RunFault}
@@ -64,6 +64,6 @@ module _ {P : Type 0} (respond : P → List ℕ → List ℕ × P) (stops : P �
 
   -- the outcome of a run that can end before its script does
   abbrev pub LeavesUntil : Result End RunFault → Type 0
-  LeavesUntil (Ok Whole) = RunsToTheEnd
+  LeavesUntil (Ok Complete) = RunsToTheEnd
   LeavesUntil (Ok Refused) = IsStoppedAt
   LeavesUntil (Err fault) = FailsOnTheWay fault

@@ -29,7 +29,7 @@ impl Until {
 #[derive(Clone, Copy, Debug, PartialEq, Eq)]
 pub enum End {
     /// All lines were executed.
-    Whole,
+    Complete,
     /// A line was refused. It was answered, and no line after it was executed.
     Refused,
 }

@@ -30,8 +30,8 @@ pub fn put_answer<W: Sink>(
     match answer {
         CommandAnswer::Done => Answered::Done.once(write_all(out, b"ok\n")),
         CommandAnswer::Absent => Answered::Done.once(write_all(out, b"none\n")),
-        CommandAnswer::Truth(true) => Answered::Done.once(write_all(out, b"true\n")),
-        CommandAnswer::Truth(false) => Answered::Done.once(write_all(out, b"false\n")),
+        CommandAnswer::Boolean(true) => Answered::Done.once(write_all(out, b"true\n")),
+        CommandAnswer::Boolean(false) => Answered::Done.once(write_all(out, b"false\n")),
         CommandAnswer::Number(number) => Answered::Done.once(put_number_line(out, b"", number)),
         CommandAnswer::Made(handle) => Answered::Done.once(put_number_line(out, b"#", handle)),
         CommandAnswer::Found(handle, count) => Answered::Done.once(put_found(handle, count, out)),

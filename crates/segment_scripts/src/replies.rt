@@ -1,7 +1,7 @@
 //! Answers of commands: one call of the segment executes each command; for some commands the kind of the object selects
 //! it.
 ghost use Rattle.std.specs.Prelude.{◌≡◌};
-ghost use Rattle.segment_lang.specs.Seen.{deed_of};
+ghost use Rattle.segment_lang.specs.Seen.{operation_of};
 ghost use Rattle.segment_manager.specs.Directory.{Directory};
 ghost use Rattle.segment_manager.specs.objects.Found.{found_answer, found_object_answer};
 ghost use Rattle.segment_manager.specs.containers.Maps.{any_value_answer};
@@ -12,7 +12,7 @@ use crate::changing::{append, assign};
 use crate::constructing::{construct_it, make};
 use crate::machine::ParseBuffers;
 use seg_types::{Handle, Key, Refusal, ScalarValue};
-use segment_lang::Deed;
+use segment_lang::Operation;
 use segment_manager::Segment;
 use segment_values::{InsertSpot, add, erase, erase_pair, look_up, set};
 
@@ -24,7 +24,7 @@ pub enum CommandAnswer<'a> {
     /// There is nothing.
     Absent,
     /// Whether something holds.
-    Truth(bool),
+    Boolean(bool),
     /// A number.
     Number(u64),
     /// The handle of an object that was made.
@@ -51,25 +51,27 @@ pub enum CommandAnswer<'a> {
 #[inline(never)]
 pub fn reply<'a>(
     segment: &mut Segment,
-    deed: Deed<'a>,
+    operation: Operation<'a>,
     room: &mut ParseBuffers,
 ) -> CommandAnswer<'a>
-    requires { IsMeant (deed_of deed) }
-    ensures { Replies segment.old segment.new (deed_of deed.entry) result }
+    requires { IsMeant (operation_of operation) }
+    ensures { Replies segment.old segment.new (operation_of operation.entry) result }
 {
-    match deed {
-        Deed::Construct { key, content } => make(segment, &key, content, room),
-        Deed::ConstructIt { key, count, values } => {
+    match operation {
+        Operation::Construct { key, content } => make(segment, &key, content, room),
+        Operation::ConstructIt { key, count, values } => {
             made(construct_it(segment, &key, count, values))
         }
-        Deed::Find { kind, key } => looked_up(segment.find_kind(&key.into_key(), kind)),
-        Deed::FindOrConstruct { key, content } => make(segment, &key, content, room),
-        Deed::Destroy(key) => truth(segment.destroy(&key)),
-        Deed::DestroyPtr(handle) => gone(segment.destroy_ptr(handle)),
-        Deed::Show(key) => CommandAnswer::Shown(key),
-        Deed::Info(key) => CommandAnswer::Told(key),
-        Deed::Set(key, index, value) => { done(set(segment, &key, index, &value, &mut room.text)) }
-        Deed::Insert(key, index, value) => {
+        Operation::Find { kind, key } => looked_up(segment.find_kind(&key.into_key(), kind)),
+        Operation::FindOrConstruct { key, content } => make(segment, &key, content, room),
+        Operation::Destroy(key) => truth(segment.destroy(&key)),
+        Operation::DestroyPtr(handle) => gone(segment.destroy_ptr(handle)),
+        Operation::Show(key) => CommandAnswer::Shown(key),
+        Operation::Info(key) => CommandAnswer::Told(key),
+        Operation::Set(key, index, value) => {
+            done(set(segment, &key, index, &value, &mut room.text))
+        }
+        Operation::Insert(key, index, value) => {
             done(add(
                 segment,
                 &key,
@@ -78,26 +80,26 @@ pub fn reply<'a>(
                 &mut room.text,
             ))
         }
-        Deed::Erase(key, index) => done(erase(segment, &key, index)),
-        Deed::Reserve(key, count) => done(segment.reserve(&key, count)),
-        Deed::Shrink(key) => done(segment.shrink(&key)),
-        Deed::Clear(key) => done(segment.clear(&key)),
-        Deed::Assign { key, values } => done(assign(segment, &key, values, room)),
-        Deed::Append { key, text } => done(append(segment, &key, text, &mut room.text)),
-        Deed::Lookup(key, at) => value_found(look_up(segment, &key, &at)),
-        Deed::Remove(key, at) => truth(erase_pair(segment, &key, &at)),
-        Deed::ListNames => CommandAnswer::Names,
-        Deed::ListKinds => CommandAnswer::Kinds,
-        Deed::Blocks => CommandAnswer::Blocks,
-        Deed::Free => CommandAnswer::Number(segment.free()),
-        Deed::NumNamed => CommandAnswer::Number(segment.num_named()),
-        Deed::NumUnique => CommandAnswer::Number(segment.num_unique()),
-        Deed::ReserveNamed(count) => done(segment.reserve_named(count)),
-        Deed::ReserveUnique(count) => done(segment.reserve_unique(count)),
-        Deed::ShrinkIndexes => done(segment.shrink_indexes()),
-        Deed::ZeroFree => done(segment.zero_free()),
-        Deed::Sanity => CommandAnswer::Truth(segment.sanity()),
-        Deed::AllDeallocated => CommandAnswer::Truth(segment.all_deallocated()),
+        Operation::Erase(key, index) => done(erase(segment, &key, index)),
+        Operation::Reserve(key, count) => done(segment.reserve(&key, count)),
+        Operation::Shrink(key) => done(segment.shrink(&key)),
+        Operation::Clear(key) => done(segment.clear(&key)),
+        Operation::Assign { key, values } => done(assign(segment, &key, values, room)),
+        Operation::Append { key, text } => done(append(segment, &key, text, &mut room.text)),
+        Operation::Lookup(key, at) => value_found(look_up(segment, &key, &at)),
+        Operation::Remove(key, at) => truth(erase_pair(segment, &key, &at)),
+        Operation::ListNames => CommandAnswer::Names,
+        Operation::ListKinds => CommandAnswer::Kinds,
+        Operation::Blocks => CommandAnswer::Blocks,
+        Operation::Free => CommandAnswer::Number(segment.free()),
+        Operation::NumNamed => CommandAnswer::Number(segment.num_named()),
+        Operation::NumUnique => CommandAnswer::Number(segment.num_unique()),
+        Operation::ReserveNamed(count) => done(segment.reserve_named(count)),
+        Operation::ReserveUnique(count) => done(segment.reserve_unique(count)),
+        Operation::ShrinkIndexes => done(segment.shrink_indexes()),
+        Operation::ZeroFree => done(segment.zero_free()),
+        Operation::Sanity => CommandAnswer::Boolean(segment.sanity()),
+        Operation::AllDeallocated => CommandAnswer::Boolean(segment.all_deallocated()),
     }
 }
 
@@ -160,7 +162,7 @@ pub fn truth<'a>(truth: Result<bool, Refusal>) -> CommandAnswer<'a>
     ensures { (d : Directory) → answer_seen d result ≡ truth_answer truth }
 {
     match truth {
-        Ok(truth) => CommandAnswer::Truth(truth),
+        Ok(truth) => CommandAnswer::Boolean(truth),
         Err(refusal) => CommandAnswer::Refused(refusal),
     }
 }
@@ -170,7 +172,7 @@ fn gone<'a>(gone: Result<(), Refusal>) -> CommandAnswer<'a>
     ensures { (d : Directory) → answer_seen d result ≡ gone_answer gone }
 {
     match gone {
-        Ok(()) => CommandAnswer::Truth(true),
+        Ok(()) => CommandAnswer::Boolean(true),
         Err(refusal) => CommandAnswer::Refused(refusal),
     }
 }

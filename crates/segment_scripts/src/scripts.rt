@@ -115,7 +115,7 @@ fn feed<M: Machine, W: Sink, F: RunObserver<W>>(
         rest = &rest[len + 1..];
     }
     line.extend(rest);
-    Ok(End::Whole)
+    Ok(End::Complete)
 }
 
 /// Reads the script in pieces and executes the lines that end in it, up to the line that ends the run.
@@ -157,7 +157,7 @@ fn read_lines<M: Machine, S: Source, W: Sink, F: RunObserver<W>>(
             Err(_) => return Err(RunFault::ReadFault),
         };
         if count == 0 {
-            return Ok(End::Whole);
+            return Ok(End::Complete);
         }
         let within = count.min(left);
         match feed(
@@ -169,7 +169,7 @@ fn read_lines<M: Machine, S: Source, W: Sink, F: RunObserver<W>>(
             follower,
             until,
         ) {
-            Ok(End::Whole) => {}
+            Ok(End::Complete) => {}
             Ok(End::Refused) => return Ok(End::Refused),
             Err(_) => return Err(RunFault::WriteFault),
         }
@@ -208,7 +208,7 @@ fn answer_last<M: Machine, W: Sink, F: RunObserver<W>>(
             return Ok(End::Refused);
         }
     }
-    Ok(End::Whole)
+    Ok(End::Complete)
 }
 
 /// Executes a script line by line and writes the answers. A line ends at a byte 10; the last line needs no end. The run
@@ -251,7 +251,7 @@ pub fn run_until<M: Machine, S: Source, W: Sink, F: RunObserver<W>>(
         until,
     )? {
         End::Refused => Ok(End::Refused),
-        End::Whole => match answer_last(machine, &mut scratch, &line, out, follower, until) {
+        End::Complete => match answer_last(machine, &mut scratch, &line, out, follower, until) {
             Ok(end) => Ok(end),
             Err(_) => Err(RunFault::WriteFault),
         },

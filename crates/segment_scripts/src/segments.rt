@@ -19,8 +19,9 @@ use crate::replies::{done, reply, truth};
 use crate::showing::put_get_answer;
 use raw_region::{DeviceFault, Sink};
 use segment_lang::{
-    CommandForm, DeedForm, LineError, LineStart, Piece, at_end, key_and_literal, key_and_number,
-    key_and_pair, line_start, only_key, put_number_line, put_pieces, read_deed,
+    CommandForm, LineError, LineStart, OperationForm, Piece, at_end, key_and_literal,
+    key_and_number, key_and_pair, line_start, only_key, put_number_line, put_pieces,
+    read_operation,
 };
 use segment_manager::Segment;
 use segment_values::{InsertSpot, add, put_pair};
@@ -50,7 +51,7 @@ impl Machine for Segment {
                 CommandForm::Push => answer_push(self, rest, scratch, out),
                 CommandForm::Put => answer_put(self, rest, scratch, out),
                 CommandForm::Pop => answer_pop(self, rest, scratch, out),
-                CommandForm::Deed(form) => answer_deed(self, form, rest, scratch, out),
+                CommandForm::Operation(form) => answer_operation(self, form, rest, scratch, out),
             },
             LineStart::Wrong(error) => put_wrong(error, out),
         }
@@ -170,21 +171,21 @@ fn answer_pop<W: Sink>(
 
 /// Answers any other command, given its arguments.
 #[inline(never)]
-fn answer_deed<W: Sink>(
+fn answer_operation<W: Sink>(
     segment: &mut Segment,
-    kind: DeedForm,
+    kind: OperationForm,
     rest: &[u8],
     scratch: &mut Scratch,
     out: &mut W,
 ) -> Result<Answered, DeviceFault>
     requires room { (W.history out.old).failures < 2 ^ 64 - 1 }
-    requires meaning { (c : AskedCommand) → Asked c ≡ reading_by (form.Deed kind) rest.now → IsMeant c }
+    requires meaning { (c : AskedCommand) → Asked c ≡ reading_by (form.Operation kind) rest.now → IsMeant c }
     ensures { Responds segment.old segment.new (W.history out.old) (W.history out.new) result
-        (reading_by (form.Deed kind) rest.now) }
+        (reading_by (form.Operation kind) rest.now) }
 {
-    match read_deed(kind, rest, &mut scratch.name) {
-        Some(deed) => {
-            let answer = reply(segment, deed, &mut scratch.room);
+    match read_operation(kind, rest, &mut scratch.name) {
+        Some(operation) => {
+            let answer = reply(segment, operation, &mut scratch.room);
             put_answer(segment, answer, out)
         }
         None => put_wrong(LineError::BadSyntax, out),

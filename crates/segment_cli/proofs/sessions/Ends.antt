@@ -25,7 +25,7 @@ use Rattle.segment_scripts.specs.declared.faults.RunFault.TheVariants.{ReadFault
 use Rattle.segment_scripts.specs.declared.faults.RunFault.TheVariants.{WriteFault as AnswerNotWritten}
 use Rattle.segment_scripts.specs.declared.faults.RunFault.TheVariants.{ScriptTooLong as TooLong}
 use Rattle.segment_scripts.specs.declared.ends.End.{End}
-use Rattle.segment_scripts.specs.declared.ends.End.TheVariants.{Whole, Refused as StoppedEarly}
+use Rattle.segment_scripts.specs.declared.ends.End.TheVariants.{Complete, Refused as StoppedEarly}
 use Rattle.segment_scripts.specs.declared.ends.Until.TheVariants.{End as ToTheEnd}
 use Rattle.segment_scripts.specs.{declared.faults.RunFault.RunFault, Run.run, RunOutcome.LeavesFault}
 use Rattle.segment_scripts.specs.{RunOutcome.RunsWhole, Segments.MachineState, Segments.IsMachineAt}
@@ -104,7 +104,7 @@ at_first mode d s is stands = record { mode = is; denotes = stands; zeros = λ e
 pub served : (s s' : SegmentState) (script : ReadDelta) (out : WriteDelta) (end : End)
     → ServesOk ToTheEnd s s' script out end
     → (at : MachineState) → IsMachineAt s at → RunsWhole answer_line at script out (IsMachineAt s')
-served s s' script out Whole h at there = (h.left at there).ran
+served s s' script out Complete h at there = (h.left at there).ran
 served s s' script out StoppedEarly h at there =
     absurd (let stop = (h.left at there).stop in cc)
 

@@ -12,7 +12,7 @@ use Rattle.segment_manager.specs.Layout.{magic_at}
 use Rattle.segment_manager.specs.State.{SegmentState, DenotesCurrent}
 use Rattle.segment_lang.specs.Language.{whole_language as whole_language}
 use Rattle.segment_scripts.specs.declared.ends.End.{End}
-use Rattle.segment_scripts.specs.declared.ends.End.TheVariants.{Whole, Refused}
+use Rattle.segment_scripts.specs.declared.ends.End.TheVariants.{Complete, Refused}
 use Rattle.segment_scripts.specs.declared.ends.Until.{Until}
 use Rattle.segment_scripts.specs.RunOutcome.{RunsWhole, answer_all}
 use Rattle.segment_scripts.specs.Run.{lines, run}
@@ -130,7 +130,7 @@ module _ {D : Type 0} (step : D → Event → D
         (at_first _ refl);
   }
 
-  module _ (ok : Bool) (answered : AnswersScript until s s' script out Flushed Whole ok) where
+  module _ (ok : Bool) (answered : AnswersScript until s s' script out Flushed Complete ok) where
     whole_run : (at : MachineState) → IsMachineAt s at → RunsWhole answer_line at script out (IsMachineAt s')
     whole_run at there = (answered.served.left at there).ran
 
@@ -181,7 +181,7 @@ module _ {D : Type 0} (step : D → Event → D
     }
 
   answered_to : (end : End) (ok : Bool) → AnswersScript until s s' script out Flushed end ok → IsAnsweredTo act end
-  answered_to Whole ok answered = answered_act ok answered
+  answered_to Complete ok answered = answered_act ok answered
   answered_to Refused ok answered = refused_act ok answered
 
   -- a run that stopped with a fault ends with it
@@ -211,9 +211,9 @@ module _ {D : Type 0} (step : D → Event → D
       → EndsRun step old old how path act Flushed (Ok Refused)
   refusing_run old answered = record { asked = refl; refused = refused_act true answered; flushed = answered.flushed }
 
-  module _ (old : D) (answered : AnswersScript until s s' script out Flushed Whole true) where
+  module _ (old : D) (answered : AnswersScript until s s' script out Flushed Complete true) where
     -- a mode that saves nothing
-    unsaving : (mode ≡ Write → ⊥) → EndsRun step old old how path act Flushed (Ok Whole)
+    unsaving : (mode ≡ Write → ⊥) → EndsRun step old old how path act Flushed (Ok Complete)
     unsaving keeps = let kept : s'.mode ≡ Write → ⊥ = λ e. keeps (sym (last_mode true answered) ∙ e) in record {
       image = [];
       written = whole_outcome how [];
@@ -246,7 +246,7 @@ module _ {D : Type 0} (step : D → Event → D
 
       -- the image is whole in its file
       pub saved : {E : Type 0} → WritesImage {E = E} step old new how path s'.cut.bytes (Ok tt)
-          → EndsRun step old new how path act Flushed (Ok Whole)
+          → EndsRun step old new how path act Flushed (Ok Complete)
       saved w = record {
         image = s'.cut.bytes;
         written = w.written;
@@ -305,15 +305,15 @@ module _ {D : Type 0} (step : D → Event → D
       saving_run (Err e) w = unsaved e w
 
   -- a run that did not end whole
-  pub unsaved_run : (old : D) (ended : Result End SessionFault) → (ended ≡ Ok Whole → ⊥)
+  pub unsaved_run : (old : D) (ended : Result End SessionFault) → (ended ≡ Ok Complete → ⊥)
       → RunsScript until s s' script out Flushed ended → EndsRun step old old how path act Flushed ended
-  unsaved_run old (Ok Whole) is_not answered = absurd (is_not refl)
+  unsaved_run old (Ok Complete) is_not answered = absurd (is_not refl)
   unsaved_run old (Ok Refused) is_not answered = refusing_run old answered
   unsaved_run old (Err fault) is_not why = stopped old fault why
 
   -- a run in a mode that saves nothing ends as its script does
   pub free_run : (mode ≡ Write → ⊥) → (old : D) → (result : Result End SessionFault)
       → RunsScript until s s' script out Flushed result → EndsRun step old old how path act Flushed result
-  free_run keeps old (Ok Whole) answered = unsaving old answered keeps
+  free_run keeps old (Ok Complete) answered = unsaving old answered keeps
   free_run keeps old (Ok Refused) answered = refusing_run old answered
   free_run keeps old (Err fault) why = stopped old fault why

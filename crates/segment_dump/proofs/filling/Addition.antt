@@ -2,7 +2,7 @@
 use Rattle.segment_dump.proofs.Common.{◌≡◌, ℕ, zero, suc, ◌+◌, ◌<◌, ◌≤◌, ℤ, pos, negsuc, Bool, true, List, ◌++◌, length}
 use Rattle.segment_dump.proofs.Common.{take, Result, Ok, Err, refl, sym, ap, subst, ◌∙◌, arith, nat_tests, Kind}
 use Rattle.segment_dump.proofs.Common.{ScalarKind, U8, I32, I64, U64, Refusal, ScalarValue, Command, literal_of}
-use Rattle.segment_dump.proofs.Common.{is_value, ByHandle, kind_of_scalar, scalar_of, value_of_scalar, Done, Truth}
+use Rattle.segment_dump.proofs.Common.{is_value, ByHandle, kind_of_scalar, scalar_of, value_of_scalar, Done, Boolean}
 use Rattle.segment_dump.proofs.Common.{TakesStepOfKind, SegmentState, done_answer, AddsElement, Collects, IsFillable}
 use Rattle.segment_dump.proofs.Common.{ReadsElement, ReadsPair, FillState, FillsAt, IsBuildableContent, ValueContent}
 use Rattle.segment_dump.proofs.Common.{Map, Scalars, String, Strings, Vector, count_of_content, kind_of_content}
@@ -69,7 +69,7 @@ pub was-done : (r : Result (Unit {0}) Refusal) → done_answer r ≡ Done → r 
 was-done (Ok u) e = refl
 was-done (Err why) e = absurd (cc)
 
-pub was-true : (r : Result Bool Refusal) → truth_answer r ≡ Truth true → r ≡ Ok true
+pub was-true : (r : Result Bool Refusal) → truth_answer r ≡ Boolean true → r ≡ Ok true
 was-true (Ok b) e = let same : b ≡ true = cc in ap Ok same
 was-true (Err why) e = absurd (cc)
 
@@ -171,7 +171,7 @@ module _ {E F : Type 0} (old new : SegmentState) (h n room : ℕ) (k : ScalarKin
 
 module _ (old : SegmentState) (h n room : ℕ) (k w : ScalarKind) (text : List ℕ) where
   put-next : Next old h n room (kinds.Map k w) text (pair_line k w) (IsTypedPair k w)
-      (λ y. asked.Put (ByHandle h) (literal_of k y.0) (literal_of w y.1)) (Truth true)
+      (λ y. asked.Put (ByHandle h) (literal_of k y.0) (literal_of w y.1)) (Boolean true)
   put-next p f l at =
       let q = map-of p.content k w f.kind_is in
       let good = subst IsBuildableContent q.1 f.good in

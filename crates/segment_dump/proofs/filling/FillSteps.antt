@@ -8,7 +8,7 @@ use Rattle.segment_dump.proofs.Common.{flat_map, max, option_to_list, slice_get,
 use Rattle.segment_dump.proofs.Common.{mul-le-mul_left, mul-zero, nat_tests, flat_map-append, append-nil, map-append}
 use Rattle.segment_dump.proofs.Common.{slice_get-get_or, Node, Storage, Extent, place, BackingArray, no_backing}
 use Rattle.segment_dump.proofs.Common.{current, Kind, ScalarKind, Refusal, OutOfRange, Command, literal_of, is_value}
-use Rattle.segment_dump.proofs.Common.{size_of, ByHandle, node_len, NumberPair, OwnedText, Write, Answer, Done, Truth}
+use Rattle.segment_dump.proofs.Common.{size_of, ByHandle, node_len, NumberPair, OwnedText, Write, Answer, Done, Boolean}
 use Rattle.segment_dump.proofs.Common.{Bytes, Directory, Elements, IsDirectory, Numbers, Object, Pairs, Texts, Value}
 use Rattle.segment_dump.proofs.Common.{live, object_at, value_extents, kind_of, Plan, Reply, Request, New, perform}
 use Rattle.segment_dump.proofs.Common.{with, changed, step, step_of_kind, effect, found_at, Head, IsFilling, Site}
@@ -431,7 +431,7 @@ module _ (d : Directory) (site : Site) (done : List DumpItem) (head : Head) (k v
   pub was-put : ((p q : ℤ) → int_lt p q ≡ true → int_lt q p ≡ false)
       → IsFilling d site done head (Pairs k v ps) (block_room node_bytes + rest) → IsRest rest
       → StepsTo (step_of_kind Write d (ByHandle head.handle) (kinds.Map k v)
-      (asked.Put (ByHandle head.handle) (literal_of k x) (literal_of v y))) (Truth true)
+      (asked.Put (ByHandle head.handle) (literal_of k x) (literal_of v y))) (Boolean true)
       (IsPut site done head k v ps x y rest)
   was-put order f r =
       let key = ByHandle head.handle in
@@ -443,14 +443,14 @@ module _ (d : Directory) (site : Site) (done : List DumpItem) (head : Head) (k v
       let p = pair_with x y taken.extent in
       let w : Value = Pairs k v (ps ++ p ∷ []) in
       let next : Extent → Plan = λ n.
-      Reply (Truth true) (changed d f.object (Pairs k v (put_pair int_lt (pair_with x y n) ps))) in
-      let behind : next taken.extent ≡ Reply (Truth true) (changed d f.object w) =
-      ap (λ l. Reply (Truth true) (changed d f.object (Pairs k v l))) (put-behind p ps a (λ q e. order q.key x e)) in
+      Reply (Boolean true) (changed d f.object (Pairs k v (put_pair int_lt (pair_with x y n) ps))) in
+      let behind : next taken.extent ≡ Reply (Boolean true) (changed d f.object w) =
+      ap (λ l. Reply (Boolean true) (changed d f.object (Pairs k v l))) (put-behind p ps a (λ q e. order q.key x e)) in
       let asks : put_plan d f.object k v x y f.object.value ≡ Request (New Node node_bytes) next =
       ap (put_plan d f.object k v x y) f.value_is
       ∙ ap (λ r. with r (λ new. put d f.object k v ps new)) (pair-read k v x y g h) ∙ ap (λ (o : Option NumberPair).
       elim o as (λ _. Plan) [
-        | Some q ↦ Reply (Truth false)
+        | Some q ↦ Reply (Boolean false)
             (changed d f.object (Pairs k v (put_pair int_lt (record q { value = y }) ps)))
         | None ↦ Request (New Node node_bytes) next
       ]) (no-key x ps a) in
@@ -459,7 +459,7 @@ module _ (d : Directory) (site : Site) (done : List DumpItem) (head : Head) (k v
         is = of-kind d key (kinds.Map k v) c f.object here
             (filled-kind d site done head (Pairs k v ps) all i f (kinds.Map k v) refl)
             ∙ ap (perform d (live d)) (at-object d key f.object (λ o. put_plan d o k v x y o.value) here ∙ asks)
-            ∙ met-perform d node_bytes Node taken.extent next (Truth true) (changed d f.object w) taken.is behind;
+            ∙ met-perform d node_bytes Node taken.extent next (Boolean true) (changed d f.object w) taken.is behind;
         holds = record {
           node = taken.extent;
           filling = block-more d site done head (Pairs k v ps) all i f w taken.extent rest (node-last ps p k v)

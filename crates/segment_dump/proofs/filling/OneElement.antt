@@ -6,7 +6,7 @@ use Rattle.segment_dump.proofs.Common.{◌++◌, length, map, replicate, refl, s
 use Rattle.segment_dump.proofs.Common.{append-nil, ◌^◌, flat_map, int_lt, slice_set, AllByRecursion, suc-mul, zero-mul}
 use Rattle.segment_dump.proofs.Common.{ints, length-append, length-map, map-append, Kind, ScalarKind, Command}
 use Rattle.segment_dump.proofs.Common.{literal_of, is_value, size_of, ByHandle, node_len, NumberPair, item_of, Write}
-use Rattle.segment_dump.proofs.Common.{Answer, Done, Truth, Directory, IsDirectory, current, Numbers, Pairs, Texts}
+use Rattle.segment_dump.proofs.Common.{Answer, Done, Boolean, Directory, IsDirectory, current, Numbers, Pairs, Texts}
 use Rattle.segment_dump.proofs.Common.{Value, TakesStep, TakesStepOfKind, SegmentState, DenotesCurrent, step}
 use Rattle.segment_dump.proofs.Common.{step_of_kind, IsFilling, IsByteList, AreRising, AreValues, FillState, FillsAt}
 use Rattle.segment_dump.proofs.Common.{Site, DumpItem, Head, StandsFilling, IsTypedPair, IsPartialValue, head_of}
@@ -226,7 +226,7 @@ module _ (p : FillState) (h n : ℕ) (k w : ScalarKind) (ps : List (ℤ × ℤ))
       → n ≡ length front → IsTypedPair k w y → (d : Directory) → IsDirectory current d
       → IsFilling d p.site p.done (head_of p h) (Pairs k w front) (length (y ∷ back) * node_room + p.more)
       → StepsTo (step_of_kind Write d (ByHandle h) (kinds.Map k w)
-      (asked.Put (ByHandle h) (literal_of k y.0) (literal_of w y.1))) (Truth true)
+      (asked.Put (ByHandle h) (literal_of k y.0) (literal_of w y.1))) (Boolean true)
       (HasNext (map_course k w) p h front y back)
   pair-put front (x, y) back a _ is d i filling =
       let rest : ℕ = length back * node_room + p.more in
@@ -246,9 +246,9 @@ module _ (p : FillState) (h n : ℕ) (k w : ScalarKind) (ps : List (ℤ × ℤ))
 pub next-pair : (s : SegmentState) (text : List ℕ) (p : FillState) (h n : ℕ) (k w : ScalarKind) (ps : List (ℤ × ℤ))
     → p.content ≡ Map k w ps → n < length ps → AllByRecursion (IsTypedPair k w) ps → AreRising ps → IsRest p.more
     → FillsAt s text p h n → NextElement s text p h n (pair_line k w) (IsTypedPair k w) (kinds.Map k w)
-    (λ y. asked.Put (ByHandle h) (literal_of k y.0) (literal_of w y.1)) (Truth true)
+    (λ y. asked.Put (ByHandle h) (literal_of k y.0) (literal_of w y.1)) (Boolean true)
 next-pair s text p h n k w ps e l g r m f = next-behind (map_course k w) s text p h n ps (kinds.Map k w)
-    (λ y. asked.Put (ByHandle h) (literal_of k y.0) (literal_of w y.1)) (Truth true) (IsTypedPair k w) l g
+    (λ y. asked.Put (ByHandle h) (literal_of k y.0) (literal_of w y.1)) (Boolean true) (IsTypedPair k w) l g
     (λ front. length-map front item_of) (as-part s text p h n f e) (pair-put p h n k w ps r m) f
     (its-part s text p h n f e) _ refl
 

@@ -180,17 +180,17 @@ no-truth z word true e f g = let same : signed_decimal z ≡ word = is_word-same
 no-truth z word false e f g = refl
 
 whole-literal : WholesAreDecimals → (z : ℤ) → IsWhole z
-    → literal_of_word (Bare (signed_decimal z)) ≡ Some (asked.Whole z)
+    → literal_of_word (Bare (signed_decimal z)) ≡ Some (asked.Integer z)
 whole-literal law z h =
     let w = signed_decimal z in
     let found : whole_of w ≡ Some z = (law w z).1 (h.0, h.1, refl) in
     let yes : is_word w (codes "true") ≡ false = no-truth z (codes "true") (is_word w (codes "true")) refl found refl in
     let no : is_word w (codes "false") ≡ false =
     no-truth z (codes "false") (is_word w (codes "false")) refl found refl in
-    ap (λ b. if b then Some (asked.Truth true) else if is_word w (codes "false") then Some (asked.Truth false) else
-    option_map asked.Whole (whole_of w)) yes
-    ∙ ap (λ b. if b then Some (asked.Truth false) else option_map asked.Whole (whole_of w)) no
-    ∙ ap (option_map asked.Whole) found
+    ap (λ b. if b then Some (asked.Boolean true) else if is_word w (codes "false") then Some (asked.Boolean false) else
+    option_map asked.Integer (whole_of w)) yes
+    ∙ ap (λ b. if b then Some (asked.Boolean false) else option_map asked.Integer (whole_of w)) no
+    ∙ ap (option_map asked.Integer) found
 
 abbrev value_in : ScalarKind → Option asked.Literal → Option ℤ
 value_in k o = option_and_then (λ l. result_ok (asked.value_of_literal k l)) o
@@ -199,7 +199,7 @@ abbrev in_kind : ScalarKind → ℤ → Result ℤ Refusal
 in_kind k z = if is_value k z then Ok z else Err OutOfRange
 
 value-read : WholesAreDecimals → (k : ScalarKind) (z : ℤ) → is_value k z ≡ true
-    → asked.value_of_literal k (asked.Whole z) ≡ in_kind k z → value_for k (Bare (signed_decimal z)) ≡ Some z
+    → asked.value_of_literal k (asked.Integer z) ≡ in_kind k z → value_for k (Bare (signed_decimal z)) ≡ Some z
 value-read law k z h e =
     ap (value_in k) (whole-literal law z (in-range k z h)) ∙ ap result_ok e
     ∙ ap (λ b. result_ok (if b then Ok z else Err OutOfRange)) h

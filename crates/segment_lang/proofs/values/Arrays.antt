@@ -11,7 +11,7 @@ use Rattle.seg_types.specs.declared.values.ScalarValue.{ScalarValue}
 use Rattle.seg_types.specs.declared.refusals.Refusal.TheVariants.{OutOfRange}
 use Rattle.seg_types.specs.Kinds.{is_value}
 use Rattle.seg_types.specs.Values.{scalar_of}
-use Rattle.seg_types.specs.Commands.{Literal, Whole, Truth, value_of_literal}
+use Rattle.seg_types.specs.Commands.{Literal, Integer, Boolean, value_of_literal}
 use Rattle.segment_lang.specs.Words.{Word, words, literal_of_word}
 use Rattle.segment_lang.specs.Reading.{all, value_for}
 use Rattle.segment_lang.specs.Tokens.{at_end, next_word}
@@ -26,12 +26,12 @@ in_range true w z k e h = let s : w ≡ z = cc in ap (is_value k) (sym s) ∙ e
 in_range false w z k e h = cc
 
 literal-value : (k : ScalarKind) (l : Literal) (z : ℤ) → result_ok (value_of_literal k l) ≡ Some z → is_value k z ≡ true
-literal-value BoolKind (Truth true) z h = let s : pos 1 ≡ z = cc in ap (is_value BoolKind) (sym s)
-literal-value BoolKind (Truth false) z h = let s : pos 0 ≡ z = cc in ap (is_value BoolKind) (sym s)
-literal-value U8 (Whole w) z h = in_range (is_value U8 w) w z U8 refl h
-literal-value I32 (Whole w) z h = in_range (is_value I32 w) w z I32 refl h
-literal-value I64 (Whole w) z h = in_range (is_value I64 w) w z I64 refl h
-literal-value U64 (Whole w) z h = in_range (is_value U64 w) w z U64 refl h
+literal-value BoolKind (Boolean true) z h = let s : pos 1 ≡ z = cc in ap (is_value BoolKind) (sym s)
+literal-value BoolKind (Boolean false) z h = let s : pos 0 ≡ z = cc in ap (is_value BoolKind) (sym s)
+literal-value U8 (Integer w) z h = in_range (is_value U8 w) w z U8 refl h
+literal-value I32 (Integer w) z h = in_range (is_value I32 w) w z I32 refl h
+literal-value I64 (Integer w) z h = in_range (is_value I64 w) w z I64 refl h
+literal-value U64 (Integer w) z h = in_range (is_value U64 w) w z U64 refl h
 literal-value k l z h = cc
 
 -- a word that is a value of a kind

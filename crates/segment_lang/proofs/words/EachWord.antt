@@ -10,7 +10,7 @@ use Rattle.segment_lang.specs.Tokens.{at_end, next_word}
 use Rattle.segment_lang.specs.Arguments.{texts_held}
 use Rattle.segment_lang.specs.Seen.{literal_held, literal_of, literals_held}
 use Rattle.segment_lang.specs.declared.literals.Literal.{Literal}
-use Rattle.segment_lang.specs.declared.literals.Literal.TheVariants.{Whole, Truth, Quoted}
+use Rattle.segment_lang.specs.declared.literals.Literal.TheVariants.{Integer, Boolean, Quoted}
 use Rattle.segment_lang.proofs.words.AllWords.{cons_words, words_next, words_some}
 
 abbrev pub each_of : {A : Type 0} → (Word → Option A) → List ℕ → Option (List A)
@@ -156,8 +156,8 @@ texts = record { value = quoted_of; one = λ t. t; held = texts_held; none = ref
 pub literal_back : (v : Option Literal) (x : Option asked.Literal) → option_map literal_of v ≡ x
     → v ≡ option_map literal_held x
 literal_back None x h = ap (option_map literal_held) h
-literal_back (Some (Whole z)) x h = ap (option_map literal_held) h
-literal_back (Some (Truth b)) x h = ap (option_map literal_held) h
+literal_back (Some (Integer z)) x h = ap (option_map literal_held) h
+literal_back (Some (Boolean b)) x h = ap (option_map literal_held) h
 literal_back (Some (Quoted t)) x h = ap (option_map literal_held) h
 
 -- a text as the walk has it

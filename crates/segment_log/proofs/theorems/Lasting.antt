@@ -5,7 +5,8 @@ use Rattle.segment_log.specs.Edits.{stands_for, StandsForOneOf}
 use Rattle.segment_log.specs.Events.{seen_in_the_end}
 use Rattle.segment_log.specs.Laws.{Committed, commit_events, shut_events, checkpoint_events}
 use Rattle.segment_log.specs.Records.{IsAjar, IsEndOfLog}
-use Rattle.segment_log.specs.Histories.{LogDeed, Commits, Checkpoints, CrashesInCommit, CrashesInCheckpoint, Reopens}
+use Rattle.segment_log.specs.Histories.{LogOperation, Commits, Checkpoints, CrashesInCommit, CrashesInCheckpoint}
+use Rattle.segment_log.specs.Histories.{Reopens}
 use Rattle.segment_log.specs.Histories.{OpeningFindsOne, HistoriesStayReady}
 use Rattle.segment_log.specs.Openings.{IsReady}
 use Rattle.segment_log.specs.Tags.{IsMidCommit, KeepsImage}
@@ -64,24 +65,24 @@ histories_stay_ready [] files now end at last found ready same =
     subst (λ (f : LoggedFile). IsReady f at found) (sym same.0)
     (subst (λ (e : ℕ). IsReady files e found) (sym same.1)
     (subst (λ (i : List ℕ). IsReady files end i) (sym same.2) ready))
-histories_stay_ready (Commits payload image ∷ deeds) files now end at last found ready goes =
-    histories_stay_ready deeds (seen_in_the_end files (commit_events end payload Committed)) now
+histories_stay_ready (Commits payload image ∷ operations) files now end at last found ready goes =
+    histories_stay_ready operations (seen_in_the_end files (commit_events end payload Committed)) now
     (end + 4096 + 8 + length payload) at image found
     (committed_finds_the_new files end payload last image ready goes.0).ready goes.1
-histories_stay_ready (Checkpoints ∷ deeds) files now end at last found ready goes =
-    histories_stay_ready deeds (seen_in_the_end files (checkpoint_events last true true true)) now 0 at last found
+histories_stay_ready (Checkpoints ∷ operations) files now end at last found ready goes =
+    histories_stay_ready operations (seen_in_the_end files (checkpoint_events last true true true)) now 0 at last found
     (checkpointed_is_ready files end last ready goes.0).ready goes.1
-histories_stay_ready (CrashesInCommit payload image how k crashes ∷ deeds) files now end at last found ready goes =
+histories_stay_ready (CrashesInCommit payload image how k crashes ∷ operations) files now end at last found ready goes =
     let c : LoggedFile = goes.1.0 in
     let mid = commit_finds_one files end payload last image how ready goes.0 k c goes.1.1 in
     let again = goes.1.2 in
-    histories_stay_ready deeds again.now now again.end at (stands_for again.now) found
+    histories_stay_ready operations again.now now again.end at (stands_for again.now) found
     (opening_finds_one c again.now crashes again.end last image mid again.opens).0 again.goes
 histories_stay_ready
-    (CrashesInCheckpoint placed written synced k crashes ∷ deeds) files now end at last found ready goes =
+    (CrashesInCheckpoint placed written synced k crashes ∷ operations) files now end at last found ready goes =
     let c : LoggedFile = goes.1.0 in
     let keeps = checkpoint_finds_the_same files end last placed written synced ready goes.0 k c goes.1.1 in
     let mid : IsMidCommit last last c = record { image = inl keeps.stands; named = keeps.named } in
     let again = goes.1.2 in
-    histories_stay_ready deeds again.now now again.end at (stands_for again.now) found
+    histories_stay_ready operations again.now now again.end at (stands_for again.now) found
     (opening_finds_one c again.now crashes again.end last last mid again.opens).0 again.goes

@@ -7,8 +7,8 @@ use Rattle.segment_manager.proofs.containers.PairCommands as plan
 use common.{◌≡◌, is_value, ErasesPair, node_len, put_pair, Directory, object_at, HasPairs, IsSegment, DenotesCurrent}
 use common.{cons_values, refl, Option, Result, int_lt, eq-eqb, ErasesKey, told_of, Request, perform, AnswersWith}
 use common.{changed, live_of, LiveSet, sym, ◌∙◌, ℕ, ℤ, Bool, true, Some, None, Ok, Err, List, [], WindowState, Node}
-use common.{Kind, Map, Key, PutsPair, New, Plan, with, ap, subst, false, PutsNoSpace, PutsNewPair, Truth, Pairs, Object}
-use common.{container_place, Reply, SegmentState, effect, map_of, Answer, Extent, option_map, value_of_literal}
+use common.{Kind, Map, Key, PutsPair, New, Plan, with, ap, subst, false, PutsNoSpace, PutsNewPair, Boolean, Pairs}
+use common.{Object, container_place, Reply, SegmentState, effect, map_of, Answer, Extent, option_map, value_of_literal}
 use common.{nodes_of_pairs, value_of_pair, AnswersSafely, value_or_absent, current, Refusal, NoSpace, code_of, size_of}
 use common.{Command, Literal, pair_at, Element, Refused, Denotes, kind_of, SameSurroundings, remove_pair, container_at}
 use common.{AnswersQueryOfKind, TakesStepOfKind, is_read_only, step_of_kind, truth_answer, ScalarKind, same_kind}
@@ -90,8 +90,8 @@ module _ {b : List ℕ} {d : Directory} {key : Key} {k v : ScalarKind} {p : Plac
 
   abbrev removed_with : ℤ → Option NumberPair → Plan
   removed_with x r = elim r as (λ _. Plan) [
-    | None ↦ Reply (Truth false) d
-    | Some p ↦ Reply (Truth true) (with_pairs (remove_pair int_lt h.pairs x))
+    | None ↦ Reply (Boolean false) d
+    | Some p ↦ Reply (Boolean true) (with_pairs (remove_pair int_lt h.pairs x))
   ]
 
   remove-plan : (l : Literal) (x : ℤ) → value_of_literal k l ≡ Ok x
@@ -104,11 +104,11 @@ module _ {b : List ℕ} {d : Directory} {key : Key} {k v : ScalarKind} {p : Plac
   with_pair x y n = put_pair int_lt (record { key = x; value = y; node = n }) h.pairs
 
   abbrev new_with : ℤ → ℤ → Extent → Plan
-  new_with x y n = Reply (Truth true) (with_pairs (with_pair x y n))
+  new_with x y n = Reply (Boolean true) (with_pairs (with_pair x y n))
 
   abbrev put_with : ℤ → ℤ → Option NumberPair → Plan
   put_with x y r = elim r as (λ _. Plan) [
-    | Some p ↦ Reply (Truth false) (with_pairs (put_pair int_lt (record p { value = y }) h.pairs))
+    | Some p ↦ Reply (Boolean false) (with_pairs (put_pair int_lt (record p { value = y }) h.pairs))
     | None ↦ Request (New Node (node_len (size_of k) (size_of v))) (new_with x y)
   ]
 
@@ -184,13 +184,13 @@ module _ (s : SegmentState) (key : Key) (k v : ScalarKind) (p : Place) (b : IsSe
   module _ (new : WindowState) (writing : is_read_only s.mode ≡ false) where
     -- the result of the step; the window keeps its place
     abbrev Moved : Command → Bool → Directory → Type 0
-    Moved c t d = SameSurroundings s.cut new × IsMove (record s { cut = new }) (Truth t) (outcome c d)
+    Moved c t d = SameSurroundings s.cut new × IsMove (record s { cut = new }) (Boolean t) (outcome c d)
 
     -- a call that is done
     does : {c : Command} {t : Bool} → ((d : Directory) (l : DenotesCurrent s.cut.bytes d) → Moved c t d)
         → TellsSafely s new key (Map k v) c (Ok t)
     does {c} {t} at = record {
-      step = by_step_of_kind s (record s { cut = new }) key (Map k v) c (Truth t)
+      step = by_step_of_kind s (record s { cut = new }) key (Map k v) c (Boolean t)
           (record { mode = refl; place = (at b.0 b.1).0 }) (λ d l. (at d l).1);
       refused = tt;
     }
@@ -214,7 +214,7 @@ module _ (s : SegmentState) (key : Key) (k v : ScalarKind) (p : Place) (b : IsSe
       -- the key is new
       put-new : pair_at int_lt h.pairs x ≡ None
           → PutsNewPair (numbers_of k) (numbers_of v) s.cut new p.handle p.at h.pairs x
-          y → IsMove (record s { cut = new }) (Truth true) (outcome (Put x y) d)
+          y → IsMove (record s { cut = new }) (Boolean true) (outcome (Put x y) d)
       put-new e r =
           let Becomes : Place → Type 0 =
           λ c. (r : PutsNewPair (numbers_of k) (numbers_of v) s.cut new c.handle c.at h.pairs x
@@ -229,14 +229,14 @@ module _ (s : SegmentState) (key : Key) (k v : ScalarKind) (p : Place) (b : IsSe
       -- a pair has the key
       put-again : (q : NumberPair) → pair_at int_lt h.pairs x ≡ Some q
           → OverwritesPair (numbers_of k) (numbers_of v) s.cut
-          new p.handle p.at h.pairs q x y → IsMove (record s { cut = new }) (Truth false) (outcome (Put x y) d)
+          new p.handle p.at h.pairs q x y → IsMove (record s { cut = new }) (Boolean false) (outcome (Put x y) d)
       put-again q e r =
           let is : q.key ≡ x = found-key x q h.pairs e in
           let same : nodes_of_pairs (with_pair h x y q.node) ≡ nodes_of_pairs h.pairs = replaced_nodes int_lt transitive
           q (record { key = x; value = y; node = q.node }) (sym is) refl h.pairs h.map.rising e in
           record {
             after = with_pairs h (with_pair h x y q.node);
-            is = put-outcome (Some q) e ∙ (λ i. (Truth false, with_pairs h (with_pair h (is i) y q.node)));
+            is = put-outcome (Some q) e ∙ (λ i. (Boolean false, with_pairs h (with_pair h (is i) y q.node)));
             stands = record {
               denotes = again-denotes s.cut new l.denotes h.known x y q
                   (subst (λ (c : Place). OverwritesPair (numbers_of k)
@@ -255,11 +255,12 @@ module _ (s : SegmentState) (key : Key) (k v : ScalarKind) (p : Place) (b : IsSe
           → PutsHere (let one : Result Bool E = Ok t in one) o → Moved (Put x y) t d
       put-moves E t None e r = (
         r.1.beside.place,
-        subst (λ (t : Bool). IsMove (record s { cut = new }) (Truth t) (outcome (Put x y) d)) (sym r.0) (put-new e r.1),
+        subst (λ (t : Bool). IsMove (record s { cut = new }) (Boolean t) (outcome (Put x y) d)) (sym r.0)
+            (put-new e r.1),
       )
       put-moves E t (Some q) e r = (
         r.1.beside.place,
-        subst (λ (t : Bool). IsMove (record s { cut = new }) (Truth t) (outcome (Put x y) d))
+        subst (λ (t : Bool). IsMove (record s { cut = new }) (Boolean t) (outcome (Put x y) d))
             (sym (ok_same t false r.0)) (put-again q e r.1),
       )
         where
@@ -307,7 +308,7 @@ module _ (s : SegmentState) (key : Key) (k v : ScalarKind) (p : Place) (b : IsSe
         subst (SameSurroundings s.cut) (sym r.1) (record { before = refl; after = refl }),
         record {
           after = d;
-          is = remove-outcome None e ∙ (λ i. (Truth (sym r.0 i), d));
+          is = remove-outcome None e ∙ (λ i. (Boolean (sym r.0 i), d));
           stands = subst (λ (c : WindowState). DenotesCurrent c.bytes d) (sym r.1) l;
         },
       )
@@ -315,7 +316,7 @@ module _ (s : SegmentState) (key : Key) (k v : ScalarKind) (p : Place) (b : IsSe
         r.1.beside.place,
         record {
           after = with_pairs h (remove_pair int_lt h.pairs x);
-          is = remove-outcome (Some q) e ∙ (λ i. (Truth (sym r.0 i), with_pairs h (remove_pair int_lt h.pairs x)));
+          is = remove-outcome (Some q) e ∙ (λ i. (Boolean (sym r.0 i), with_pairs h (remove_pair int_lt h.pairs x)));
           stands = record {
             denotes = erased-denotes s.cut new l.denotes h.known x q e (subst (λ (c : Place). ErasesPair (numbers_of k)
                 (numbers_of v) s.cut new c.handle c.at h.pairs q x) (sym h.at) r.1);

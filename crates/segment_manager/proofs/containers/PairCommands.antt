@@ -4,7 +4,7 @@ use Rattle.seg_types.specs.Commands as asked
 use Rattle.segment_manager.specs.Step as step
 use common.{◌≡◌, refl, sym, ◌∙◌, true, Some, None, Ok, Err, List, ◌∷◌, [], Map, Key, live, Plan, with, SegmentState, ap}
 use common.{ScalarKind, WrongKind, literal_of, remove_pair, NumberPair, IsChangeableObject, IsValueOf, Directory}
-use common.{object_at, subst, false, int_lt, eq-eqb, Answer, Truth, Value, Pairs, Object, Refuse, Reply, TakesStep}
+use common.{object_at, subst, false, int_lt, eq-eqb, Answer, Boolean, Value, Pairs, Object, Refuse, Reply, TakesStep}
 use common.{effect, map_of, ℤ, Option, Result, Located, Element, Refused, kind_at, kind_of, perform, AnswersWith}
 use common.{AnswersQuery, changed, pair_values, Refusal, code_of, is_value, ByHandle, Literal, pair_at, IsMissing}
 use common.{IsLocated, DenotesCurrent, cons_values, found_at, ScalarValue, value_of_literal, kind_of_scalar}
@@ -32,8 +32,10 @@ looks_up d l (k, v, ps) = with (value_of_literal k l)
 
 abbrev pub removes_at : Directory → Object → ScalarKind → ScalarKind → List NumberPair → ℤ → Plan
 removes_at d o k v ps x =
-    elim (pair_at int_lt ps x) as (λ _. Plan)
-    [ None ↦ Reply (Truth false) d | Some p ↦ Reply (Truth true) (changed d o (Pairs k v (remove_pair int_lt ps x))) ]
+    elim (pair_at int_lt ps x) as (λ _. Plan) [
+      | None ↦ Reply (Boolean false) d
+      | Some p ↦ Reply (Boolean true) (changed d o (Pairs k v (remove_pair int_lt ps x)))
+    ]
 
 abbrev pub removes : Directory → Object → Literal → ScalarKind × ScalarKind × List NumberPair → Plan
 removes d o l (k, v, ps) = with (value_of_literal k l) (removes_at d o k v ps)

@@ -1,7 +1,7 @@
 -- The calls that keep the directory, for each directory of the bytes: zeroing the gaps, and reading the segment.
 use Rattle.seg_types.specs.Commands as asked
 use Rattle.segment_manager.proofs.Common.{◌≡◌, bytes_of, gap_front, SameBlock, ZeroesFree, Directory, tiles_of}
-use Rattle.segment_manager.proofs.Common.{slice_get, refl, ap, subst, true, false, ◌==◌, spans, KeepsBlocks, Truth}
+use Rattle.segment_manager.proofs.Common.{slice_get, refl, ap, subst, true, false, ◌==◌, spans, KeepsBlocks, Boolean}
 use Rattle.segment_manager.proofs.Common.{SegmentState, KeepsModeAndPlace, Option, sym, ◌∙◌, ℕ, ◌+◌, List, WindowState}
 use Rattle.segment_manager.proofs.Common.{gaps, live, Done, step, Mode, Tile, length, word_at, current, LiveSet}
 use Rattle.segment_manager.proofs.Common.{EncodesLiveSet, live_of, Denotes, Number, TakesStep, AllByRecursion, AreZero}
@@ -75,17 +75,17 @@ free-replies mode b = by_replies b mode asked.Free (λ d. Number (free_bytes (li
     (record { says = λ d h. ap (λ l. Number (free_bytes l)) (denotes-live current b d h) })
 
 -- each segment is whole
-pub sanity-replies : (mode : Mode) (b : List ℕ) → Says b (λ d. (step mode d asked.Sanity).0) (Truth true)
-sanity-replies mode b = by_replies b mode asked.Sanity (λ d. Truth true) (λ d. step-reply mode d asked.Sanity
-    (Truth true) d (open-reading mode asked.Sanity refl) refl) (record { says = λ d h. refl })
+pub sanity-replies : (mode : Mode) (b : List ℕ) → Says b (λ d. (step mode d asked.Sanity).0) (Boolean true)
+sanity-replies mode b = by_replies b mode asked.Sanity (λ d. Boolean true) (λ d. step-reply mode d asked.Sanity
+    (Boolean true) d (open-reading mode asked.Sanity refl) refl) (record { says = λ d h. refl })
 
 -- the number of blocks is that of the extents
 pub all_deallocated-replies : (mode : Mode) (b : List ℕ)
-    → Says b (λ d. (step mode d asked.AllDeallocated).0) (Truth (length (live_of b).extents == 0))
-all_deallocated-replies mode b = by_replies b mode asked.AllDeallocated (λ d. Truth (length (live d).extents == 0))
-    (λ d. step-reply mode d asked.AllDeallocated (Truth (length (live d).extents == 0)) d
+    → Says b (λ d. (step mode d asked.AllDeallocated).0) (Boolean (length (live_of b).extents == 0))
+all_deallocated-replies mode b = by_replies b mode asked.AllDeallocated (λ d. Boolean (length (live d).extents == 0))
+    (λ d. step-reply mode d asked.AllDeallocated (Boolean (length (live d).extents == 0)) d
     (open-reading mode asked.AllDeallocated refl) refl)
-    (record { says = λ d h. ap (λ (l : LiveSet). Truth (length l.extents == 0)) (denotes-live current b d h) })
+    (record { says = λ d h. ap (λ (l : LiveSet). Boolean (length l.extents == 0)) (denotes-live current b d h) })
 
 -- ---- the blocks and gaps, one after another
 

@@ -9,7 +9,8 @@ use common.{nat_lt, nat_le, length, Extent, Exists, Object, Answer, Refused, Req
 use common.{Class, NotFound, changed, storage_of, with_table, with_items, shrunk_backing, capacity_for_text}
 use common.{pair_values, remove_pair, ◌++◌, ◌-◌, U8, Element, capacity_for_one, element_at, map, slice_set, insert}
 use common.{remove, nat_abs, Value, Bytes, Pairs, Texts, Refuse, Reply, found, map_of, effect, int_lt, handle, List}
-use common.{Some, None, ◌==◌, ◌&&◌, take, Kind, Mode, live, bare, Need, Plan, with, step, plan, Done, Truth, replicate}
+use common.{Some, None, ◌==◌, ◌&&◌, take, Kind, Mode, live, bare, Need, Plan, with, step, plan, Done, Boolean}
+use common.{replicate}
 use common.{WrongKind, OutOfRange, Anonymous, same_kind, with_place, with_entry, with_value, refusal_of, ReadOnly}
 use common.{ScalarKind, Vector, ByHandle, OwnedText, Elements, Directory, object_at, class_of, found_at, cons_values}
 use common.{count_of}
@@ -269,17 +270,17 @@ module _ (w : Bool) (d : Directory) (key : Key) (o : Object) (is : object_at d k
       (λ (k, v, ps). with (pair_values k v l m) (λ new. put d o k v ps new)))
   put-leaves (Pairs k v ps) e l m = two-leaves _ _ d (value_of_literal k l) (value_of_literal v m) _
       (λ y z. option-leaves _ _ d (pair_at int_lt ps y) _ _
-      (by_request (λ n. change {answer = Truth true} _ e refl refl refl))
-      (λ p. change {answer = Truth false} _ e refl refl refl))
+      (by_request (λ n. change {answer = Boolean true} _ e refl refl refl))
+      (λ p. change {answer = Boolean false} _ e refl refl refl))
   put-leaves v e l m = by_refusal
 
   remove-leaves : (v : Value) → o.value ≡ v → (l : Literal) → Leaves d true w (with (map_of v)
       (λ (k, v, ps). with (value_of_literal k l) (λ x. elim (pair_at int_lt ps x) as (λ _. Plan) [
-        | None ↦ Reply (Truth false) d
-        | Some p ↦ Reply (Truth true) (changed d o (Pairs k v (remove_pair int_lt ps x)))
+        | None ↦ Reply (Boolean false) d
+        | Some p ↦ Reply (Boolean true) (changed d o (Pairs k v (remove_pair int_lt ps x)))
       ])))
   remove-leaves (Pairs k v ps) e l = with-leaves _ _ d (value_of_literal k l) _ (λ z. option-leaves _ _ d
-      (pair_at int_lt ps z) _ _ (same d _) (λ p. change {answer = Truth true} _ e refl refl refl))
+      (pair_at int_lt ps z) _ _ (same d _) (λ p. change {answer = Boolean true} _ e refl refl refl))
   remove-leaves v e l = by_refusal
 
 -- ---- all commands
@@ -298,9 +299,9 @@ effect-leaves d (asked.FindOrConstruct key content) = option-leaves _ _ d (objec
     content _ (λ o e. by_other {answer = Found (handle o.extent) (count_of o.value)} {after = e} refl)) (λ o. if-leaves
     _ _ d (same_kind (kind_of (bare content)) (kind_of o.value)) _ _ (same d (found o)) (by_refusal {r = WrongKind}))
 effect-leaves d (asked.Destroy key) =
-    option-leaves _ _ d (object_at d key) _ _ (same d _) (λ o. by_other {answer = Truth true} refl)
+    option-leaves _ _ d (object_at d key) _ _ (same d _) (λ o. by_other {answer = Boolean true} refl)
 effect-leaves d (asked.DestroyPtr h) =
-    with-leaves _ _ d (found_at d (ByHandle h)) _ (λ o. by_other {answer = Truth true} refl)
+    with-leaves _ _ d (found_at d (ByHandle h)) _ (λ o. by_other {answer = Boolean true} refl)
 effect-leaves d (asked.Show key) = with-leaves _ _ d (found_at d key) _ (λ o. same d _)
 effect-leaves d (asked.Info key) = with-leaves _ _ d (found_at d key) _ (λ o. same d _)
 effect-leaves d (asked.Get key i) = with-leaves _ _ d (found_at d key) _ (λ o. get-leaves _ _ d o.value i)

@@ -5,7 +5,7 @@ use Rattle.seg_types.specs.Names as names
 use Rattle.seg_types.specs.Commands as asked
 use Rattle.seg_index.specs.declared.index.Index.TheVariants as index
 use common.{◌≡◌, sym, ap, ◌∙◌, ◌<◌, [], ◌∷◌, WindowState, refl, true, ◌==◌, Some, None, List, BackingArray, Found}
-use common.{Truth, Seeks, Plan, Reply, subst, Directory, Deallocates, is_live_in, HoldsObject, entries_of, objects_of}
+use common.{Boolean, Seeks, Plan, Reply, subst, Directory, Deallocates, is_live_in, HoldsObject, entries_of, objects_of}
 use common.{ℕ, Option, handle, Class, Index, Absent, Object, SegmentState, arith, remove, TakesStep, false}
 use common.{EncodesLiveSet, live_of, Refused, Denotes, Becomes, Empties, emptied, changed, bytes_of, IsAnonymousAt}
 use common.{lay_out_one, beside_table, entry_count, is_read_only, current, FindsPosition, is_class, NotFound, HasIndex}
@@ -207,18 +207,18 @@ found-entry c b i e key at q p =
 -- the look-up found its entry
 pub destroys-entered : {s t : SegmentState} (view : s ≡ t) (b : IsSegment s.cut.bytes) {c : WindowState} (i : Index)
     (e : Entry) (key : names.Key) (at : ℕ) → is_read_only t.mode ≡ false → Seeks i e key
-    → Ends s.cut i e (Found at) → RemovesEntry s.cut c i at → Stepped s t c (asked.Destroy key) (Truth true)
+    → Ends s.cut i e (Found at) → RemovesEntry s.cut c i at → Stepped s t c (asked.Destroy key) (Boolean true)
 destroys-entered {s} {t} view b {c} i e key at may q p r =
-    stepped s t view b c (asked.Destroy key) (Truth true) may (λ writing. by_step (asked.Destroy key) (record {
+    stepped s t view b c (asked.Destroy key) (Boolean true) may (λ writing. by_step (asked.Destroy key) (record {
       mode = refl;
       place = let x = found-entry s.cut b i e key at q p in
           (r x.directory x.object x.stands x.is).place;
     }) (λ d k.
     let there = found-for s.cut e k.denotes q p in
     lands (without_object d there.object) (record {
-      is = step-reply s.mode d (asked.Destroy key) (Truth true) (without_object d there.object)
+      is = step-reply s.mode d (asked.Destroy key) (Boolean true) (without_object d there.object)
           (open-writing s.mode (asked.Destroy key) writing) (ap (λ (r : Option Object).
-          elim r as (λ _. Plan) [ None ↦ Reply (Truth false) d | Some o ↦ Reply (Truth true) (without_object d o) ])
+          elim r as (λ _. Plan) [ None ↦ Reply (Boolean false) d | Some o ↦ Reply (Boolean true) (without_object d o) ])
           there.is);
       denotes = (r d there.object k there.stands).denotes;
     })))
@@ -226,15 +226,15 @@ destroys-entered {s} {t} view b {c} i e key at may q p r =
 -- or there is no such object
 pub destroys-none : {s t : SegmentState} (view : s ≡ t) (i : Index) (e : Entry) (key : names.Key) (at : ℕ)
     → is_read_only t.mode
-    ≡ false → Seeks i e key → Ends s.cut i e (Absent at) → TakesStep t t (asked.Destroy key) (Truth false)
+    ≡ false → Seeks i e key → Ends s.cut i e (Absent at) → TakesStep t t (asked.Destroy key) (Boolean false)
 destroys-none {s} view i e key at may q p =
     let writing : is_read_only s.mode ≡ false =
     subst (λ (u : SegmentState). is_read_only u.mode ≡ false) (sym view) may in
-    subst (λ (u : SegmentState). TakesStep u u (asked.Destroy key) (Truth false)) view
+    subst (λ (u : SegmentState). TakesStep u u (asked.Destroy key) (Boolean false)) view
     (by_no_change s (asked.Destroy key)
-    (Truth false) (λ d k. step-reply s.mode d (asked.Destroy key) (Truth false) d (open-writing s.mode
+    (Boolean false) (λ d k. step-reply s.mode d (asked.Destroy key) (Boolean false) d (open-writing s.mode
     (asked.Destroy key) writing) (ap (λ (r : Option Object).
-    elim r as (λ _. Plan) [ None ↦ Reply (Truth false) d | Some o ↦ Reply (Truth true) (without_object d o) ])
+    elim r as (λ _. Plan) [ None ↦ Reply (Boolean false) d | Some o ↦ Reply (Boolean true) (without_object d o) ])
     (lookup-absent i s.cut e key k.denotes q
     (p (table_of i d) (entries_of i d) (denotes-index i s.cut k.denotes))).none)))
 
@@ -243,14 +243,14 @@ destroys-none {s} view i e key at may q p =
 -- the object of the handle is gone from each directory
 destroys-object : {s : SegmentState} (c : WindowState) (h : ℕ) → is_read_only s.mode ≡ false → IsSegment s.cut.bytes
     → ((d : Directory) → DenotesCurrent s.cut.bytes d → (o : Object) × ((object_at d (names.ByHandle h) ≡ Some o)
-    × Becomes s.cut c (without_object d o))) → TakesStep s (record s { cut = c }) (asked.DestroyPtr h) (Truth true)
+    × Becomes s.cut c (without_object d o))) → TakesStep s (record s { cut = c }) (asked.DestroyPtr h) (Boolean true)
 destroys-object {s} c h writing b each =
     by_step (asked.DestroyPtr h) (record { mode = refl; place = (each b.0 b.1).1.1.place }) (λ d k.
     let x = each d k in
     lands (without_object d x.0) (record {
-      is = step-reply s.mode d (asked.DestroyPtr h) (Truth true) (without_object d x.0)
+      is = step-reply s.mode d (asked.DestroyPtr h) (Boolean true) (without_object d x.0)
           (open-writing s.mode (asked.DestroyPtr h) writing)
-          (with-found d (names.ByHandle h) x.0 (λ o. Reply (Truth true) (without_object d o)) x.1.0);
+          (with-found d (names.ByHandle h) x.0 (λ o. Reply (Boolean true) (without_object d o)) x.1.0);
       denotes = x.1.1.denotes;
     }))
 
@@ -267,10 +267,10 @@ module _ {s t : SegmentState} (view : s ≡ t) {h : ℕ} {i : Index} {at : ℕ} 
 
   -- the object was removed with its entry
   pub destroys-ptr : (b : IsSegment s.cut.bytes) {c : WindowState} → is_read_only t.mode ≡ false → IsEntryAt t h i at
-      → RemovesEntry s.cut c i at → Stepped s t c (asked.DestroyPtr h) (Truth true)
+      → RemovesEntry s.cut c i at → Stepped s t c (asked.DestroyPtr h) (Boolean true)
   destroys-ptr b {c} may listed r =
       let l = seen-entry listed in
-      stepped s t view b c (asked.DestroyPtr h) (Truth true) may (λ writing. destroys-object c h writing b (λ d k.
+      stepped s t view b c (asked.DestroyPtr h) (Boolean true) may (λ writing. destroys-object c h writing b (λ d k.
       let x = l.leads d k in let there = found-for s.cut l.entry k.denotes x.seeks l.found in
       let same = same_Some there.object x.object (sym there.is ∙ x.found) in
       (x.object, (x.is, subst (λ o. Becomes s.cut c (without_object d o)) same (r d there.object k there.stands)))))
@@ -278,10 +278,10 @@ module _ {s t : SegmentState} (view : s ≡ t) {h : ℕ} {i : Index} {at : ℕ} 
 -- or it had no key
 pub destroys-anonymous : {s t : SegmentState} (view : s ≡ t) (b : IsSegment s.cut.bytes) {c : WindowState} (h : ℕ)
     → is_read_only t.mode ≡ false → IsAnonymousAt t h → RemovesAnonymous s.cut c h
-    → Stepped s t c (asked.DestroyPtr h) (Truth true)
+    → Stepped s t c (asked.DestroyPtr h) (Boolean true)
 destroys-anonymous {s} {t} view b {c} h may listed r =
     let each : IsAnonymousAt s h = subst (λ (u : SegmentState). IsAnonymousAt u h) (sym view) listed in
-    stepped s t view b c (asked.DestroyPtr h) (Truth true) may (λ writing.
+    stepped s t view b c (asked.DestroyPtr h) (Boolean true) may (λ writing.
     destroys-object c h writing b (λ d k. let x = each d k in (x.0, (x.1, r d x.0 k x.1 x.2))))
 
 -- no object has the handle
@@ -290,4 +290,4 @@ pub destroys-no_ptr : {s : SegmentState} (h : ℕ) → is_read_only s.mode ≡ f
     → object_at d (names.ByHandle h) ≡ None) → TakesStep s s (asked.DestroyPtr h) (Refused NotFound)
 destroys-no_ptr {s} h writing each = by_no_change s (asked.DestroyPtr h) (Refused NotFound) (λ d k.
     step-refuse s.mode d (asked.DestroyPtr h) NotFound (open-writing s.mode (asked.DestroyPtr h) writing)
-    (with-not_found d (names.ByHandle h) (λ o. Reply (Truth true) (without_object d o)) (each d k)))
+    (with-not_found d (names.ByHandle h) (λ o. Reply (Boolean true) (without_object d o)) (each d k)))

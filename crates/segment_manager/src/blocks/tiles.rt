@@ -4,7 +4,7 @@ ghost use Rattle.raw_region.specs.{Format.current, Memory.bytes_of};
 ghost use Rattle.block_tags.specs.Tiles.{tiles_of};
 ghost use Rattle.best_fit.specs.{Extents.spans, FreeTree.span, Heap.IsTileOf, Heap.ZeroesFree};
 ghost use Rattle.seg_types.specs.Commands.{AllDeallocated, Sanity, ZeroFree};
-ghost use Rattle.segment_manager.specs.{Answers.Truth, Directory.live, indexes.Iterating.is_own_span};
+ghost use Rattle.segment_manager.specs.{Answers.Boolean, Directory.live, indexes.Iterating.is_own_span};
 ghost use Rattle.segment_manager.specs.Calls.{HasZeroGaps, IsTileOfIndex, as_span};
 ghost use Rattle.segment_manager.specs.State.{AnswersWith, AnswersQuery, TakesStep, done_answer};
 
@@ -71,7 +71,7 @@ impl Segment {
     ///
     /// Example: `if segment.sanity()`.
     pub fn sanity(&self) -> bool
-        ensures { AnswersQuery self.now Sanity (Truth result) }
+        ensures { AnswersQuery self.now Sanity (Boolean result) }
     {
         self.heap.sanity()
     }
@@ -80,7 +80,7 @@ impl Segment {
     ///
     /// Example: `if segment.all_deallocated()`.
     pub fn all_deallocated(&self) -> bool
-        ensures { AnswersQuery self.now AllDeallocated (Truth result) }
+        ensures { AnswersQuery self.now AllDeallocated (Boolean result) }
     {
         self.heap.live_count() == 0
     }

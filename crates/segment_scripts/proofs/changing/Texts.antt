@@ -11,7 +11,7 @@ use Rattle.seg_types.specs.declared.refusals.Refusal.TheVariants.{NotFound, OutO
 use Rattle.seg_types.specs.Kinds.{same_kind}
 use Rattle.seg_types.specs.Names.{Key, ByHandle}
 use Rattle.seg_types.specs.Commands as asked
-use Rattle.seg_types.specs.Commands.{Command, Literal, Quoted, Truth, Whole}
+use Rattle.seg_types.specs.Commands.{Command, Literal, Quoted, Boolean, Integer}
 use Rattle.seg_vector.specs.Vector.{OwnedText}
 use Rattle.segment_lang.specs.Seen.{HasLineRoom}
 use Rattle.segment_manager.specs.declared.modes.Mode.{Mode}
@@ -61,8 +61,8 @@ quoted-back ls r e bss f = back ls bss (e ∙ f)
 
     back : (ls : List Literal) (bss : List (List ℕ)) → texts_of ls ≡ Ok bss → ls ≡ map Quoted bss
     back [] bss e = let none : [] ≡ bss = cc in ap (map Quoted) none
-    back (Whole z ∷ ls) bss e = absurd (cc)
-    back (Truth b ∷ ls) bss e = absurd (cc)
+    back (Integer z ∷ ls) bss e = absurd (cc)
+    back (Boolean b ∷ ls) bss e = absurd (cc)
     back (Quoted bs ∷ ls) bss e = more bs ls (texts_of ls) bss (λ css f. back ls css f) e
 
 pub texts-back : (ls : List Literal) (bss : List (List ℕ)) → texts_of ls ≡ Ok bss → ls ≡ map Quoted bss
@@ -211,8 +211,8 @@ text-asked s key i answer r d st = r.answers d st ∙ asked-step s.mode d key i 
 
 -- a literal that takes no more bytes than a line has
 pub has-room : (l : Literal) → bytes_taken (l ∷ []) ≤ 4097 → HasLineRoom l
-has-room (Whole z) few = tt
-has-room (Truth b) few = tt
+has-room (Integer z) few = tt
+has-room (Boolean b) few = tt
 has-room (Quoted bs) few = omega arith
 
 -- no object has the key

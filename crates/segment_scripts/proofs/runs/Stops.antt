@@ -15,7 +15,7 @@ use Rattle.segment_scripts.specs.Lines.{ended_lines, open_line, script_limit, ex
 use Rattle.segment_scripts.specs.RunProgress.{kept, EndsAtLast, EndsIn, FailsIn, HasAnswered, HasStopped, HasRunTo}
 use Rattle.segment_scripts.specs.RunProgress.{IsStoppedAtLast, LeavesLast}
 use Rattle.segment_scripts.specs.declared.ends.End.{End}
-use Rattle.segment_scripts.specs.declared.ends.End.TheVariants.{Whole, Refused}
+use Rattle.segment_scripts.specs.declared.ends.End.TheVariants.{Complete, Refused}
 use Rattle.segment_scripts.specs.Stopping.{IsStoppedAt, LeavesUntil, goes_on}
 use Rattle.segment_lang.proofs.Laws.{at_most_or_more}
 use Rattle.segment_scripts.proofs.runs.Lines.{ended_lines-end, lines-parts, last_lines, last-some, last-none}
@@ -136,7 +136,8 @@ module _ {P : Type 0} (respond : P → List ℕ → List ℕ × P) where
     -- a run that ends at its last line leaves it
     pub grows_last : (start : P) (before read : List ℕ) (Stands : P → Type 0) (taken : List ℕ) (end : End)
         → LeavesLast respond stops start before read Stands taken end → AppendsBytes before taken
-    grows_last start before read Stands taken Whole h = grows_answered start before (lines read) Stands taken h.answered
+    grows_last start before read Stands taken Complete h =
+        grows_answered start before (lines read) Stands taken h.answered
     grows_last start before read Stands taken Refused h =
         grows_answered start before (ended_lines read ++ open_line read ∷ []) Stands taken h.ends.answered
 
@@ -244,7 +245,7 @@ module _ {P : Type 0} (respond : P → List ℕ → List ℕ × P) where
         → LeavesLast respond stops start before script.bytes Stands taken end
         → out.bytes ≡ drop (length before) taken → script.failed ≡ false → out.failed ≡ false
         → LeavesUntil respond stops start script out Stands (Ok end)
-    until_last start before script out Stands taken Whole whole within h took given written = record {
+    until_last start before script out Stands taken Complete whole within h took given written = record {
       ran = record {
         whole = whole;
         within = within;

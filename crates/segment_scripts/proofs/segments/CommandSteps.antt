@@ -23,8 +23,8 @@ use Rattle.segment_manager.specs.Plan.{perform}
 use Rattle.segment_manager.specs.Step.{effect, step}
 use Rattle.segment_manager.proofs.CommandLaws.{answered-reads}
 use Rattle.segment_manager.proofs.Laws.{step-reads}
-use Rattle.segment_lang.specs.declared.commands.Deed.{Deed}
-use Rattle.segment_lang.specs.Seen.{deed_of}
+use Rattle.segment_lang.specs.declared.commands.Operation.{Operation}
+use Rattle.segment_lang.specs.Seen.{operation_of}
 use Rattle.segment_scripts.specs.declared.replies.CommandAnswer.{CommandAnswer as Reply}
 use Rattle.segment_scripts.specs.declared.replies.CommandAnswer.TheVariants as said
 use Rattle.segment_scripts.specs.Replies.{Replies, answer_seen, shown_at, shown_of, told_at, told_of}
@@ -181,30 +181,31 @@ pub replies-plain : {A : Type 0} (f : A → Answer) → ((a : A) → is_untouche
 replies-plain f plain {old} {new} {c} {reply} result e other same h refused none =
     replies-call f plain result e other same h refused (finds-none old new c none)
 
--- ---- a deed as the line that was read has it
+-- ---- an operation as the line that was read has it
 
-module _ {old new : SegmentState} {deed x : Deed} {reply : Reply} (is : deed ≡ x) where
-  -- a reply to a deed is one to the same deed, however it is written
-  pub replies-as : Replies old new (deed_of x) reply → Replies old new (deed_of deed) reply
-  replies-as = subst (λ y. Replies old new (deed_of y) reply) (sym is)
+module _ {old new : SegmentState} {operation x : Operation} {reply : Reply} (is : operation ≡ x) where
+  -- a reply to an operation is one to the same operation, however it is written
+  pub replies-as : Replies old new (operation_of x) reply → Replies old new (operation_of operation) reply
+  replies-as = subst (λ y. Replies old new (operation_of y) reply) (sym is)
 
-  -- the result of a call replies to the deed of its command
+  -- the result of a call replies to the operation of its command
   pub replies-command : {A : Type 0} (f : A → Answer) → ((a : A) → is_untouched (f a) ≡ false)
       → (result : Result A Refusal)
-      → is_changing (deed_of x) ≡ true → is_zero_free (deed_of x) ≡ false
+      → is_changing (operation_of x) ≡ true → is_zero_free (operation_of x) ≡ false
       → ((d : Directory) → answer_seen d reply ≡ answer_of f result)
-      → TakesStep old new (deed_of x) (answer_of f result) → UnchangedIfRefused old new result
-      → ((d : Directory) → has_nothing_to_do d (deed_of x) ≡ false) → Replies old new (deed_of deed) reply
+      → TakesStep old new (operation_of x) (answer_of f result) → UnchangedIfRefused old new result
+      → ((d : Directory) → has_nothing_to_do d (operation_of x) ≡ false)
+      → Replies old new (operation_of operation) reply
   replies-command f plain result e other same h refused none =
       replies-as (replies-plain f plain result e other same h refused none)
 
   -- one that may find nothing to do
   pub replies-found : {A : Type 0} (f : A → Answer) → ((a : A) → is_untouched (f a) ≡ false)
       → (result : Result A Refusal)
-      → is_changing (deed_of x) ≡ true → is_zero_free (deed_of x) ≡ false
+      → is_changing (operation_of x) ≡ true → is_zero_free (operation_of x) ≡ false
       → ((d : Directory) → answer_seen d reply ≡ answer_of f result)
-      → TakesStep old new (deed_of x) (answer_of f result) → UnchangedIfRefused old new result
-      → KeepsFound old new (deed_of x) → Replies old new (deed_of deed) reply
+      → TakesStep old new (operation_of x) (answer_of f result) → UnchangedIfRefused old new result
+      → KeepsFound old new (operation_of x) → Replies old new (operation_of operation) reply
   replies-found f plain result e other same h refused found =
       replies-as (replies-call f plain result e other same h refused found)
 

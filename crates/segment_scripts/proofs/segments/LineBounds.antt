@@ -13,7 +13,7 @@ use Rattle.seg_types.specs.declared.kinds.Kind.{Kind}
 use Rattle.seg_types.specs.declared.kinds.Kind.TheVariants.{Scalar, String, Vector, Map, Strings}
 use Rattle.seg_types.specs.Names.{Key}
 use Rattle.seg_types.specs.Commands as asked
-use Rattle.seg_types.specs.Commands.{Command, Content, Literal, Whole, Truth, Quoted, Reading, Nothing, Asked}
+use Rattle.seg_types.specs.Commands.{Command, Content, Literal, Integer, Boolean, Quoted, Reading, Nothing, Asked}
 use Rattle.seg_types.specs.Commands.{UnknownCommand, LineTooLong, BadSyntax}
 use Rattle.segment_lang.specs.Words as word
 use Rattle.segment_lang.specs.Words.{Word, Bare, words, is_word, is_blank, literal_of_word, number_of, whole_of}
@@ -89,19 +89,19 @@ values-room k (word.Text bs ∷ ws) =
 
 -- a bare word is no text
 abbrev IsBareValue : Literal → Type 0
-IsBareValue (Whole z) = ⊤
-IsBareValue (Truth b) = ⊤
+IsBareValue (Integer z) = ⊤
+IsBareValue (Boolean b) = ⊤
 IsBareValue (Quoted bs) = ⊥
 
 bare-if : (b c : Bool) (r : Option ℤ)
-    → Holds IsBareValue (if b then Some (Truth true) else if c then Some (Truth false) else option_map Whole r)
+    → Holds IsBareValue (if b then Some (Boolean true) else if c then Some (Boolean false) else option_map Integer r)
 bare-if true c r = tt
 bare-if false true r = tt
-bare-if false false r = map-holds IsBareValue Whole r (λ z. tt)
+bare-if false false r = map-holds IsBareValue Integer r (λ z. tt)
 
 bare-taken : (l : Literal) (ls : List Literal) → IsBareValue l → bytes_taken (l ∷ ls) ≡ 2 + bytes_taken ls
-bare-taken (Whole z) ls h = refl
-bare-taken (Truth b) ls h = refl
+bare-taken (Integer z) ls h = refl
+bare-taken (Boolean b) ls h = refl
 bare-taken (Quoted bs) ls h = absurd h
 
 literals-room : (ws : List Word) → Holds (λ ls. bytes_taken ls ≤ room ws) (all literal_of_word ws)

@@ -12,7 +12,7 @@ use Rattle.seg_types.specs.declared.refusals.Refusal.TheVariants.{ReadOnly, Exis
 use Rattle.seg_types.specs.declared.refusals.Refusal.TheVariants.{NoSpace}
 use Rattle.seg_types.specs.declared.values.ScalarValue.{ScalarValue}
 use Rattle.seg_types.specs.Kinds.{is_value}
-use Rattle.seg_types.specs.Commands.{Literal, Whole, Truth, Quoted, value_of_literal}
+use Rattle.seg_types.specs.Commands.{Literal, Integer, Boolean, Quoted, value_of_literal}
 use Rattle.seg_types.specs.Values.{kind_of_scalar, scalar_of, value_of_scalar}
 use Rattle.seg_types.proofs.Laws.{scalar_of-kind, scalar_of-value}
 use Rattle.segment_lang.specs.declared.literals.Literal.{Literal as CodeLiteral}
@@ -90,8 +90,8 @@ filled-all whole k w t row h e =
 -- ---- literals
 
 literal-back : (l : Literal) → literal_of (literal_held l) ≡ l
-literal-back (Whole z) = refl
-literal-back (Truth b) = refl
+literal-back (Integer z) = refl
+literal-back (Boolean b) = refl
 literal-back (Quoted bs) = refl
 
 literals-back : (ls : List Literal) → map literal_of (literals_held ls) ≡ ls
@@ -116,13 +116,13 @@ text-no_value U64 bs = refl
 
 value-taken : (k : ScalarKind) (l : Literal) (ls : List Literal) (z : ℤ) → value_of_literal k l ≡ Ok z
     → bytes_taken (l ∷ ls) ≡ 2 + bytes_taken ls
-value-taken k (Whole y) ls z e = refl
-value-taken k (Truth b) ls z e = refl
+value-taken k (Integer y) ls z e = refl
+value-taken k (Boolean b) ls z e = refl
 value-taken k (Quoted bs) ls z e = absurd (let wrong = text-no_value k bs in cc)
 
 some-taken : (l : Literal) (ls : List Literal) → bytes_taken ls ≤ bytes_taken (l ∷ ls)
-some-taken (Whole y) ls = omega arith
-some-taken (Truth b) ls = omega arith
+some-taken (Integer y) ls = omega arith
+some-taken (Boolean b) ls = omega arith
 some-taken (Quoted bs) ls = omega arith
 
 past-if : (b : Bool) (z : ℤ) (why : Refusal) → (if b then Ok z else Err OutOfRange) ≡ Err why → why ≡ OutOfRange
@@ -132,21 +132,21 @@ past-if false z why e = cc
 -- a literal of the right form is refused for its range alone
 pub past-range : (k : ScalarKind) (l : Literal) (why : Refusal) → value_of_literal k l ≡ Err why
     → (why ≡ WrongKind → ⊥) → why ≡ OutOfRange
-past-range BoolKind (Whole z) why e n = absurd (n cc)
-past-range BoolKind (Truth true) why e n = absurd (cc)
-past-range BoolKind (Truth false) why e n = absurd (cc)
+past-range BoolKind (Integer z) why e n = absurd (n cc)
+past-range BoolKind (Boolean true) why e n = absurd (cc)
+past-range BoolKind (Boolean false) why e n = absurd (cc)
 past-range BoolKind (Quoted bs) why e n = absurd (n cc)
-past-range U8 (Whole z) why e n = past-if (is_value U8 z) z why e
-past-range U8 (Truth b) why e n = absurd (n cc)
+past-range U8 (Integer z) why e n = past-if (is_value U8 z) z why e
+past-range U8 (Boolean b) why e n = absurd (n cc)
 past-range U8 (Quoted bs) why e n = absurd (n cc)
-past-range I32 (Whole z) why e n = past-if (is_value I32 z) z why e
-past-range I32 (Truth b) why e n = absurd (n cc)
+past-range I32 (Integer z) why e n = past-if (is_value I32 z) z why e
+past-range I32 (Boolean b) why e n = absurd (n cc)
 past-range I32 (Quoted bs) why e n = absurd (n cc)
-past-range I64 (Whole z) why e n = past-if (is_value I64 z) z why e
-past-range I64 (Truth b) why e n = absurd (n cc)
+past-range I64 (Integer z) why e n = past-if (is_value I64 z) z why e
+past-range I64 (Boolean b) why e n = absurd (n cc)
 past-range I64 (Quoted bs) why e n = absurd (n cc)
-past-range U64 (Whole z) why e n = past-if (is_value U64 z) z why e
-past-range U64 (Truth b) why e n = absurd (n cc)
+past-range U64 (Integer z) why e n = past-if (is_value U64 z) z why e
+past-range U64 (Boolean b) why e n = absurd (n cc)
 past-range U64 (Quoted bs) why e n = absurd (n cc)
 
 -- what all literals are read as, where those before were read as numbers, or one of them was out of range
@@ -280,14 +280,14 @@ text-none ls e = ap text_among e
 
 pub text-other : (ls rest : List Literal) (l : Literal) → ls ≡ l ∷ rest → ((bs : List ℕ) → l ≡ Quoted bs → ⊥)
     → text_among ls ≡ Err WrongKind
-text-other ls rest (Whole z) e n = ap text_among e
-text-other ls rest (Truth b) e n = ap text_among e
+text-other ls rest (Integer z) e n = ap text_among e
+text-other ls rest (Boolean b) e n = ap text_among e
 text-other ls rest (Quoted bs) e n = absurd (n bs refl)
 
 pub text-more : (ls rest more : List Literal) (l m : Literal) → ls ≡ l ∷ rest → rest ≡ m ∷ more
     → text_among ls ≡ Err WrongKind
-text-more ls rest more (Whole z) m e f = ap text_among e
-text-more ls rest more (Truth b) m e f = ap text_among e
+text-more ls rest more (Integer z) m e f = ap text_among e
+text-more ls rest more (Boolean b) m e f = ap text_among e
 text-more ls rest more (Quoted bs) m e f = ap text_among e ∙ ap (λ r. text_among (Quoted bs ∷ r)) f
 
 pub text-alone : (ls rest : List Literal) (bs : List ℕ) → ls ≡ Quoted bs ∷ rest → rest ≡ [] → text_among ls ≡ Ok bs

@@ -5,9 +5,9 @@ use Rattle.std.proofs.lemmas.List.{append-nil, drop-append-le, drop_all, drop_mo
 use Rattle.std.proofs.lemmas.List.{length-take-le, take-append-le, take_all}
 use Rattle.seg_types.specs.declared.refusals.Refusal.{Refusal}
 use Rattle.seg_types.specs.declared.refusals.Refusal.TheVariants.{WrongKind}
-use Rattle.seg_types.specs.Commands.{Literal, Quoted, Truth, Whole}
+use Rattle.seg_types.specs.Commands.{Literal, Quoted, Boolean, Integer}
 use Rattle.segment_lang.specs.declared.literals.Literal.{Literal as CodeLiteral}
-use Rattle.segment_lang.specs.declared.literals.Literal.TheVariants.{Whole as CodeWhole, Truth as CodeTruth}
+use Rattle.segment_lang.specs.declared.literals.Literal.TheVariants.{Integer as CodeInteger, Boolean as CodeBoolean}
 use Rattle.segment_lang.specs.declared.literals.Literal.TheVariants.{Quoted as CodeQuoted}
 use Rattle.segment_lang.specs.Seen.{literal_of}
 use Rattle.segment_manager.specs.Step.{texts_of}
@@ -131,8 +131,8 @@ module _ (ls rest rest' : List Literal) (row : List (List ℕ)) (l : Literal) (h
 
 no_text-first : (row : List (List ℕ)) (l : Literal) (rest : List Literal) → ((bs : List ℕ) → l ≡ Quoted bs → ⊥)
     → before row (texts_of (l ∷ rest)) ≡ Err WrongKind
-no_text-first row (Whole z) rest n = refl
-no_text-first row (Truth b) rest n = refl
+no_text-first row (Integer z) rest n = refl
+no_text-first row (Boolean b) rest n = refl
 no_text-first row (Quoted bs) rest n = absurd (n bs refl)
 
 -- a literal that is no text: the line is no row of texts
@@ -142,8 +142,8 @@ texts-wrong ls rest rest' row l h next n =
     h.values ∙ ap (λ r. before row (texts_of r)) next ∙ no_text-first row (literal_of l) rest' (other l n)
   where
     other : (l : CodeLiteral) → ((q : List ℕ) → l ≡ CodeQuoted q → ⊥) → (bs : List ℕ) → literal_of l ≡ Quoted bs → ⊥
-    other (CodeWhole z) n bs e = absurd (cc)
-    other (CodeTruth b) n bs e = absurd (cc)
+    other (CodeInteger z) n bs e = absurd (cc)
+    other (CodeBoolean b) n bs e = absurd (cc)
     other (CodeQuoted q) n bs e = absurd (n q refl)
 
 -- all literals are texts: the row has them

@@ -31,5 +31,5 @@ returns-in-Pop c =
     rw c.in-Pop.is (c.is_some-in-Pop.ensures
     ∙ some_of _ _ _ (c.only_key.ensures asked.Pop ∙ sym (of_key asked.Pop key_of c.args.bytes.now)))
 
-pub returns-in-Deed : goal.returns-in-Deed
-returns-in-Deed c = rw c.in-Deed.is (c.is_some-in-Deed.ensures ∙ some_of _ _ _ c.read_deed.ensures)
+pub returns-in-Operation : goal.returns-in-Operation
+returns-in-Operation c = rw c.in-Operation.is (c.is_some-in-Operation.ensures ∙ some_of _ _ _ c.read_operation.ensures)

@@ -2,8 +2,8 @@
 use Rattle.std.proofs.Common.{refl, subst, true}
 use Rattle.seg_types.specs.Commands.{AllDeallocated, Find, Free, Lookup, NumNamed, NumUnique, Sanity}
 use Rattle.seg_types.specs.Keys.{index_key_seen, key_seen}
-use Rattle.segment_lang.specs.Seen.{deed_of, literal_of}
-use Rattle.segment_manager.specs.Answers.{Done, Made, Number, Truth}
+use Rattle.segment_lang.specs.Seen.{operation_of, literal_of}
+use Rattle.segment_manager.specs.Answers.{Done, Made, Number, Boolean}
 use Rattle.segment_manager.specs.objects.Found.{found_answer}
 use Rattle.segment_manager.specs.containers.Maps.{any_value_answer}
 use Rattle.segment_manager.specs.State.{AnswersQuery}
@@ -37,13 +37,13 @@ pub returns-in-FindOrConstruct : goal.returns-in-FindOrConstruct
 returns-in-FindOrConstruct c = replies-as c.in-FindOrConstruct.is c.make-in-FindOrConstruct.ensures
 
 pub returns-in-Destroy : goal.returns-in-Destroy
-returns-in-Destroy c = replies-found c.in-Destroy.is Truth (λ _.
+returns-in-Destroy c = replies-found c.in-Destroy.is Boolean (λ _.
     refl) c.destroy.result refl refl c.truth.ensures c.destroy.ensures.step
     (keeps-refused c.args.segment.now c.destroy.new.self c.destroy.result c.destroy.ensures.refused)
     (lacks-found _ c.destroy.ensures.absent)
 
 pub returns-in-DestroyPtr : goal.returns-in-DestroyPtr
-returns-in-DestroyPtr c = replies-command c.in-DestroyPtr.is (λ _. Truth true) (λ _.
+returns-in-DestroyPtr c = replies-command c.in-DestroyPtr.is (λ _. Boolean true) (λ _.
     refl) c.destroy_ptr.result refl refl c.gone.ensures c.destroy_ptr.ensures.step
     (keeps-refused c.args.segment.now c.destroy_ptr.new.self c.destroy_ptr.result c.destroy_ptr.ensures.refused)
     (λ _. refl)
@@ -55,10 +55,11 @@ pub returns-in-Info : goal.returns-in-Info
 returns-in-Info c = replies-as c.in-Info.is (replies-info c.args.segment.now c.in-Info.key)
 
 pub set-requires : goal.set-requires
-set-requires c = has-room (literal_of c.in-Set.value) (subst (λ k. IsMeant (deed_of k)) c.in-Set.is c.requires)
+set-requires c = has-room (literal_of c.in-Set.value) (subst (λ k. IsMeant (operation_of k)) c.in-Set.is c.requires)
 
 pub add-requires : goal.add-requires
-add-requires c = has-room (literal_of c.in-Insert.value) (subst (λ k. IsMeant (deed_of k)) c.in-Insert.is c.requires)
+add-requires c =
+    has-room (literal_of c.in-Insert.value) (subst (λ k. IsMeant (operation_of k)) c.in-Insert.is c.requires)
 
 pub returns-in-Set : goal.returns-in-Set
 returns-in-Set c = replies-command c.in-Set.is (λ _. Done) (λ _.
@@ -105,7 +106,7 @@ returns-in-Lookup c = replies-as c.in-Lookup.is
     c.value_found.result (any_value_answer c.look_up.result) refl c.value_found.ensures c.look_up.ensures)
 
 pub returns-in-Remove : goal.returns-in-Remove
-returns-in-Remove c = replies-command c.in-Remove.is Truth (λ _.
+returns-in-Remove c = replies-command c.in-Remove.is Boolean (λ _.
     refl) c.erase_pair.result refl refl c.truth-in-Remove.ensures c.erase_pair.ensures.step
     (keeps-refused c.args.segment.now c.erase_pair.new.segment c.erase_pair.result c.erase_pair.ensures.refused)
     (λ _. refl)
@@ -136,13 +137,13 @@ returns-in-NumUnique c = replies-as c.in-NumUnique.is
 
 pub returns-in-Sanity : goal.returns-in-Sanity
 returns-in-Sanity c = replies-as c.in-Sanity.is
-    (replies-read c.args.segment.now Sanity (said.Truth c.sanity.result) (Truth c.sanity.result) refl (λ d.
+    (replies-read c.args.segment.now Sanity (said.Boolean c.sanity.result) (Boolean c.sanity.result) refl (λ d.
     refl) c.sanity.ensures)
 
 pub returns-in-AllDeallocated : goal.returns-in-AllDeallocated
 returns-in-AllDeallocated c = replies-as c.in-AllDeallocated.is
-    (replies-read c.args.segment.now AllDeallocated (said.Truth c.all_deallocated.result)
-    (Truth c.all_deallocated.result) refl (λ d. refl) c.all_deallocated.ensures)
+    (replies-read c.args.segment.now AllDeallocated (said.Boolean c.all_deallocated.result)
+    (Boolean c.all_deallocated.result) refl (λ d. refl) c.all_deallocated.ensures)
 
 pub returns-in-ReserveNamed : goal.returns-in-ReserveNamed
 returns-in-ReserveNamed c = replies-found c.in-ReserveNamed.is (λ _. Done) (λ _.

@@ -74,8 +74,8 @@ returns-then-left-count-clause-fault g c = λ start s.
     let stops = stops_at c.args.until g.M.Machine.refuses in
     let on = subst (LeavesPiece g.M.Machine.respond stops start before read (take c.min-within.result piece)
     (g.M.Machine.stands c.feed.new.machine) c.feed.new.line (g.W.Sink.history c.feed.new.out).bytes)
-    c.in-Ok-Whole.field-0-is
-    (c.in-Ok-Whole.ensures.on_ok start before read (rw same (was.behind start s))) in
+    c.in-Ok-Complete.field-0-is
+    (c.in-Ok-Complete.ensures.on_ok start before read (rw same (was.behind start s))) in
     record {
       left = record {
         beyond = beyond_limit g.M.Machine.respond read piece _ c.pieces.left count was.limit c.if-left-count.true
@@ -84,7 +84,7 @@ returns-then-left-count-clause-fault g c = λ start s.
             (g.M.Machine.stands c.feed.new.machine) c.feed.new.line (g.W.Sink.history c.feed.new.out).bytes
             was.limit c.min-within.ensures bytes on.behind;
         read = none_failed _ _ (omega (arith, c.in-Ok.ensures.failures, was.reads));
-        written = none_failed _ _ (omega (arith, c.in-Ok-Whole.ensures.failures, failures, was.writes));
+        written = none_failed _ _ (omega (arith, c.in-Ok-Complete.ensures.failures, failures, was.writes));
       };
       on = on_at_limit g.M.Machine.respond (stops_at c.args.until g.M.Machine.refuses) start read piece
           c.pieces.left count c.min-within.result _ was.limit c.min-within.ensures bytes on.on;

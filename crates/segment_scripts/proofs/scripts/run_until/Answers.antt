@@ -26,7 +26,7 @@ returns-in-Ok-clause-remainder g c = λ place s.
     script (g.M.Machine.stands c.read_lines.new.machine) c.read_lines.new.line
     (g.W.Sink.history c.read_lines.new.out).bytes
     (write_delta (g.W.Sink.history c.args.out.now) (g.W.Sink.history c.read_lines.new.out)))
-    c.in-Whole.is (c.in_ok-read_lines.ensures.end place s) in
+    c.in-Complete.is (c.in_ok-read_lines.ensures.end place s) in
     until_last g.M.Machine.respond (stops_at c.args.until g.M.Machine.refuses) place before script out
     (g.M.Machine.stands c.answer_last.new.machine) (g.W.Sink.history c.answer_last.new.out).bytes c.in-Ok.end
     read.end.whole read.end.within
@@ -42,7 +42,7 @@ returns-in-Err-clause-remainder g c = λ place s.
     script (g.M.Machine.stands c.read_lines.new.machine) c.read_lines.new.line
     (g.W.Sink.history c.read_lines.new.out).bytes
     (write_delta (g.W.Sink.history c.args.out.now) (g.W.Sink.history c.read_lines.new.out)))
-    c.in-Whole.is (c.in_ok-read_lines.ensures.end place s) in
+    c.in-Complete.is (c.in_ok-read_lines.ensures.end place s) in
     let cut = c.in-Err.ensures.on_error place before script.bytes (record { behind = read.end.behind; on = read.on }) in
     let p = printed_part g.M.Machine.respond (stops_at c.args.until g.M.Machine.refuses) place before
     (executable script) (ended_lines script.bytes) (open_line script.bytes) []
@@ -70,7 +70,7 @@ returns-in-Ok-clause-output_history g c = λ place s.
     script (g.M.Machine.stands c.read_lines.new.machine) c.read_lines.new.line
     (g.W.Sink.history c.read_lines.new.out).bytes
     (write_delta (g.W.Sink.history c.args.out.now) (g.W.Sink.history c.read_lines.new.out)))
-    c.in-Whole.is (c.in_ok-read_lines.ensures.end place s) in
+    c.in-Complete.is (c.in_ok-read_lines.ensures.end place s) in
     grows_last g.M.Machine.respond (stops_at c.args.until g.M.Machine.refuses) place before script.bytes
     (g.M.Machine.stands c.answer_last.new.machine) (g.W.Sink.history c.answer_last.new.out).bytes c.in-Ok.end
     (c.in-Ok.ensures.on_ok place before script.bytes (record { behind = read.end.behind; on = read.on }))
@@ -83,7 +83,7 @@ returns-in-Err-clause-output_history g c = λ place s.
     script (g.M.Machine.stands c.read_lines.new.machine) c.read_lines.new.line
     (g.W.Sink.history c.read_lines.new.out).bytes
     (write_delta (g.W.Sink.history c.args.out.now) (g.W.Sink.history c.read_lines.new.out)))
-    c.in-Whole.is (c.in_ok-read_lines.ensures.end place s) in
+    c.in-Complete.is (c.in_ok-read_lines.ensures.end place s) in
     grows_stopped g.M.Machine.respond place before _ _ (g.M.Machine.stands c.answer_last.new.machine)
     (g.W.Sink.history c.answer_last.new.out).bytes
     (c.in-Err.ensures.on_error place before script.bytes (record { behind = read.end.behind; on = read.on })).stopped

@@ -2,7 +2,7 @@ use Rattle.std.proofs.Common.{◌∙◌, ap, refl, sym}
 use Rattle.seg_types.specs.declared.refusals.LineError.TheVariants.{BadSyntax}
 use Rattle.segment_lang.specs.Reading.{as_reading}
 use Rattle.segment_lang.proofs.Laws.{of_putting}
-use Rattle.segment_manager.specs.Answers.{Truth}
+use Rattle.segment_manager.specs.Answers.{Boolean}
 use Rattle.segment_scripts.proofs.segments.CommandSteps.{keeps-refused, replies-plain}
 use Rattle.segment_scripts.proofs.segments.RefusedLines.{responds-wrong}
 use Rattle.segment_scripts.proofs.segments.ZeroGaps.{responds-replied}
@@ -11,7 +11,7 @@ use Rattle.segment_scripts.proofs.segments.answer_put.Goals as goal
 pub returns-in-Some : goal.returns-in-Some
 returns-in-Some g c =
     responds-replied (ap as_reading (c.in-Some.ensures ∙ sym (of_putting c.args.rest.now)))
-    (replies-plain Truth (λ _. refl) c.put_pair.result refl refl c.truth-answer.ensures c.put_pair.ensures.step
+    (replies-plain Boolean (λ _. refl) c.put_pair.result refl refl c.truth-answer.ensures c.put_pair.ensures.step
     (keeps-refused c.args.segment.now c.put_pair.new.segment c.put_pair.result c.put_pair.ensures.refused) (λ _. refl))
     c.put_answer.ensures
 

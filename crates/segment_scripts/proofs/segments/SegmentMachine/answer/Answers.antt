@@ -10,10 +10,10 @@ answer_push-requires-clause-meaning g c =
     λ command e. asked-meant command c.args.line.now (e
     ∙ ap (λ f. reading_by f c.in-Form.rest.now) (sym c.in-Push.is) ∙ c.in-Form.ensures)
 
-pub answer_deed-requires-clause-meaning : goal.answer_deed-requires-clause-meaning
-answer_deed-requires-clause-meaning g c =
+pub answer_operation-requires-clause-meaning : goal.answer_operation-requires-clause-meaning
+answer_operation-requires-clause-meaning g c =
     λ command e. asked-meant command c.args.line.now (e
-    ∙ ap (λ f. reading_by f c.in-Form.rest.now) (sym c.in-Deed.is) ∙ c.in-Form.ensures)
+    ∙ ap (λ f. reading_by f c.in-Form.rest.now) (sym c.in-Operation.is) ∙ c.in-Form.ensures)
 
 pub returns-in-Wrong : goal.returns-in-Wrong
 returns-in-Wrong g c =
@@ -46,9 +46,9 @@ returns-in-Pop g c =
     let r = responds-form c.in-Form.rest.now c.in-Pop.is c.in-Form.ensures c.answer_pop.ensures in
     record { step = r.leads; output = r.writes; report = r.tells; noop = r.idles }
 
-pub returns-in-Deed : goal.returns-in-Deed
-returns-in-Deed g c =
-    let r = responds-form c.in-Form.rest.now c.in-Deed.is c.in-Form.ensures c.answer_deed.ensures in
+pub returns-in-Operation : goal.returns-in-Operation
+returns-in-Operation g c =
+    let r = responds-form c.in-Form.rest.now c.in-Operation.is c.in-Form.ensures c.answer_operation.ensures in
     record { step = r.leads; output = r.writes; report = r.tells; noop = r.idles }
 
 pub returns-in-Nothing-clause-report : goal.returns-in-Nothing-clause-report

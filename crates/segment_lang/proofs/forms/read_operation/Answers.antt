@@ -1,14 +1,14 @@
 use Rattle.std.proofs.Common.{◌∙◌, ap, sym}
 use Rattle.std.specs.Option.{option_map}
 use Rattle.seg_types.specs.Commands as asked
-use Rattle.segment_lang.specs.declared.commands.Deed.TheVariants as deed
+use Rattle.segment_lang.specs.declared.commands.Operation.TheVariants as operation
 use Rattle.segment_lang.specs.Reading.{key_of, name_key, new_key}
-use Rattle.segment_lang.specs.Seen.{deed_of}
+use Rattle.segment_lang.specs.Seen.{operation_of}
 use Rattle.segment_lang.proofs.commands.Words.{alone_at_end as ends, of_appending, of_assigning, of_finding, of_handle}
 use Rattle.segment_lang.proofs.commands.Words.{of_key, of_key_literal, of_key_number, of_key_number_literal, of_making}
 use Rattle.segment_lang.proofs.commands.Words.{of_making_each, of_number}
 use Rattle.segment_lang.proofs.words.Readers.{map_made}
-use Rattle.segment_lang.proofs.forms.read_deed.Goals as goal
+use Rattle.segment_lang.proofs.forms.read_operation.Goals as goal
 
 pub returns-in-Construct : goal.returns-in-Construct
 returns-in-Construct c =
@@ -34,12 +34,13 @@ returns-in-DestroyPtr c = rw c.in-DestroyPtr.is (c.read_destroy_ptr.ensures ∙ 
 
 pub returns-in-Show : goal.returns-in-Show
 returns-in-Show c =
-    rw c.in-Show.is (map_made deed_of deed.Show _ _ c.map.ensures.cases ∙ c.only_key.ensures asked.Show
+    rw c.in-Show.is (map_made operation_of operation.Show _ _ c.map.ensures.cases ∙ c.only_key.ensures asked.Show
     ∙ sym (of_key asked.Show key_of c.args.bytes.now))
 
 pub returns-in-Info : goal.returns-in-Info
 returns-in-Info c =
-    rw c.in-Info.is (map_made deed_of deed.Info _ _ c.map-in-Info.ensures.cases ∙ c.only_key-in-Info.ensures asked.Info
+    rw c.in-Info.is (map_made operation_of operation.Info _ _ c.map-in-Info.ensures.cases
+    ∙ c.only_key-in-Info.ensures asked.Info
     ∙ sym (of_key asked.Info key_of c.args.bytes.now))
 
 pub returns-in-Set : goal.returns-in-Set
@@ -57,13 +58,13 @@ returns-in-Reserve c = rw c.in-Reserve.is (c.read_reserve.ensures ∙ sym (of_ke
 
 pub returns-in-Shrink : goal.returns-in-Shrink
 returns-in-Shrink c =
-    rw c.in-Shrink.is (map_made deed_of deed.Shrink _ _ c.map-in-Shrink.ensures.cases
+    rw c.in-Shrink.is (map_made operation_of operation.Shrink _ _ c.map-in-Shrink.ensures.cases
     ∙ c.only_key-in-Shrink.ensures asked.Shrink
     ∙ sym (of_key asked.Shrink key_of c.args.bytes.now))
 
 pub returns-in-Clear : goal.returns-in-Clear
 returns-in-Clear c =
-    rw c.in-Clear.is (map_made deed_of deed.Clear _ _ c.map-in-Clear.ensures.cases
+    rw c.in-Clear.is (map_made operation_of operation.Clear _ _ c.map-in-Clear.ensures.cases
     ∙ c.only_key-in-Clear.ensures asked.Clear
     ∙ sym (of_key asked.Clear key_of c.args.bytes.now))
 
@@ -86,7 +87,7 @@ returns-in_ok-only_number-in-ReserveNamed c =
 
 pub returns-in_err-only_number-in-ReserveNamed : goal.returns-in_err-only_number-in-ReserveNamed
 returns-in_err-only_number-in-ReserveNamed c =
-    rw c.in-ReserveNamed.is (ap (option_map deed_of) c.from_residual.ensures
+    rw c.in-ReserveNamed.is (ap (option_map operation_of) c.from_residual.ensures
     ∙ c.in_err-only_number-in-ReserveNamed.ensures asked.ReserveNamed
     ∙ sym (of_number asked.ReserveNamed c.args.bytes.now))
 
@@ -97,7 +98,7 @@ returns-in_ok-only_number-in-ReserveUnique c =
 
 pub returns-in_err-only_number-in-ReserveUnique : goal.returns-in_err-only_number-in-ReserveUnique
 returns-in_err-only_number-in-ReserveUnique c =
-    rw c.in-ReserveUnique.is (ap (option_map deed_of) c.from_residual-in_err-only_number-in-ReserveUnique.ensures
+    rw c.in-ReserveUnique.is (ap (option_map operation_of) c.from_residual-in_err-only_number-in-ReserveUnique.ensures
     ∙ c.in_err-only_number-in-ReserveUnique.ensures asked.ReserveUnique
     ∙ sym (of_number asked.ReserveUnique c.args.bytes.now))
 

@@ -1,13 +1,13 @@
 use Rattle.std.proofs.Common.{ap}
 use Rattle.seg_types.specs.declared.refusals.LineError.TheVariants.{BadSyntax}
 use Rattle.segment_lang.specs.Reading.{as_reading}
-use Rattle.segment_lang.specs.Seen.{deed_of}
+use Rattle.segment_lang.specs.Seen.{operation_of}
 use Rattle.segment_scripts.proofs.segments.RefusedLines.{responds-wrong}
 use Rattle.segment_scripts.proofs.segments.ZeroGaps.{responds-replied}
-use Rattle.segment_scripts.proofs.segments.answer_deed.Goals as goal
+use Rattle.segment_scripts.proofs.segments.answer_operation.Goals as goal
 
 pub reply-answer-requires : goal.reply-answer-requires
-reply-answer-requires g c = c.requires.meaning (deed_of c.in-Some.deed) (ap as_reading c.in-Some.ensures)
+reply-answer-requires g c = c.requires.meaning (operation_of c.in-Some.operation) (ap as_reading c.in-Some.ensures)
 
 pub returns-in-Some : goal.returns-in-Some
 returns-in-Some g c = responds-replied (ap as_reading c.in-Some.ensures) c.reply-answer.ensures c.put_answer.ensures

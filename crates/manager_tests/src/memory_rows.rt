@@ -1,7 +1,8 @@
-//! Memory that is refused: who asks for it says so, loses nothing, and gets on once there is some.
+//! Tests of opening an image while memory is refused: the call reports it, returns the region, and succeeds when it is
+//! repeated with memory.
 //!
-//! Without a refusal each of these succeeds at once. Run by `.ci/refused-memory`, or with
-//! `rt try --test --fail-alloc N`, a request for memory is refused, and then the second try succeeds.
+//! If no memory is refused, each test succeeds at its first try. `.ci/refused-memory` and
+//! `rt try --test --fail-alloc N` refuse one request for memory, and then the second try succeeds.
 use crate::checks::{done, refusal, same};
 use crate::segments::{named, new_named};
 use image_check::{ImageClass, OpenError, OpenRefused, Verdict, open, open_any};
@@ -11,7 +12,7 @@ use segment_manager::{Mode, Segment};
 use std::alloc::Global;
 use std::process::Abort;
 
-/// What came of a try for which the test had memory.
+/// The outcome of a try, unless the test itself was refused memory before the call.
 #[derive(Clone, Copy, PartialEq)]
 enum Tried {
     /// The call succeeded.
@@ -51,7 +52,7 @@ fn image(rt: &impl Abort, alloc: Global) -> Option<Vec<u8>> {
     image
 }
 
-/// Opens an image of the newest format, or of any, in a region, of which it takes the last 1024 bytes.
+/// Opens an image from offset 1024 of a region on. If `of_any`, it may have any format, else only the newest.
 fn opens(
     alloc: Global,
     image: &[u8],
@@ -74,7 +75,7 @@ fn handed_back(rt: &impl Abort, refused: OpenRefused) -> RawRegion {
     refused.region
 }
 
-/// Checks that what was opened is the segment of the image, whose format stands in its first 16 bytes.
+/// Checks that the opened segment has the bytes of the image, after the first 16, which hold the format.
 fn is_opened(rt: &impl Abort, image: &[u8], opened: Segment) -> Tried {
     same(rt, opened.as_bytes().get(16..), image.get(16..));
     same(rt, opened.map_get(&named(rt, b"m"), 1i64), Ok(Some(10i64)));
@@ -82,7 +83,7 @@ fn is_opened(rt: &impl Abort, image: &[u8], opened: Segment) -> Tried {
     Tried::Done
 }
 
-/// Returns true if memory was refused and the region that came back can be used.
+/// Checks that memory was refused, and that the image opens in the region that came back. Returns `Refused`.
 fn serves(
     rt: &impl Abort,
     alloc: Global,
@@ -95,7 +96,7 @@ fn serves(
     Tried::Refused
 }
 
-/// Opens an image in a region of its own. If memory is refused, the region comes back, and serves then.
+/// Opens an image in a new region. If memory is refused, opens it again in the region that came back.
 fn open_anew(rt: &impl Abort, alloc: Global, image: &[u8], of_any: bool) -> Option<Tried> {
     let region = RawRegion::new(alloc, 2048).ok()?;
     match opens(alloc, image, region, of_any) {
@@ -104,7 +105,8 @@ fn open_anew(rt: &impl Abort, alloc: Global, image: &[u8], of_any: bool) -> Opti
     }
 }
 
-/// Refuses an image whose free tree begins at its own root's word. Its class is told without memory.
+/// Checks that an image is refused as `BadFreeTree` if the link to its free tree leads to the link itself. The refusal
+/// needs no memory.
 fn refuse(rt: &impl Abort, alloc: Global, image: &[u8]) -> Option<Tried> {
     let region = RawRegion::new(alloc, 2048).ok()?;
     let refused = refusal(rt, opens(alloc, image, region, false));
@@ -115,7 +117,7 @@ fn refuse(rt: &impl Abort, alloc: Global, image: &[u8]) -> Option<Tried> {
     Some(Tried::Done)
 }
 
-/// What asks for memory.
+/// What a try opens.
 #[derive(Clone, Copy)]
 enum Asked {
     /// An image is opened.
@@ -126,7 +128,7 @@ enum Asked {
     Older,
 }
 
-/// Makes an image and asks for it.
+/// Makes an image and tries to open it.
 fn ask(rt: &impl Abort, alloc: Global, asked: Asked) -> Option<Tried> {
     let mut image = image(rt, alloc)?;
     match asked {
@@ -142,7 +144,7 @@ fn ask(rt: &impl Abort, alloc: Global, asked: Asked) -> Option<Tried> {
     }
 }
 
-/// Asks, and once more if memory was refused.
+/// Tries once, and again if memory was refused. The last try must succeed.
 fn is_served(rt: &impl Abort, alloc: Global, asked: Asked) {
     if ask(rt, alloc, asked) != Some(Tried::Done) {
         same(rt, ask(rt, alloc, asked), Some(Tried::Done));

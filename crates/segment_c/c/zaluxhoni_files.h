@@ -1,5 +1,5 @@
-/* Files of segments: opened, locked, saved and closed. C++ and Python use these calls too. They are C over the calls of
-   zaluxhoni.h: tested, not proved. docs/C.md is the guide. In short:
+/* Files of segments: opened, locked, saved and closed. C++ and Python use these calls too. They are written in C, and
+   make the calls of zaluxhoni.h. They are tested, not proved. docs/C.md is the guide. In short:
 
    - A zx_file starts as ZX_CLOSED_FILE. Nobody copies it, and zx_file_close or zx_file_discard ends it. The calls of
      zaluxhoni.h take the address of its `segment`. zx_close ends only the segment, and then the file is not saved.
@@ -24,7 +24,7 @@ extern "C" {
 enum {
     ZX_FILE_NONE = 40,      /* the segment has no file */
     ZX_FILE_IS_OPEN = 41,   /* the zx_file has a segment */
-    ZX_FILE_IN_USE = 42,    /* another program or zx_file may write the file */
+    ZX_FILE_IN_USE = 42,    /* another program or zx_file holds the lock of the file */
     ZX_FILE_EXISTS = 43,    /* something exists at the path */
     ZX_FILE_MISSING = 44,   /* nothing exists at the path, or its folder does not exist */
     ZX_FILE_DANGLES = 45,   /* the path is a link that leads to nothing */
@@ -33,11 +33,11 @@ enum {
     ZX_FILE_PIPE = 48,      /* the path leads to a pipe or a socket */
     ZX_FILE_TOO_LARGE = 49, /* the file has more than 1073741824 bytes */
     ZX_FILE_FAULT = 50,     /* the system refused, for the reason in `error` */
-    ZX_FILE_REPLACED = 51,  /* the name leads to another file now, which is left alone, or to none */
+    ZX_FILE_REPLACED = 51,  /* the name leads to no file now, or to another file, which is left alone */
     ZX_FILE_UNSYNCED = 52,  /* saved, but the folder is not synced: a power failure may restore the old file */
     ZX_FILE_FORKED = 53,    /* the file belongs to the parent of this forked process */
     ZX_FILE_LOG_FOREIGN = 54, /* the log beside the file belongs to another file, or is damaged */
-    ZX_FILE_UNSURE = 55,    /* a commit failed, and may be in the log or not: only zx_file_save may follow */
+    ZX_FILE_UNSURE = 55,    /* a commit failed, and may be in the log or not: commits fail until a save is done */
     ZX_FILE_IN_STEP = 56    /* a transaction is open */
 };
 
@@ -57,19 +57,20 @@ enum {
     ZX_MAPPED = 256,
 
     /* Added to a mode that saves: the file is mapped, and changes are private until zx_file_commit or zx_file_keep puts
-       them into the log beside the file, FILE-log. A commit costs what was changed. Whenever the process is killed or
-       the power fails, the next opening finds the last commit that was done, or the one under way, whole. The file
-       itself is a whole image at each moment: the one of the last zx_file_save, or of a time when the log was long. */
+       them into the log beside the file, FILE-log. A commit writes only the pages that changed. Whenever the process is
+       killed or the power fails, the next opening finds the last commit that was done, or the one under way, whole. The
+       file itself is a whole image at each moment: zx_file_save replaces it, and so does a commit after which the
+       log is long. */
     ZX_DURABLE = 512
 };
 
 struct zx_held_file;
 
 typedef struct {
-    zx_segment segment;        /* closed, or what the calls of zaluxhoni.h take */
+    zx_segment segment;        /* open or closed; the calls of zaluxhoni.h take its address */
     int32_t error;             /* an errno of the last call of this header, or 0 */
     struct zx_held_file *held; /* the file that is open for writing, or null */
-    uint64_t place;            /* with ZX_TRUNCATED to ZX_ORPHAN_BLOCK, what zx_explain tells of the file's bytes */
+    uint64_t place;            /* after ZX_TRUNCATED to ZX_ORPHAN_BLOCK, the offset that zx_explain stores */
 } zx_file;
 
 /* No file. In C, a static zx_file without an initializer is closed. */
@@ -79,18 +80,19 @@ typedef struct {
 #define ZX_CLOSED_FILE ((zx_file){ { 0, 0, false, false }, 0, 0, 0 })
 #endif
 
-/* Opens a segment's file, or creates one with an empty segment of `size` bytes, which the name leads to at once. The
-   call follows a link once; later calls keep that file, even if the process changes its folder. Modes that save need a
-   writable file, and lock it before they read a byte. Errors: ZX_NULL_SLICE, ZX_BAD_MODE; ZX_FILE_IS_OPEN;
+/* Opens a segment's file, or creates one with an empty segment of `size` bytes. A new file has its name when the call
+   returns. The call follows a link once; later calls keep that file, even if the process changes its folder. Modes that
+   save need a writable file, and lock it before they read a byte. Errors: ZX_NULL_SLICE, ZX_BAD_MODE; ZX_FILE_IS_OPEN;
    ZX_FILE_IN_USE to ZX_FILE_FAULT; ZX_BAD_SIZE (if it creates); ZX_NO_MEMORY; ZX_TRUNCATED to ZX_ORPHAN_BLOCK. */
 zx_code zx_file_open(zx_file *file, const char *path, uint32_t mode, uint64_t size);
 
-/* Saves the segment in its file, unless the file has these bytes already. If no call and no view can have changed a
-   byte, it compares none. For a mapped file it is zx_file_flush. Of a file that was opened with ZX_DURABLE it commits
-   the changes, and then the log becomes empty. The new file gets the rights, the access
-   control list and the user attributes of the old one, and its owner and group if the process may set them. Other names
-   of the old file (hard links) keep the old image. Errors: ZX_CLOSED, ZX_READ_ONLY (opened read-only or copy-on-write),
-   ZX_FILE_NONE, ZX_NO_MEMORY, ZX_FILE_FORKED, ZX_FILE_REPLACED, ZX_FILE_FAULT; after ZX_FILE_UNSYNCED it is saved. */
+/* Saves the segment in its file, unless the file has these bytes already. It does not compare the bytes if no call and
+   no view can have changed them since the file was opened or last saved. For a mapped file it is zx_file_flush. For a
+   file that was opened with ZX_DURABLE it commits the changes and empties the log. The new file gets the rights, the
+   access control list and the user attributes of the old one, and its owner and group if the process may set them.
+   Other names of the old file (hard links) keep the old image. Errors: ZX_CLOSED, ZX_READ_ONLY (opened read-only or
+   copy-on-write), ZX_FILE_NONE, ZX_NO_MEMORY, ZX_FILE_FORKED, ZX_FILE_REPLACED, ZX_FILE_FAULT; after ZX_FILE_UNSYNCED
+   it is saved. */
 zx_code zx_file_save(zx_file *file);
 
 /* Commits the changes of a file that was opened with ZX_DURABLE. For any other file it is zx_file_flush. When it is
@@ -100,14 +102,15 @@ zx_code zx_file_save(zx_file *file);
 zx_code zx_file_commit(zx_file *file);
 
 /* Saves the image to the file at another path, and closes that file. ZX_CREATE_ONLY creates it, ZX_OPEN_ONLY replaces
-   an existing file, whatever its bytes, and ZX_OPEN_OR_CREATE does either. With the last two, a path to the name of
-   the segment's own file is a zx_file_save; another name of that file (a hard link) gets a new file, and the own name
-   keeps the old one. The segment needs no file, and may be open in any mode. Errors: ZX_NULL_SLICE, ZX_BAD_MODE,
-   ZX_CLOSED, ZX_NO_MEMORY; ZX_FILE_IN_USE to ZX_FILE_REPLACED, ZX_FILE_FORKED; after ZX_FILE_UNSYNCED it is saved. */
+   an existing file, whatever its bytes, and ZX_OPEN_OR_CREATE does either. With the last two, if `path` leads to the
+   segment's own file by its own name, the call is zx_file_save. If it leads to another name of that file
+   (a hard link), that name gets a new file, and the own name keeps the old one; for a mapped file this too is
+   zx_file_save. The segment needs no file, and may be open in any mode. Errors: ZX_NULL_SLICE, ZX_BAD_MODE, ZX_CLOSED,
+   ZX_NO_MEMORY; ZX_FILE_IN_USE to ZX_FILE_REPLACED, ZX_FILE_FORKED; after ZX_FILE_UNSYNCED it is saved. */
 zx_code zx_file_save_as(zx_file *file, const char *path, uint32_t mode);
 
-/* Saves as zx_file_save does, if the file is open for writing, and closes it. A mapped file is cut to its image in
-   place of that. Returns the code of the save. After ZX_FILE_UNSYNCED the file is saved and closed; after any other
+/* Saves as zx_file_save does, if the file is open for writing, and closes it. A mapped file is cut to the length of its
+   image instead. Returns the code of the save. After ZX_FILE_UNSYNCED the file is saved and closed; after any other
    error it is still open. */
 zx_code zx_file_close(zx_file *file);
 
@@ -127,8 +130,8 @@ zx_code zx_file_rollback(zx_file *file, zx_segment *before);
 
 /* What a transaction keeps. It starts as ZX_NO_STEP, and zx_file_keep or zx_file_undo ends it. */
 typedef struct {
-    zx_segment copy;      /* the segment as it was; closed where pages are kept */
-    struct zx_kept *kept; /* what pages held; null where the segment is copied */
+    zx_segment copy;      /* a copy of the segment; closed if `kept` is used */
+    struct zx_kept *kept; /* the old bytes of pages; null if `copy` is used */
 } zx_step;
 
 #ifdef __cplusplus
@@ -137,13 +140,13 @@ typedef struct {
 #define ZX_NO_STEP ((zx_step){ { 0, 0, false, false }, 0 })
 #endif
 
-/* Groups several calls into one step. Of a file that is mapped or durable it costs what is changed: zx_file_begin keeps
-   the pages that were changed before, and finds them by the system's map of pages, or where there is none by a
-   comparison. Any other segment is copied, as by zx_begin. Steps may nest, each with its own zx_step.
+/* Groups several calls into one step. For a file that is mapped or durable, zx_file_begin copies at most the pages that
+   changed since the file was opened or last committed. It finds them by the system's map of pages, or by a comparison
+   if there is no such map. Any other segment is copied, as by zx_begin. Steps may nest, each with its own zx_step.
 
-   zx_file_keep ends the step and keeps its changes. The outermost step of a file that was opened with ZX_DURABLE is
-   committed, with the errors of zx_file_commit; that of another mapped file puts its changes into the file, with the
-   errors ZX_FILE_FAULT and ZX_NO_MEMORY. After ZX_FILE_UNSURE the step is ended; after any other error it is still
+   zx_file_keep ends the step and keeps its changes. For the outermost step it commits a file that was opened with
+   ZX_DURABLE (errors: those of zx_file_commit), and writes the changes to a file that is mapped for writing (errors:
+   ZX_FILE_FAULT and ZX_NO_MEMORY). After ZX_FILE_UNSURE the step is ended; after any other error it is still
    open. zx_file_undo restores the segment and ends the step. Its errors are those of zx_file_rollback.
 
    While a step is open, its changes are in no file, and zx_file_commit, zx_file_save and zx_file_close of a durable
@@ -163,11 +166,11 @@ zx_code zx_file_flush(zx_file *file);
    write its parts in place. A program needs them only if it reads or writes logs itself. No pointer is null. Each writes to the front of a buffer, and returns
    ZX_SHORT_BUFFER if that has too little room, or ZX_NO_MEMORY; then the buffer is unchanged. */
 
-/* Returns the fingerprint of an image, and the share that a page of 4096 bytes, or the last one, has in it. */
+/* Return the fingerprint of an image, and the share of one page in it. The last page may have less than 4096 bytes. */
 uint64_t zx_log_fingerprint(const uint8_t *image, size_t len);
 uint64_t zx_log_page_mark(uint64_t index, const uint8_t *page, size_t len);
 
-/* Write the front of a payload, of 40 bytes, and one of its edits, of 16 bytes and those that the image gets. */
+/* Write the front of a payload (40 bytes), and one of its edits (16 bytes, and then the bytes that the image gets). */
 zx_code zx_log_front(uint64_t len, uint64_t base, uint64_t after, uint8_t *front, size_t room);
 zx_code zx_log_edit(uint64_t offset, const uint8_t *bytes, size_t len, uint8_t *edit, size_t room);
 
@@ -178,15 +181,15 @@ zx_code zx_log_body(const uint8_t *payload, size_t len, uint8_t *body, size_t ro
 /* Writes a gate, of 4096 bytes. */
 zx_code zx_log_gate(bool is_open, uint8_t *gate, size_t room);
 
-/* Writes the image that a file stands for with its log, and returns its length, where the records end, and the file's
-   fingerprint. Errors: ZX_FILE_LOG_FOREIGN. */
+/* Writes the image that a file and its log make together. Stores the length of the image in `len`, the offset at which
+   the log's records end in `end`, and the fingerprint of the file in `mark`. Errors: ZX_FILE_LOG_FOREIGN. */
 zx_code zx_log_recover(const uint8_t *base, size_t base_len, const uint8_t *log, size_t log_len, uint8_t *image,
                        size_t room, uint64_t *len, uint64_t *end, uint64_t *mark);
 
 /* Gives the words for a code of this header or of zaluxhoni.h, as zx_words does. */
 void zx_file_words(zx_code code, zx_text *words);
 
-/* Returns the words of zx_file_words, ended by a byte 0, until this thread's next call of zx_message. */
+/* Returns the words of zx_file_words, ended by a byte 0. They stay until this thread calls zx_message again. */
 const char *zx_message(zx_code code);
 
 #ifdef __cplusplus

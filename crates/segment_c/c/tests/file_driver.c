@@ -1,13 +1,16 @@
-/* file_driver FILE..: takes commands from standard input, a line each, and prints a line for each: two_processes.py
-   and killed_savers.py drive it, beside those of C++ and Python. A command is a digit, the zx_file that it is for,
-   and words:
+/* file_driver FILE [loop | loop-one | make]: reads commands from standard input, one on each line, and prints a line
+   for each. two_processes.py and killed_savers.py run it, and the same drivers in C++ and Python. A command is a digit,
+   which selects a zx_file, and words:
 
-   open MODE SIZE [FILE]   get   set N   save   close   discard   saveas MODE FILE   fork WORDS, WORDS, ..   sleeper
+   open MODE SIZE [FILE]   get   set N   save   close   discard   saveas MODE FILE   fork COMMAND, COMMAND, ..
+   sleeper   nobody
 
-   `fork` runs commands in a child, on the files that are open, and prints what they answer in one line; `sleeper`
-   forks a child that sleeps; `nobody` gives up the rights of root. With a second word, `loop` or `loop-one`, the
-   program adds 1 to the number of the file, by a zx_file for each time or by one, until it is killed, and prints each
-   number that is saved; with `make` it creates files. */
+   `fork` runs commands in a child, on the files that are open, and prints their answers in one line. `sleeper` forks a
+   child that sleeps. `nobody` gives up the rights of root.
+
+   With `loop` or `loop-one` the program reads no commands. It adds 1 to the number in FILE until it is killed, and
+   prints each number after it is saved. `loop` opens and closes the file for each number; `loop-one` opens it once.
+   With `make` it creates files until it is killed. */
 #define _GNU_SOURCE
 #include "zaluxhoni_files.h"
 
@@ -70,7 +73,7 @@ static zx_code set(zx_file *file, int64_t number) {
 
 static void answer(char *line, char *said, size_t room);
 
-/* What commands answer in a child. */
+/* Runs the commands in a child, and stores their answers in `said`, separated by commas. */
 static void answer_in_child(char *lines, char *said, size_t room) {
     int ends[2];
     fflush(stdout);
@@ -168,7 +171,7 @@ static void loop(bool by_one_file) {
     }
 }
 
-/* Creates files for ever, FILE with a number behind; each has that number, which is printed when it is closed. */
+/* Creates files for ever: FILE1, FILE2 and so on. Each holds its number, which is printed after the file is closed. */
 static void make(void) {
     char each[600];
     zx_file *file = &files[0];

@@ -1,10 +1,11 @@
 """killed_committers.py FOLDER COUNT C CPP: kills committers of one file at random moments.
 
-Committers of C, C++ and Python, one after the other in a random order, add 1 to two numbers of one durable file in a
-transaction, again and again, and say each number that was committed. Each is killed; COUNT of them. It checks that
-- the next opening finds the last number that was said, or the next one, in both numbers;
-- who only reads finds that too;
-- each next committer can go on."""
+A committer is a program in C, C++ or Python, chosen at random. In one transaction it adds 1 to two numbers of a durable
+file. It repeats this until it is killed, and prints each number that it committed. The test kills COUNT committers, one
+after the other, and checks after each that
+- the next opening finds, in both numbers, the last number that was printed or the one after it;
+- an opening for reading finds the same;
+- the next committer continues from there."""
 import os
 import random
 import select
@@ -53,7 +54,7 @@ def numbers(said):
 
 
 def look(path, least):
-    """Returns the number of the file, by one that reads and by one that writes."""
+    """Opens the file for reading, then for writing. Returns its number, `least` or one more, which both must find."""
     with zaluxhoni.open(path, "r") as file:
         read = file["n"], file["m"]
     # the system may end the mapping of a killed process, and so its lock, a moment later

@@ -37,7 +37,7 @@ pub enum RawValue<'a> {
 
 /// Returns the text of a call, if it gave one.
 fn as_text(found: Result<&[u8], Refusal>) -> Option<RawValue<'_>>
-    ensures { option_map raw_text result ≡ raw_of (answer_of (λ text. TextElement text.now) found) }
+    ensures { option_map raw_text result ≡ raw_of (answer_of (λ text. TextElement text.now) found.entry) }
 {
     match found {
         Ok(text) => Some(RawValue::Text(text)),
@@ -137,7 +137,7 @@ fn key_in<'a>(bytes: &'a [u8], scratch: &'a mut LineBuffer) -> Option<Key<'a>>
 /// Returns the value at an index of the object of a key, or its first value.
 fn value_of<'a>(segment: &'a Segment, key: &Key<'_>, index: Option<&[u8]>) -> Option<RawValue<'a>>
     ensures { AnswersWith segment.now
-        (λ d. value_of_key segment.now.mode d (option_map (λ i. i.now) index) (key_seen key.now))
+        (λ d. value_of_key segment.now.mode d (option_map (λ i. i.now) index.entry) (key_seen key.now))
         (option_map raw_text result) }
 {
     match index {
@@ -149,7 +149,7 @@ fn value_of<'a>(segment: &'a Segment, key: &Key<'_>, index: Option<&[u8]>) -> Op
 /// Returns the value of words that say its key, and its index if there is one.
 fn value_for<'a>(segment: &'a Segment, key: &[u8], index: Option<&[u8]>) -> Option<RawValue<'a>>
     ensures { AnswersWith segment.now
-        (λ d. value_for segment.now.mode d key.now (option_map (λ i. i.now) index)) (option_map raw_text result) }
+        (λ d. value_for segment.now.mode d key.now (option_map (λ i. i.now) index.entry)) (option_map raw_text result) }
 {
     let mut scratch = LineBuffer::new();
     match key_in(key, &mut scratch) {
@@ -161,7 +161,7 @@ fn value_for<'a>(segment: &'a Segment, key: &[u8], index: Option<&[u8]>) -> Opti
 /// Writes a value, and the end of its line.
 fn put_raw<W: Sink>(value: RawValue<'_>, out: &mut W) -> Result<(), DeviceFault>
     requires { (W.history out.old).failures < 2 ^ 64 - 1 }
-    ensures { Writes (W.history out.old) (W.history out.new) result (value_line (raw_text value)) }
+    ensures { Writes (W.history out.old) (W.history out.new) result (value_line (raw_text value.entry)) }
 {
     match value {
         RawValue::Scalar(value) => put_value_line(out, value),
@@ -172,7 +172,7 @@ fn put_raw<W: Sink>(value: RawValue<'_>, out: &mut W) -> Result<(), DeviceFault>
 /// Writes a value, and gives out all that was written.
 fn tell_raw<O: Output>(value: RawValue<'_>, out: &mut O) -> Result<(), DeviceFault>
     requires { (O.history out.old).failures < 2 ^ 64 - 1 }
-    ensures { WritesAndFlushes O.history O.flushes out.old out.new (value_line (raw_text value)) result }
+    ensures { WritesAndFlushes O.history O.flushes out.old out.new (value_line (raw_text value.entry)) result }
 {
     put_raw(value, out)?;
     Output::flush(out)
@@ -196,7 +196,7 @@ pub fn get<D: Disk, O: Output>(
 ) -> Result<(), CommandFault>
     requires { (O.history out.old).failures < 2 ^ 64 - 1 }
     ensures { RunsGet D.step disk.old disk.new path.now O.history O.flushes out.old out.new key.now
-        (option_map (λ i. i.now) index) result }
+        (option_map (λ i. i.now) index.entry) result }
 {
     let current = AcceptedVersions::Current;
     let segment = open_segment(alloc, disk, path, current, Mode::ReadOnly, 0)?;

@@ -16,8 +16,8 @@ returns-in-Some g c = rw c.written.ensures (inr (record {
       (told _ _ c.tell_raw.result c.tell_raw.ensures, write_fault c.tell_raw.result);
 }))
 
-pub returns-in-None : goal.returns-in-None
-returns-in-None g c = inr (record {
+pub returns : goal.returns
+returns g c = inr (record {
   segment = c.in_ok-segment.segment;
   opens = c.in_ok-segment.ensures;
   tells = λ d stands.

@@ -12,5 +12,5 @@ invariant_of-self g c =
     record {
       text = ap seen_in c.in-Ok.ensures.bytes
           ∙ (fold-append after_byte (record { spot = 0; refusal = false }) old more
-          ∙ (ap (λ s. fold after_byte s more) was.seen_is ∙ sym c.after_bytes-self.ensures));
+          ∙ (ap (λ s. fold after_byte s more) was.text ∙ sym c.after_bytes-self.ensures));
     }

@@ -42,7 +42,7 @@ enum { RANGES = 256, IS_FILE = 4, IS_PRESENT = 8, IS_SWAPPED = 16 };
 
 /* Notes the own pages by that call. Returns false if the system does not have it. */
 static bool scan_own(int map, const struct zx_held_file *held, uint64_t pages, uint8_t *own) {
-    struct range found[RANGES];
+    struct range found[RANGES] = { { 0 } }; // valgrind does not know that the call writes it
     uint64_t from = (uintptr_t)held->at, end = from + pages * PAGE;
     memset(own, 0, pages);
     for (uint64_t at = from; at < end;) {

@@ -31,8 +31,6 @@ WRONG = [
     ("of a page the first change alone is written", "durable.h",
      "    while (code == ZX_DONE && next_run(old, now, len, &from, &behind)) {",
      "    if (next_run(old, now, len, &from, &behind)) {"),
-    ("behind an end that moved no page is compared", "durable.h",
-     "    memset(record->changed + moved, 1, record->pages - moved);", ""),
     ("the folder of a new log is not synced", "durable.h",
      "        zx_code code = sync_name(file, held);\n        if (code == ZX_DONE) return code;\n    }\n    zx_code code = fault(file);\n"
      "    held->state = state;",

@@ -32,8 +32,8 @@ from ._errors import (Absent, BadContainer, BadCount, BadFreeTree, BadGrowth, Ba
 from ._library import zx
 from ._objects import Array, Map, Object, String, Strings, Vector
 from ._records import Records
-from ._segment import (FILE_MODES, MODES, Group, Info, Segment, Tile, Transaction, new_segment, note_opened,
-                       path_bytes)
+from ._segment import (FILE_MODES, MODES, Group, Info, Segment, Tile, Transaction, discard_lost, new_segment, note_file,
+                       note_opened, path_bytes)
 from ._values import Key, ObjectKey, handle, natural, unique
 
 __all__ = [
@@ -121,12 +121,15 @@ def open(path: Any, mode: str = "c", *, size: int = 65536, grow: bool = True, en
     how = FILE_MODES[mode] + (_DURABLE if durable else _MAPPED if mapped else 0)
     opened._path, opened._is_mapped, opened._is_durable = path, bool(mapped or durable), bool(durable)
     passed, bytes_wanted, ends = path_bytes(path), natural(size), _ends(timeout)
+    note_file(opened)
     pause = 0.001
     while True:
         try:
             opened._file_call(zx.zx_file_open, path, passed, how, bytes_wanted)
             break
         except FileInUse:
+            if discard_lost():
+                continue
             left = ends - time.monotonic()
             if left <= 0:
                 raise

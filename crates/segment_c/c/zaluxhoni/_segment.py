@@ -912,11 +912,13 @@ class Segment(_Named, _library.Block):
         file = getattr(self, "_file", None)
         if file is None or not (file.segment.at or file.held):
             return
+        _ending[id(file)] = threading.get_ident()
         try:
             if self._end_unclosed(True):
                 said = f"a segment of {self._path!r} was not closed; it was saved when it was collected"
                 warnings.warn(said, ResourceWarning, source=self)
         finally:
+            _ending.pop(id(file), None)
             zx.zx_file_discard(file)
 
     def _end_unclosed(self, is_alone: bool) -> bool:
@@ -1164,6 +1166,29 @@ def note_opened(segment: Segment) -> None:
     """Notes a segment that has a file to save, so that this is done at the end of the process if nobody closes it."""
     if segment._file.held:
         _opened[id(segment)] = segment
+
+
+_files: List[Tuple[Any, _library.File, int]] = []
+"""The files of the segments that were opened: a weak reference to the segment, the file, and the process."""
+_ending: Dict[int, int] = {}
+"""The threads that close files in `__del__` now, by the ids of the files."""
+
+
+def note_file(segment: Segment) -> None:
+    """Notes the file of a segment that will be opened."""
+    _files[:] = [each for each in _files if each[1].held or each[0]() is not None]
+    _files.append((weakref.ref(segment), segment._file, os.getpid()))
+
+
+def discard_lost() -> bool:
+    """Discards the files of segments that were collected without it: a signal handler that raises can end `__del__` at
+    any instruction. Returns whether there were any."""
+    here, thread = os.getpid(), threading.get_ident()
+    lost = [file for segment, file, process in _files
+            if segment() is None and file.held and process == here and _ending.get(id(file), thread) == thread]
+    for file in lost:
+        zx.zx_file_discard(file)
+    return bool(lost)
 
 
 def _note_fork() -> None:

@@ -274,10 +274,14 @@ static void note_inode(struct model *of) {
     of->inode = stat(paths[of->name], &found) == 0 ? found.st_ino : 0;
 }
 
-/* Whether its name leads to the file that it has. */
+/* Returns true if its name leads to the file that it has; a mapped file keeps its bytes under any name. */
 static bool is_home(const struct model *of) {
     struct stat found;
-    return stat(paths[of->name], &found) == 0 && found.st_ino == of->inode;
+    for (int i = 0; i < NAMES; i++) {
+        bool counts = i == of->name || of->is_mapped;
+        if (counts && stat(paths[i], &found) == 0 && found.st_ino == of->inode) return true;
+    }
+    return false;
 }
 
 static void open_one(struct model *of, struct input *input) {

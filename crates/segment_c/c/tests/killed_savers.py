@@ -175,17 +175,19 @@ class Round:
         self.kill(list(self.savers))
         until = time.monotonic() + WAIT
         while True:
+            # a run of the program is no child of ours: it may end a moment later, and leave its new file then
+            may_wait = "program" in self.commands and time.monotonic() < until
             try:
                 zaluxhoni.open(self.path, "w", mapped=random.random() < 0.5).close()
-                break
             except zaluxhoni.FileInUse:
-                # a run of the program is no child of ours: it may end a moment later
-                if "program" not in self.commands or time.monotonic() > until:
+                if not may_wait:
                     raise
-        beside = set(os.listdir(self.folder)) - {"file"}
-        # what the program left is the program's
-        if beside - ({"file.new"} if "program" in self.commands else set()):
-            raise Wrong(f"there is {beside} beside the file")
+                continue
+            beside = set(os.listdir(self.folder)) - {"file"}
+            if not beside:
+                break
+            if not may_wait:
+                raise Wrong(f"there is {beside} beside the file")
 
 
 def kill_maker(folder, name, command):

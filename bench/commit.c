@@ -276,7 +276,7 @@ static void time_transactions(uint32_t how, const char *name, uint64_t size, int
     unlink(in_folder("steps.seg-log"));
 }
 
-/* Fills a segment with texts, and lets a log grow beside it to 19 in 20 of the length at which it is emptied. */
+/* Fills a segment with texts. Makes commits until its log has 95 % of the length at which a checkpoint empties it. */
 static void make_log(zx_file *file, uint64_t size) {
     static const uint8_t text[40] = "a text that has a block of its own ....";
     zx_key key = zx_name("texts"), numbers = zx_name("numbers");

@@ -80,7 +80,7 @@ fn count_stand_ins(words: &[&str]) -> usize {
     words.iter().filter(|word| is_stand_in(word)).count()
 }
 
-/// Returns how many paths of a command stand for paths that are no UTF-8: those of its files, and of its script.
+/// Counts the stand-ins of paths that are no UTF-8, among the files of a command and its script.
 fn unusable_paths(options: &Options<'_>) -> usize {
     let files = count_stand_ins(options.files.as_slice());
     match options.script {
@@ -451,7 +451,7 @@ impl<'a, R: Read> ReadOnce for Prompted<'a, R> {
     }
 }
 
-/// Returns what is told of a file of which the system said this.
+/// Returns the problem to print for a file: `Unnamed` for a stand-in, otherwise the problem that the system gave.
 fn problem_with(path: &str, said: Option<FileProblem>) -> Option<FileProblem> {
     if is_stand_in(path) {
         Some(FileProblem::Unnamed)

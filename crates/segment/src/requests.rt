@@ -23,8 +23,8 @@ pub struct NoAnswerMemory {
 /// What the token of a refusal is.
 const REFUSED: NoAnswerMemory = NoAnswerMemory { _made: () };
 
-/// Returns the words of the command line, the program's name first. In the place of each that is no UTF-8 is its
-/// stand-in. Returns none if such a word begins with a hyphen, or one beside it is too long to be read.
+/// Returns the words of the command line, the program's name first. A stand-in replaces each word that is no UTF-8.
+/// Returns none if such a word begins with a hyphen, or if any word is too long to be read.
 pub fn command_words(rt: &HostRuntime) -> Result<Option<Vec<String>>, NoAnswerMemory> {
     match std::env::args(rt) {
         Ok(words) => match words.collect(rt.alloc()) {

@@ -465,7 +465,7 @@ typedef struct {
 /* Looks up the object of a key. Errors: ZX_NOT_FOUND, ZX_WRONG_KIND. */
 static inline zx_code zx_look_up(zx_segment *segment, const zx_key *key, zx_object *object);
 /* Returns ZX_DONE if an element of a kind is at `index`. Looks the elements up again if a call has changed the segment.
-   Errors: those of the calls below. */
+   Errors: ZX_NOT_FOUND if the object was destroyed, ZX_WRONG_KIND, ZX_OUT_OF_RANGE. */
 static inline zx_code zx_is_at(zx_segment *segment, zx_object *object, uint64_t index, uint32_t kind);
 /* Reads the element at `index`. The name of the call says the kind. Errors: ZX_NOT_FOUND if the object was destroyed,
    ZX_WRONG_KIND, ZX_OUT_OF_RANGE. */

@@ -2278,7 +2278,8 @@ class strings : public detail::row<const_strings, detail::lines> {
         all.erase(all.begin() + static_cast<std::ptrdiff_t>(first), all.begin() + static_cast<std::ptrdiff_t>(last));
         assign(all);
     }
-    /// As those of a vector.
+    /// `emplace_back` returns the new text, `insert` an iterator to it, and `erase` an iterator to the text after the
+    /// erased ones. Errors: as of `push_back`, and of `insert` and `erase` by an index.
     reference emplace_back(std::string_view text) const {
         push_back(text);
         return back();

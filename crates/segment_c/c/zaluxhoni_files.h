@@ -150,7 +150,7 @@ typedef struct {
    open. zx_file_undo restores the segment and ends the step. Its errors are those of zx_file_rollback.
 
    While a step is open, its changes are in no file, and zx_file_commit, zx_file_save and zx_file_close of a durable
-   file return ZX_FILE_IN_STEP. Errors of zx_file_begin: those of zx_begin, and ZX_FILE_FAULT. */
+   file return ZX_FILE_IN_STEP. Errors of zx_file_begin: ZX_CLOSED, ZX_READ_ONLY, ZX_NO_MEMORY and ZX_FILE_FAULT. */
 zx_code zx_file_begin(zx_file *file, zx_step *before);
 zx_code zx_file_keep(zx_file *file, zx_step *before);
 zx_code zx_file_undo(zx_file *file, zx_step *before);

@@ -34,7 +34,7 @@ pub enum CommandFault {
     /// The objects of a dump do not fit the size: they need this number of bytes.
     #[error("no space: the objects need {0} bytes")]
     NoSpace(u64),
-    /// There is no value of the key and the index that were given.
+    /// The key leads to no object, or the object has no value at the index.
     #[error("no such value")]
     NoValue,
 }

@@ -47,7 +47,7 @@ module _ (ts : List Tile) (end : ℕ) (a : Row 128 ts end) (m : Memory) (os : Li
       let off = p.offset in
       record { from = omega arith; to = omega arith }
 
-  -- the offset of a claim that is no link of a tree
+  -- a claim at this offset is a word of the object or of its array; links of map nodes are excluded
   data Home (o : Object) (x : ℕ) : Type 0 where
     at_place : value_len o.value ≡ 24 → x ≡ place_of o → Home o x
     in_array : (t : Tile) → Mem t ts → IsTrue (is_use Storage t) → Lies x t → value_len o.value ≡ 24

@@ -45,7 +45,7 @@ tree-at a (fork red l n r) g k = elim (mem_parts g (tree_claims n l) (field a n 
 pub record AreAligned (ns : List ℕ) : Type 0 where
   pub at : (n : ℕ) → Mem n ns → n % 16 ≡ 0
 
--- an offset that is no link of these nodes
+-- the offset differs from both links of each node
 pub record NotBelow (a : ℕ) (ns : List ℕ) : Type 0 where
   pub first : (n : ℕ) → Mem n ns → a ≡ n → ⊥
   pub second : (n : ℕ) → Mem n ns → a ≡ n + 8 → ⊥

@@ -139,7 +139,7 @@ unchanged-sorted e i hs s = subst (λ (c : WindowState). AreSortedHandles c i hs
 
 -- ---- which objects stay
 
--- a block of an object is no block of an index
+-- blocks with the roles Object and Index differ
 roles-apart : (l : LiveSet) (h g : ℕ) (x y : Extent) → extent_at l h ≡ Some x → extent_at l g ≡ Some y
     → IsTrue (same_role x.role ObjectRole) → IsTrue (same_role y.role IndexRole) → h ≡ g → ⊥
 roles-apart l h g x y e f object index same =

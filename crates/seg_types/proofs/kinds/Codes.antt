@@ -120,7 +120,7 @@ pub vector_part : (code : ℕ) → code / 65536 ≡ 2
     → kind_of_code code ≡ option_map Vector (scalar_of_code (code % 65536))
 vector_part code part = vector_if code part (scalar_of_code (code % 65536)) refl
 
--- a code from 196608 on is that of a map, and its two lowest bytes those of key and value
+-- a code with upper half word 3 means a map: byte 1 is the kind of its keys, byte 0 the kind of its values
 pub map_part : (code : ℕ) (k v : ScalarKind) → code / 65536 ≡ 3 → scalar_of_code (code / 256 % 256) ≡ Some k
     → scalar_of_code (code % 256) ≡ Some v → kind_of_code code ≡ Some (Map k v)
 map_part code k v part key value =

@@ -9,7 +9,7 @@ enum { GATE = 4096, FRONT = 40, EDIT = 16 };
 #define LONG_LOG (1 << 20)
 #endif
 
-/* A checkpoint writes a page in the time in which commits compare so many. */
+/* Commits compare this many pages in the time in which a checkpoint writes one. */
 enum { IN_VAIN = 32 };
 
 /* Syncs the bytes and the length of a log. */

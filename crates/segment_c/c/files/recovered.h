@@ -103,7 +103,7 @@ static zx_code begin_commits(zx_file *file, struct zx_held_file *held, uint64_t 
     return ZX_DONE;
 }
 
-/* Opens the segment of a file that is to be committed. */
+/* Opens a segment of a durable file, for commits. */
 static zx_code open_durable(zx_file *file, struct zx_held_file *held, const struct stat *found) {
     uint64_t len = (uint64_t)found->st_size;
     // no segment has such a size, so the bytes are refused

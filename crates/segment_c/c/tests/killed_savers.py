@@ -175,7 +175,7 @@ class Round:
         self.kill(list(self.savers))
         until = time.monotonic() + WAIT
         while True:
-            # a run of the program is no child of ours: it may end a moment later, and leave its new file then
+            # the program runs as a grandchild: after the kill it can live a moment longer, and leave its new file
             may_wait = "program" in self.commands and time.monotonic() < until
             try:
                 zaluxhoni.open(self.path, "w", mapped=random.random() < 0.5).close()

@@ -253,6 +253,12 @@ static void time_transactions(uint32_t how, const char *name, uint64_t size, int
     unlink(path);
     done((int)zx_file_open(&file, path, ZX_CREATE_ONLY | how, size), "open");
     uint64_t numbers = fill(&file, size);
+    double first = now();
+    done((int)zx_file_begin(&file, &before), "begin");
+    done((int)zx_file_keep(&file, &before), "keep");
+    times[0][0] = now() - first;
+    snprintf(what, sizeof what, "the first transaction, %s, %llu MB", name, (unsigned long long)size / 1000000);
+    print(what, times[0], 1);
     for (int i = 0; i < count; i++) {
         double from = now();
         done((int)zx_file_begin(&file, &before), "begin");
@@ -351,7 +357,11 @@ int main(int words, char **word) {
         time_whole(mib, 5);
     }
     time_opening(32, 9);
-    time_transactions(ZX_MAPPED, "mapped", 200000000, count);
-    time_transactions(ZX_DURABLE, "durable", 200000000, count);
+    const uint64_t sizes[] = { 1000000, 64000000, 200000000 };
+    for (int i = 0; i < 3; i++) {
+        time_transactions(0, "by copy", sizes[i], count);
+        time_transactions(ZX_MAPPED, "mapped", sizes[i], count);
+        time_transactions(ZX_DURABLE, "durable", sizes[i], count);
+    }
     return 0;
 }

@@ -2,7 +2,8 @@
 # commit.sh [ARCHIVE [FOLDER [COUNT]]]: times changes with their durable commit, beside LMDB and SQLite where they are
 # installed (liblmdb-dev, libsqlite3-dev): one number, a number in each of 1,000 pages, and 3,000 bytes in each of them, in
 # 32 MiB and in 256 MiB. Each library commits once in turn. Then openings with a log and without, and a transaction of one
-# number in 200 MB, kept and undone. FOLDER is on the disk to measure. It prints medians of COUNT commits in milliseconds.
+# number in 1, 64 and 200 MB, by copy, mapped and durable, kept and undone. FOLDER is on the disk to measure. It prints
+# medians of COUNT commits in milliseconds.
 set -euo pipefail
 cd "$(dirname "$0")/.."
 archive=${1:-crates/segment_c/out/libsegment_c.a}

@@ -1,6 +1,7 @@
-//! Twelve short programs over the library, on files in the folder that they run in. Each prints what it found.
+//! Thirteen short programs over the library, on files in the folder that they run in. Each prints what it found.
 #![tactic(auto)]
 
+mod commits;
 mod growing;
 mod handles;
 mod listing;
@@ -30,6 +31,8 @@ fn clean(rt: &HostRuntime) {
         "chain.seg",
         "views.seg",
         "listed.seg",
+        "till.seg",
+        "till.seg-log",
     ] {
         let _ = fs::remove_file(rt, path);
     }
@@ -46,7 +49,7 @@ fn run_six(rt: &HostRuntime, disk: &mut impl Disk) -> Result<()> {
     untrusted_file::open_a_stranger(rt, disk)
 }
 
-/// Runs all twelve.
+/// Runs all thirteen.
 fn run(rt: &HostRuntime, disk: &mut impl Disk) -> Result<()> {
     run_six(rt, disk)?;
     moving::move_a_segment(rt, disk)?;
@@ -54,7 +57,8 @@ fn run(rt: &HostRuntime, disk: &mut impl Disk) -> Result<()> {
     handles::follow_a_handle(rt, disk)?;
     timetable::note_departures(rt)?;
     views::view_objects(rt, disk)?;
-    listing::list_a_segment(rt, disk)
+    listing::list_a_segment(rt, disk)?;
+    commits::commit_sales(rt, disk)
 }
 
 /// Runs the programs over the files of the system.

@@ -1,11 +1,11 @@
 //! A file of an older format. Boost has one layout for each of its versions, and no way between them.
 use anyhow::Result;
-use zaluxhoni::{Disk, FileError, Mode, Segment, check, migrate, named, read};
+use zaluxhoni::{Disk, FileError, Mode, OpenError, Segment, check, migrate, named, read};
 
 /// Finds that a file has an older format, and writes it anew by the current one.
 fn renew(rt: &HostRuntime, disk: &mut impl Disk) -> Result<()> {
-    if let Err(FileError::Image(class)) = check(rt.alloc(), disk, "older.seg") {
-        println!(rt; "an older format: {class}")?;
+    if let Err(FileError::Open(OpenError::Image(verdict))) = check(rt.alloc(), disk, "older.seg") {
+        println!(rt; "an older format: {verdict}")?;
         migrate(rt.alloc(), disk, "older.seg")?;
     }
     Ok(())

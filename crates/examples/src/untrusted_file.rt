@@ -1,12 +1,13 @@
 //! A file that nobody vouches for. Boost trusts what it maps.
 use anyhow::Result;
-use zaluxhoni::{Disk, FileError, Mode, read};
+use zaluxhoni::{Disk, FileError, Mode, OpenError, read};
 
 /// Opens a file that somebody else wrote, and tells why it is no segment.
 pub fn open_a_stranger(rt: &HostRuntime, disk: &mut impl Disk) -> Result<()> {
     match read(rt.alloc(), disk, "stranger.seg", Mode::ReadOnly) {
         Ok(segment) => println!(rt; "a stranger: {} bytes", segment.size())?,
-        Err(FileError::Image(class)) => {
+        Err(FileError::Open(OpenError::Image(verdict))) => {
+            let class = verdict.class;
             let number = class.number();
             println!(rt; "a stranger: refused by class {number}, {class}")?;
         }

@@ -1,4 +1,4 @@
-//! Views: an object that is looked up once. Boost: the pointer that `find` and `construct` give.
+//! Views: each looks its object up once, and then needs no name. Boost: the pointer that `find` and `construct` return.
 use anyhow::Result;
 use zaluxhoni::{
     ArrayView, Disk, MapView, Name, Refusal, Segment, SegmentFile, StringView, StringsView,
@@ -15,7 +15,7 @@ fn fill(queue: &mut VectorView<'_, i64>) -> Result<(), Refusal> {
     queue.extend(&[8])
 }
 
-/// Keeps a queue of numbers, and tells their sum, how many they are, and the last one, which it takes out.
+/// Makes a queue of numbers. Returns their sum, how many they are, and the last one, which `pop` takes out.
 fn take_of_a_queue(segment: &mut Segment, name: &Name) -> Result<(i64, u64, i64), Refusal> {
     segment.construct_vec::<i64, _>(name, &[])?;
     let mut queue = VectorView::<i64>::of(segment, name)?;
@@ -27,7 +27,7 @@ fn take_of_a_queue(segment: &mut Segment, name: &Name) -> Result<(i64, u64, i64)
     Ok((sum, queue.len()?, queue.pop()?))
 }
 
-/// Keeps two bytes, changes the second, and tells the greater of them.
+/// Makes an array of two bytes, changes it, and returns the greater byte.
 fn change_an_array(segment: &mut Segment, name: &Name) -> Result<u8, Refusal> {
     segment.construct(name, 2, 7u8)?;
     let mut flags = ArrayView::<u8>::of(segment, name)?;
@@ -57,7 +57,7 @@ fn add_up_years(years: &MapView<'_, i32, i64>) -> i64 {
     sum
 }
 
-/// Keeps years, and looks for the first of all and for one after the number 3.
+/// Makes a map of years. Returns its first pair, the next pair after the number 3, and the sum of the years.
 fn look_into_a_map(segment: &mut Segment, name: &Name) -> Result<([Option<(i32, i64)>; 2], i64)> {
     segment.construct_map::<i32, i64, _>(name)?;
     let mut years = MapView::<i32, i64>::of(segment, name)?;
@@ -65,7 +65,7 @@ fn look_into_a_map(segment: &mut Segment, name: &Name) -> Result<([Option<(i32, 
     Ok(([years.first()?, years.next_after(3)?], add_up_years(&years)))
 }
 
-/// Tells the last two years, the later one first.
+/// Prints the last two pairs of the map, the last one first.
 fn tell_the_last(rt: &HostRuntime, years: &MapView<'_, i32, i64>) -> Result<()> {
     for (number, year) in years.range(..=9).rev().take(2) {
         println!(rt; "views: going back, number {number} is of {year}")?;
@@ -73,7 +73,7 @@ fn tell_the_last(rt: &HostRuntime, years: &MapView<'_, i32, i64>) -> Result<()> 
     Ok(())
 }
 
-/// Keeps a text, and puts more after it.
+/// Makes a string, appends to it, changes it, and returns its length.
 fn lengthen_a_text(segment: &mut Segment, name: &Name) -> Result<usize, Refusal> {
     segment.construct_string(name, b"red")?;
     let mut title = StringView::of(segment, name)?;
@@ -83,7 +83,7 @@ fn lengthen_a_text(segment: &mut Segment, name: &Name) -> Result<usize, Refusal>
     Ok(title.as_bytes()?.len())
 }
 
-/// Keeps two texts, leaves the first out, and tells how many bytes the others have.
+/// Makes a list of three texts, takes two out, changes the one left, and returns how many bytes it has.
 fn shorten_a_list(segment: &mut Segment, name: &Name) -> Result<usize, Refusal> {
     segment.construct_texts(name, &[b"second"])?;
     let mut lines = StringsView::of(segment, name)?;
@@ -99,14 +99,14 @@ fn shorten_a_list(segment: &mut Segment, name: &Name) -> Result<usize, Refusal> 
     Ok(bytes)
 }
 
-/// Goes through a vector of numbers.
+/// Shows a view of a vector of numbers.
 fn view_a_queue(rt: &HostRuntime, segment: &mut Segment) -> Result<()> {
     let (sum, len, last) = take_of_a_queue(segment, &named("queue")?)?;
     println!(rt; "views: a queue of {len} with the sum {sum}, the last is {last}")?;
     Ok(())
 }
 
-/// Goes through an array, and a map, first by rising keys and then by falling ones.
+/// Shows a view of an array, and one of a map, by rising and then by falling keys.
 fn view_a_map(rt: &HostRuntime, segment: &mut Segment) -> Result<()> {
     let (flags, years) = (named("flags")?, named("years")?);
     let flag = change_an_array(segment, &flags)?;
@@ -115,7 +115,7 @@ fn view_a_map(rt: &HostRuntime, segment: &mut Segment) -> Result<()> {
     tell_the_last(rt, &MapView::of(segment, &years)?)
 }
 
-/// Goes through an object of texts of each sort.
+/// Shows a view of a string, and one of a vector of strings.
 fn view_texts(rt: &HostRuntime, segment: &mut Segment) -> Result<()> {
     let title = lengthen_a_text(segment, &named("title")?)?;
     let line = shorten_a_list(segment, &named("lines")?)?;
@@ -123,7 +123,7 @@ fn view_texts(rt: &HostRuntime, segment: &mut Segment) -> Result<()> {
     Ok(())
 }
 
-/// Goes through an object of each sort.
+/// Shows a view of each sort of object.
 pub fn view_objects(rt: &HostRuntime, disk: &mut impl Disk) -> Result<()> {
     let mut file = SegmentFile::create(rt.alloc(), disk, "views.seg", 4096)?;
     view_a_queue(rt, &mut file.segment)?;

@@ -1,7 +1,6 @@
 -- What holds of images, for other crates: the laws of `laws.rt`.
 pub use Rattle.image_check.proofs.opening.Decisions.{refused-class}
 pub use Rattle.image_check.proofs.reading.Deciding.{all_decided}
-pub use Rattle.image_check.proofs.reading.Ends.{ends_at_most_once}
 pub use Rattle.image_check.proofs.law.OneDirectory.{one_directory}
 pub use Rattle.image_check.proofs.containers.MapMeaning.{tests_mean_relations}
 -- And facts about the tests of indexes and objects, for any reader of the bytes.

@@ -30,15 +30,19 @@ has_front format b = has_magic b && has_version format b && is_legal_size (size_
 
 -- ---- the classes before the tiles
 
+-- whether the bytes are fewer than 144, or begin as an image of the format and are fewer than its size says
 abbrev pub is_truncated : ℕ → List ℕ → Bool
 is_truncated format b = nat_lt (length b) 144 || (has_front format b && nat_lt (length b) (size_word b))
 
+-- whether the size is legal, and no bytes follow a segment of this size; there may be fewer bytes
 abbrev pub has_size : List ℕ → Bool
 has_size b = is_legal_size (size_word b) && nat_le (length b) (size_word b)
 
+-- whether all numbers of the list are 0
 abbrev pub is_zero : List ℕ → Bool
 is_zero = list_all (λ c. c == 0)
 
+-- whether the bytes at 12 to 15 and at 80 to 127 are 0
 abbrev pub has_reserved : List ℕ → Bool
 has_reserved b = is_zero (read (bytes_of b) 12 4 ++ read (bytes_of b) 80 48)
 
@@ -48,13 +52,15 @@ is_tiled format b = has_tags format (bytes_of b) (size_word b)
 
 -- ---- the free tree
 
+-- the offsets and lengths of the free tiles, in the order of the offsets
 abbrev pub free_gaps : List Tile → List Gap
 free_gaps ts = map (λ (t : Tile). record { offset = t.offset; len = t.len }) (filter is_free ts)
 
--- the payloads of the free tiles, by length and offset
+-- the offsets at which the payloads of the free tiles begin: shorter tiles first, and of one length the lower first
 abbrev pub free_payloads : List Tile → List ℕ
 free_payloads ts = payloads (sorted_gaps (free_gaps ts))
 
+-- whether the number is in the list
 abbrev pub is_among : List ℕ → ℕ → Bool
 is_among xs x = list_any (λ y. x == y) xs
 

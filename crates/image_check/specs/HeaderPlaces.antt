@@ -26,7 +26,8 @@ abbrev pub IsFirstReserved : List ℕ → ℕ → Type 0
 IsFirstReserved b at = IsFirstNonzero (bytes_of b) 12 16 at
     ⊎ (AreZero (bytes_of b) 12 16 × IsFirstNonzero (bytes_of b) 80 128 at)
 
--- the size, if it is not legal, and otherwise the offset of the first byte after a segment of this size
+-- 16, where the size stands, if the size is not legal, and otherwise the offset of the first byte after a segment of
+-- this size
 abbrev pub shown_size : List ℕ → ℕ
 shown_size b = if is_legal_size (size_word b) then size_word b else 16
 

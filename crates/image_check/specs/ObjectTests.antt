@@ -69,6 +69,7 @@ has_index m ts at =
     && is_table_link ts Index (link_at m at) 8 (index_capacity m at)
     then list_all (λ link. is_some (good_for ts Object link)) (entries m at) else false
 
+-- whether no number is in the list twice
 abbrev pub are_distinct : List ℕ → Bool
 are_distinct [] = true
 are_distinct (x ∷ xs) = not (is_among xs x) && are_distinct xs
@@ -104,6 +105,7 @@ is_value_in m (Scalar k) count at end =
     && nat_le (at + size_of k * count) end then are_spellings m k at count else false
 is_value_in m k count at end = (count == 1) && nat_le (at + 24) end
 
+-- whether the class and the name of an object are valid: a name of class 1, and no name of class 0 or 2
 abbrev pub has_name : ℕ → Memory → ℕ → Bool
 has_name format m at =
     if class_at m at == 1 then (if nat_le (name_len_at m at) 255 then is_name format (name_at m at) else false)
@@ -113,6 +115,7 @@ has_name format m at =
 abbrev pub padding_at : Memory → ℕ → List ℕ
 padding_at m at = let n = name_len_at m at in read m (at + 16 + n) (padded n - n)
 
+-- whether the bytes between the name and the value are 0
 abbrev pub has_padding : Memory → ℕ → Bool
 has_padding m at = is_zero (padding_at m at)
 

@@ -139,7 +139,7 @@ abbrev pub failed_reads : {T : Type 0} → Result T OpenError → ℕ
 failed_reads (Ok x) = 0
 failed_reads (Err cause) = elim cause [ Image v ↦ 0 | RegionTooSmall ↦ 0 | OutOfMemory refusal ↦ 0 | ReadFault ↦ 1 ]
 
--- a call makes no read after the end: at most its last read met the end
+-- a call makes no read after the end: if the reader has ended, the last read of the call met the end, and no other did
 abbrev pub AsksToTheEnd : ReaderHistory → ReaderHistory → Type 0
 AsksToTheEnd old new = new.ends ≡ old.ends + (if new.ended then 1 else 0)
 

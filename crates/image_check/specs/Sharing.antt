@@ -1,4 +1,4 @@
--- The effect of entering the links of an image that count, value by value.
+-- The check enters those links of an image that count, value by value. These records say what it has entered.
 use Rattle.std.specs.Prelude.{◌≡◌, ◌≢◌, ℕ, ◌+◌, ◌*◌, ◌/◌, ◌%◌, ◌≤◌, ◌<◌, ◌⊎◌, Bool, true, false, IsTrue, Contains}
 use Rattle.std.specs.Prelude.{Option, Some, None, List, length, Result, MatchResult, ◌==◌, if◌then◌else◌}
 use Rattle.raw_region.specs.Memory.{Memory, bytes_of, word_at}
@@ -16,7 +16,7 @@ use Rattle.image_check.specs.Owners.{owner_at}
 use Rattle.image_check.specs.Passes.{tiles_in}
 use Rattle.image_check.specs.Visits.{Rates}
 
--- the links at such offsets were entered, and all entered links stay
+-- the pass entered only links at offsets with the property `At`, and all links entered before stay
 pub record MarksLinks (format : ℕ) (b : List ℕ) (At : ℕ
     → Type 0) (old : Blocks) (waited : ℕ) (es : Blocks) (pending : Option ℕ) (waiting : ℕ) : Type 0 where
   pub marking : IsMarkingOf format b None es pending waiting
@@ -24,7 +24,7 @@ pub record MarksLinks (format : ℕ) (b : List ℕ) (At : ℕ
   pub only : (n : ℕ) (o : Owner) → owner_at es n ≡ Some o → (owner_at old n ≡ Some o) ⊎ At o.at
   pub less : 6 * waiting + unspent_budget es ≤ 6 * waited + unspent_budget old
 
--- a pass makes at most this many visits, in addition to the visits allowed for the blocks that it met
+-- a pass makes at most `n` visits, plus the visits allowed for the blocks that it met: `owed` before minus `owes` after
 abbrev pub Pays : {A E : Type 0} → ℕ → Result A E → ℕ → ℕ → ℕ → ℕ → Type 0
 Pays n result old owed new owes =
     (old ≤ new) × MatchResult result (λ done. new + owes ≤ old + (owed + n)) (λ class. new ≤ old + (owed + n))
@@ -65,7 +65,7 @@ pub record AreElementsNoted (format : ℕ) (b : List ℕ) (array n : ℕ) (old :
   pub grown : MarksLinks format b (IsElementPlace array n) old waited es pending waiting
   pub noted : (i : ℕ) → i < n → IsMarkedLink (bytes_of b) (tiles_in b) es Storage (array + 16 * i) (array + 16 * i)
 
--- a link at the offset counts if it leads to storage, and is not in a node
+-- the offset is not in a node, and a link at the offset counts if it leads to storage
 abbrev pub IsStorageStart : ℕ → List ℕ → ℕ → Type 0
 IsStorageStart format b at = IsStart (tiles_in b) at × MayCount format (bytes_of b) (tiles_in b) Storage at
 
@@ -108,7 +108,7 @@ pub record IsValueNoted (m : Memory) (ts : List Tile) (kind : Kind) (at : ℕ) (
   pub element : kind ≡ Strings → AllElements m ts at (λ p. IsMarkedLink m ts es Storage p p)
   pub root : (k v : ScalarKind) → kind ≡ Map k v → IsMarkedLink m ts es Node at at
 
--- no link of the value is entered
+-- the pass can enter the value: it is a value of the image, and its own link is not yet entered
 pub record IsValueReady (format : ℕ) (b : List ℕ) (kind : Kind) (at : ℕ) (es : Blocks) : Type 0 where
   pub value : Contains (values format (bytes_of b) (tiles_in b)) (kind, at)
   pub inside : IsTrue (has_link kind) → at + 24 ≤ length b
@@ -117,7 +117,7 @@ pub record IsValueReady (format : ℕ) (b : List ℕ) (kind : Kind) (at : ℕ) (
   pub fresh : IsTrue (has_link kind) → (n : ℕ) (o : Owner) → owner_at es n ≡ Some o → o.at ≢ at
   pub elements : kind ≡ Strings → AllElements (bytes_of b) (tiles_in b) at (IsStorageStart format b)
 
--- the links of a value are entered
+-- the links of a value are entered, and otherwise only links in storages
 pub record IsValueGrown (format : ℕ) (b : List ℕ) (kind : Kind) (at : ℕ) (old : Blocks) (waited : ℕ) (es : Blocks)
     (pending : Option ℕ) (waiting : ℕ) : Type 0 where
   pub grown : MarksLinks format b (λ p. (IsTrue (has_link kind) × (p ≡ at))
@@ -139,7 +139,7 @@ pub record IsLinkOf (format : ℕ) (m : Memory) (t : Tile) (p : ℕ) : Type 0 wh
   pub link : IsTrue (has_link kind)
   pub place : p ≡ value_offset m (payload t)
 
--- a link of the tile's object, or of an element, is at the offset
+-- the offset is the offset of the link of the tile's object, or is in a storage
 abbrev pub IsPlaceOf : ℕ → Memory → List Tile → Tile → ℕ → Type 0
 IsPlaceOf format m ts t p = IsLinkOf format m t p ⊎ IsInStorage ts p
 

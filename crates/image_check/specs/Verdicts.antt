@@ -23,7 +23,8 @@ abbrev pub said_tiles : List ℕ → List Tile
 said_tiles b = tiles_of (bytes_of b) (size_word b)
 
 -- The offset that shows a class: the end of bytes that are too short; the first byte that differs from the magic; the
--- version; the size if it is not legal, otherwise the first byte after it; the first reserved byte that is not 0; the
+-- version; the size word if its size is not legal, otherwise the first
+-- byte after this size; the first reserved byte that is not 0; the
 -- first bad tag; the root link of the free tree; the wrong word or entry of an index; the first wrong object, otherwise
 -- the first entry of an index out of order; a link with the target of another; the first object with a wrong container;
 -- and the first block without an owner.

@@ -26,6 +26,7 @@ const ELEMENT: u64 = 16;
 /// capacity 0 the link must be null.
 pub(crate) fn is_table(
     blocks: &BlockTable,
+    near: usize,
     visits: &mut VisitCounter,
     role: Role,
     link: Option<u64>,
@@ -39,7 +40,7 @@ pub(crate) fn is_table(
     if capacity == 0 {
         return link.is_none();
     }
-    match good_len(blocks, role, link, visits) {
+    match good_len(blocks, near, role, link, visits) {
         Some(len) => has_room(len, each, capacity),
         None => false,
     }
@@ -59,6 +60,7 @@ fn has_room(len: u64, each: u64, capacity: u64) -> bool
 pub(crate) fn is_storage(
     window: &ImageWindow,
     blocks: &BlockTable,
+    near: usize,
     visits: &mut VisitCounter,
     kind: ScalarKind,
     value: Value,
@@ -79,7 +81,15 @@ pub(crate) fn is_storage(
         return false;
     }
     let link = value.link(window);
-    if !is_table(blocks, visits, Role::Storage, link, kind.size(), capacity) {
+    if !is_table(
+        blocks,
+        near,
+        visits,
+        Role::Storage,
+        link,
+        kind.size(),
+        capacity,
+    ) {
         return false;
     }
     match link {
@@ -89,7 +99,13 @@ pub(crate) fn is_storage(
 }
 
 /// Returns true if the element at `at` leads to a storage block with room for its text.
-fn is_element(window: &ImageWindow, blocks: &BlockTable, visits: &mut VisitCounter, at: u64) -> bool
+fn is_element(
+    window: &ImageWindow,
+    blocks: &BlockTable,
+    near: usize,
+    visits: &mut VisitCounter,
+    at: u64,
+) -> bool
     requires size { IsTrue (is_legal_size (length window.now.bytes)) }
     requires aligned { at % 8 ≡ 0 }
     requires in_bounds { at + 16 ≤ length window.now.bytes }
@@ -98,13 +114,14 @@ fn is_element(window: &ImageWindow, blocks: &BlockTable, visits: &mut VisitCount
     ensures visits { AddsVisits 2 visits.old visits.new }
 {
     let (link, len) = window.text(at, visits);
-    is_table(blocks, visits, Role::Storage, link, 1, len)
+    is_table(blocks, near, visits, Role::Storage, link, 1, len)
 }
 
 /// Returns true if the first `n` elements of the array at `at` lead to storage blocks with room for their texts.
 fn are_elements(
     window: &ImageWindow,
     blocks: &BlockTable,
+    near: usize,
     visits: &mut VisitCounter,
     at: u64,
     n: u64,
@@ -118,7 +135,13 @@ fn are_elements(
     ensures visits { AddsVisits (2 * n) visits.old visits.new }
 {
     'elements: for i in 0..n {
-        if !is_element(window, blocks, visits, at + ELEMENT * i) {
+        if !is_element(
+            window,
+            blocks,
+            near.wrapping_add(i as usize + 1),
+            visits,
+            at + ELEMENT * i,
+        ) {
             return false;
         }
     }
@@ -129,6 +152,7 @@ fn are_elements(
 pub(crate) fn is_array(
     window: &ImageWindow,
     blocks: &BlockTable,
+    near: usize,
     visits: &mut VisitCounter,
     value: Value,
 ) -> bool
@@ -148,11 +172,11 @@ pub(crate) fn is_array(
         return false;
     }
     let link = value.link(window);
-    if !is_table(blocks, visits, Role::Storage, link, ELEMENT, capacity) {
+    if !is_table(blocks, near, visits, Role::Storage, link, ELEMENT, capacity) {
         return false;
     }
     match link {
-        Some(block) => are_elements(window, blocks, visits, block, len),
+        Some(block) => are_elements(window, blocks, near, visits, block, len),
         None => true,
     }
 }

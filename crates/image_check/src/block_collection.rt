@@ -44,6 +44,7 @@ pub(crate) fn collect_blocks(
                 blocks,
                 pending: None,
                 waiting: 0,
+                near: 0,
             })
         }
         Err(refusal) => Err(refusal),

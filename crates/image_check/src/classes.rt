@@ -1,6 +1,6 @@
 //! The reasons why bytes are not the image of a directory.
 ghost use Rattle.std.specs.Prelude.{◌≡◌, Some};
-ghost use Rattle.image_check.specs.Classes.{number_of, words_of};
+ghost use Rattle.image_check.specs.Classes.{explanation_of, name_of, number_of, words_of};
 
 use std::fmt;
 use thiserror::Error;
@@ -55,8 +55,28 @@ impl ImageClass {
         }
     }
 
+    /// Returns the name of the class.
+    pub fn name(self) -> &'static str
+        ensures { result.now ≡ name_of self }
+    {
+        match self {
+            ImageClass::Truncated => "Truncated",
+            ImageClass::BadMagic => "BadMagic",
+            ImageClass::UnsupportedVersion => "UnsupportedVersion",
+            ImageClass::BadSize => "BadSize",
+            ImageClass::BadReserved => "BadReserved",
+            ImageClass::BadTag => "BadTag",
+            ImageClass::BadFreeTree => "BadFreeTree",
+            ImageClass::BadIndex => "BadIndex",
+            ImageClass::BadObject => "BadObject",
+            ImageClass::SharedBlock => "SharedBlock",
+            ImageClass::BadContainer => "BadContainer",
+            ImageClass::OrphanBlock => "OrphanBlock",
+        }
+    }
+
     /// Returns the text of the class.
-    fn words(self) -> &'static str
+    pub fn words(self) -> &'static str
         ensures { result.now ≡ words_of self }
     {
         match self {
@@ -72,6 +92,28 @@ impl ImageClass {
             ImageClass::SharedBlock => "two links lead to one block",
             ImageClass::BadContainer => "a container is wrong",
             ImageClass::OrphanBlock => "a block belongs to nothing",
+        }
+    }
+
+    /// Returns what is wrong with an image of the class. The words follow the offset of the byte that shows it.
+    pub fn explanation(self) -> &'static str
+        ensures { result.now ≡ explanation_of self }
+    {
+        match self {
+            ImageClass::Truncated => "the file ends before the image does",
+            ImageClass::BadMagic => "this byte is not that of the magic, MSEGFILE",
+            ImageClass::UnsupportedVersion => "the version is not the one that is read",
+            ImageClass::BadSize =>
+                "the size that stands at 16 is none of a segment, or the file goes on behind it",
+            ImageClass::BadTag => "the tag of a block or gap, or the end tag, is wrong",
+            ImageClass::BadFreeTree => "the links from here on do not make up the tree of the gaps",
+            ImageClass::BadIndex => "an index has a wrong count, capacity, block or entry",
+            ImageClass::BadObject =>
+                "an object has a wrong kind, count, name, class, padding or value, or is not in its index",
+            ImageClass::BadContainer =>
+                "the block, elements, pairs or counts of a container are wrong",
+            ImageClass::BadReserved | ImageClass::SharedBlock | ImageClass::OrphanBlock =>
+                self.words(),
         }
     }
 }

@@ -27,6 +27,7 @@ use seg_types::{Kind, ScalarKind};
 fn is_right(
     window: &ImageWindow,
     blocks: &BlockTable,
+    near: usize,
     visits: &mut VisitCounter,
     kind: Kind,
     value: Value,
@@ -44,10 +45,10 @@ fn is_right(
 {
     match kind {
         Kind::Scalar(_) => true,
-        Kind::String => is_storage(window, blocks, visits, ScalarKind::U8, value),
-        Kind::Vector(element) => is_storage(window, blocks, visits, element, value),
-        Kind::Map(key, of) => is_map(window, blocks, visits, key, of, value),
-        Kind::Strings => is_array(window, blocks, visits, value),
+        Kind::String => is_storage(window, blocks, near, visits, ScalarKind::U8, value),
+        Kind::Vector(element) => is_storage(window, blocks, near, visits, element, value),
+        Kind::Map(key, of) => is_map(window, blocks, near, visits, key, of, value),
+        Kind::Strings => is_array(window, blocks, near, visits, value),
     }
 }
 
@@ -56,6 +57,7 @@ fn is_right_tile(
     format: u64,
     window: &ImageWindow,
     blocks: &BlockTable,
+    near: usize,
     visits: &mut VisitCounter,
     tile: Tile,
 ) -> bool
@@ -73,7 +75,7 @@ fn is_right_tile(
     }
     let object = Object::visit(tile.offset + TAG_LEN, visits);
     match kind_of(format, window, object) {
-        Some(kind) => is_right(window, blocks, visits, kind, object.value(window)),
+        Some(kind) => is_right(window, blocks, near, visits, kind, object.value(window)),
         None => true,
     }
 }
@@ -107,7 +109,7 @@ fn are_right(
     'rows: while number < blocks.len() {
         let (payload, block) = blocks.row(number, visits);
         let tile = tile_of(payload, block);
-        if !is_right_tile(format, window, blocks, visits, tile) {
+        if !is_right_tile(format, window, blocks, number + 1, visits, tile) {
             return Err(payload as u64);
         }
         number += 1;

@@ -26,7 +26,8 @@ pub(crate) fn enter(
     let Some(target) = link else {
         return false;
     };
-    let Some((number, _, block)) = owners.blocks.find(target, visits) else {
+    // Entries are in the order of keys, so no number is near.
+    let Some((number, _, block)) = owners.blocks.find(usize::MAX, target, visits) else {
         return false;
     };
     if !is_new(block) {

@@ -102,7 +102,7 @@ fn index_of(blocks: &BlockTable, guess: usize, at: u64, visits: &mut VisitCounte
     ensures test { result ≡ listing_index blocks.now.entries at }
     ensures visits { AddsVisits 1 visits.old visits.new }
 {
-    let block = blocks.block_near(guess, at, visits)?;
+    let block = blocks.block_of(guess, at, visits)?;
     if !is_same(block.role, Role::Object) {
         return None;
     }

@@ -126,7 +126,7 @@ fn check_head(
         return Err(at + 8);
     }
     let link = window.header_link(at);
-    if is_table(blocks, visits, Role::Index, link, 8, capacity) {
+    if is_table(blocks, 0, visits, Role::Index, link, 8, capacity) {
         Ok(())
     } else {
         Err(at)

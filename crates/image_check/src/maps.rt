@@ -16,6 +16,7 @@ use seg_types::ScalarKind;
 pub(crate) fn is_map(
     window: &ImageWindow,
     blocks: &BlockTable,
+    near: usize,
     visits: &mut VisitCounter,
     key: ScalarKind,
     value: ScalarKind,
@@ -31,7 +32,7 @@ pub(crate) fn is_map(
     ensures value { result ≡ is_map_at (bytes_of window.now.bytes) (tiles_in window.now.bytes) key value map.at }
     ensures visits { AddsVisits (27 + rooted_weight map.at blocks.now.entries) visits.old visits.new }
 {
-    let Some(count) = check_pairs(window, blocks, visits, key, value, map).nodes else {
+    let Some(count) = check_pairs(window, blocks, near, visits, key, value, map).nodes else {
         return false;
     };
     count == map.len(window) && map.capacity(window) == 0

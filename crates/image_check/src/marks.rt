@@ -1,4 +1,5 @@
-//! Enters the links that lead to blocks, and follows the links of the nodes that they reach.
+//! Enters links: stores each link as the owner of the block to which the link leads. Then follows the links of each
+//! node that a link reached.
 ghost use Rattle.std.specs.Prelude.{◌≡◌, ◌+◌, ◌*◌, ◌<◌, ◌≤◌, ◌^◌, false, IsTrue, List, MatchResult, Option, Some, None};
 ghost use Rattle.std.specs.Prelude.{ℕ, length};
 ghost use Rattle.raw_region.specs.Memory.{Memory};
@@ -19,11 +20,12 @@ use crate::owners::{Block, Owner, Owners, is_same};
 use crate::verdict::Offset;
 use block_tags::Role;
 
-/// Enters a link at the block to which it leads, if the block has the role. It takes at most two visits.
+/// Enters the link as the owner of the block to which the link leads, if the block has the role. Makes at most two
+/// visits.
 ///
 /// # Errors
 ///
-/// The link's offset, if a link at another offset leads to the same block.
+/// The offset of the link, if a link at another offset already owns the block.
 pub(crate) fn mark(
     owners: &mut Owners,
     role: Role,
@@ -45,7 +47,7 @@ pub(crate) fn mark(
     let Some(target) = target else {
         return Ok(());
     };
-    let Some((number, payload, block)) = owners.blocks.find(target, visits) else {
+    let Some((number, payload, block)) = owners.blocks.find(owners.near, target, visits) else {
         return Ok(());
     };
     if !is_same(block.role, role) {
@@ -63,6 +65,7 @@ pub(crate) fn mark(
         ..block
     };
     owners.blocks.put(number, target, owned, visits);
+    owners.near = number;
     if is_same(role, Role::Node) {
         owners.pending = Some(payload);
         owners.waiting += 1;
@@ -70,7 +73,7 @@ pub(crate) fn mark(
     Ok(())
 }
 
-/// Returns the node that waits after a block.
+/// Returns the node that follows a block in the list of waiting nodes.
 fn next_in(block: Option<Block>) -> Option<u32>
     ensures { result ≡ next_there block }
 {
@@ -80,7 +83,8 @@ fn next_in(block: Option<Block>) -> Option<u32>
     }
 }
 
-/// Returns the offset of the first link to the block at `target`.
+/// Returns the offset of the root link from which the block at `target` was reached. Returns `target` for an object, or
+/// if the block has no owner.
 fn root_in(block: Option<Block>, target: u32) -> u32
     ensures { result ≡ root_there block target }
 {
@@ -93,11 +97,11 @@ fn root_in(block: Option<Block>, target: u32) -> u32
     }
 }
 
-/// Takes the first waiting node, and enters its links. It takes at most six visits.
+/// Takes the first waiting node from the list, and enters its links. Makes at most six visits.
 ///
 /// # Errors
 ///
-/// The offset of a link that leads to a node to which another link leads.
+/// The offset of a link, if another link leads to the same node.
 fn follow_next(
     window: &ImageWindow,
     owners: &mut Owners,
@@ -115,7 +119,7 @@ fn follow_next(
         (IsSharedIn format window.now.bytes) }
     ensures visits { AddsVisits 6 visits.old visits.new }
 {
-    let block = owners.blocks.block_of(node as u64, visits);
+    let block = owners.blocks.block_of(owners.near, node as u64, visits);
     let root = root_in(block, node);
     owners.pending = next_in(block);
     owners.waiting -= 1;
@@ -130,11 +134,12 @@ fn follow_next(
     }
 }
 
-/// Enters the links of all waiting nodes, and of the nodes that they reach. It takes at most six visits for each node.
+/// Enters the links of all waiting nodes, and of all nodes that these links reach. Makes at most six visits for each
+/// node.
 ///
 /// # Errors
 ///
-/// The offset of a link that leads to a node to which another link leads.
+/// The offset of a link, if another link leads to the same node.
 pub(crate) fn follow(
     window: &ImageWindow,
     owners: &mut Owners,

@@ -44,6 +44,8 @@ pub(crate) struct Owners {
     pub(crate) pending: Option<u32>,
     /// The number of waiting nodes.
     pub(crate) waiting: u64,
+    /// A number near the one of the block that the next link leads to. Any number is correct.
+    pub(crate) near: usize,
 }
 
 /// Returns true if the roles are equal.
@@ -79,10 +81,11 @@ pub(crate) fn tile_of(payload: u32, block: Block) -> Tile
     }
 }
 
-/// Returns the length of the tile behind the link, with its tag, if the link leads to a block of the role. It takes at
-/// most one visit.
+/// Returns the length of the tile behind the link, with its tag, if the link leads to a block of the role. The
+/// block can have the number `near`. It takes at most one visit.
 pub(crate) fn good_len(
     blocks: &BlockTable,
+    near: usize,
     role: Role,
     link: Option<u64>,
     visits: &mut VisitCounter,
@@ -92,7 +95,7 @@ pub(crate) fn good_len(
     ensures visits { AddsVisits 1 visits.old visits.new }
 {
     let target = link?;
-    match blocks.block_of(target, visits) {
+    match blocks.block_of(near, target, visits) {
         Some(block) if is_same(block.role, role) => Some(block.len as u64),
         _ => None,
     }

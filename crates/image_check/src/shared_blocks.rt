@@ -70,7 +70,13 @@ fn mark_texts(
     let Some(array) = value.link(window) else {
         return Ok(());
     };
-    let Some(len) = good_len(&owners.blocks, Role::Storage, Some(array), visits) else {
+    let Some(len) = good_len(
+        &owners.blocks,
+        owners.near,
+        Role::Storage,
+        Some(array),
+        visits,
+    ) else {
         return Ok(());
     };
     let count = elements_in(value.len(window), len);
@@ -211,6 +217,7 @@ fn mark_values(
     'rows: while number < owners.blocks.len() {
         let (payload, block) = owners.blocks.row(number, visits);
         let tile = tile_of(payload, block);
+        owners.near = number + 1;
         if let Err(place) = mark_object(format, window, owners, tile, visits) {
             return Err(place);
         }

@@ -1,6 +1,7 @@
-//! The program `inventory`: articles as records, prices in a map, names as texts, suppliers as a group. It sells an
-//! apple of the file that its word names. Without a word it sells two, of a file of its own. C, C++ and Python have the
-//! same in `crates/segment_c/c/examples`: each goes on with what another has saved.
+//! The program `inventory`: articles as records, prices in a map, names as texts, suppliers as a group.
+//! `inventory FILE` sells an apple from the file. `inventory FILE N` adds 1 to the earnings N times, with a commit each
+//! time. Without a word the program sells two apples from a file of its own. The same program in C, C++ and Python is
+//! in `crates/segment_c/c/examples`: each program continues with the file of the others.
 #![tactic(auto)]
 
 use anyhow::Result;
@@ -191,11 +192,45 @@ fn keep_an_inventory(rt: &HostRuntime, disk: &mut impl Disk, path: &str) -> Resu
     trade(rt, disk, &mut file)
 }
 
+/// Earns one more, commits that, and tells of it when it lasts.
+fn earn<D: Disk>(
+    rt: &HostRuntime,
+    disk: &mut D,
+    file: &mut SegmentFile<D::Hold>,
+    earned: &Name,
+) -> Result<()> {
+    let sum: i64 = file.segment.get(earned, 0)?;
+    let sum = sum.saturating_add(1);
+    file.segment.set(earned, 0, sum)?;
+    file.commit(rt.alloc(), disk)?;
+    println!(rt; "earned {sum}")?;
+    Ok(())
+}
+
+/// Opens or creates the inventory, adds 1 to the earnings `times` times, commits each, and makes a checkpoint.
+fn earn_by_commits(rt: &HostRuntime, disk: &mut impl Disk, path: &str, times: u64) -> Result<()> {
+    let mut file = SegmentFile::open_or_create(rt.alloc(), disk, path, 65536)?;
+    if file.segment.num_named() == 0 {
+        fill(rt.alloc(), &mut file.segment)?;
+    }
+    let earned = named("earned")?;
+    for _ in 0..times {
+        earn(rt, disk, &mut file, &earned)?;
+    }
+    file.checkpoint(rt.alloc(), disk)?;
+    file.close(disk);
+    Ok(())
+}
+
 /// Trades over the files of the system.
 fn main(rt: HostRuntime) -> Result<()> {
     let mut disk = HostDisk::new(&rt);
-    if let Some(path) = env::args(&rt)?.nth(1) {
-        return keep_an_inventory(&rt, &mut disk, path.as_str());
+    let mut words = env::args(&rt)?.skip(1);
+    if let Some(path) = words.next() {
+        return match words.next() {
+            Some(times) => earn_by_commits(&rt, &mut disk, path.as_str(), times.parse()?),
+            None => keep_an_inventory(&rt, &mut disk, path.as_str()),
+        };
     }
     let _ = fs::remove_file(&rt, "inventory.seg");
     keep_an_inventory(&rt, &mut disk, "inventory.seg")?;

@@ -1,5 +1,5 @@
-//! The program `rows`: runs the rows of the files that its arguments name, and prints for each file how many there are;
-//! and a few runs of its own, of what no row reaches.
+//! The program `rows` runs the rows of the files that its arguments name, and prints for each file the number of rows.
+//! Then it makes a few runs of its own, for what no row reaches.
 #![tactic(auto)]
 
 mod among;
@@ -13,14 +13,14 @@ use segments::LibraryRunner;
 use std::process::ExitCode;
 use std::{env, fs, io};
 
-/// Runs the files, and ends with status 1 if something differs from what they say.
+/// Runs the files and the program's own runs, and ends with status 1 if a result differs from the expected one.
 fn main(rt: HostRuntime) -> io::Result<ExitCode> {
     let is_sound = run_files(&rt)?;
     let is_right = run_own(&rt)?;
     Ok(ExitCode::from(u8::from(!is_sound || !is_right)))
 }
 
-/// Runs the files that the arguments name: whether all is as they say.
+/// Runs the files that the arguments name. Returns true if every result is the one that its file expects.
 fn run_files(rt: &HostRuntime) -> io::Result<bool> {
     let mut is_sound = true;
     for name in env::args(rt)?.skip(1) {
@@ -31,7 +31,8 @@ fn run_files(rt: &HostRuntime) -> io::Result<bool> {
     Ok(is_sound)
 }
 
-/// Makes the runs of its own, and prints what they come to: whether all came out as is wanted.
+/// Makes the program's own runs, and prints how many there are and how many of them are wrong. Returns true if none is
+/// wrong.
 fn run_own<R: Print + AllocGlobal>(rt: &R) -> io::Result<bool> {
     let Tally { runs, wrong } = make_runs(rt.alloc())?;
     println!(rt; "its own: {runs} runs, {wrong} of them wrong")?;
@@ -54,8 +55,8 @@ fn run_lines<R: Print + AllocGlobal>(rt: &R, name: &str, lines: &[Line<'_>]) -> 
     is_sound
 }
 
-/// Runs the items of a file, and prints what differs from what they say, and what they come to: whether all is as they
-/// say.
+/// Runs the items of a file. Prints the trouble of each item that fails, and then the counts of the file. Returns true
+/// if no item fails.
 fn run_items<'a, R: Print>(
     rt: &R,
     name: &str,
@@ -73,7 +74,7 @@ fn run_items<'a, R: Print>(
     Ok(is_sound)
 }
 
-/// Prints how many rows there were, and what was in them.
+/// Prints how many rows, lines and cuts the file had.
 fn tell<R: Print>(rt: &R, name: &str, desk: &RowFileRun<'_, LibraryRunner>) -> io::Result<()> {
     let bench = &desk.bench;
     let (rows, lines, cuts) = (bench.rows.get(), bench.lines.get(), bench.cuts.get());

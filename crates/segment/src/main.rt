@@ -10,11 +10,11 @@ use raw_region::std_io::{ReadOnce, StdSink, StdSource};
 use raw_region::{DeviceFault, Source};
 use requests::{NoAnswerMemory, as_strs, buffered_writer, command_words, read_request};
 use segment_answers::{LineOutput, NumberedOutput};
-use segment_cli::{ProgramFault, SessionFault};
+use segment_cli::SessionFault;
 use segment_commands::{
-    CommandFault, RefusalWatch, change, check, check_all, create, explain, get, is_stand_in, lint,
-    load, load_over, names, print, print_language, put_trouble, report, report_no_memory,
-    tell_segment,
+    CheckRequest, CommandFault, RefusalWatch, RunRequest, change, check, check_all, create,
+    explain, get, is_stand_in, lint, load, load_over, names, print, print_language, put_trouble,
+    report, report_no_memory, tell_segment,
 };
 use segment_disk::{Disk, FileProblem, HostDisk, OpenedFile, StdOutput};
 use segment_invocation::{
@@ -24,9 +24,6 @@ use segment_scripts::{Until, command_rows};
 use std::env::var;
 use std::io::{self, IsTerminal, Read, Write};
 use std::process::ExitCode;
-
-/// The command line is wrong.
-const USAGE: CommandFault = CommandFault::Program(ProgramFault::Usage);
 
 /// If a second line says why a command failed, whatever standard error is.
 const VERBOSE: &str = "SEGMENT_VERBOSE";
@@ -63,7 +60,7 @@ fn obey(rt: &HostRuntime) -> Result<u8, NoAnswerMemory> {
         Ok(asked) if stand_ins == unusable_paths(&asked.options) => perform(rt, &asked),
         Err(wrong) if stand_ins == 0 => {
             let _ = eprint!(rt; "{wrong}");
-            Ok(tell(rt, USAGE))
+            Ok(tell(rt, CommandFault::Usage))
         }
         _ => Ok(tell_no_text(rt)),
     }
@@ -72,7 +69,7 @@ fn obey(rt: &HostRuntime) -> Result<u8, NoAnswerMemory> {
 /// Says that a word is no UTF-8 that has to be, and returns the status.
 fn tell_no_text(rt: &HostRuntime) -> u8 {
     let _ = eprintln!(rt; "error: the command line is no UTF-8");
-    tell(rt, USAGE)
+    tell(rt, CommandFault::Usage)
 }
 
 /// Returns how many words stand for words that are no UTF-8.
@@ -112,9 +109,6 @@ fn perform(rt: &HostRuntime, asked: &Request<'_>) -> Result<u8, NoAnswerMemory> 
     Ok(status)
 }
 
-/// The file of a run, its mode, and the size of a segment that it makes.
-type Run<'a> = (&'a str, ModeName, Option<u64>);
-
 /// The system, as a command uses it.
 #[derive(Drop)]
 struct Host<'a> {
@@ -144,7 +138,7 @@ impl<'a> Host<'a> {
     /// was found to be.
     fn told_as(&self, fault: CommandFault) -> CommandFault {
         match fault {
-            CommandFault::Program(ProgramFault::Session(SessionFault::Image(_)))
+            CommandFault::Session(SessionFault::Image(_))
                 if self.disk.trouble() == Some(FileProblem::Writer) => { CommandFault::InUse }
             _ => fault,
         }
@@ -167,13 +161,13 @@ impl<'a> Host<'a> {
     /// Says of a fault that comes of no file what could not be written, or which numbers are good.
     fn say_limits(&self, fault: CommandFault) {
         let text = match fault {
-            CommandFault::Program(ProgramFault::Session(SessionFault::WriteFault)) => {
+            CommandFault::Session(SessionFault::WriteFault) => {
                 "standard output: could not be written whole"
             }
-            CommandFault::Program(ProgramFault::Session(SessionFault::BadSize)) => {
+            CommandFault::Session(SessionFault::BadSize) => {
                 "a segment has 144 bytes, or a multiple of 16 from 176 to 1073741824"
             }
-            CommandFault::Program(ProgramFault::Growth(_)) => {
+            CommandFault::Growth(_) => {
                 "a segment grows by a multiple of 16 from 32 on, and has at most 1073741824 bytes"
             }
             _ => return,
@@ -196,7 +190,7 @@ impl<'a> Host<'a> {
         let answer = match &asked.command {
             Invocation::Create(file, size) => create(alloc, disk, file, *size),
             Invocation::Run(file, mode, size) => {
-                return self.answer((file, *mode, *size), how, out);
+                return self.answer(&run_request(file, *mode, *size, how), how, out);
             }
             Invocation::Check(file) if how.explain => explain(alloc, disk, file, &mut out),
             Invocation::Check(file) if how.files.len() < 2 && !how.quiet => {
@@ -253,17 +247,13 @@ impl<'a> Host<'a> {
         let trouble_of = |disk: &HostDisk<'_, HostRuntime>| {
             if is_verbose { disk.trouble() } else { None }
         };
+        let request = CheckRequest {
+            files: how.files.as_slice(),
+            is_quiet: how.quiet,
+        };
         let mut err = StdSink::new(self.rt.stderr());
         let (alloc, disk) = (self.rt.alloc(), &mut self.disk);
-        check_all(
-            alloc,
-            disk,
-            how.files.as_slice(),
-            how.quiet,
-            trouble_of,
-            out,
-            &mut err,
-        )
+        check_all(alloc, disk, &request, trouble_of, out, &mut err)
     }
 
     /// Changes the segment in a file without a script.
@@ -284,23 +274,23 @@ impl<'a> Host<'a> {
     /// numbered.
     fn answer<O: LineOutput + Drop>(
         &mut self,
-        run: Run<'_>,
+        request: &RunRequest<'_>,
         how: &Options<'_>,
         out: O,
     ) -> Result<u8, CommandFault>
         requires { O.history out ≡ nothing_taken }
     {
         if how.answering.numbered {
-            return self.answer_watched(run, how, NumberedOutput::new(out));
+            return self.answer_watched(request, how, NumberedOutput::new(out));
         }
-        self.answer_watched(run, how, out)
+        self.answer_watched(request, how, out)
     }
 
     /// Runs the script that the command line asks for, and returns the status: with `--fail` another one if an answer
     /// is an error.
     fn answer_watched<O: LineOutput + Drop>(
         &mut self,
-        run: Run<'_>,
+        request: &RunRequest<'_>,
         how: &Options<'_>,
         out: O,
     ) -> Result<u8, CommandFault>
@@ -308,7 +298,7 @@ impl<'a> Host<'a> {
     {
         if how.answering.fail {
             let mut watch = RefusalWatch::new(out);
-            let status = self.answer_to(run, how, &mut watch)?;
+            let status = self.answer_to(request, how, &mut watch)?;
             return Ok(if watch.has_refusal() {
                 HAS_REFUSAL
             } else {
@@ -316,13 +306,13 @@ impl<'a> Host<'a> {
             });
         }
         let mut plain = out;
-        self.answer_to(run, how, &mut plain)
+        self.answer_to(request, how, &mut plain)
     }
 
     /// Runs the script that the command line asks for, which it reads from where that says, and returns the status.
     fn answer_to<O: LineOutput>(
         &mut self,
-        run: Run<'_>,
+        request: &RunRequest<'_>,
         how: &Options<'_>,
         out: &mut O,
     ) -> Result<u8, CommandFault>
@@ -331,20 +321,20 @@ impl<'a> Host<'a> {
         match &how.script {
             Script::Input => {
                 let mut script = StdSource::new(Prompted::new(self.rt, self.rt.reader()));
-                self.run(run, how, &mut script, out)
+                self.run(request, &mut script, out)
             }
             Script::File(path) => {
                 let Ok(opened) = self.scripts.open(path) else {
-                    return Err(CommandFault::from(SessionFault::ReadFault));
+                    return Err(CommandFault::Session(SessionFault::ReadFault));
                 };
                 let OpenedFile { reader, len: _ } = opened;
                 let mut script = reader;
-                self.run(run, how, &mut script, out)
+                self.run(request, &mut script, out)
             }
             Script::Lines(lines) => {
                 let text = script_text(self.rt.alloc(), lines.as_slice())?;
                 let mut script = StdSource::new(text.as_slice());
-                self.run(run, how, &mut script, out)
+                self.run(request, &mut script, out)
             }
         }
     }
@@ -352,24 +342,36 @@ impl<'a> Host<'a> {
     /// Runs a script, to its end or to the first line that is refused, and returns the status.
     fn run<S: Source, O: LineOutput>(
         &mut self,
-        run: Run<'_>,
-        how: &Options<'_>,
+        request: &RunRequest<'_>,
         script: &mut S,
         out: &mut O,
     ) -> Result<u8, CommandFault>
         requires script { (S.history script.old).failures ≡ 0 }
         requires out { O.history out.old ≡ nothing_taken }
     {
-        let (file, mode, size) = run;
-        let saving = how.keeping.saving;
-        let until = if how.answering.strict {
-            Until::Refusal
-        } else {
-            Until::End
-        };
-        let (alloc, disk) = (self.rt.alloc(), &mut self.disk);
-        segment_commands::run(alloc, disk, file, mode, size, saving, until, script, out)?;
+        segment_commands::run(self.rt.alloc(), &mut self.disk, request, script, out)?;
         Ok(0)
+    }
+}
+
+/// Returns the run that the command line asks for.
+fn run_request<'a>(
+    path: &'a str,
+    mode: ModeName,
+    size: Option<u64>,
+    how: &Options<'_>,
+) -> RunRequest<'a> {
+    let until = if how.answering.strict {
+        Until::Refusal
+    } else {
+        Until::End
+    };
+    RunRequest {
+        path,
+        mode,
+        size,
+        saving: how.keeping.saving,
+        until,
     }
 }
 
@@ -378,7 +380,7 @@ fn is_told(answer: Result<u8, CommandFault>, trouble: FileProblem) -> bool {
     match answer {
         Ok(_) => matches!(trouble, FileProblem::Owner | FileProblem::Log),
         Err(CommandFault::InUse) => true,
-        Err(CommandFault::Program(ProgramFault::Session(fault))) => match fault {
+        Err(CommandFault::Session(fault)) => match fault {
             SessionFault::ReadFault => trouble != FileProblem::Log,
             SessionFault::WriteFault => {
                 !matches!(

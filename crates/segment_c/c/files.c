@@ -3,6 +3,7 @@
    It is one unit of these parts, in this order, so that no name of theirs is seen outside. */
 #define _GNU_SOURCE
 #include "zaluxhoni_files.h"
+#include "zaluxhoni_rows.h"
 
 #include "files/held.h"
 #include "files/found.h"
@@ -11,6 +12,8 @@
 #include "files/mapped.h"
 #include "files/pages.h"
 #include "files/durable.h"
+#include "files/ground.h"
+#include "files/steps.h"
 #include "files/recovered.h"
 
 /* ---- a file opened */
@@ -224,23 +227,25 @@ static void let_go(zx_file *file) {
     if (is_durable(held)) leave_log(held);
     if (held && held->mapped) unmap(file, held);
     zx_close(&file->segment);
+    end_grounds(&file->segment, NULL);
     if (held) abandon(held);
 }
 
-/* What a close asks first of a mapped file: that it is as long as its image, and has a name. */
+/* What a close asks first of a mapped file: that it has a name, and is as long as its image. A transaction that is open
+   ends with that. */
 static zx_code end_mapped(zx_file *file, struct zx_held_file *held) {
     struct stat own;
     uint64_t size;
     if (held->state == READ || !is_own(held)) return ZX_DONE;
+    if (fstat(held->file, &own) != 0) return fault(file);
+    if (own.st_nlink == 0) return faulty(file, ZX_FILE_REPLACED, ESTALE);
     if (held->steps > 0) {
         zx_code code = share_own(file, held);
         if (code != ZX_DONE) return code;
         held->steps = 0;
     }
-    if (fstat(held->file, &own) != 0) return fault(file);
     bool is_long = file->segment.lent && zx_size(&file->segment, &size) == ZX_DONE && (uint64_t)own.st_size != size;
-    if (is_long && !set_length(held->file, size)) return fault(file);
-    return own.st_nlink > 0 ? (zx_code)ZX_DONE : faulty(file, ZX_FILE_REPLACED, ESTALE);
+    return is_long && !set_length(held->file, size) ? fault(file) : (zx_code)ZX_DONE;
 }
 
 /* What a close does first for a file that is durable: it saves it. */

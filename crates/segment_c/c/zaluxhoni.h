@@ -288,6 +288,12 @@ zx_code zx_create(zx_segment *segment, uint64_t size);
 static inline zx_code zx_open(zx_segment *segment, const uint8_t *image, size_t len, uint64_t capacity,
                               uint32_t mode) ZX_NAMED(zx_open_or_null);
 
+/* Opens as zx_open does, and says where a refused image is wrong. With ZX_TRUNCATED to ZX_ORPHAN_BLOCK, `place` is the
+   offset of a byte that shows the class, as zx_explain stores it, and the bytes are checked once. With any other code
+   `place` is unchanged. */
+static inline zx_code zx_open_explained(zx_segment *segment, const uint8_t *image, size_t len, uint64_t capacity,
+                                        uint32_t mode, uint64_t *place) ZX_NAMED(zx_open_explained_or_null);
+
 /* Checks whether the bytes are the image of a segment. It allocates a region of the size that the image states; if
    fewer bytes are there, it allocates none. Errors: ZX_NULL_SLICE, ZX_NO_MEMORY, ZX_TRUNCATED to ZX_ORPHAN_BLOCK. */
 static inline zx_code zx_check(const uint8_t *image, size_t len) ZX_NAMED(zx_check_or_null);
@@ -308,6 +314,11 @@ static inline zx_code zx_save(zx_segment *segment, uint8_t *image, size_t room) 
    ZX_NULL_SLICE; ZX_BAD_SIZE, also if `len` exceeds the memory; ZX_BAD_MODE; and those of zx_open. */
 static inline zx_code zx_attach(zx_segment *segment, zx_memory *memory, uint64_t len,
                                 uint32_t mode) ZX_NAMED(zx_attach_or_null);
+
+/* Opens as zx_attach does, and says where a refused image is wrong, as zx_open_explained. The code and the place are of
+   one check, so they agree even if another process changes a mapped file meanwhile. */
+static inline zx_code zx_attach_explained(zx_segment *segment, zx_memory *memory, uint64_t len, uint32_t mode,
+                                          uint64_t *place) ZX_NAMED(zx_attach_explained_or_null);
 
 /* Closes the segment, and gives back the memory in which it lies, with its bytes. The caller free()s it if the library
    allocated it. zx_close, or another segment in the handle, frees no borrowed memory. Errors: ZX_CLOSED. */
@@ -559,6 +570,13 @@ static inline zx_code zx_open(zx_segment *segment, const uint8_t *image, size_t 
     if (!image) return ZX_NULL_SLICE;
     return zx_open_proved(segment, image, len, capacity, mode);
 }
+zx_code zx_open_explained_proved(zx_segment *segment, const uint8_t *image, size_t len, uint64_t capacity,
+                                 uint32_t mode, uint64_t *place) ZX_NAMED(zx_open_explained);
+static inline zx_code zx_open_explained(zx_segment *segment, const uint8_t *image, size_t len, uint64_t capacity,
+                                        uint32_t mode, uint64_t *place) {
+    if (!image) return ZX_NULL_SLICE;
+    return zx_open_explained_proved(segment, image, len, capacity, mode, place);
+}
 zx_code zx_check_proved(const uint8_t *image, size_t len) ZX_NAMED(zx_check);
 static inline zx_code zx_check(const uint8_t *image, size_t len) {
     if (!image) return ZX_NULL_SLICE;
@@ -578,6 +596,13 @@ zx_code zx_attach_proved(zx_segment *segment, zx_memory *memory, uint64_t len, u
 static inline zx_code zx_attach(zx_segment *segment, zx_memory *memory, uint64_t len, uint32_t mode) {
     if (!memory->at) return ZX_NULL_SLICE;
     return zx_attach_proved(segment, memory, len, mode);
+}
+zx_code zx_attach_explained_proved(zx_segment *segment, zx_memory *memory, uint64_t len, uint32_t mode,
+                                   uint64_t *place) ZX_NAMED(zx_attach_explained);
+static inline zx_code zx_attach_explained(zx_segment *segment, zx_memory *memory, uint64_t len, uint32_t mode,
+                                          uint64_t *place) {
+    if (!memory->at) return ZX_NULL_SLICE;
+    return zx_attach_explained_proved(segment, memory, len, mode, place);
 }
 zx_code zx_construct_string_proved(zx_segment *segment, const zx_key *key, const uint8_t *text, size_t len,
                                    uint64_t *handle) ZX_NAMED(zx_construct_string);

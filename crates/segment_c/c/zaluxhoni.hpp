@@ -1345,12 +1345,11 @@ class segment {
                                       std::uint64_t capacity = 0) {
         segment made = allotted();
         const std::uint64_t least = image.size() < 16 ? 16 : (image.size() + 15) / 16 * 16;
-        zx_code code = zx_open(made.raw(), image.data(), image.size(), capacity != 0 ? capacity : least,
-                               static_cast<std::uint32_t>(how));
         std::uint64_t place = 0;
+        const zx_code code = zx_open_explained(made.raw(), image.data(), image.size(), capacity != 0 ? capacity : least,
+                                               static_cast<std::uint32_t>(how), &place);
         // an image that states more bytes than there are is rejected by that class
-        if (code >= ZX_TRUNCATED || (code == ZX_SHORT_REGION && capacity == 0))
-            code = zx_explain(image.data(), image.size(), &place);
+        if (code == ZX_SHORT_REGION && capacity == 0) throw_code(ZX_TRUNCATED, image.size());
         if (code != ZX_DONE) throw_code(code, place);
         return made;
     }
@@ -1463,7 +1462,8 @@ class segment {
 
     /// Runs `call` as one step: if it throws, restores the segment and passes the exception on. Steps may nest. Of a
     /// durable file the outermost step is committed; if that throws anything but `file_unsure`, the segment is restored.
-    /// Otherwise it saves no file. Of a mapped or durable file it costs what is changed; any other segment is copied. If
+    /// Otherwise it saves no file. It costs what is changed. A segment in memory, or opened by copy, is copied by its first
+    /// step, by the next one after it moved to grow or the process forked, and always if it has less than 128 KiB. If
     /// memory, or room in a mapped file, is missing to restore the segment, it is closed.
     template <class Call> auto transaction(Call call) -> decltype(call()) {
         detail::snapshot before(state());
@@ -2074,9 +2074,11 @@ template <class T> class vector : public detail::row<const_vector<T>, detail::va
             if (value.kind != stored<T>::kind) this->spot().ask(zx_push, &value);
             return stored<T>::from(value);
         } else {
-            const std::uint64_t size = this->size();
-            const T last = this->get(size - 1);
-            erase(size - 1, size);
+            const T last = this->get(this->size() - 1);
+            // each of its bytes is an element. After a value was read, no call that removes one of them fails, but for a
+            // segment that is only read, where the first one does
+            zx_value byte{};
+            for (std::uint64_t i = 0; i < stored<T>::width; i++) this->spot().ask(zx_pop, &byte);
             return last;
         }
     }

@@ -70,7 +70,7 @@ typedef struct {
     zx_segment segment;        /* open or closed; the calls of zaluxhoni.h take its address */
     int32_t error;             /* an errno of the last call of this header, or 0 */
     struct zx_held_file *held; /* the file that is open for writing, or null */
-    uint64_t place;            /* after ZX_TRUNCATED to ZX_ORPHAN_BLOCK, the offset that zx_explain stores */
+    uint64_t place;            /* after ZX_TRUNCATED to ZX_ORPHAN_BLOCK, the offset of a byte that shows it */
 } zx_file;
 
 /* No file. In C, a static zx_file without an initializer is closed. */
@@ -140,9 +140,12 @@ typedef struct {
 #define ZX_NO_STEP ((zx_step){ { 0, 0, false, false }, 0 })
 #endif
 
-/* Groups several calls into one step. For a file that is mapped or durable, zx_file_begin copies at most the pages that
-   changed since the file was opened or last committed. It finds them by the system's map of pages, or by a comparison
-   if there is no such map. Any other segment is copied, as by zx_begin. Steps may nest, each with its own zx_step.
+/* Groups several calls into one step. zx_file_begin copies at most the pages that changed: of a file that is mapped or
+   durable since it was opened or last committed; of any other segment since the last outermost step began. It finds them
+   by the system's map of pages, or by a comparison if there is no such map. The first step of a segment that is neither
+   mapped nor durable copies the whole segment, and so does one after the segment moved or the process forked. A segment of
+   less than 128 KiB is always copied, and any segment if the system refuses memory files (memfd_create). Steps may nest,
+   each with its own zx_step.
 
    zx_file_keep ends the step and keeps its changes. For the outermost step it commits a file that was opened with
    ZX_DURABLE (errors: those of zx_file_commit), and writes the changes to a file that is mapped for writing (errors:

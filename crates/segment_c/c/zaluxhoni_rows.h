@@ -6,7 +6,7 @@
 #ifndef ZALUXHONI_ROWS_H
 #define ZALUXHONI_ROWS_H
 
-#include "zaluxhoni.h"
+#include "zaluxhoni_files.h"
 
 #ifdef __cplusplus
 extern "C" {
@@ -37,6 +37,10 @@ zx_code zx_push_texts(zx_segment *segment, const zx_key *key, uint64_t first, co
    the number of objects: 0 after the last one. Errors: ZX_NULL_SLICE, ZX_SHORT_BUFFER, ZX_CLOSED. */
 zx_code zx_read_names(zx_segment *segment, uint64_t first, zx_info *infos, zx_value *values, uint8_t *names,
                       size_t room, size_t count, size_t *read);
+
+/* Copies the image that zx_file_undo would restore to the start of the buffer. Errors: ZX_SHORT_BUFFER, where `len` is
+   its length; ZX_CLOSED, if the step keeps none, or is that of a mapped or a durable file. */
+zx_code zx_step_image(zx_step *before, uint8_t *image, size_t room, uint64_t *len);
 
 /* ---- objects of CPython, for the Python package */
 

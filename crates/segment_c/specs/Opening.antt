@@ -3,6 +3,8 @@ use Rattle.std.specs.Prelude.{◌≡◌, ◌<◌, ◌≤◌, ◌⊎◌, ℕ, ◌
 use Rattle.std.specs.Prelude.{if◌then◌else◌}
 use Rattle.raw_region.specs.{Format.current, Memory.SameSurroundings, Memory.cut_at, Memory.zeros}
 use Rattle.segment_manager.specs.{declared.modes.Mode.Mode, State.IsSegment, State.SegmentState}
+use Rattle.image_check.specs.declared.errors.OpenError.{OpenError}
+use Rattle.image_check.specs.declared.errors.OpenError.TheVariants.{Image, RegionTooSmall, OutOfMemory, ReadFault}
 use Rattle.image_check.specs.{declared.classes.ImageClass.ImageClass, Classes.class_of, Classes.number_of}
 use Rattle.image_check.specs.{EarlyTests.has_front, EarlyTests.size_word, Verdicts.Shows}
 
@@ -37,11 +39,24 @@ pub record IsWhyNotOpened (image : List ℕ) (capacity code : ℕ) : Type 0 wher
 abbrev pub IsNoImage : List ℕ → ℕ → Type 0
 IsNoImage image code = (code ≡ 26) ⊎ IsClassCode image code
 
--- the code and the place of a verdict: if a class says why, the place is a byte that shows it, and otherwise it stays
-abbrev pub IsExplained : List ℕ → ℕ → ℕ → ℕ → Type 0
-IsExplained image code old new =
-    ((code ≡ 26) × (new ≡ old))
-    ⊎ ((c : ImageClass) × (code ≡ 100 + number_of c) × (class_of current image ≡ Some c) × Shows current image c new)
+-- for a code of a class the place is a byte that shows the class; for any other code it stays
+abbrev pub IsPlaced : List ℕ → ℕ → ℕ → ℕ → Type 0
+IsPlaced image code old new =
+    ((code ≤ 100) × (new ≡ old)) ⊎ ((c : ImageClass) × (code ≡ 100 + number_of c) × Shows current image c new)
+
+-- the code of the reason why an image in memory is not opened, where no reader can fail
+abbrev pub code_of_cause : OpenError → ℕ
+code_of_cause (Image v) = 100 + number_of v.class
+code_of_cause RegionTooSmall = 27
+code_of_cause (OutOfMemory refusal) = 26
+code_of_cause ReadFault = 0
+
+-- the place of a verdict, or the old one
+abbrev pub place_of_cause : OpenError → ℕ → ℕ
+place_of_cause (Image v) old = v.place
+place_of_cause RegionTooSmall old = old
+place_of_cause (OutOfMemory refusal) old = old
+place_of_cause ReadFault old = old
 
 -- the size that the first bytes say, or 0
 abbrev pub size_said : List ℕ → ℕ

@@ -1,7 +1,7 @@
 //! Elements of objects of scalars, of vectors and of strings.
 ghost use Rattle.std.specs.Prelude.{◌≡◌, ◌≤◌, OnErr};
-ghost use Rattle.seg_types.specs.Commands.{Erase, Get, Insert, Pop, Push, Set};
-ghost use Rattle.seg_types.specs.{Keys.key_seen, Written.literal_seen};
+ghost use Rattle.seg_types.specs.Commands.{Erase, Get, Insert, Integer, Pop, Push, Set};
+ghost use Rattle.seg_types.specs.{Keys.key_seen, Names.ByHandle, Written.literal_seen};
 ghost use Rattle.seg_types.specs.declared.kinds.Kind.TheVariants.{Strings as StringsKind, Vector as VectorOf};
 ghost use Rattle.segment_c.specs.Handles.{ChangesHandle, AsksHandle};
 ghost use Rattle.segment_c.specs.Codes.{answer_for};
@@ -15,13 +15,13 @@ ghost use Rattle.segment_manager.specs.Step.{step_of_kind};
 ghost use Rattle.segment_manager.specs.containers.TextLists.{LeadsOnOfKind};
 ghost use Rattle.segment_values.specs.Changes.{command_at};
 
-use crate::calls::{enter, enter_with, passed};
+use crate::calls::{enter, enter_with, passed, take_at};
 use crate::changes::{ObjectChange, make_change};
 use crate::codes::{done, element};
 use crate::keys::ObjectKey;
 use crate::segment_slot::SegmentSlot;
 use crate::values::CScalar;
-use seg_types::{Key, Kind, Refusal, ScalarKind, ScalarValue, by_kind};
+use seg_types::{Handle, Key, Kind, Refusal, ScalarKind, ScalarValue, by_kind};
 use segment_manager::{Segment, locate};
 use segment_values::InsertSpot;
 use std::alloc::Global;
@@ -73,8 +73,42 @@ pub extern "C" fn zx_push(
     ensures call { ChangesHandle (or_else (key_wrong key.now) (value_wrong value.now)) result h.old h.new
         (λ s t. TakesStep s t (Push (key_of key.now) (literal_in value.now)) (answer_for result Done)) }
 {
+    let (Some(handle), Some(number)) = (key.as_handle(), value.as_i64()) else {
+        return push_any(alloc, h, key, value);
+    };
+    let mut segment = passed!(take_at(alloc, h, handle));
+    done(push_number(&mut segment, handle, number), h, segment)
+}
+
+/// Puts a value after the last element of the vector of a key, for any form of key and any value.
+#[inline(never)]
+fn push_any(alloc: Global, h: &mut SegmentSlot, key: &ObjectKey<'_>, value: &CScalar) -> u32
+    ensures call { ChangesHandle (or_else (key_wrong key.now) (value_wrong value.now)) result h.old h.new
+        (λ s t. TakesStep s t (Push (key_of key.now) (literal_in value.now)) (answer_for result Done)) }
+{
     let (which, new, mut segment) = passed!(enter_with(alloc, h, key, value));
     done(push(&mut segment, &which, new), h, segment)
+}
+
+/// Puts a number after the last element of the vector of a handle in a segment. It looks the vector up once if that is
+/// of `i64`.
+#[inline(always)]
+fn push_number(segment: &mut Segment, handle: Handle, number: i64) -> Result<(), Refusal>
+    ensures step { TakesStep segment.old segment.new (Push (ByHandle handle) (Integer number)) (done_answer result) }
+    ensures refused { OnErr result (segment.new ≡ segment.old) }
+{
+    match segment.vec_push::<i64, Key>(&Key::Handle(handle), number) {
+        Ok(()) => Ok(()),
+        Err(refusal) => match refusal {
+            Refusal::WrongKind => add(
+                segment,
+                &Key::Handle(handle),
+                InsertSpot::End,
+                ScalarValue::I64(number),
+            ),
+            _ => Err(refusal),
+        },
+    }
 }
 
 /// Puts a value after the last element of the vector of a key in a segment. It looks the vector up once if that is of

@@ -3,7 +3,7 @@ ghost use Rattle.std.specs.Prelude.{◌≡◌, ◌≢◌, ◌≤◌, ◌⊎◌, 
 ghost use Rattle.std.specs.Prelude.{length, min};
 ghost use Rattle.std.specs.declared.option.Option.TheVariants.{None, Some};
 ghost use Rattle.block_tags.specs.Format.{is_legal_size};
-ghost use Rattle.image_check.specs.Classes.{number_of};
+ghost use Rattle.image_check.specs.{Classes.number_of, declared.errors.OpenError.TheVariants.ReadFault};
 ghost use Rattle.raw_region.specs.Memory.{zeros};
 ghost use Rattle.raw_region.specs.Regions.{IsCapacity};
 ghost use Rattle.seg_types.specs.Commands.{Free, Size};
@@ -11,8 +11,8 @@ ghost use Rattle.segment_c.specs.{Calls.RefusesArgument, Calls.HoldsSegment, Han
 ghost use Rattle.segment_c.specs.Codes.{answer_for};
 ghost use Rattle.segment_c.specs.Images.{CopiesOut, mode_code, mode_of, mode_wrong};
 ghost use Rattle.segment_c.specs.Marked.{PlacesSegment, placed};
-ghost use Rattle.segment_c.specs.Opening.{IsExplained, IsImageOpened, IsNoImage, IsWhyNotOpened, capacity_wrong};
-ghost use Rattle.segment_c.specs.Opening.{size_said};
+ghost use Rattle.segment_c.specs.Opening.{IsImageOpened, IsNoImage, IsPlaced, IsWhyNotOpened, capacity_wrong};
+ghost use Rattle.segment_c.specs.Opening.{code_of_cause, place_of_cause, size_said};
 ghost use Rattle.segment_c.specs.Passed.{or_else};
 ghost use Rattle.segment_manager.specs.Answers.{Number};
 ghost use Rattle.segment_manager.specs.Calls.{CreatesOk};
@@ -183,13 +183,36 @@ pub extern "C" fn zx_open(
     ensures unchanged_on_error { 1 ≤ result → h.new.segment.value ≡ h.old.segment.value }
     ensures marks { PlacesSegment result h.old.marks h.new.marks false }
 {
+    zx_open_explained(alloc, h, image, capacity, mode, &mut 0)
+}
+
+/// Opens as `zx_open` does. For a code of a class, `place` is set to the byte that shows it.
+#[unsafe(no_mangle)]
+pub extern "C" fn zx_open_explained(
+    alloc: Global,
+    h: &mut SegmentSlot,
+    image: &[u8],
+    capacity: u64,
+    mode: u32,
+    place: &mut u64,
+) -> u32
+    ensures stop { RefusesArgument (or_else (capacity_wrong capacity) (mode_wrong mode)) result h.old.segment.value
+        h.new.segment.value }
+    ensures opening { result ≡ 0 → HoldsSegment h.new.segment.value (λ t.
+        IsImageOpened image.now capacity (mode_of mode) t) }
+    ensures cause { or_else (capacity_wrong capacity) (mode_wrong mode) ≡ 0 → 1 ≤ result
+        → IsWhyNotOpened image.now capacity result }
+    ensures place { IsPlaced image.now result place.old place.new }
+    ensures unchanged_on_error { 1 ≤ result → h.new.segment.value ≡ h.old.segment.value }
+    ensures marks { PlacesSegment result h.old.marks h.new.marks false }
+{
     if !is_capacity(capacity) {
         return BAD_SIZE;
     }
     let Some(mode) = mode_for(mode) else {
         return BAD_MODE;
     };
-    let segment = passed!(open_boxed(alloc, image, capacity, mode));
+    let segment = passed!(open_boxed(alloc, image, capacity, mode, place));
     put_new(h, segment, false)
 }
 
@@ -207,8 +230,8 @@ pub extern "C" fn zx_check(alloc: Global, image: &[u8]) -> u32
 #[unsafe(no_mangle)]
 pub extern "C" fn zx_explain(alloc: Global, image: &[u8], place: &mut u64) -> u32
     ensures owner { result ≡ 0 → IsSegment image.now }
-    ensures cause { 1 ≤ result → IsExplained image.now result place.old place.new }
-    ensures unchanged_on_error { result ≡ 0 → place.new ≡ place.old }
+    ensures cause { 1 ≤ result → IsNoImage image.now result }
+    ensures place { IsPlaced image.now result place.old place.new }
 {
     examine(alloc, image, place)
 }
@@ -216,8 +239,8 @@ pub extern "C" fn zx_explain(alloc: Global, image: &[u8], place: &mut u64) -> u3
 /// Examines an image in a region for as many bytes as its front says. It makes none if there are fewer.
 fn examine(alloc: Global, image: &[u8], place: &mut u64) -> u32
     ensures owner { result ≡ 0 → IsSegment image.now }
-    ensures cause { 1 ≤ result → IsExplained image.now result place.old place.new }
-    ensures unchanged_on_error { result ≡ 0 → place.new ≡ place.old }
+    ensures cause { 1 ≤ result → IsNoImage image.now result }
+    ensures place { IsPlaced image.now result place.old place.new }
 {
     let size = size_said(image);
     let len = image.len() as u64;
@@ -235,22 +258,32 @@ fn examine(alloc: Global, image: &[u8], place: &mut u64) -> u32
 fn examine_in(alloc: Global, image: &[u8], region: RawRegion, place: &mut u64) -> u32
     requires { min (size_said image.now) 1073741824 ≤ length region }
     ensures owner { result ≡ 0 → IsSegment image.now }
-    ensures cause { 1 ≤ result → IsExplained image.now result place.old place.new }
-    ensures unchanged_on_error { result ≡ 0 → place.new ≡ place.old }
+    ensures cause { 1 ≤ result → IsNoImage image.now result }
+    ensures place { IsPlaced image.now result place.old place.new }
 {
     let steps = &mut Steps::new();
     let versions = AcceptedVersions::Current;
     match open_bytes(alloc, versions, image, region, 0, Mode::ReadOnly, steps) {
         Ok(_) => DONE,
-        Err(refused) => match refused.cause {
-            OpenError::Image(verdict) => {
-                *place = verdict.place;
-                class_code(verdict.class)
-            }
-            OpenError::OutOfMemory(refusal) => no_memory(refusal),
-            OpenError::RegionTooSmall => unreachable!(),
-            OpenError::ReadFault => unreachable!(),
-        },
+        Err(refused) => refused_code(refused.cause, place),
+    }
+}
+
+/// Returns the code of the reason why an image in memory is not opened. For a class, `place` is set to the byte that
+/// shows it.
+pub fn refused_code(cause: OpenError, place: &mut u64) -> u32
+    requires { cause ≢ ReadFault }
+    ensures code { result ≡ code_of_cause cause }
+    ensures place { place.new ≡ place_of_cause cause place.old }
+{
+    match cause {
+        OpenError::Image(verdict) => {
+            *place = verdict.place;
+            class_code(verdict.class)
+        }
+        OpenError::RegionTooSmall => SHORT_REGION,
+        OpenError::OutOfMemory(refusal) => no_memory(refusal),
+        OpenError::ReadFault => unreachable!(),
     }
 }
 
@@ -277,16 +310,24 @@ pub fn mode_for(code: u32) -> Option<Mode>
 }
 
 /// Returns the segment whose image the bytes are, in a box.
-fn open_boxed(alloc: Global, image: &[u8], capacity: u64, mode: Mode) -> Result<Box<Segment>, u32>
+fn open_boxed(
+    alloc: Global,
+    image: &[u8],
+    capacity: u64,
+    mode: Mode,
+    place: &mut u64,
+) -> Result<Box<Segment>, u32>
     requires { IsCapacity capacity }
-    ensures { MatchResult result (λ s. IsImageOpened image.now capacity mode s.value) (λ code. (1 ≤ code)
+    ensures opening { MatchResult result (λ s. IsImageOpened image.now capacity mode s.value) (λ code. (1 ≤ code)
         × IsWhyNotOpened image.now capacity code) }
+    ensures place { MatchResult result (λ _. place.new ≡ place.old) (λ code.
+        IsPlaced image.now code place.old place.new) }
 {
     let region = match RawRegion::new(alloc, capacity) {
         Ok(region) => region,
         Err(refusal) => return Err(no_memory(MemoryFault::Bytes(refusal))),
     };
-    boxed_or_not(alloc, open_in(alloc, image, region, mode)?)
+    boxed_or_not(alloc, open_in(alloc, image, region, mode, place)?)
 }
 
 /// Returns the segment whose image the bytes are, at the front of the region.
@@ -294,20 +335,23 @@ fn open_boxed(alloc: Global, image: &[u8], capacity: u64, mode: Mode) -> Result<
 /// # Errors
 ///
 /// The code.
-fn open_in(alloc: Global, image: &[u8], region: RawRegion, mode: Mode) -> Result<Segment, u32>
+fn open_in(
+    alloc: Global,
+    image: &[u8],
+    region: RawRegion,
+    mode: Mode,
+    place: &mut u64,
+) -> Result<Segment, u32>
     requires { region ≡ zeros (length region) }
-    ensures { MatchResult result (IsImageOpened image.now (length region) mode) (λ code. (1 ≤ code)
+    ensures opening { MatchResult result (IsImageOpened image.now (length region) mode) (λ code. (1 ≤ code)
         × IsWhyNotOpened image.now (length region) code) }
+    ensures place { MatchResult result (λ _. place.new ≡ place.old) (λ code.
+        IsPlaced image.now code place.old place.new) }
 {
     let versions = AcceptedVersions::Current;
     match open_bytes(alloc, versions, image, region, 0, mode, &mut Steps::new()) {
         Ok(segment) => Ok(segment),
-        Err(refused) => match refused.cause {
-            OpenError::Image(verdict) => Err(class_code(verdict.class)),
-            OpenError::RegionTooSmall => Err(SHORT_REGION),
-            OpenError::OutOfMemory(refusal) => Err(no_memory(refusal)),
-            OpenError::ReadFault => unreachable!(),
-        },
+        Err(refused) => Err(refused_code(refused.cause, place)),
     }
 }
 

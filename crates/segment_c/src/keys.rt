@@ -1,12 +1,12 @@
 //! The keys that C passes.
-ghost use Rattle.std.specs.Prelude.{◌≡◌, ◌≢◌, ◌≤◌, MatchResult};
+ghost use Rattle.std.specs.Prelude.{◌≡◌, ◌≢◌, ◌≤◌, IfSome, MatchResult};
 ghost use Rattle.seg_types.specs.Keys.{index_key_seen, key_seen};
-ghost use Rattle.seg_types.specs.Names.{NoKey};
+ghost use Rattle.seg_types.specs.Names.{ByHandle, NoKey};
 ghost use Rattle.segment_c.specs.Passed.{entry_of, entry_wrong, key_of, key_wrong};
 ghost use Rattle.segment_manager.specs.objects.NewObjects.{IsOfKind};
 
 use crate::codes::{BAD_KEY, BAD_KIND, BAD_NAME, NULL_SLICE};
-use seg_types::{IndexKey, Key, Kind, Name};
+use seg_types::{Handle, IndexKey, Key, Kind, Name};
 
 /// Which object, by `how`. It is the one of the name (0), the unique one of the kind (1), the one of the handle (2), or
 /// a new one with no key (3). 4 stands for a null name.
@@ -39,6 +39,18 @@ impl<'a> ObjectKey<'a> {
             2 => Ok(Key::Handle(self.handle)),
             4 => Err(NULL_SLICE),
             _ => Err(BAD_KEY),
+        }
+    }
+
+    /// Returns the handle if the key is one.
+    #[inline(always)]
+    #[tactic(auto, unfolding(crate::specs::Passed::key_wrong, crate::specs::Passed::key_of))]
+    pub fn as_handle(&self) -> Option<Handle>
+        ensures { IfSome result (λ handle. (key_wrong self.now ≡ 0) × (key_of self.now ≡ ByHandle handle)) }
+    {
+        match self.how {
+            2 => Some(self.handle),
+            _ => None,
         }
     }
 

@@ -7,16 +7,16 @@ ghost use Rattle.segment_c.specs.Calls.{RefusesClosed, RefusesArgument, HoldsSeg
 ghost use Rattle.segment_c.specs.Images.{mode_of, mode_wrong};
 ghost use Rattle.segment_c.specs.Lending.{IsOpenedHere, memory_wrong};
 ghost use Rattle.segment_c.specs.Marked.{PlacesSegment};
-ghost use Rattle.segment_c.specs.Opening.{IsWhyNotOpened};
+ghost use Rattle.segment_c.specs.Opening.{IsPlaced, IsWhyNotOpened};
 ghost use Rattle.segment_c.specs.Passed.{or_else};
 ghost use Rattle.segment_manager.specs.State.{SegmentState};
 
 use crate::calls::passed;
-use crate::codes::{BAD_MODE, BAD_SIZE, DONE, SHORT_REGION, boxed_or_region, no_memory};
-use crate::images::{class_code, mode_for};
+use crate::codes::{BAD_MODE, BAD_SIZE, DONE, boxed_or_region};
+use crate::images::{mode_for, refused_code};
 use crate::resizing::is_capacity;
 use crate::segment_slot::{SegmentSlot, put_new, take};
-use image_check::{OpenError, open_here};
+use image_check::open_here;
 use raw_region::{LentMemory, RawRegion, Steps};
 use segment_manager::{Mode, Segment};
 use std::alloc::Global;
@@ -43,13 +43,39 @@ pub extern "C" fn zx_attach(
     ensures remainder { 1 ≤ result → memory.new.bytes.items ≡ memory.old.bytes.items }
     ensures marks { PlacesSegment result h.old.marks h.new.marks true }
 {
+    zx_attach_explained(alloc, h, memory, len, mode, &mut 0)
+}
+
+/// Opens as `zx_attach` does. For a code of a class, `place` is set to the byte that shows it. The memory is checked
+/// once, so the code and the place are of the same bytes, even if another process changes a mapped file.
+#[unsafe(no_mangle)]
+pub extern "C" fn zx_attach_explained(
+    alloc: Global,
+    h: &mut SegmentSlot,
+    memory: &mut LentMemory,
+    len: u64,
+    mode: u32,
+    place: &mut u64,
+) -> u32
+    ensures stop { RefusesArgument (or_else (memory_wrong (length memory.old.bytes.items) len) (mode_wrong mode))
+        result h.old.segment.value h.new.segment.value }
+    ensures opening { result ≡ 0 → HoldsSegment h.new.segment.value (λ t.
+        IsOpenedHere memory.old.bytes.items len (mode_of mode) t) }
+    ensures cause { or_else (memory_wrong (length memory.old.bytes.items) len) (mode_wrong mode) ≡ 0 → 1 ≤ result
+        → IsWhyNotOpened (part memory.old.bytes.items 0 len) (length memory.old.bytes.items) result }
+    ensures place { IsPlaced (part memory.old.bytes.items 0 len) result place.old place.new }
+    ensures unchanged_on_error { 1 ≤ result → h.new.segment.value ≡ h.old.segment.value }
+    ensures transfer { result ≡ 0 → memory.new.bytes.items ≡ [] }
+    ensures remainder { 1 ≤ result → memory.new.bytes.items ≡ memory.old.bytes.items }
+    ensures marks { PlacesSegment result h.old.marks h.new.marks true }
+{
     if !holds(memory, len) {
         return BAD_SIZE;
     }
     let Some(mode) = mode_for(mode) else {
         return BAD_MODE;
     };
-    match open_over(alloc, region_over(alloc, memory), len, mode) {
+    match open_over(alloc, region_over(alloc, memory), len, mode, place) {
         Ok(segment) => put_new(h, segment, true),
         Err((code, region)) => {
             *memory = region.leak();
@@ -86,23 +112,18 @@ fn open_over(
     region: RawRegion,
     len: u64,
     mode: Mode,
+    place: &mut u64,
 ) -> Result<Box<Segment>, (u32, RawRegion)>
     requires { len ≤ length region }
-    ensures { MatchResult result (λ s. IsOpenedHere region len mode s.value)
+    ensures opening { MatchResult result (λ s. IsOpenedHere region len mode s.value)
         (λ refused. (1 ≤ refused.0) × (refused.1 ≡ region)
         × IsWhyNotOpened (part region 0 len) (length region) refused.0) }
+    ensures place { MatchResult result (λ _. place.new ≡ place.old) (λ refused.
+        IsPlaced (part region 0 len) refused.0 place.old place.new) }
 {
     match open_here(alloc, region, 0, len, mode, &mut Steps::new()) {
         Ok(segment) => boxed_or_region(alloc, segment),
-        Err(refused) => {
-            let code = match refused.cause {
-                OpenError::Image(verdict) => class_code(verdict.class),
-                OpenError::RegionTooSmall => SHORT_REGION,
-                OpenError::OutOfMemory(refusal) => no_memory(refusal),
-                OpenError::ReadFault => unreachable!(),
-            };
-            Err((code, refused.region))
-        }
+        Err(refused) => Err((refused_code(refused.cause, place), refused.region)),
     }
 }
 

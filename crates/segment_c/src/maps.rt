@@ -1,7 +1,8 @@
 //! Maps: values at keys, and neighbours.
-ghost use Rattle.std.specs.Prelude.{◌≡◌, ◌≤◌, Some};
-ghost use Rattle.seg_types.specs.Commands.{Lookup, Put, Remove};
-ghost use Rattle.seg_types.specs.{Keys.key_seen, Written.literal_seen};
+ghost use Rattle.std.specs.Prelude.{◌≡◌, ◌≤◌, Ok, OnErr, Some, option_map};
+ghost use Rattle.seg_types.specs.Commands.{Integer, Lookup, Put, Remove};
+ghost use Rattle.seg_types.specs.{Keys.key_seen, Names.ByHandle, Written.literal_seen};
+ghost use Rattle.seg_types.specs.declared.kinds.{Kind.TheVariants.Map as MapOf, ScalarKind.TheVariants.I64};
 ghost use Rattle.segment_c.specs.{Calls.ReachesSegment, Handles.ChangesHandle, Handles.AsksHandle, Handles.ReadsHandle};
 ghost use Rattle.segment_c.specs.Codes.{answer_for};
 ghost use Rattle.segment_c.specs.Passed.{element_in, key_of, key_wrong, literal_in, or_else, value_wrong};
@@ -9,15 +10,18 @@ ghost use Rattle.segment_c.specs.Reads.{TellsPair, TellsPairOf, first_at, next_a
 ghost use Rattle.segment_manager.specs.Answers.{Boolean};
 ghost use Rattle.segment_manager.specs.Directory.{Directory};
 ghost use Rattle.segment_manager.specs.Keeping.{UnchangedWhere};
-ghost use Rattle.segment_manager.specs.State.{AnswersQuery, TakesStep, DenotesCurrent};
+ghost use Rattle.segment_manager.specs.State.{AnswersQuery, AnswersQueryOfKind, DenotesCurrent, TakesStep};
+ghost use Rattle.segment_manager.specs.State.{truth_answer};
+ghost use Rattle.segment_manager.specs.containers.{Maps.any_value_answer, Walks.item_of_kinds};
 ghost use Rattle.segment_values.specs.Absent.{LacksLiteral};
 
-use crate::calls::{enter, enter_pair, enter_with, passed};
+use crate::calls::{enter, enter_pair, enter_with, passed, take_at};
 use crate::codes::{ABSENT, DONE, NOT_FOUND, WRONG_KIND, code_of, truth, value_found};
 use crate::keys::ObjectKey;
 use crate::segment_slot::{SegmentSlot, put};
 use crate::values::CScalar;
-use seg_types::{Key, Kind, ScalarValue, WrittenValue};
+use seg_types::theorems::holds_value;
+use seg_types::{Handle, Key, Kind, Refusal, ScalarValue, WrittenValue};
 use segment_manager::unchecked::{first_pair, next_pair};
 use segment_manager::{Segment, locate};
 use std::alloc::Global;
@@ -36,9 +40,59 @@ pub extern "C" fn zx_map_get(
         (answer_for result (element_in value.new))) }
     ensures outputs_on_error { 1 ≤ result → value.new ≡ value.old }
 {
+    let (Some(handle), Some(number)) = (key.as_handle(), at.as_i64()) else {
+        return get_any(alloc, h, key, at, value);
+    };
+    let segment = passed!(take_at(alloc, h, handle));
+    let answer = look_up_number(&segment, &Key::Handle(handle), number);
+    value_found(answer, value, h, segment)
+}
+
+/// Returns the value at a key of the map of a key, for any form of key and any value.
+#[inline(never)]
+fn get_any(
+    alloc: Global,
+    h: &mut SegmentSlot,
+    key: &ObjectKey<'_>,
+    at: &CScalar,
+    value: &mut CScalar,
+) -> u32
+    ensures call { AsksHandle (or_else (key_wrong key.now) (value_wrong at.now)) result h.old h.new
+        (λ s t. AnswersQuery s (Lookup (key_of key.now) (literal_in at.now))
+        (answer_for result (element_in value.new))) }
+    ensures outputs_on_error { 1 ≤ result → value.new ≡ value.old }
+{
     let (which, wanted, segment) = passed!(enter_with(alloc, h, key, at));
     let answer = segment_values::look_up(&segment, &which, &wanted);
     value_found(answer, value, h, segment)
+}
+
+/// Returns the value of a number in the map of a key in a segment. It looks the map up once if that is from `i64` to
+/// `i64`.
+#[inline(always)]
+fn look_up_number(segment: &Segment, key: &Key, at: i64) -> Result<Option<ScalarValue>, Refusal>
+    ensures { AnswersQuery segment.now (Lookup (key_seen key.now) (Integer at)) (any_value_answer result) }
+{
+    match number_at(segment, key, at) {
+        Ok(value) => Ok(value),
+        Err(why) => match why {
+            Refusal::WrongKind => { segment_values::look_up(segment, key, &ScalarValue::I64(at)) }
+            _ => Err(why),
+        },
+    }
+}
+
+/// Returns the value of a number in a map from `i64` to `i64`.
+#[inline(always)]
+fn number_at(segment: &Segment, key: &Key, at: i64) -> Result<Option<ScalarValue>, Refusal>
+    ensures { AnswersQueryOfKind segment.now (key_seen key.now) (MapOf I64 I64) (Lookup (key_seen key.now) (Integer at))
+        (any_value_answer result) }
+{
+    match segment.map_get::<i64, i64, Key>(key, at) {
+        Ok(None) => Ok(None),
+        Ok(Some(value)) => Ok(Some(ScalarValue::I64(value))),
+        Err(why) => Err(why),
+    }
 }
 
 /// Puts a value at a key of the map of a key, and says whether that is new.
@@ -57,9 +111,71 @@ pub extern "C" fn zx_map_put(
         (answer_for result (Boolean is_new.new))) }
     ensures outputs_on_error { 1 ≤ result → is_new.new ≡ is_new.old }
 {
-    let (which, new_key, new_value, mut segment) = passed!(enter_pair(alloc, h, key, at, value));
-    let answer = segment_values::put_pair(&mut segment, &which, &new_key, &new_value);
+    let (Some(handle), Some(number), Some(new)) = (key.as_handle(), at.as_i64(), value.as_i64())
+    else {
+        return put_any(alloc, h, key, at, value, is_new);
+    };
+    let mut segment = passed!(take_at(alloc, h, handle));
+    let answer = put_numbers(&mut segment, &Key::Handle(handle), number, new);
     truth(answer, is_new, h, segment)
+}
+
+/// Puts a value at a key of the map of a key, for any form of key and any two values.
+#[inline(never)]
+fn put_any(
+    alloc: Global,
+    h: &mut SegmentSlot,
+    key: &ObjectKey<'_>,
+    at: &CScalar,
+    value: &CScalar,
+    is_new: &mut bool,
+) -> u32
+    ensures call { ChangesHandle (or_else (key_wrong key.now) (or_else (value_wrong at.now) (value_wrong value.now)))
+        result h.old h.new
+        (λ s t. TakesStep s t (Put (key_of key.now) (literal_in at.now) (literal_in value.now))
+        (answer_for result (Boolean is_new.new))) }
+    ensures outputs_on_error { 1 ≤ result → is_new.new ≡ is_new.old }
+{
+    let (which, new_key, new_value, mut segment) = passed!(enter_pair(alloc, h, key, at, value));
+    let answer = put_pair(&mut segment, &which, new_key, new_value);
+    truth(answer, is_new, h, segment)
+}
+
+/// Puts a value at a key of the map of a key in a segment, and returns true if that is new.
+fn put_pair(
+    segment: &mut Segment,
+    key: &Key,
+    at: ScalarValue,
+    value: ScalarValue,
+) -> Result<bool, Refusal>
+    ensures step { TakesStep segment.old segment.new
+        (Put (key_seen key.now) (literal_seen at) (literal_seen value)) (truth_answer result) }
+    ensures refused { OnErr result (segment.new ≡ segment.old) }
+{
+    match (at, value) {
+        (ScalarValue::I64(number), ScalarValue::I64(new)) => put_numbers(segment, key, number, new),
+        _ => segment_values::put_pair(segment, key, &at, &value),
+    }
+}
+
+/// Puts a number at a number in the map of a key in a segment, and returns true if that is new. It looks the map up
+/// once if that is from `i64` to `i64`.
+#[inline(always)]
+fn put_numbers(segment: &mut Segment, key: &Key, at: i64, value: i64) -> Result<bool, Refusal>
+    ensures step { TakesStep segment.old segment.new (Put (key_seen key.now) (Integer at) (Integer value))
+        (truth_answer result) }
+    ensures refused { OnErr result (segment.new ≡ segment.old) }
+{
+    match segment.map_put::<i64, i64, Key>(key, at, value) {
+        Ok(is_new) => Ok(is_new),
+        Err(refusal) => match refusal {
+            Refusal::WrongKind => {
+                let (new_key, new_value) = (ScalarValue::I64(at), ScalarValue::I64(value));
+                segment_values::put_pair(segment, key, &new_key, &new_value)
+            }
+            _ => Err(refusal),
+        },
+    }
 }
 
 /// Takes a key out of the map of a key, and says whether it was there. If it was not, nothing changes.
@@ -132,8 +248,73 @@ pub extern "C" fn zx_map_next(
         → TellsPair at.new value.new result (next_at d (key_of key.now) (literal_in after.now))) }
     ensures outputs_on_error { 1 ≤ result → (at.new ≡ at.old) × (value.new ≡ value.old) }
 {
+    let (Some(handle), Some(number)) = (key.as_handle(), after.as_i64()) else {
+        return next_any(alloc, h, key, after, at, value);
+    };
+    let segment = passed!(take_at(alloc, h, handle));
+    put(next_number(&segment, handle, number, at, value), h, segment)
+}
+
+/// Returns the pair with the least key above `after` of the map of a key, for any form of key and any value.
+#[inline(never)]
+fn next_any(
+    alloc: Global,
+    h: &mut SegmentSlot,
+    key: &ObjectKey<'_>,
+    after: &CScalar,
+    at: &mut CScalar,
+    value: &mut CScalar,
+) -> u32
+    ensures read { ReadsHandle (or_else (key_wrong key.now) (value_wrong after.now)) result h.old h.new
+        (λ s. (d : Directory) → DenotesCurrent s.cut.bytes d
+        → TellsPair at.new value.new result (next_at d (key_of key.now) (literal_in after.now))) }
+    ensures outputs_on_error { 1 ≤ result → (at.new ≡ at.old) × (value.new ≡ value.old) }
+{
     let (which, below, segment) = passed!(enter_with(alloc, h, key, after));
     put(next(&segment, &which, below, at, value), h, segment)
+}
+
+/// Returns the pair with the least key above a number of the map of a handle in a segment. It looks the map up once if
+/// that is from `i64` to `i64`.
+#[inline(always)]
+fn next_number(
+    segment: &Segment,
+    handle: Handle,
+    after: i64,
+    at: &mut CScalar,
+    value: &mut CScalar,
+) -> u32
+    ensures read { (d : Directory) → DenotesCurrent segment.now.cut.bytes d
+        → TellsPair at.new value.new result (next_at d (ByHandle handle) (Integer after)) }
+    ensures unchanged_on_error { 1 ≤ result → (at.new ≡ at.old) × (value.new ≡ value.old) }
+{
+    holds_value(after);
+    match segment.map_next_after::<i64, i64, Key>(&Key::Handle(handle), after) {
+        Ok(pair) => numbers_out(pair, at, value),
+        Err(_) => next(
+            segment,
+            &Key::Handle(handle),
+            ScalarValue::I64(after),
+            at,
+            value,
+        ),
+    }
+}
+
+/// Writes the numbers to the outputs and returns done; returns the code of no pair if there are none.
+#[inline(always)]
+fn numbers_out(pair: Option<(i64, i64)>, at: &mut CScalar, value: &mut CScalar) -> u32
+    ensures read { TellsPair at.new value.new result (Ok (option_map (item_of_kinds I64 I64) pair)) }
+    ensures unchanged_on_error { 1 ≤ result → (at.new ≡ at.old) × (value.new ≡ value.old) }
+{
+    match pair {
+        Some((its_key, its_value)) => {
+            *at = CScalar::of(ScalarValue::I64(its_key));
+            *value = CScalar::of(ScalarValue::I64(its_value));
+            DONE
+        }
+        None => ABSENT,
+    }
 }
 
 /// Returns the pair with the least key above `after` of the map of a key in a segment.

@@ -1,4 +1,4 @@
-//! What containers have, read.
+//! Reads the sizes and the bytes of containers.
 ghost use Rattle.std.specs.Prelude.{◌≡◌, ◌≢◌, ◌≤◌};
 ghost use Rattle.seg_types.specs.declared.kinds.Kind.TheVariants.{Strings as StringsKind};
 ghost use Rattle.seg_types.specs.Commands.{Get};
@@ -20,8 +20,8 @@ use seg_types::Key;
 use segment_manager::Segment;
 use std::alloc::Global;
 
-/// Returns how many elements the vector or string of a key has, and how many places; or how many pairs its map has, and
-/// 0.
+/// Counts the elements (`len`) and the places (`places`) of the vector or string of a key. For the map of a key, `len`
+/// is the number of pairs and `places` is 0.
 #[unsafe(no_mangle)]
 pub extern "C" fn zx_measure(
     alloc: Global,
@@ -39,7 +39,7 @@ pub extern "C" fn zx_measure(
     put(measure(&segment, &which, len, places), h, segment)
 }
 
-/// Counts the elements and the places of the vector or string of a key in a segment, or the pairs of its map.
+/// Counts the elements and the places of the vector or string of a key in a segment, or the pairs of the key's map.
 fn measure(segment: &Segment, key: &Key, len: &mut u64, places: &mut u64) -> u32
     ensures read { (d : Directory) → DenotesCurrent segment.now.cut.bytes d
         → IsCoded (AreSizes len.new places.new) result (sizes_at d (key_seen key.now)) }
@@ -55,8 +55,8 @@ fn measure(segment: &Segment, key: &Key, len: &mut u64, places: &mut u64) -> u32
     }
 }
 
-/// Copies the bytes of the string of a key to the front of a buffer, if it has room for them. How many they are goes
-/// out in any case.
+/// Copies the bytes of the string of a key to the front of the buffer `text`, if the buffer has room for them. Sets
+/// `len` to the number of these bytes, even if the buffer is too short.
 #[unsafe(no_mangle)]
 pub extern "C" fn zx_read_string(
     alloc: Global,
@@ -88,8 +88,8 @@ fn read_string(segment: &Segment, key: &Key, text: &mut [u8], len: &mut u64) -> 
     }
 }
 
-/// Copies the text at `index` in the vector of strings of a key to the front of a buffer, if it has room for it. How
-/// many bytes it has goes out in any case.
+/// Copies the string at `index` in the vector of strings of a key to the front of the buffer `text`, if the buffer has
+/// room for it. Sets `len` to the number of bytes of the string, even if the buffer is too short.
 #[unsafe(no_mangle)]
 pub extern "C" fn zx_read_text(
     alloc: Global,
@@ -124,7 +124,8 @@ fn read_text(segment: &Segment, key: &Key, index: u64, text: &mut [u8], len: &mu
     }
 }
 
-/// Copies bytes to the front of a buffer, if it has room for them. How many they are goes out.
+/// Copies bytes to the front of the buffer `text`, if the buffer has room for them. Sets `len` to the number of these
+/// bytes in any case.
 fn copy_text(bytes: &[u8], text: &mut [u8], len: &mut u64) -> u32
     ensures copy { CopiesBytes bytes.now text.old text.new len.new result }
     ensures unchanged_on_error { 1 ≤ result → text.new ≡ text.old }

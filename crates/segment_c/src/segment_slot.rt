@@ -84,11 +84,18 @@ impl HeldSegment {
 
 /// Frees its segment.
 impl Drop for HeldSegment {
+    #[inline(always)]
     fn drop(self) {
         if let Some(segment) = self.into_loose() {
-            drop(segment.into_box());
+            free(segment);
         }
     }
+}
+
+/// Frees a segment. It is not inlined, since a handle that a call took its segment out of has none to free.
+#[inline(never)]
+fn free(segment: RawBox<Segment, Global>) {
+    drop(segment.into_box());
 }
 
 impl Marks {

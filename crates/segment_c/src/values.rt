@@ -1,5 +1,6 @@
 //! The values that C passes and is given.
-ghost use Rattle.std.specs.Prelude.{◌≡◌, Some, None, MatchResult, option_map};
+ghost use Rattle.std.specs.Prelude.{◌≡◌, IfSome, Some, None, MatchResult, option_map};
+ghost use Rattle.seg_types.specs.declared.kinds.ScalarKind.TheVariants.{I64};
 ghost use Rattle.seg_types.specs.Values.{kind_of_scalar, value_of_scalar};
 ghost use Rattle.segment_c.specs.Passed.{scalar_in};
 
@@ -33,6 +34,18 @@ impl CScalar {
         self.read().ok_or(BAD_VALUE)
     }
 
+    /// Returns the number if the scalar is an `i64`.
+    #[inline(always)]
+    #[tactic(auto, unfolding(crate::specs::Passed::scalar_in, seg_types::specs::Kinds::scalar_of_code))]
+    pub fn as_i64(&self) -> Option<i64>
+        ensures { IfSome result (λ number. scalar_in self.now ≡ Some (I64, number)) }
+    {
+        match self.kind {
+            4 => Some(self.number),
+            _ => None,
+        }
+    }
+
     /// Returns the scalar that is passed, if there is one.
     #[tactic(auto, unfolding(crate::specs::Passed::scalar_in, seg_types::specs::Kinds::scalar_of_code))]
     fn read(&self) -> Option<ScalarValue>
@@ -62,6 +75,9 @@ impl CScalar {
     pub fn of(value: ScalarValue) -> CScalar
         ensures { scalar_in result ≡ Some (kind_of_scalar value, value_of_scalar value) }
     {
+        if let ScalarValue::I64(number) = value {
+            return CScalar::number(4, number);
+        }
         match value {
             ScalarValue::Bool(truth) => CScalar::natural(1, u64::from(truth)),
             ScalarValue::U8(number) => CScalar::natural(2, u64::from(number)),

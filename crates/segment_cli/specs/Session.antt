@@ -1,7 +1,7 @@
 -- What a session owes: what it prints and saves, and what each fault leaves.
 use Rattle.std.specs.Prelude.{◌≡◌, ◌⊎◌, ◌<◌, ◌≤◌, ℕ, ◌+◌, Bool, true, false, ⊤, List, [], ◌∷◌, ◌++◌, length, take}
-use Rattle.std.specs.Prelude.{IsTrue, None, Result, Err, MatchResult}
-use Rattle.raw_region.specs.Device.{ReadDelta, WriteDelta, IsProperPrefix}
+use Rattle.std.specs.Prelude.{IsTrue, None, Result, Ok, Err, MatchResult}
+use Rattle.raw_region.specs.Device.{ReaderHistory, ReadDelta, WriteDelta, IsProperPrefix}
 use Rattle.raw_region.specs.Format.{current}
 use Rattle.block_tags.specs.Format.{is_legal_size}
 use Rattle.segment_manager.specs.declared.modes.Mode.{Mode}
@@ -21,6 +21,7 @@ use Rattle.segment_cli.specs.declared.faults.SessionFault.TheVariants.{Image as 
 use Rattle.segment_cli.specs.declared.faults.SessionFault.TheVariants.{OutOfMemory, ReadFault, WriteFault}
 use Rattle.segment_cli.specs.declared.faults.SessionFault.TheVariants.{ScriptTooLong}
 use Rattle.segment_scripts.specs.Run.{run, run_lines, respond}
+use Rattle.segment_scripts.specs.RunOutcome.{MeetsEndOnce}
 use Rattle.segment_scripts.specs.Lines.{executable, script_limit, whole_lines}
 use Rattle.segment_scripts.specs.ZeroGaps.{zeros_after_run}
 
@@ -200,3 +201,21 @@ pub record RunsSession (start : Start) (mode : Mode) (base capacity : ℕ) (t : 
   -- these two are answered wherever they apply
   pub bad_size : IsSizeRefused start → result ≡ Err BadSize
   pub too_small : IsTooSmall start t.image base capacity → result ≡ Err RegionTooSmall
+
+-- ---- the ends that the readers met
+
+-- the reader of the image met its end in this call, once, if the image has ended; a fresh segment reads nothing
+abbrev pub MeetsImageEnd : Start → ReaderHistory → ReaderHistory → Type 0
+MeetsImageEnd (Fresh size) old new = new ≡ old
+MeetsImageEnd Image old new = MeetsEndOnce old new
+
+-- the same for the reader of the script, which is not read if the session ends before its script
+abbrev pub MeetsScriptEnd : {A : Type 0} → Result A SessionFault → ReaderHistory → ReaderHistory → Type 0
+MeetsScriptEnd (Ok x) old new = MeetsEndOnce old new
+MeetsScriptEnd (Err (Refused c)) old new = new ≡ old
+MeetsScriptEnd (Err BadSize) old new = new ≡ old
+MeetsScriptEnd (Err RegionTooSmall) old new = new ≡ old
+MeetsScriptEnd (Err (OutOfMemory refusal)) old new = new ≡ old
+MeetsScriptEnd (Err ReadFault) old new = (new ≡ old) ⊎ MeetsEndOnce old new
+MeetsScriptEnd (Err WriteFault) old new = MeetsEndOnce old new
+MeetsScriptEnd (Err ScriptTooLong) old new = MeetsEndOnce old new

@@ -106,7 +106,7 @@ pub enum ProgramFault {
     /// The command line is wrong or asks for help. Whoever read it says so.
     #[error("usage")]
     Usage,
-    /// A file that is to be made is there already.
+    /// The file to create exists already.
     #[error("file exists")]
     Exists,
     /// The segment does not grow.

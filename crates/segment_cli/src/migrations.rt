@@ -1,7 +1,8 @@
 //! The migration of an image of an older format.
 ghost use Rattle.std.specs.Prelude.{◌-◌, ◌%◌, ◌^◌, ◌<◌, ◌≡◌, length};
-ghost use Rattle.raw_region.specs.Device.{EndsAtMostOnce, AppendsBytes, read_delta, write_delta};
+ghost use Rattle.raw_region.specs.Device.{AppendsBytes, read_delta, write_delta};
 ghost use Rattle.segment_cli.specs.Migration.{IsMigration};
+ghost use Rattle.segment_scripts.specs.RunOutcome.{MeetsEndOnce};
 
 use crate::faults::SessionFault;
 use image_check::{open_any, save};
@@ -34,7 +35,7 @@ pub fn migrate<I: Source, W: Sink>(
         (write_delta (W.history image_out.old) (W.history image_out.new))
         result }
     ensures image_history { AppendsBytes (I.history image.old).bytes (I.history image.new).bytes }
-    ensures image_end { EndsAtMostOnce (I.history image.old) (I.history image.new) }
+    ensures image_end { MeetsEndOnce (I.history image.old) (I.history image.new) }
     ensures saved_history { AppendsBytes (W.history image_out.old).bytes (W.history image_out.new).bytes }
 {
     let segment = open_any(alloc, image, region, base, Mode::Write, &mut Steps::new())?;

@@ -1,15 +1,16 @@
 //! A session: a segment is made or opened, a script is run on it, and its image is saved.
 ghost use Rattle.std.specs.Prelude.{◌≡◌, ◌+◌, ◌-◌, ◌%◌, ◌^◌, ◌<◌, ◌≤◌, ◌++◌, length, drop, IfOk, OnOk, OnErr};
 ghost use Rattle.std.specs.Prelude.{IsTrue, List, ℕ};
-ghost use Rattle.raw_region.specs.Device.{read_delta, write_delta, EndsAtMostOnce, AppendsBytes, IsProperPrefix};
+ghost use Rattle.raw_region.specs.Device.{read_delta, write_delta, AppendsBytes, IsProperPrefix};
 ghost use Rattle.raw_region.specs.{Answers.failures_in, Format.current, Memory.are_bytes};
 ghost use Rattle.raw_region.specs.Memory.{SameSurroundings, cut_at};
 ghost use Rattle.image_check.specs.Meaning.{HasOneDirectory};
 ghost use Rattle.segment_manager.specs.{declared.modes.Mode.TheVariants.Write, Directory.Directory};
 ghost use Rattle.segment_manager.specs.{State.DenotesCurrent};
-ghost use Rattle.segment_cli.specs.{Session.RunsSession, Session.SavesImage};
+ghost use Rattle.segment_cli.specs.Session.{MeetsImageEnd, MeetsScriptEnd, RunsSession, SavesImage};
 ghost use Rattle.segment_cli.specs.{Beginning.BeginsSession, Beginning.begun_size, Serving.Serves};
-ghost use Rattle.segment_scripts.specs.{Lines.script_limit, Segments.IsMachineAt, Segments.MachineState};
+ghost use Rattle.segment_scripts.specs.{Lines.script_limit, RunOutcome.MeetsEndOnce, Segments.IsMachineAt};
+ghost use Rattle.segment_scripts.specs.{Segments.MachineState};
 
 use crate::faults::{SessionFault, Start};
 use image_check::{open, save};
@@ -40,7 +41,7 @@ pub fn begin<I: Source>(
     ensures place { IfOk result (λ s. SameSurroundings
         (cut_at region base (begun_size start (read_delta (I.history image.old) (I.history image.new)))) s.cut) }
     ensures image_history { AppendsBytes (I.history image.old).bytes (I.history image.new).bytes }
-    ensures image_end { EndsAtMostOnce (I.history image.old) (I.history image.new) }
+    ensures image_end { MeetsImageEnd start (I.history image.old) (I.history image.new) }
 {
     match start {
         Start::Fresh(size) => Ok(Segment::create(region, base, size, mode)?),
@@ -69,7 +70,7 @@ pub fn serve<S: Source, O: Sink, F: RunObserver<O>>(
         (write_delta (O.history out.old) (O.history out.new))
         result }
     ensures script_history { AppendsBytes (S.history script.old).bytes (S.history script.new).bytes }
-    ensures script_end { EndsAtMostOnce (S.history script.old) (S.history script.new) }
+    ensures script_end { MeetsEndOnce (S.history script.old) (S.history script.new) }
     ensures read_limit { length (S.history script.new).bytes
         ≤ length (S.history script.old).bytes + script_limit + 1 }
     ensures output_history { (at : MachineState) → IsMachineAt segment.old at
@@ -136,9 +137,9 @@ pub fn session<I: Source, S: Source, O: Sink, W: Sink>(
         result }
     ensures unique { (b : List ℕ) → IsTrue (are_bytes b) → HasOneDirectory current b }
     ensures image_history { AppendsBytes (I.history image.old).bytes (I.history image.new).bytes }
-    ensures image_end { EndsAtMostOnce (I.history image.old) (I.history image.new) }
+    ensures image_end { MeetsImageEnd start (I.history image.old) (I.history image.new) }
     ensures script_history { AppendsBytes (S.history script.old).bytes (S.history script.new).bytes }
-    ensures script_end { EndsAtMostOnce (S.history script.old) (S.history script.new) }
+    ensures script_end { MeetsScriptEnd result (S.history script.old) (S.history script.new) }
     ensures read_limit { length (S.history script.new).bytes
         ≤ length (S.history script.old).bytes + script_limit + 1 }
     ensures output_history { AppendsBytes (O.history out.old).bytes (O.history out.new).bytes }

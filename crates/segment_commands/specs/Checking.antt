@@ -8,7 +8,7 @@ use Rattle.segment_cli.specs.Reports.{WritesText, line, session_status, session_
 use Rattle.segment_cli.specs.declared.faults.SessionFault.{SessionFault}
 use Rattle.segment_cli.specs.declared.faults.SessionFault.TheVariants.{WriteFault}
 use Rattle.segment_commands.specs.declared.command_faults.CommandFault.{CommandFault}
-use Rattle.segment_commands.specs.Faults.{Session}
+use Rattle.segment_commands.specs.declared.command_faults.CommandFault.TheVariants.{Session}
 use Rattle.segment_commands.specs.Opening.{VerifiesFile}
 use Rattle.segment_commands.specs.Paths.{path_text}
 use Rattle.segment_commands.specs.Reports.{trouble_line}

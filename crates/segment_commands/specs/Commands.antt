@@ -1,5 +1,5 @@
--- What the commands of the program do to a file: what the disk is asked, in order, what is said, and with which answer
--- each ends.
+-- What each command of the program does to a file: what it asks of the disk, in order, what it writes to the output,
+-- and how it ends.
 use Rattle.std.specs.Prelude.{◌≡◌, ◌≢◌, ◌⊎◌, ℕ, Bool, false, List, [], ◌∷◌, Result, Ok, Err, MatchResult, IsTrue, codes}
 use Rattle.block_tags.specs.Format.{is_legal_size}
 use Rattle.raw_region.specs.Device.{ReadDelta, WriterHistory}
@@ -11,7 +11,8 @@ use Rattle.segment_cli.specs.declared.faults.SessionFault.TheVariants.{BadSize, 
 use Rattle.segment_cli.specs.declared.faults.Start.TheVariants.{Fresh}
 use Rattle.segment_cli.specs.Beginning.{BeginsSession}
 use Rattle.segment_commands.specs.declared.command_faults.CommandFault.{CommandFault}
-use Rattle.segment_commands.specs.Faults.{Exists, Session, region_refused}
+use Rattle.segment_commands.specs.declared.command_faults.CommandFault.TheVariants.{Exists, Session}
+use Rattle.segment_commands.specs.Faults.{region_refused}
 use Rattle.segment_disk.specs.declared.presence.Presence.{Presence}
 use Rattle.segment_disk.specs.declared.presence.Presence.TheVariants.{There}
 use Rattle.segment_disk.specs.Events.{New, Event, Looked, After}
@@ -19,41 +20,41 @@ use Rattle.segment_file.specs.Files.{WritesImage}
 use Rattle.segment_commands.specs.Opening.{OpensFile, VerifiesFile}
 use Rattle.segment_commands.specs.Telling.{WritesAndFlushes}
 
--- a fault of the file's writer, or of the output, as the program answers it
+-- the result of writing to a file or to the output, as the program answers it: each fault is a `WriteFault`
 abbrev pub written_as : {E : Type 0} → Result (Unit {0}) E → Result (Unit {0}) CommandFault
 written_as (Ok u) = Ok tt
 written_as (Err e) = Err (Session WriteFault)
 
 -- ---- a segment that is made
 
--- no segment has the size, and no memory was asked for
+-- no segment can have the size
 pub record IsSizeless (size : ℕ) (result : Result SegmentState SessionFault) : Type 0 where
   pub illegal : is_legal_size size ≡ false
   pub refused : result ≡ Err BadSize
 
--- a session begins with an empty segment of the size, in a region of some capacity
+-- a session begins with an empty segment of the size, in a region of the length for this size
 pub record IsFreshSegment (size : ℕ) (segment : SegmentState) : Type 0 where
   pub image : ReadDelta
   pub capacity : ℕ
   pub room : capacity ≡ region_len size
   pub starts : BeginsSession (Fresh size) Write 0 capacity image (Ok segment)
 
--- one is made, or a region with room for it was refused
+-- a segment can have the size: an empty one is made, or the memory for its region was refused
 pub record MakesFreshSegment (size : ℕ) (result : Result SegmentState SessionFault) : Type 0 where
   pub legal : IsTrue (is_legal_size size)
   pub answers : MatchResult result (IsFreshSegment size) (λ fault. fault ≡ region_refused size)
 
--- an empty segment of a size is made, or no segment has the size or memory was refused
+-- an empty segment of a size is made; or not, because no segment can have the size, or because memory was refused
 abbrev pub MakesSegment : ℕ → Result SegmentState SessionFault → Type 0
 MakesSegment size result = IsSizeless size result ⊎ MakesFreshSegment size result
 
 module _ {D : Type 0} (step : D → Event → D → Type 0) (old new : D) (path : List ℕ) where
-  -- something is there under the path, and nothing else was asked
+  -- something is at the path, and the command asks the disk nothing else
   pub record RefusesExisting (result : Result (Unit {0}) CommandFault) : Type 0 where
     pub asked : After step old (Looked path There ∷ []) new
     pub refused : result ≡ Err Exists
 
-  -- nothing is there, and no segment was made: nothing else was asked
+  -- the look finds nothing at the path, but no segment was made, and the command asks the disk nothing else
   pub record CreatesFileErr (size : ℕ) (result : Result (Unit {0}) CommandFault) : Type 0 where
     pub found : Presence
     pub free : found ≢ There
@@ -62,7 +63,7 @@ module _ {D : Type 0} (step : D → Event → D → Type 0) (old new : D) (path 
     pub why : MakesSegment size (Err fault)
     pub refused : result ≡ Err (Session fault)
 
-  -- nothing is there, and the image of an empty segment was written to a new file
+  -- the look finds nothing at the path, and the command writes the image of an empty segment to a new file
   pub record CreatesFileOk (size : ℕ) (result : Result (Unit {0}) CommandFault) : Type 0 where
     pub found : Presence
     pub free : found ≢ There
@@ -79,21 +80,21 @@ module _ {D : Type 0} (step : D → Event → D → Type 0) (old new : D) (path 
 
   -- ---- a file that is looked at
 
-  -- the file has no segment, for this reason, and nothing was said
+  -- the file does not open as a segment, because of `fault`, and the command writes nothing
   pub record RefusesUnopened {O : Type 0} (out out' : O) (result : Result (Unit {0}) CommandFault) : Type 0 where
     pub fault : SessionFault
     pub opens : OpensFile step old new path ReadOnly (Err fault)
     pub silent : out' ≡ out
     pub refused : result ≡ Err (Session fault)
 
-  -- the image of the file is refused by a check, and nothing is said
+  -- a check refuses the image of the file, and the command writes nothing
   pub record RefusesUnverified {O : Type 0} (out out' : O) (result : Result (Unit {0}) CommandFault) : Type 0 where
     pub fault : SessionFault
     pub verifies : VerifiesFile step old new path (Err fault)
     pub silent : out' ≡ out
     pub refused : result ≡ Err (Session fault)
 
-  -- the file has a segment, and `ok` was said
+  -- the file has a segment, and the command writes `ok`
   pub record ChecksFileOk {O : Type 0} (history : O → WriterHistory) (flushes : O → Bool → O
       → Type 0) (out out' : O) (result : Result (Unit {0}) CommandFault) : Type 0 where
     pub verifies : VerifiesFile step old new path (Ok tt)
@@ -108,7 +109,7 @@ module _ {D : Type 0} (step : D → Event → D → Type 0) (old new : D) (path 
 
 -- ---- what the program says of itself
 
--- the text was said
+-- the program writes the text
 pub record Prints {O : Type 0} (history : O → WriterHistory) (flushes : O → Bool → O
     → Type 0) (out out' : O) (text : List ℕ) (result : Result (Unit {0}) CommandFault) : Type 0 where
   pub tells : WritesAndFlushes history flushes out out' text result

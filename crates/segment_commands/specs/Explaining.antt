@@ -5,15 +5,16 @@ use Rattle.image_check.specs.declared.classes.ImageClass.{ImageClass}
 use Rattle.image_check.specs.declared.classes.ImageClass.TheVariants.{Truncated, BadMagic, UnsupportedVersion, BadSize}
 use Rattle.image_check.specs.declared.classes.ImageClass.TheVariants.{BadReserved, BadTag, BadFreeTree, BadIndex}
 use Rattle.image_check.specs.declared.classes.ImageClass.TheVariants.{BadObject, SharedBlock, BadContainer, OrphanBlock}
+use Rattle.image_check.specs.declared.errors.OpenError.TheVariants.{Image}
 use Rattle.image_check.specs.declared.verdict.Verdict.{Verdict}
 use Rattle.segment_cli.specs.declared.faults.SessionFault.TheVariants.{Image as Refused, WriteFault}
 use Rattle.segment_disk.specs.Events.{Event}
-use Rattle.segment_file.specs.declared.file_errors.OpenFault.{OpenFault}
-use Rattle.segment_file.specs.declared.file_errors.OpenFault.TheVariants.{Image}
-use Rattle.segment_file.specs.Opening.{ExaminesFile, open_fault_error}
+use Rattle.segment_file.specs.declared.file_errors.FileError.{FileError}
+use Rattle.segment_file.specs.declared.file_errors.FileError.TheVariants.{Open}
+use Rattle.segment_file.specs.SegmentFiles.{ChecksFile}
 use Rattle.segment_commands.specs.declared.command_faults.CommandFault.{CommandFault}
 use Rattle.segment_commands.specs.Commands.{ChecksFileOk}
-use Rattle.segment_commands.specs.Faults.{Session}
+use Rattle.segment_commands.specs.declared.command_faults.CommandFault.TheVariants.{Session}
 use Rattle.segment_commands.specs.Opening.{session_fault}
 use Rattle.segment_commands.specs.Telling.{WritesAndFlushes}
 
@@ -48,16 +49,16 @@ module _ {D O : Type 0} (step : D → Event → D → Type 0) (old new : D) (pat
     → WriterHistory) (flushes : O → Bool → O → Type 0) (out out' : O) (result : Result (Unit {0}) CommandFault) where
   -- the file has no segment, for a reason that is no class, and nothing was said
   pub record ExplainsErr : Type 0 where
-    pub unfit : OpenFault
-    pub why : ExaminesFile step old new path (Err unfit)
-    pub other : (v : Verdict) → unfit ≢ Image v
+    pub unfit : FileError
+    pub why : ChecksFile step old new path (Err unfit)
+    pub other : (v : Verdict) → unfit ≢ Open (Image v)
     pub silent : out' ≡ out
-    pub refused : result ≡ Err (Session (session_fault (open_fault_error unfit)))
+    pub refused : result ≡ Err (Session (session_fault unfit))
 
   -- the image is refused, and the line of its verdict was said; the answer is its class if all of it went out
   pub record ExplainsVerdict : Type 0 where
     pub verdict : Verdict
-    pub why : ExaminesFile step old new path (Err (Image verdict))
+    pub why : ChecksFile step old new path (Err (Open (Image verdict)))
     pub said : Result (Unit {0}) CommandFault
     pub tells : WritesAndFlushes history flushes out out' (verdict_text verdict) said
     pub answer : result ≡ explained_as verdict.class said

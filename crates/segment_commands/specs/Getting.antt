@@ -22,14 +22,13 @@ use Rattle.segment_manager.specs.State.{SegmentState, DenotesCurrent}
 use Rattle.segment_manager.specs.Step.{step, step_of_kind}
 use Rattle.segment_cli.specs.declared.faults.SessionFault.TheVariants.{WriteFault}
 use Rattle.segment_commands.specs.declared.command_faults.CommandFault.{CommandFault}
-use Rattle.segment_commands.specs.declared.command_faults.CommandFault.TheVariants.{NoValue}
+use Rattle.segment_commands.specs.declared.command_faults.CommandFault.TheVariants.{NoValue, Session}
 use Rattle.segment_commands.specs.Commands.{RefusesUnopened}
-use Rattle.segment_commands.specs.Faults.{Session}
 use Rattle.segment_commands.specs.Opening.{OpensFile}
 use Rattle.segment_commands.specs.Telling.{WritesAndFlushes}
 use Rattle.segment_disk.specs.Events.{Event}
 
--- the first of two, if it is there
+-- the first of two options if it has a value, or else the second
 abbrev pub or_else : {A : Type 0} → Option A → Option A → Option A
 or_else (Some a) other = Some a
 or_else None other = other
@@ -50,15 +49,16 @@ abbrev pub got : Mode → Directory → Key → Option ℕ → Option (List ℕ)
 got mode d key None = None
 got mode d key (Some index) = element_of mode d key index
 
--- what `lookup` answers for the map of a key, if what is looked up is a value
+-- what `lookup` answers for the map with this key, if there is a literal to look up
 abbrev pub looked_up : Mode → Directory → Key → Option Literal → Option (List ℕ)
 looked_up mode d key None = None
 looked_up mode d key (Some at) = raw_of (step mode d (Lookup key at)).0
 
--- the value that bytes spell, and the key
+-- the value that bytes spell
 abbrev pub literal_in : List ℕ → Option Literal
 literal_in bytes = option_and_then literal_of_word (only_word bytes)
 
+-- the key that bytes spell
 abbrev pub key_in : List ℕ → Option Key
 key_in bytes = option_and_then (key_of (whole_language current)) (only_word bytes)
 
@@ -79,7 +79,7 @@ abbrev pub value_of_key : Mode → Directory → Option (List ℕ) → Key → O
 value_of_key mode d None key = first_value mode d key
 value_of_key mode d (Some index) key = value_at mode d key index
 
--- the value of the words that say its key, and its index if there is one
+-- the value of the object that the word `key` names: at `index` if there is one, or else the first
 abbrev pub value_for : Mode → Directory → List ℕ → Option (List ℕ) → Option (List ℕ)
 value_for mode d key index = option_and_then (value_of_key mode d index) (key_in key)
 
@@ -87,7 +87,7 @@ value_for mode d key index = option_and_then (value_of_key mode d index) (key_in
 abbrev pub value_line : List ℕ → List ℕ
 value_line value = value ++ 0x0A ∷ []
 
--- the value was said; or there is none, nothing was said, and the command failed
+-- if there is a value, the command writes it, and can fail only at this; if there is none, it writes nothing and fails
 abbrev pub TellsValue : {O : Type 0} → (O → WriterHistory) → (O → Bool → O → Type 0) → O → O → Option (List ℕ)
     → Result (Unit {0}) CommandFault → Type 0
 TellsValue history flushes out out' (Some value) result =
@@ -98,7 +98,7 @@ TellsValue history flushes out out' None result = (out' ≡ out) × (result ≡ 
 module _ {D O : Type 0} (step : D → Event → D → Type 0) (old new : D) (path : List ℕ) (history : O
     → WriterHistory) (flushes : O → Bool → O → Type 0) (out out' : O)
     (key : List ℕ) (index : Option (List ℕ)) (result : Result (Unit {0}) CommandFault) where
-  -- the file has a segment, and the value of its directory was said, if it has that
+  -- the file has a segment, and the command writes the value that its directory has, if there is one
   pub record GetsOk : Type 0 where
     pub segment : SegmentState
     pub opens : OpensFile step old new path ReadOnly (Ok segment)

@@ -8,8 +8,7 @@ use Rattle.segment_scripts.specs.declared.language.CommandRow.{CommandRow}
 use Rattle.segment_cli.specs.Beginning.{run_fault}
 use Rattle.segment_cli.specs.declared.faults.SessionFault.TheVariants.{WriteFault}
 use Rattle.segment_commands.specs.declared.command_faults.CommandFault.{CommandFault}
-use Rattle.segment_commands.specs.declared.command_faults.CommandFault.TheVariants.{Misspelled}
-use Rattle.segment_commands.specs.Faults.{Session}
+use Rattle.segment_commands.specs.declared.command_faults.CommandFault.TheVariants.{Misspelled, Session}
 use Rattle.segment_disk.specs.Events.{IsFlushed}
 
 -- a fault of the run is told first, then that not all went out, then that a line is no command

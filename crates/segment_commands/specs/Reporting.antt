@@ -6,7 +6,7 @@ use Rattle.segment_manager.specs.Directory.{Directory}
 use Rattle.segment_manager.specs.State.{SegmentState, DenotesCurrent}
 use Rattle.segment_cli.specs.declared.faults.SessionFault.TheVariants.{WriteFault}
 use Rattle.segment_commands.specs.declared.command_faults.CommandFault.{CommandFault}
-use Rattle.segment_commands.specs.Faults.{Session}
+use Rattle.segment_commands.specs.declared.command_faults.CommandFault.TheVariants.{Session}
 use Rattle.segment_invocation.specs.declared.invocations.Report.{Report}
 use Rattle.segment_invocation.specs.declared.invocations.Report.TheVariants.{Figures, Picture, Page, Dump, Capacities}
 use Rattle.segment_invocation.specs.declared.invocations.Report.TheVariants.{Json}

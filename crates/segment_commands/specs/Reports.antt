@@ -3,10 +3,10 @@ use Rattle.std.specs.Prelude.{◌≡◌, ◌⊎◌, ◌∷◌, ◌+◌, ◌++◌
 use Rattle.segment_dump.specs.declared.faults.BadDump.{BadDump as Bad}
 use Rattle.segment_dump.specs.declared.faults.DumpFault.{DumpFault}
 use Rattle.segment_dump.specs.declared.faults.DumpFault.TheVariants as dump
+use Rattle.segment_cli.specs.declared.faults.ProgramFault.TheVariants as program
 use Rattle.segment_cli.specs.Reports.{fault_text, line, status_of}
 use Rattle.segment_commands.specs.declared.command_faults.CommandFault.{CommandFault}
-use Rattle.segment_commands.specs.declared.command_faults.CommandFault.TheVariants.{Program, InUse, Stopped, Misspelled}
-use Rattle.segment_commands.specs.declared.command_faults.CommandFault.TheVariants.{BadDump, NoSpace, NoValue}
+use Rattle.segment_commands.specs.declared.command_faults.CommandFault.TheVariants as fault
 use Rattle.segment_commands.specs.Paths.{path_text}
 use Rattle.segment_disk.specs.declared.presence.FileProblem.{FileProblem}
 use Rattle.segment_disk.specs.declared.presence.FileProblem.TheVariants.{Missing, NoParentFolder, Unnamed, Folder}
@@ -40,13 +40,16 @@ no_space_line needed = codes "segment: no space: the objects need " ++ (decimal 
 
 -- the line of a fault
 abbrev pub command_text : CommandFault → List ℕ
-command_text (Program f) = fault_text f
-command_text InUse = line (codes "file in use")
-command_text Stopped = line (codes "stopped at an error, and nothing is saved")
-command_text Misspelled = line (codes "some lines are no commands")
-command_text (BadDump bad) = bad_dump_line bad
-command_text (NoSpace needed) = no_space_line needed
-command_text NoValue = line (codes "no such value")
+command_text fault.Usage = fault_text program.Usage
+command_text fault.Exists = fault_text program.Exists
+command_text (fault.Growth e) = fault_text (program.Growth e)
+command_text (fault.Session f) = fault_text (program.Session f)
+command_text fault.InUse = line (codes "file in use")
+command_text fault.Stopped = line (codes "stopped at an error, and nothing is saved")
+command_text fault.Misspelled = line (codes "some lines are no commands")
+command_text (fault.BadDump bad) = bad_dump_line bad
+command_text (fault.NoSpace needed) = no_space_line needed
+command_text fault.NoValue = line (codes "no such value")
 
 -- what a second line says of the file of a path, which stands there as a text of the language
 abbrev pub trouble_words : FileProblem → List ℕ
@@ -74,10 +77,13 @@ trouble_line path (Some trouble) = trouble_text path trouble
 
 -- the status of a command's fault
 abbrev pub command_status : CommandFault → ℕ
-command_status (Program f) = status_of f
-command_status InUse = 3
-command_status Stopped = 1
-command_status Misspelled = 1
-command_status (BadDump bad) = 1
-command_status (NoSpace needed) = 1
-command_status NoValue = 1
+command_status fault.Usage = status_of program.Usage
+command_status fault.Exists = status_of program.Exists
+command_status (fault.Growth e) = status_of (program.Growth e)
+command_status (fault.Session f) = status_of (program.Session f)
+command_status fault.InUse = 3
+command_status fault.Stopped = 1
+command_status fault.Misspelled = 1
+command_status (fault.BadDump bad) = 1
+command_status (fault.NoSpace needed) = 1
+command_status fault.NoValue = 1

@@ -13,7 +13,7 @@ use Rattle.grow_shrink.specs.Resized.{IsRefusedBy, growth_refusal, grown, room_o
 use Rattle.segment_cli.specs.declared.faults.SessionFault.{SessionFault}
 use Rattle.segment_cli.specs.declared.faults.SessionFault.TheVariants.{WriteFault}
 use Rattle.segment_commands.specs.declared.command_faults.CommandFault.{CommandFault}
-use Rattle.segment_commands.specs.Faults.{GrowthFault, Session}
+use Rattle.segment_commands.specs.declared.command_faults.CommandFault.TheVariants.{Growth, Session}
 use Rattle.segment_commands.specs.declared.changing.Resize.{Resize}
 use Rattle.segment_commands.specs.declared.changing.Resize.TheVariants.{Grow, Shrink}
 use Rattle.segment_disk.specs.Events.{CreateMode, Event}
@@ -87,7 +87,7 @@ module _ {D O : Type 0} (step : D → Event → D
     pub roomy : error ≢ RegionTooSmall
     pub refused_by : IsRefusedBy segment (Err error) (why segment)
     pub silent : out' ≡ out
-    pub refused : result ≡ Err (GrowthFault error)
+    pub refused : result ≡ Err (Growth error)
 
 -- the segment was read, and the one that it becomes was written
 pub record ResizesFile {D O : Type 0} (step : D → Event → D

@@ -20,12 +20,12 @@ use Rattle.segment_cli.specs.declared.faults.Start.{Start}
 use Rattle.segment_cli.specs.declared.faults.Start.TheVariants.{Fresh, Image}
 use Rattle.segment_cli.specs.declared.faults.SessionFault.{SessionFault}
 use Rattle.segment_cli.specs.declared.faults.SessionFault.TheVariants.{ReadFault, WriteFault}
+use Rattle.segment_commands.specs.declared.running.RunRequest.{RunRequest}
 use Rattle.segment_commands.specs.declared.command_faults.CommandFault.{CommandFault}
-use Rattle.segment_commands.specs.declared.command_faults.CommandFault.TheVariants.{Stopped}
-use Rattle.segment_commands.specs.Faults.{Exists, Session}
+use Rattle.segment_commands.specs.declared.command_faults.CommandFault.TheVariants.{Stopped, Exists, Session}
 use Rattle.segment_cli.specs.Serving.{ServesOk, ServesErr}
 use Rattle.segment_cli.specs.Session.{StartsFrom, RunsSession}
-use Rattle.segment_disk.specs.Events.{CreateMode, New, Replacement}
+use Rattle.segment_disk.specs.Events.{CreateMode, New, Replacement, create_mode_of}
 use Rattle.segment_disk.specs.declared.presence.Presence.{Presence}
 use Rattle.segment_disk.specs.declared.presence.Presence.TheVariants.{Absent, There}
 use Rattle.segment_disk.specs.Events.{Event, Looked, After}
@@ -214,12 +214,11 @@ pub record FailsScript {D O : Type 0} (old new : D) (script script' : ReaderHist
   pub refused : result ≡ Err (Session ReadFault)
 
 module _ {D : Type 0} (step : D → Event → D
-    → Type 0) (old new : D) (path : List ℕ) (mode : Mode) (how : CreateMode) (until : Until)
-    (script script' : ReaderHistory) where
+    → Type 0) (old new : D) (request : RunRequest) (mode : Mode) (script script' : ReaderHistory) where
   -- the file has no segment, for this reason; the script was not asked for
   pub record RunsOpenedErr {O : Type 0} (out out' : O) (result : Result End SessionFault) : Type 0 where
     pub fault : SessionFault
-    pub opens_file : OpensFile step old new path mode (Err fault)
+    pub opens_file : OpensFile step old new request.path.now mode (Err fault)
     pub unasked : script' ≡ script
     pub silent : out' ≡ out
     pub refused : result ≡ Err fault
@@ -233,14 +232,14 @@ module _ {D : Type 0} (step : D → Event → D
     pub capacity : ℕ
     pub room : capacity ≡ file_region len 0 image.bytes
     pub read : D
-    pub asked : After step old (open_events path len image) read
-    pub ends : EndsRun step read new how path
+    pub asked : After step old (open_events request.path.now len image) read
+    pub ends : EndsRun step read new (create_mode_of request.saving) request.path.now
         (record {
           start = Image;
           mode = mode;
           capacity = capacity;
           image = image;
-          until = until;
+          until = request.until;
           script = read_delta script script';
           out = write_delta (history out) (history out');
         })
@@ -253,20 +252,18 @@ module _ {D : Type 0} (step : D → Event → D
       RunsOpenedErr out out' result ⊎ RunsOpenedOk history flushes out out' result
 
 module _ {D O : Type 0} (step : D → Event → D
-    → Type 0) (old new : D) (path : List ℕ) (how : CreateMode) (until : Until) (script script' : ReaderHistory)
-    (history : O → WriterHistory) (flushes : Bool
-    → Type 0) (out out' : O) (result : Result (Unit {0}) CommandFault) where
+    → Type 0) (old new : D) (request : RunRequest) (script script' : ReaderHistory) (history : O
+    → WriterHistory) (flushes : Bool → Type 0) (out out' : O) (result : Result (Unit {0}) CommandFault) where
   -- a run that saves nothing
   abbrev pub RunsFree : Mode → Type 0
-  RunsFree mode = IsAnswerOf (RunsOpened step old new path mode how until script script' history flushes out out')
-      result
+  RunsFree mode = IsAnswerOf (RunsOpened step old new request mode script script' history flushes out out') result
 
   -- a run that saves has the right to write the file from before it is read until it is written; if another has it,
   -- nothing was read or said
   abbrev pub RunsHeld : Type 0
-  RunsHeld = HoldsLock step old new path ((script' ≡ script) × (out' ≡ out))
-      (λ held done. IsAnswerOf (RunsOpened step held done path Write how until script script' history flushes out
-      out') result) result
+  RunsHeld = HoldsLock step old new request.path.now ((script' ≡ script) × (out' ≡ out))
+      (λ held done. IsAnswerOf (RunsOpened step held done request Write script script' history flushes out out') result)
+      result
 
   -- a run in a mode that the file has
   abbrev pub RunsReadable : Mode → Type 0
@@ -281,7 +278,7 @@ module _ {D O : Type 0} (step : D → Event → D
 -- ---- a segment that is made
 
 module _ {D : Type 0} (step : D → Event → D
-    → Type 0) (old new : D) (path : List ℕ) (size : ℕ) (until : Until) (script script' : ReaderHistory) where
+    → Type 0) (old new : D) (request : RunRequest) (size : ℕ) (script script' : ReaderHistory) where
   -- no segment was made, for this reason: nothing was asked for
   pub record MakesRunErr {O : Type 0} (out out' : O) (result : Result End SessionFault) : Type 0 where
     pub fault : SessionFault
@@ -297,13 +294,13 @@ module _ {D : Type 0} (step : D → Event → D
     pub image : ReadDelta
     pub capacity : ℕ
     pub room : capacity ≡ region_len size
-    pub ends : EndsRun step old new New path
+    pub ends : EndsRun step old new New request.path.now
         (record {
           start = Fresh size;
           mode = Write;
           capacity = capacity;
           image = image;
-          until = until;
+          until = request.until;
           script = read_delta script script';
           out = write_delta (history out) (history out');
         })
@@ -315,7 +312,7 @@ module _ {D : Type 0} (step : D → Event → D
 
   -- something is there already, and nothing else was asked for
   pub record RunsNothing {O : Type 0} (out out' : O) (result : Result (Unit {0}) CommandFault) : Type 0 where
-    pub asked : After step old (Looked path There ∷ []) new
+    pub asked : After step old (Looked request.path.now There ∷ []) new
     pub unasked : script' ≡ script
     pub silent : out' ≡ out
     pub refused : result ≡ Err Exists
@@ -329,20 +326,20 @@ pub record IsRunBehind {D : Type 0} (step : D → Event → D → Type 0) (old :
   pub asked : step old (Looked path found) looked
   pub goes : goes_on looked
 
--- a run on a segment that is made, in a file that is not there
-abbrev pub RunsNewFile : {D O : Type 0} → (D → Event → D → Type 0) → D → D → List ℕ → ℕ → Until → ReaderHistory
-    → ReaderHistory → (O → WriterHistory) → (Bool → Type 0) → O → O → Result (Unit {0}) CommandFault → Type 0
-RunsNewFile step old new path size until script script' history flushes out out' result =
-    RunsNothing step old new path size until script script' out out' result
-    ⊎ IsRunBehind step old path (λ found. found ≢ There) (λ looked.
-    IsAnswerOf (MakesRun step looked new path size until script script' history flushes out out') result)
+module _ {D O : Type 0} (step : D → Event → D
+    → Type 0) (old new : D) (request : RunRequest) (size : ℕ) (script script' : ReaderHistory) (history : O
+    → WriterHistory) (flushes : Bool → Type 0) (out out' : O) (result : Result (Unit {0}) CommandFault) where
+  -- a run on a segment that is made
+  abbrev pub RunsMade : D → Type 0
+  RunsMade looked = IsAnswerOf (MakesRun step looked new request size script script' history flushes out out') result
 
--- a run on the segment in the file, or on a new one if nothing is there
-abbrev pub RunsAnyFile : {D O : Type 0} → (D → Event → D → Type 0) → D → D → List ℕ → ℕ → CreateMode → Until
-    → ReaderHistory → ReaderHistory → (O → WriterHistory) → (Bool → Type 0) → O → O → Result (Unit {0}) CommandFault
-    → Type 0
-RunsAnyFile step old new path size how until script script' history flushes out out' result =
-    IsRunBehind step old path (λ found. found ≡ Absent) (λ looked.
-    IsAnswerOf (MakesRun step looked new path size until script script' history flushes out out') result)
-    ⊎ IsRunBehind step old path (λ found. found ≢ Absent) (λ looked.
-    RunsFile step looked new path how until script script' history flushes out out' result Write)
+  -- a run on a segment that is made, in a file that is not there
+  abbrev pub RunsNewFile : Type 0
+  RunsNewFile = RunsNothing step old new request size script script' out out' result
+      ⊎ IsRunBehind step old request.path.now (λ found. found ≢ There) RunsMade
+
+  -- a run on the segment in the file, or on a new one if nothing is there
+  abbrev pub RunsAnyFile : Type 0
+  RunsAnyFile = IsRunBehind step old request.path.now (λ found. found ≡ Absent) RunsMade
+      ⊎ IsRunBehind step old request.path.now (λ found. found ≢ Absent) (λ looked.
+      RunsFile step looked new request script script' history flushes out out' result Write)

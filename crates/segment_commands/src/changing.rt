@@ -29,6 +29,16 @@ enum Resize {
     Shrink,
 }
 
+/// A change of the segment in a file.
+#[derive(Clone, Copy)]
+struct ChangeRequest<'a> {
+    /// The path of the file.
+    path: &'a str,
+    change: FileChange,
+    /// If the old file is emptied or replaced.
+    saving: SaveMode,
+}
+
 /// Writes a size as a line, and gives it out.
 fn tell_number<O: Output>(out: &mut O, size: u64) -> Result<(), DeviceFault>
     requires { (O.history out.old).failures < 2 ^ 64 - 1 }
@@ -88,22 +98,22 @@ fn more_for(how: Resize) -> u64
 fn resize_held<D: Disk, O: Output>(
     alloc: Global,
     disk: &mut D,
-    path: &str,
+    request: &ChangeRequest<'_>,
     how: Resize,
-    saving: SaveMode,
     hold: &mut D::Hold,
     out: &mut O,
 ) -> Result<(), CommandFault>
     requires { (O.history out.old).failures < 2 ^ 64 - 1 }
-    ensures { RunsResize D.step disk.old disk.new path.now (create_mode_of saving) O.history O.flushes out.old out.new
-        (more_by how) (refusal_by how) (next_by how) result }
+    ensures { RunsResize D.step disk.old disk.new request.now.path.now (create_mode_of request.now.saving)
+        O.history O.flushes out.old out.new (more_by how) (refusal_by how) (next_by how) result }
 {
+    let path = request.path;
     let current = AcceptedVersions::Current;
     let more = more_for(how);
     let mut segment = open_segment(alloc, disk, path, current, Mode::Write, more)?;
     match resize_segment(&mut segment, how) {
-        Ok(()) => written(tell_and_write(disk, path, saving, hold, &segment, out)),
-        Err(error) => Err(CommandFault::from(error)),
+        Ok(()) => written(tell_and_write(disk, path, request.saving, hold, &segment, out)),
+        Err(error) => Err(CommandFault::Growth(error)),
     }
 }
 
@@ -111,17 +121,17 @@ fn resize_held<D: Disk, O: Output>(
 fn migrate_held<D: Disk, O: Output>(
     alloc: Global,
     disk: &mut D,
-    path: &str,
-    saving: SaveMode,
+    request: &ChangeRequest<'_>,
     hold: &mut D::Hold,
     out: &mut O,
 ) -> Result<(), CommandFault>
     requires { (O.history out.old).failures < 2 ^ 64 - 1 }
-    ensures { RunsMigrate D.step disk.old disk.new path.now (create_mode_of saving)
+    ensures { RunsMigrate D.step disk.old disk.new request.now.path.now (create_mode_of request.now.saving)
         O.history O.flushes out.old out.new result }
 {
+    let path = request.path;
     let segment = open_segment(alloc, disk, path, AcceptedVersions::All, Mode::Write, 0)?;
-    match write_image(disk, path, saving, hold, &segment) {
+    match write_image(disk, path, request.saving, hold, &segment) {
         Ok(()) => written(write_and_flush(out, b"ok\n")),
         Err(refused) => Err(CommandFault::from(refused)),
     }
@@ -131,22 +141,20 @@ fn migrate_held<D: Disk, O: Output>(
 fn change_held<D: Disk, O: Output>(
     alloc: Global,
     disk: &mut D,
-    path: &str,
-    change: FileChange,
-    saving: SaveMode,
+    request: &ChangeRequest<'_>,
     hold: &mut D::Hold,
     out: &mut O,
 ) -> Result<(), CommandFault>
     requires { (O.history out.old).failures < 2 ^ 64 - 1 }
-    ensures { Changes D.step disk.old disk.new path.now (create_mode_of saving)
-        O.history O.flushes out.old out.new result change }
+    ensures { Changes D.step disk.old disk.new request.now.path.now (create_mode_of request.now.saving)
+        O.history O.flushes out.old out.new result request.now.change }
 {
-    match change {
+    match request.change {
         FileChange::Grow(extra) => {
-            resize_held(alloc, disk, path, Resize::Grow(extra), saving, hold, out)
+            resize_held(alloc, disk, request, Resize::Grow(extra), hold, out)
         }
-        FileChange::Shrink => resize_held(alloc, disk, path, Resize::Shrink, saving, hold, out),
-        FileChange::Migrate => migrate_held(alloc, disk, path, saving, hold, out),
+        FileChange::Shrink => resize_held(alloc, disk, request, Resize::Shrink, hold, out),
+        FileChange::Migrate => migrate_held(alloc, disk, request, hold, out),
     }
 }
 
@@ -156,7 +164,7 @@ fn change_held<D: Disk, O: Output>(
 ///
 /// # Errors
 ///
-/// `InUse` if another has the right to write the file. Those of opening it, `GrowthFault` if the segment does not grow:
+/// `InUse` if another has the right to write the file. Those of opening it, `Growth` if the segment does not grow:
 /// the file is as it was. `WriteFault` if the size or the `ok` does not go out, and if the file can't be emptied or
 /// replaced, takes not the whole image, or need not last.
 pub fn change<D: Disk, O: Output>(
@@ -172,8 +180,13 @@ pub fn change<D: Disk, O: Output>(
         (λ held done. Changes D.step held done path.now (create_mode_of saving) O.history O.flushes out.old out.new
         result change) result }
 {
+    let request = ChangeRequest {
+        path,
+        change,
+        saving,
+    };
     let mut hold = disk.lock(path)?;
-    let answer = change_held(alloc, disk, path, change, saving, &mut hold, out);
+    let answer = change_held(alloc, disk, &request, &mut hold, out);
     disk.unlock(hold);
     answer
 }

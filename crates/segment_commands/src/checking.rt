@@ -16,6 +16,15 @@ use segment_disk::{Disk, FileProblem, Output};
 use segment_lang::{Piece, put_pieces};
 use std::alloc::Global;
 
+/// The check of several files.
+#[derive(Clone, Copy)]
+pub struct CheckRequest<'a> {
+    /// The paths of the files.
+    pub files: &'a [&'a str],
+    /// If nothing is printed for a file that holds a segment.
+    pub is_quiet: bool,
+}
+
 /// Checks that the file's image is a segment, and prints `ok`.
 ///
 /// # Errors
@@ -115,8 +124,7 @@ fn status_in(found: Result<(), SessionFault>) -> u8
 pub fn check_all<D: Disk, O: Output, E: Sink, F: Fn(&D) -> Option<FileProblem>>(
     alloc: Global,
     disk: &mut D,
-    files: &[&str],
-    is_quiet: bool,
+    request: &CheckRequest<'_>,
     trouble_of: F,
     out: &mut O,
     err: &mut E,
@@ -125,14 +133,15 @@ pub fn check_all<D: Disk, O: Output, E: Sink, F: Fn(&D) -> Option<FileProblem>>(
     requires out { (O.history out.old).failures < 2 ^ 64 - 1 }
     requires on_error { (E.history err.old).failures < 2 ^ 64 - 1 }
     ensures { ChecksAll D.step (FnReturnsAt F.Fn trouble_of) disk.old disk.new O.history O.flushes out.old out.new
-        (E.history err.old) (E.history err.new) is_quiet (map (λ file. file.now) files.now) result }
+        (E.history err.old) (E.history err.new) request.now.is_quiet
+        (map (λ file. file.now) request.now.files.now) result }
 {
     let mut worst = 0;
     let mut said = Ok(());
-    'files: for file in files {
+    'files: for file in request.files {
         let found = verify_segment(alloc, disk, file);
         said = put_unfit(file, found, trouble_of(&*disk), said, err);
-        tell_fit(file, found, is_quiet, out)?;
+        tell_fit(file, found, request.is_quiet, out)?;
         worst = worst.max(status_in(found));
     }
     Output::flush(out)?;

@@ -4,11 +4,12 @@ ghost use Rattle.image_check.specs.declared.errors.MemoryFault.TheVariants.{Byte
 ghost use Rattle.segment_cli.specs.declared.faults.SessionFault.TheVariants.{OutOfMemory as NoMemory};
 ghost use Rattle.segment_cli.specs.declared.faults.SessionFault.TheVariants.{WriteFault as NotWritten};
 ghost use Rattle.segment_commands.specs.declared.command_faults.CommandFault.TheVariants.{InUse as HeldByAnother};
-ghost use Rattle.segment_commands.specs.{Commands.written_as, Faults.GrowthFault, Faults.Session};
+ghost use Rattle.segment_commands.specs.declared.command_faults.CommandFault.TheVariants.{Session as SessionFails};
+ghost use Rattle.segment_commands.specs.Commands.{written_as};
 
 use grow_shrink::GrowError;
 use raw_region::{DeviceFault, OutOfMemory};
-use segment_cli::{ProgramFault, SessionFault};
+use segment_cli::SessionFault;
 use segment_disk::AlreadyLocked;
 use segment_dump::BadDump;
 use thiserror::Error;
@@ -16,9 +17,18 @@ use thiserror::Error;
 /// Why a command fails.
 #[derive(Clone, Copy, Debug, PartialEq, Eq, Error)]
 pub enum CommandFault {
-    /// Wrong usage, a file that exists, a refused growth, or a session that failed.
+    /// The command line is wrong, or a size is missing.
+    #[error("usage")]
+    Usage,
+    /// The file to create exists already.
+    #[error("file exists")]
+    Exists,
+    /// The segment does not grow.
+    #[error("growth refused: {0}")]
+    Growth(GrowError),
+    /// A session fails.
     #[error("{0}")]
-    Program(ProgramFault),
+    Session(SessionFault),
     /// The right to write the file was refused, or another writer may have changed the file while it was read.
     #[error("file in use")]
     InUse,
@@ -40,9 +50,7 @@ pub enum CommandFault {
 }
 
 /// A file or standard output can't be written.
-pub(crate) const WRITE_FAULT: CommandFault = CommandFault::Program(ProgramFault::Session(
-    SessionFault::WriteFault,
-));
+pub(crate) const WRITE_FAULT: CommandFault = CommandFault::Session(SessionFault::WriteFault);
 
 /// Converts the result of a write to the result of a command.
 pub(crate) fn written(answer: Result<(), DeviceFault>) -> Result<(), CommandFault>
@@ -54,24 +62,16 @@ pub(crate) fn written(answer: Result<(), DeviceFault>) -> Result<(), CommandFaul
     }
 }
 
-impl From<GrowError> for CommandFault {
-    ghost from_gives = { λ error fault. fault ≡ GrowthFault error };
-
-    fn from(error: GrowError) -> CommandFault {
-        CommandFault::Program(ProgramFault::Growth(error))
-    }
-}
-
 impl From<SessionFault> for CommandFault {
-    ghost from_gives = { λ failed fault. fault ≡ Session failed };
+    ghost from_gives = { λ failed fault. fault ≡ SessionFails failed };
 
     fn from(failed: SessionFault) -> CommandFault {
-        CommandFault::Program(ProgramFault::Session(failed))
+        CommandFault::Session(failed)
     }
 }
 
 impl From<DeviceFault> for CommandFault {
-    ghost from_gives = { λ _ fault. fault ≡ Session NotWritten };
+    ghost from_gives = { λ _ fault. fault ≡ SessionFails NotWritten };
 
     /// Converts a failed write to a file or to standard output. No failed read is converted here.
     fn from(_refused: DeviceFault) -> CommandFault {
@@ -88,9 +88,9 @@ impl From<AlreadyLocked> for CommandFault {
 }
 
 impl From<OutOfMemory> for CommandFault {
-    ghost from_gives = { λ refusal fault. fault ≡ Session (NoMemory (Bytes refusal)) };
+    ghost from_gives = { λ refusal fault. fault ≡ SessionFails (NoMemory (Bytes refusal)) };
 
     fn from(refusal: OutOfMemory) -> CommandFault {
-        CommandFault::from(SessionFault::from(refusal))
+        CommandFault::Session(SessionFault::from(refusal))
     }
 }

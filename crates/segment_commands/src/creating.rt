@@ -8,7 +8,7 @@ use block_tags::is_legal_size;
 use grow_shrink::region_for;
 use raw_region::DeviceFault;
 use raw_region::std_io::StdSource;
-use segment_cli::{ProgramFault, SessionFault, Start, begin};
+use segment_cli::{SessionFault, Start, begin};
 use segment_disk::{Disk, Presence};
 use segment_file::write_new;
 use segment_manager::{Mode, Segment};
@@ -55,7 +55,7 @@ pub fn create<D: Disk>(
     ensures { RunsCreate D.step disk.old disk.new path.now size result }
 {
     if disk.path_status(path) == Presence::There {
-        return Err(CommandFault::Program(ProgramFault::Exists));
+        return Err(CommandFault::Exists);
     }
     let segment = new_segment(alloc, size)?;
     written(write_made(disk, path, &segment))

@@ -5,12 +5,13 @@ ghost use Rattle.segment_commands.specs.Explaining.{RunsExplain, verdict_text, w
 ghost use Rattle.segment_commands.specs.Telling.{WritesAndFlushes};
 
 use crate::command_faults::CommandFault;
+use crate::opening::session_fault;
 use crate::telling::write_and_flush;
-use image_check::{ImageClass, Verdict};
+use image_check::{ImageClass, OpenError, Verdict};
 use raw_region::{DeviceFault, Sink};
 use segment_cli::SessionFault;
 use segment_disk::{Disk, Output};
-use segment_file::{OpenFault, examine_file};
+use segment_file::FileError;
 use segment_lang::{Piece, put_pieces};
 use std::alloc::Global;
 
@@ -78,16 +79,12 @@ pub fn explain<D: Disk, O: Output>(
     requires { (O.history out.old).failures < 2 ^ 64 - 1 }
     ensures { RunsExplain D.step disk.old disk.new path.now O.history O.flushes out.old out.new result }
 {
-    match examine_file(alloc, disk, path) {
+    match segment_file::check(alloc, disk, path) {
         Ok(()) => Ok(write_and_flush(out, b"ok\n")?),
-        Err(OpenFault::Image(verdict)) => {
+        Err(FileError::Open(OpenError::Image(verdict))) => {
             tell_verdict(out, verdict)?;
-            Err(CommandFault::from(SessionFault::Image(verdict.class)))
+            Err(CommandFault::Session(SessionFault::Image(verdict.class)))
         }
-        Err(OpenFault::OutOfMemory(refusal)) => {
-            Err(CommandFault::from(SessionFault::OutOfMemory(refusal)))
-        }
-        Err(OpenFault::ReadFault) => Err(CommandFault::from(SessionFault::ReadFault)),
-        Err(OpenFault::ForeignLog) => Err(CommandFault::from(SessionFault::ReadFault)),
+        Err(error) => Err(CommandFault::Session(session_fault(error))),
     }
 }

@@ -20,7 +20,7 @@ mod running;
 mod telling;
 
 pub use changing::change;
-pub use checking::{check, check_all};
+pub use checking::{CheckRequest, check, check_all};
 pub use command_faults::CommandFault;
 pub use creating::create;
 pub use explaining::explain;
@@ -31,5 +31,5 @@ pub use paths::{is_stand_in, stand_in};
 pub use refusal_watch::{RefusalWatch, Seen};
 pub use reporting::{names, tell_segment};
 pub use reports::{put_trouble, report, report_no_memory};
-pub use running::run;
+pub use running::{RunRequest, run};
 pub use telling::{print, print_language};

@@ -6,7 +6,7 @@ use crate::answering::Flushing;
 use crate::command_faults::{CommandFault, WRITE_FAULT};
 use raw_region::Source;
 use segment_answers::LineOutput;
-use segment_cli::{ProgramFault, SessionFault};
+use segment_cli::SessionFault;
 use segment_scripts::{CommandRow, Lint, RunFault, run_followed};
 
 /// Tells which lines of a script are no commands, where, and what is expected there; the rows say what is expected
@@ -41,7 +41,7 @@ fn lint_answer(
     ensures { result ≡ answer_of answered went_out has_found }
 {
     match answered {
-        Err(fault) => Err(CommandFault::Program(ProgramFault::Session(SessionFault::from(fault)))),
+        Err(fault) => Err(CommandFault::Session(SessionFault::from(fault))),
         Ok(()) if !went_out => Err(WRITE_FAULT),
         Ok(()) if has_found => Err(CommandFault::Misspelled),
         Ok(()) => Ok(()),

@@ -12,7 +12,7 @@ use crate::read_all::read_text;
 use block_tags::is_legal_size;
 use grow_shrink::region_for;
 use raw_region::Source;
-use segment_cli::{ProgramFault, SessionFault};
+use segment_cli::SessionFault;
 use segment_disk::{Disk, Presence, SaveMode};
 use segment_dump::{LoadError, count_dump, declared_size, without_notes};
 use segment_file::write_image;
@@ -36,8 +36,8 @@ fn fault_of(error: LoadError, needed: u64) -> CommandFault
 {
     match error {
         LoadError::BadDump(bad) => CommandFault::BadDump(bad),
-        LoadError::BadSize => CommandFault::from(SessionFault::BadSize),
-        LoadError::RegionTooSmall => CommandFault::from(SessionFault::RegionTooSmall),
+        LoadError::BadSize => CommandFault::Session(SessionFault::BadSize),
+        LoadError::RegionTooSmall => CommandFault::Session(SessionFault::RegionTooSmall),
         LoadError::NoSpace | LoadError::LongText => CommandFault::NoSpace(needed),
     }
 }
@@ -88,7 +88,7 @@ fn load_dump<S: Source>(
     ensures { LoadsDump size (S.history script.old) (S.history script.new) result }
 {
     if is_unfit(size) {
-        return Err(CommandFault::from(SessionFault::BadSize));
+        return Err(CommandFault::Session(SessionFault::BadSize));
     }
     let text = read_text(alloc, script)?;
     segment_of(alloc, text.as_slice(), size)
@@ -118,7 +118,7 @@ pub fn load<D: Disk, S: Source>(
         (S.history script.new) result }
 {
     if disk.path_status(path) == Presence::There {
-        return Err(CommandFault::Program(ProgramFault::Exists));
+        return Err(CommandFault::Exists);
     }
     let segment = load_dump(alloc, size, script)?;
     written(write_made(disk, path, &segment))

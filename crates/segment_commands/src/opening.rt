@@ -2,10 +2,10 @@
 ghost use Rattle.std.specs.Prelude.{◌≡◌};
 ghost use Rattle.segment_commands.specs.Opening.{OpensWith, VerifiesFile, session_fault};
 
-use image_check::AcceptedVersions;
+use image_check::{AcceptedVersions, OpenError};
 use segment_cli::SessionFault;
 use segment_disk::Disk;
-use segment_file::{FileError, examine_file, open_file};
+use segment_file::{FileError, check, open_file};
 use segment_manager::{Mode, Segment};
 use std::alloc::Global;
 
@@ -14,8 +14,8 @@ pub(crate) fn session_fault(error: FileError) -> SessionFault
     ensures { result ≡ session_fault error }
 {
     match error {
-        FileError::Image(class) => SessionFault::Image(class),
-        FileError::OutOfMemory(refusal) => SessionFault::OutOfMemory(refusal),
+        FileError::Open(OpenError::Image(verdict)) => SessionFault::Image(verdict.class),
+        FileError::Open(OpenError::OutOfMemory(refusal)) => SessionFault::OutOfMemory(refusal),
         _ => SessionFault::ReadFault,
     }
 }
@@ -37,7 +37,7 @@ pub(crate) fn open_segment<D: Disk>(
     }
 }
 
-/// Checks the image in a file, with the errors of a session. Makes no segment, and closes the file.
+/// Checks the image in a file, with the errors of a session. Keeps no segment, and closes the file.
 pub(crate) fn verify_segment<D: Disk>(
     alloc: Global,
     disk: &mut D,
@@ -45,8 +45,8 @@ pub(crate) fn verify_segment<D: Disk>(
 ) -> Result<(), SessionFault>
     ensures { VerifiesFile D.step disk.old disk.new path.now result }
 {
-    match examine_file(alloc, disk, path) {
+    match check(alloc, disk, path) {
         Ok(()) => Ok(()),
-        Err(unfit) => Err(session_fault(FileError::from(unfit))),
+        Err(error) => Err(session_fault(error)),
     }
 }

@@ -8,6 +8,7 @@ ghost use Rattle.segment_commands.specs.Reports.{no_space_line, trouble_line, tr
 use crate::command_faults::CommandFault;
 use crate::paths::path_piece;
 use raw_region::{DeviceFault, Sink, write_all};
+use segment_cli::ProgramFault;
 use segment_disk::FileProblem;
 use segment_dump::{BadDump, DumpFault};
 use segment_lang::{Piece, put_pieces};
@@ -83,7 +84,10 @@ pub fn report<S: Sink>(fault: CommandFault, err: &mut S) -> u8
     ensures text { WritesText (S.history err.old) (S.history err.new) (command_text fault) }
 {
     match fault {
-        CommandFault::Program(fault) => segment_cli::report(fault, err),
+        CommandFault::Usage => segment_cli::report(ProgramFault::Usage, err),
+        CommandFault::Exists => segment_cli::report(ProgramFault::Exists, err),
+        CommandFault::Growth(error) => segment_cli::report(ProgramFault::Growth(error), err),
+        CommandFault::Session(fault) => segment_cli::report(ProgramFault::Session(fault), err),
         CommandFault::InUse => put_line(b"segment: file in use\n", 3, err),
         CommandFault::Stopped => {
             put_line(

@@ -2,7 +2,7 @@
 ghost use Rattle.std.specs.Prelude.{◌≡◌, ◌≢◌, ◌+◌, ◌^◌, ◌-◌, ◌<◌, true, false, Ok};
 ghost use Rattle.segment_scripts.specs.declared.ends.End.TheVariants.{Complete};
 ghost use Rattle.segment_manager.specs.declared.modes.Mode.TheVariants.{Write};
-ghost use Rattle.segment_disk.specs.Events.{CreateMode, IsFlushed, create_mode_of};
+ghost use Rattle.segment_disk.specs.Events.{IsFlushed};
 ghost use Rattle.segment_commands.specs.{Modes.RunsInMode, Running.as_program, Running.as_saved};
 ghost use Rattle.segment_commands.specs.Running.{MakesRun, RunsAnyFile, RunsFile, RunsHeld, RunsNewFile, RunsOpened};
 
@@ -13,13 +13,28 @@ use crate::opening::open_segment;
 use image_check::AcceptedVersions;
 use raw_region::{DeviceFault, Source};
 use segment_answers::LineOutput;
-use segment_cli::{ProgramFault, SessionFault};
+use segment_cli::SessionFault;
 use segment_disk::{Disk, Presence, SaveMode};
 use segment_file::write_image;
 use segment_invocation::ModeName;
 use segment_manager::Mode;
 use segment_scripts::{End, Until};
 use std::alloc::Global;
+
+/// The run of a script on the segment in a file.
+#[derive(Clone, Copy)]
+pub struct RunRequest<'a> {
+    /// The path of the file.
+    pub path: &'a str,
+    /// If the segment is opened or created, and if it is saved.
+    pub mode: ModeName,
+    /// The size of a segment that is created.
+    pub size: Option<u64>,
+    /// If the old file is emptied or replaced when the segment is saved.
+    pub saving: SaveMode,
+    /// The line after which the run ends.
+    pub until: Until,
+}
 
 /// Runs a script on the segment in a file, which is opened or made as the mode says, and gives out its answers.
 /// `create_only` and `open_or_create` need a size for a segment that is made; the other modes ignore it. When all
@@ -28,7 +43,7 @@ use std::alloc::Global;
 ///
 /// # Errors
 ///
-/// Those of a session. `UsageFault` if a size is needed and missing. `Exists` if `create_only` finds something there,
+/// Those of a session. `Usage` if a size is needed and missing. `Exists` if `create_only` finds something there,
 /// whatever the size. `ReadFault` if the script or the file can't be read; `OutOfMemory`. `WriteFault` if answers don't
 /// go out, or if the file can't be made, emptied or replaced, takes not the whole image, or need not last. `Stopped` if
 /// the run ends at a line that is refused: its answer and all before went out, no line after it was executed, and
@@ -36,34 +51,30 @@ use std::alloc::Global;
 pub fn run<D: Disk, S: Source, O: LineOutput>(
     alloc: Global,
     disk: &mut D,
-    path: &str,
-    mode: ModeName,
-    size: Option<u64>,
-    saving: SaveMode,
-    until: Until,
+    request: &RunRequest<'_>,
     script: &mut S,
     out: &mut O,
 ) -> Result<(), CommandFault>
     requires script { (S.history script.old).failures < 2 ^ 64 - 1 }
     requires out { (O.history out.old).failures < 2 ^ 64 - 1 }
-    ensures { RunsInMode D.step disk.old disk.new path.now until (S.history script.old) (S.history script.new)
-        O.history (IsFlushed O.history O.flushes out.new) out.old out.new result mode size saving }
+    ensures { RunsInMode D.step disk.old disk.new request.now (S.history script.old) (S.history script.new)
+        O.history (IsFlushed O.history O.flushes out.new) out.old out.new result request.now.mode request.now.size }
 {
-    let mode = match (mode, size) {
+    let mode = match (request.mode, request.size) {
         (ModeName::CreateOnly, Some(size)) => {
-            return run_in_new_file(alloc, disk, path, size, until, script, out);
+            return run_in_new_file(alloc, disk, request, size, script, out);
         }
         (ModeName::OpenOrCreate, Some(size)) => {
-            return run_on_file_or_new(alloc, disk, path, size, saving, until, script, out);
+            return run_on_file_or_new(alloc, disk, request, size, script, out);
         }
         (ModeName::CreateOnly | ModeName::OpenOrCreate, None) => {
-            return Err(CommandFault::Program(ProgramFault::Usage));
+            return Err(CommandFault::Usage);
         }
         (ModeName::OpenOnly, _) => Mode::Write,
         (ModeName::OpenReadOnly, _) => Mode::ReadOnly,
         (ModeName::OpenCopyOnWrite, _) => Mode::CopyOnWrite,
     };
-    run_on_file(alloc, disk, path, mode, saving, until, script, out)
+    run_on_file(alloc, disk, request, mode, script, out)
 }
 
 /// Tells whether a script can be read at all. A closed standard input can't, and a file that is opened then would take
@@ -101,22 +112,21 @@ fn saved(answer: Result<(), DeviceFault>) -> Result<End, SessionFault>
 fn run_opened<D: Disk, S: Source, O: LineOutput>(
     alloc: Global,
     disk: &mut D,
-    path: &str,
-    saving: SaveMode,
+    request: &RunRequest<'_>,
     hold: &mut D::Hold,
-    until: Until,
     script: &mut S,
     out: &mut O,
 ) -> Result<End, SessionFault>
     requires script { (S.history script.old).failures < 2 ^ 64 - 1 }
     requires out { (O.history out.old).failures < 2 ^ 64 - 1 }
-    ensures { RunsOpened D.step disk.old disk.new path.now Write (create_mode_of saving) until (S.history script.old)
-        (S.history script.new) O.history (IsFlushed O.history O.flushes out.new) out.old out.new result }
+    ensures { RunsOpened D.step disk.old disk.new request.now Write (S.history script.old) (S.history script.new)
+        O.history (IsFlushed O.history O.flushes out.new) out.old out.new result }
 {
+    let path = request.path;
     let mut segment = open_segment(alloc, disk, path, AcceptedVersions::Current, Mode::Write, 0)?;
-    let ended = run_script(&mut segment, until, script, out);
+    let ended = run_script(&mut segment, request.until, script, out);
     if is_whole(ended) {
-        saved(write_image(disk, path, saving, hold, &segment))
+        saved(write_image(disk, path, request.saving, hold, &segment))
     } else {
         ended
     }
@@ -126,39 +136,37 @@ fn run_opened<D: Disk, S: Source, O: LineOutput>(
 fn run_free<D: Disk, S: Source, O: LineOutput>(
     alloc: Global,
     disk: &mut D,
-    path: &str,
+    request: &RunRequest<'_>,
     mode: Mode,
-    until: Until,
     script: &mut S,
     out: &mut O,
 ) -> Result<End, SessionFault>
     requires mode { mode ≢ Write }
     requires script { (S.history script.old).failures < 2 ^ 64 - 1 }
     requires out { (O.history out.old).failures < 2 ^ 64 - 1 }
-    ensures { (how : CreateMode) → RunsOpened D.step disk.old disk.new path.now mode how until (S.history script.old)
-        (S.history script.new) O.history (IsFlushed O.history O.flushes out.new) out.old out.new result }
+    ensures { RunsOpened D.step disk.old disk.new request.now mode (S.history script.old) (S.history script.new)
+        O.history (IsFlushed O.history O.flushes out.new) out.old out.new result }
 {
-    let mut segment = open_segment(alloc, disk, path, AcceptedVersions::Current, mode, 0)?;
-    run_script(&mut segment, until, script, out)
+    let current = AcceptedVersions::Current;
+    let mut segment = open_segment(alloc, disk, request.path, current, mode, 0)?;
+    run_script(&mut segment, request.until, script, out)
 }
 
 /// Runs a script on the segment in a file in mode `Write`, under the lock of the file.
 fn run_held<D: Disk, S: Source, O: LineOutput>(
     alloc: Global,
     disk: &mut D,
-    path: &str,
-    saving: SaveMode,
-    until: Until,
+    request: &RunRequest<'_>,
     script: &mut S,
     out: &mut O,
 ) -> Result<(), CommandFault>
     requires script { (S.history script.old).failures < 2 ^ 64 - 1 }
     requires out { (O.history out.old).failures < 2 ^ 64 - 1 }
-    ensures { RunsHeld D.step disk.old disk.new path.now (create_mode_of saving) until (S.history script.old)
-        (S.history script.new) O.history (IsFlushed O.history O.flushes out.new) out.old out.new result }
+    ensures { RunsHeld D.step disk.old disk.new request.now (S.history script.old) (S.history script.new)
+        O.history (IsFlushed O.history O.flushes out.new) out.old out.new result }
 {
-    let mut hold = disk.lock(path)?;
-    let answer = run_opened(alloc, disk, path, saving, &mut hold, until, script, out);
+    let mut hold = disk.lock(request.path)?;
+    let answer = run_opened(alloc, disk, request, &mut hold, script, out);
     disk.unlock(hold);
     answered(answer)
 }
@@ -168,25 +176,23 @@ fn run_held<D: Disk, S: Source, O: LineOutput>(
 fn run_on_file<D: Disk, S: Source, O: LineOutput>(
     alloc: Global,
     disk: &mut D,
-    path: &str,
+    request: &RunRequest<'_>,
     mode: Mode,
-    saving: SaveMode,
-    until: Until,
     script: &mut S,
     out: &mut O,
 ) -> Result<(), CommandFault>
     requires script { (S.history script.old).failures < 2 ^ 64 - 1 }
     requires out { (O.history out.old).failures < 2 ^ 64 - 1 }
-    ensures { RunsFile D.step disk.old disk.new path.now (create_mode_of saving) until (S.history script.old)
-        (S.history script.new) O.history (IsFlushed O.history O.flushes out.new) out.old out.new result mode }
+    ensures { RunsFile D.step disk.old disk.new request.now (S.history script.old) (S.history script.new)
+        O.history (IsFlushed O.history O.flushes out.new) out.old out.new result mode }
 {
     if !can_be_read(script) {
-        return Err(CommandFault::from(SessionFault::ReadFault));
+        return Err(CommandFault::Session(SessionFault::ReadFault));
     }
     if mode == Mode::Write {
-        run_held(alloc, disk, path, saving, until, script, out)
+        run_held(alloc, disk, request, script, out)
     } else {
-        answered(run_free(alloc, disk, path, mode, until, script, out))
+        answered(run_free(alloc, disk, request, mode, script, out))
     }
 }
 
@@ -194,21 +200,20 @@ fn run_on_file<D: Disk, S: Source, O: LineOutput>(
 fn run_made<D: Disk, S: Source, O: LineOutput>(
     alloc: Global,
     disk: &mut D,
-    path: &str,
+    request: &RunRequest<'_>,
     size: u64,
-    until: Until,
     script: &mut S,
     out: &mut O,
 ) -> Result<End, SessionFault>
     requires script { (S.history script.old).failures < 2 ^ 64 - 1 }
     requires out { (O.history out.old).failures < 2 ^ 64 - 1 }
-    ensures { MakesRun D.step disk.old disk.new path.now size until (S.history script.old) (S.history script.new)
+    ensures { MakesRun D.step disk.old disk.new request.now size (S.history script.old) (S.history script.new)
         O.history (IsFlushed O.history O.flushes out.new) out.old out.new result }
 {
     let mut segment = new_segment(alloc, size)?;
-    let ended = run_script(&mut segment, until, script, out);
+    let ended = run_script(&mut segment, request.until, script, out);
     if is_whole(ended) {
-        saved(write_made(disk, path, &segment))
+        saved(write_made(disk, request.path, &segment))
     } else {
         ended
     }
@@ -218,43 +223,40 @@ fn run_made<D: Disk, S: Source, O: LineOutput>(
 fn run_in_new_file<D: Disk, S: Source, O: LineOutput>(
     alloc: Global,
     disk: &mut D,
-    path: &str,
+    request: &RunRequest<'_>,
     size: u64,
-    until: Until,
     script: &mut S,
     out: &mut O,
 ) -> Result<(), CommandFault>
     requires script { (S.history script.old).failures < 2 ^ 64 - 1 }
     requires out { (O.history out.old).failures < 2 ^ 64 - 1 }
-    ensures { RunsNewFile D.step disk.old disk.new path.now size until (S.history script.old) (S.history script.new)
+    ensures { RunsNewFile D.step disk.old disk.new request.now size (S.history script.old) (S.history script.new)
         O.history (IsFlushed O.history O.flushes out.new) out.old out.new result }
 {
-    if disk.path_status(path) == Presence::There {
-        return Err(CommandFault::Program(ProgramFault::Exists));
+    if disk.path_status(request.path) == Presence::There {
+        return Err(CommandFault::Exists);
     }
-    answered(run_made(alloc, disk, path, size, until, script, out))
+    answered(run_made(alloc, disk, request, size, script, out))
 }
 
 /// Runs a script on the segment in a file, and on an empty one of `size` bytes if no file is there.
 fn run_on_file_or_new<D: Disk, S: Source, O: LineOutput>(
     alloc: Global,
     disk: &mut D,
-    path: &str,
+    request: &RunRequest<'_>,
     size: u64,
-    saving: SaveMode,
-    until: Until,
     script: &mut S,
     out: &mut O,
 ) -> Result<(), CommandFault>
     requires script { (S.history script.old).failures < 2 ^ 64 - 1 }
     requires out { (O.history out.old).failures < 2 ^ 64 - 1 }
-    ensures { RunsAnyFile D.step disk.old disk.new path.now size (create_mode_of saving) until (S.history script.old)
-        (S.history script.new) O.history (IsFlushed O.history O.flushes out.new) out.old out.new result }
+    ensures { RunsAnyFile D.step disk.old disk.new request.now size (S.history script.old) (S.history script.new)
+        O.history (IsFlushed O.history O.flushes out.new) out.old out.new result }
 {
-    if disk.path_status(path) == Presence::Absent {
-        return answered(run_made(alloc, disk, path, size, until, script, out));
+    if disk.path_status(request.path) == Presence::Absent {
+        return answered(run_made(alloc, disk, request, size, script, out));
     }
-    run_on_file(alloc, disk, path, Mode::Write, saving, until, script, out)
+    run_on_file(alloc, disk, request, Mode::Write, script, out)
 }
 
 /// Returns what a run answered, as the program answers it.
@@ -264,6 +266,6 @@ fn answered(answer: Result<End, SessionFault>) -> Result<(), CommandFault>
     match answer {
         Ok(End::Complete) => Ok(()),
         Ok(End::Refused) => Err(CommandFault::Stopped),
-        Err(fault) => Err(CommandFault::Program(ProgramFault::Session(fault))),
+        Err(fault) => Err(CommandFault::Session(fault)),
     }
 }

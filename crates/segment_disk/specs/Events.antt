@@ -45,6 +45,11 @@ pub data Event : Type 0 where
   Placed : List ℕ → Bool → Event
   -- it was to be removed
   Discarded : List ℕ → Event
+  -- a log without a record was to be put beside the file of this path, which stands for its bytes alone then; that was
+  -- done, the file has these bytes, and both last; or it was not, and the file stands for the same image as before
+  LogBegun : List ℕ → Option (List ℕ) → Event
+  -- the log that was put beside the file, and has no record, was to be removed
+  LogEnded : List ℕ → Event
 
 -- a file was not opened for reading
 abbrev pub not_opened : List ℕ → NotOpened → Event

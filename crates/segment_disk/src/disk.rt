@@ -3,11 +3,12 @@
 ghost use Rattle.std.specs.Prelude.{◌≡◌, Bool, IfOk, MatchResult, None, Some, is_ok};
 ghost use Rattle.raw_region.specs.Device.{read_delta, write_delta};
 ghost use Rattle.segment_disk.specs.Events.{Event, Looked, Held, Released, Opened as WasOpened, Read, Compared, Made};
-ghost use Rattle.segment_disk.specs.Events.{New, Wrote, Placed, Discarded, create_mode_of, nothing_given};
-ghost use Rattle.segment_disk.specs.Events.{not_opened, nothing_taken};
+ghost use Rattle.segment_disk.specs.Events.{LogBegun, LogEnded, New, Wrote, Placed, Discarded, create_mode_of};
+ghost use Rattle.segment_disk.specs.Events.{not_opened, nothing_given, nothing_taken};
 
 use crate::presence::{AlreadyLocked, Comparison, NotOpened, Presence, SaveMode};
 use raw_region::{DeviceFault, Sink, Source};
+use segment_log::LogDisk;
 
 /// A file that was opened for reading.
 pub struct OpenedFile<R> {
@@ -18,18 +19,16 @@ pub struct OpenedFile<R> {
 }
 
 /// Where files are kept. A file with a log beside it is the image of the last commit. A reader or a writer that it
-/// hands out comes back to it.
-pub trait Disk {
+/// hands out comes back to it. As a `LogDisk` it writes the log that was begun for the file that is held, and puts new
+/// files in the place of that file. The right to write a file is `Hold`: of one that is there, from `lock`, or of one
+/// that was made, from `create_new`. What was not given back is given back if it is dropped, if the disk can do so.
+pub trait Disk: LogDisk {
     // One question with its answer leads from one state of the disk to another.
     ghost step: { Self → Event → Self → Type 0 };
 
     type Reader: Source;
 
     type Writer: Sink;
-
-    /// The right to write a file: of one that is there, from `lock`, or of one that was made, from `create_new`. What
-    /// was not given back is given back if it is dropped, if the disk can do so.
-    type Hold: Drop;
 
     /// Tells what is there under a path.
     fn path_status(&mut self, path: &str) -> Presence
@@ -96,6 +95,20 @@ pub trait Disk {
     /// Removes the file that was made beside this one, and is closed, if it is still there and can be removed.
     fn discard_replacement(&mut self, path: &str, hold: &mut Self::Hold)
         ensures { step self.old (Discarded path.now) self.new };
+
+    /// Puts a log without a record beside a file, and returns the bytes of the file, which is what both stand for. The
+    /// commits of a log that is there are put into the file before. At Ok the file and the log last, and the file is
+    /// neither emptied nor replaced until the log is ended, but by calls of a `LogDisk`. At each moment, and after an
+    /// error, the file stands for the same image as before. An error if another file has taken the name of the one that
+    /// is held.
+    fn begin_log(&mut self, path: &str, hold: &mut Self::Hold) -> Result<Vec<u8>, DeviceFault>
+        ensures { MatchResult result
+            (λ image. step self.old (LogBegun path.now (Some image.items)) self.new)
+            (λ _. step self.old (LogBegun path.now None) self.new) };
+
+    /// Removes the log that was put beside a file, and has no record, if it is still there and can be removed.
+    fn end_log(&mut self, path: &str, hold: &mut Self::Hold)
+        ensures { step self.old (LogEnded path.now) self.new };
 }
 
 /// A writer that may keep back what it took, until it is flushed.

@@ -10,14 +10,16 @@ use crate::locks::{
     open_to_write, sync_file,
 };
 use crate::logs::{has_log, read_recovered};
+use crate::open_log::OpenLog;
 use crate::presence::{AlreadyLocked, Comparison, FileProblem, NotOpened, Presence, SaveMode};
 use crate::replacement_file::ReplacementFile;
-use crate::settling::{drop_log, settle};
+use crate::settling::{drop_log, put_in_place, settle};
 use crate::spare_file::{SpareFile, sync_folder};
 use crate::sparse::{SparseFile, longest_file};
 use crate::std_output::StdOutput;
 use raw_region::DeviceFault;
 use raw_region::std_io::StdSource;
+use segment_log::{LogDisk, LogFault};
 use std::fs::{self, File, Metadata, OpenFile, OpenOptions};
 use std::io::{self, ErrorKind};
 use std::rt::Files;
@@ -61,6 +63,8 @@ pub struct HostLock {
     beside: Option<ReplacementFile>,
     /// Why the file can't be written, if its log is still there.
     log: Option<FileProblem>,
+    /// The log that was begun for the file. The file changes by calls of the log alone meanwhile.
+    begun: Option<OpenLog>,
 }
 
 impl HostLock {
@@ -69,6 +73,7 @@ impl HostLock {
             lock,
             beside: None,
             log: None,
+            begun: None,
         }
     }
 }
@@ -287,14 +292,49 @@ impl<'a, R: Files<File = File> + AllocGlobal + Clock> HostDisk<'a, R> {
     }
 }
 
+impl<'a, R: Files<File = File> + AllocGlobal + Clock> LogDisk for HostDisk<'a, R> {
+    ghost log_step = { λ old event new. ⊤ };
+
+    type Hold = HostLock;
+
+    fn write_log(&mut self, hold: &mut HostLock, at: usize, bytes: &[u8]) -> Result<(), LogFault> {
+        match &hold.begun {
+            Some(log) if log.is_beside(self.files, &hold.lock) => log.write(at, bytes),
+            _ => Err(LogFault),
+        }
+    }
+
+    fn sync_log(&mut self, hold: &mut HostLock) -> Result<(), LogFault> {
+        match &hold.begun {
+            Some(log) => log.sync(),
+            None => Err(LogFault),
+        }
+    }
+
+    fn place(&mut self, hold: &mut HostLock, image: &[u8]) -> Result<(), LogFault> {
+        let Some(log) = &hold.begun else {
+            return Err(LogFault);
+        };
+        match put_in_place(self.files, log.file_path(), hold.lock.identity(), image) {
+            Ok((lock, lasts)) => {
+                hold.lock = lock;
+                self.held = hold.lock.identity();
+                if lasts { Ok(()) } else { Err(LogFault) }
+            }
+            Err(error) => {
+                self.not_written(problem_of(error.kind()));
+                Err(LogFault)
+            }
+        }
+    }
+}
+
 impl<'a, R: Files<File = File> + AllocGlobal + Clock> Disk for HostDisk<'a, R> {
     ghost step = { λ old event new. ⊤ };
 
     type Reader = StdSource<HostReader>;
 
     type Writer = StdOutput<SparseFile>;
-
-    type Hold = HostLock;
 
     fn path_status(&mut self, path: &str) -> Presence {
         match fs::symlink_metadata(self.files, path) {
@@ -345,8 +385,8 @@ impl<'a, R: Files<File = File> + AllocGlobal + Clock> Disk for HostDisk<'a, R> {
             self.trouble = Some(FileProblem::Exists);
             return Comparison::Other;
         }
-        // a file that has a log stands for another image than its bytes
-        if hold.log.is_some() {
+        // a file that has a log may stand for another image than its bytes
+        if hold.log.is_some() || hold.begun.is_some() {
             return Comparison::Different;
         }
         match has_bytes(self.files, path, hold.lock.identity(), image) {
@@ -369,7 +409,7 @@ impl<'a, R: Files<File = File> + AllocGlobal + Clock> Disk for HostDisk<'a, R> {
         how: SaveMode,
         hold: &mut HostLock,
     ) -> Result<StdOutput<SparseFile>, DeviceFault> {
-        if hold.log.is_some() {
+        if hold.log.is_some() || hold.begun.is_some() {
             return Err(self.not_written(hold.log));
         }
         match self.file_for(path, how, hold) {
@@ -413,6 +453,31 @@ impl<'a, R: Files<File = File> + AllocGlobal + Clock> Disk for HostDisk<'a, R> {
     fn discard_replacement(&mut self, _path: &str, hold: &mut HostLock) {
         if let Some(beside) = hold.beside.take() {
             beside.discard(self.files);
+        }
+    }
+
+    fn begin_log(&mut self, path: &str, hold: &mut HostLock) -> Result<Vec<u8>, DeviceFault> {
+        hold.begun = None;
+        if !self.has_logs {
+            return Err(self.not_written(None));
+        }
+        match OpenLog::begin(self.files, path, &mut hold.lock) {
+            Ok((log, image)) => {
+                hold.log = None;
+                hold.begun = Some(log);
+                self.held = hold.lock.identity();
+                Ok(image)
+            }
+            Err(trouble) => {
+                self.held = hold.lock.identity();
+                Err(self.not_written(trouble))
+            }
+        }
+    }
+
+    fn end_log(&mut self, _path: &str, hold: &mut HostLock) {
+        if let Some(log) = hold.begun.take() {
+            log.remove(self.files);
         }
     }
 }

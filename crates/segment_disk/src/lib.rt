@@ -9,6 +9,7 @@ mod host_reader;
 mod image_reader;
 mod locks;
 mod logs;
+mod open_log;
 mod presence;
 mod replacement_file;
 mod settling;

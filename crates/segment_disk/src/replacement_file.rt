@@ -25,7 +25,7 @@ pub(crate) struct ReplacementFile {
 /// Gives a file the owner, group and rights of another, as far as the process may, and tells whether the owner is the
 /// same. A file of another owner sets no user or group for programs. A group that it did not have gets what all others
 /// have.
-fn take_rights(file: &File, old: &Metadata) -> io::Result<bool> {
+pub(crate) fn take_rights(file: &File, old: &Metadata) -> io::Result<bool> {
     let own = file.metadata()?;
     let mut mode = old.mode() & 0o7777;
     let mut has_owner = own.uid() == old.uid();

@@ -28,7 +28,7 @@ fn write_through(file: SparseFile, bytes: &[u8]) -> io::Result<()> {
 
 /// Puts a new file of these bytes in the place of a file, with its rights. Returns what there is to hold of the new
 /// one, and whether it has its name for good.
-fn put_in_place<R: Files<File = File> + AllocGlobal + Clock>(
+pub(crate) fn put_in_place<R: Files<File = File> + AllocGlobal + Clock>(
     rt: &R,
     path: &str,
     held: Option<Identity>,
@@ -61,7 +61,7 @@ struct LoggedFile<'a, R: Files> {
 }
 
 impl<'a, R: Files<File = File> + AllocGlobal + Clock> LogDisk for LoggedFile<'a, R> {
-    ghost step = { λ old event new. ⊤ };
+    ghost log_step = { λ old event new. ⊤ };
 
     type Hold = FileLock;
 

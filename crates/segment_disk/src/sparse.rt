@@ -64,7 +64,7 @@ fn front_piece(bytes: &[u8]) -> &[u8]
 }
 
 /// Tells whether all bytes are 0.
-fn are_zeros(bytes: &[u8]) -> bool
+pub(crate) fn are_zeros(bytes: &[u8]) -> bool
     ensures zeros { result ≡ true → AreZero (bytes_of bytes.now) 0 (length bytes.now) }
     ensures complete { result ≡ false → AreZero (bytes_of bytes.now) 0 (length bytes.now) → ⊥ }
 {

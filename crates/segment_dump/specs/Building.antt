@@ -40,7 +40,7 @@ IsRest n = (n ≡ 0) ⊎ (32 ≤ n)
 
 -- ---- a directory that is being built
 
--- the least capacities of the indexes, and the size in bytes
+-- the capacities of the indexes, and the size in bytes
 pub record Site : Type 0 where
   pub named : ℕ
   pub unique : ℕ
@@ -49,8 +49,8 @@ pub record Site : Type 0 where
 -- there are these objects, by their places, and room for the rest
 pub record HasBuiltItems (d : Directory) (site : Site) (done : List DumpItem) (rest : ℕ) : Type 0 where
   pub size_is : d.size ≡ site.size
-  pub named : site.named ≤ d.named.capacity
-  pub unique : site.unique ≤ d.unique.capacity
+  pub named : d.named.capacity ≡ site.named
+  pub unique : d.unique.capacity ≡ site.unique
   pub items : map item_of_object d.objects ≡ done
   pub room : HasExactRoom (all_extents d) d.size rest
 
@@ -64,8 +64,8 @@ pub record Head : Type 0 where
 pub record IsFilling (d : Directory) (site : Site) (done : List DumpItem) (head : Head) (v : Value) (rest : ℕ) :
     Type 0 where
   pub size_is : d.size ≡ site.size
-  pub named : site.named ≤ d.named.capacity
-  pub unique : site.unique ≤ d.unique.capacity
+  pub named : d.named.capacity ≡ site.named
+  pub unique : d.unique.capacity ≡ site.unique
   pub before : List Object
   pub object : Object
   pub objects : d.objects ≡ before ++ object ∷ []

@@ -46,6 +46,18 @@ pub record LiesIn (text region : List ℕ) (base : ℕ) (size : Option ℕ) (s :
   pub lies : (b : List ℕ) (d : Directory) (n : ℕ) → DenotesCurrent b d → n < 2 ^ 64 → text ≡ dump_text n (portable d)
       → EndsAt (cut_at region base (asked_of size n)) s.cut (length s.cut.bytes)
 
+-- the bytes denote a directory whose indexes have these capacities
+pub record HasIndexes (named unique : ℕ) (s : SegmentState) : Type 0 where
+  pub directory : Directory
+  pub stands : DenotesCurrent s.cut.bytes directory
+  pub named_is : directory.named.capacity ≡ named
+  pub unique_is : directory.unique.capacity ≡ unique
+
+-- Whatever segment the text is the dump of, each index of the loaded one has as many places as entries.
+pub record HasExactIndexes (text : List ℕ) (s : SegmentState) : Type 0 where
+  pub exact : (b : List ℕ) (d : Directory) (n : ℕ) → DenotesCurrent b d → n < 2 ^ 64 → text ≡ dump_text n (portable d)
+      → HasIndexes (length (portable d).named) (length (portable d).unique) s
+
 -- ---- no segment is made
 
 -- some place of the text

@@ -12,7 +12,8 @@ use Rattle.segment_manager.specs.{Directory.live, blocks.Resized.shrunk, State.S
 use Rattle.segment_dump.specs.{declared.counting.Count.Count, declared.counting.Front.Front}
 use Rattle.segment_dump.specs.{declared.faults.LoadRefused.LoadRefused, Builders.AreLeft, Filling.StandsBuilt}
 use Rattle.segment_dump.specs.{Items.DumpItem, Items.Items, Items.portable, Lines.IsShortLine, Loading.IsRequestedSize}
-use Rattle.segment_dump.specs.{Loading.asked_of, Loading.refusal_for, Order.all_items, Reads.HasNoEnd, Reads.ended}
+use Rattle.segment_dump.specs.{Loading.HasIndexes, Loading.asked_of, Loading.refusal_for, Order.all_items}
+use Rattle.segment_dump.specs.{Reads.HasNoEnd, Reads.ended}
 use Rattle.segment_dump.specs.{Texts.dump_text, Texts.end_text, Texts.items_text}
 use Rattle.segment_dump.specs.Building.{AreSortedItems, Site, kind_less, name_less}
 use Rattle.segment_dump.specs.Need.{all_needs, front_room, item_needs, items_needs}
@@ -133,6 +134,19 @@ pub record LiesOf (text region : List ℕ) (base : ℕ) (size : Option ℕ) (roo
       → counted ≡ Ok (record { size = n; needs = items_needs (portable d) })
       → refusal_for (length region) base size room (record { size = n; needs = items_needs (portable d) }) ≡ None
       → IfOk result (λ s. EndsAt (cut_at region base (asked_of size n)) s.cut (length s.cut.bytes))
+
+-- the indexes of a load of counted objects have as many places as entries, if nothing is lacking
+pub record IndexesOf (text : List ℕ) (capacity base : ℕ) (size : Option ℕ) (room : ℕ) (counted : Result Count ℕ)
+    (result : Result SegmentState LoadRefused) : Type 0 where
+  pub indexes : (b : List ℕ) (d : Directory) (n : ℕ) → DenotesCurrent b d → n < 2 ^ 64
+      → text ≡ dump_text n (portable d) → counted ≡ Ok (record { size = n; needs = items_needs (portable d) })
+      → refusal_for capacity base size room (record { size = n; needs = items_needs (portable d) }) ≡ None
+      → IfOk result (HasIndexes (length (portable d).named) (length (portable d).unique))
+
+-- the indexes of a segment keep their capacities
+pub record KeepsIndexes (s : SegmentState) (result : Result SegmentState LoadRefused) : Type 0 where
+  pub keeps : (d : Directory) → DenotesCurrent s.cut.bytes d
+      → IfOk result (HasIndexes d.named.capacity d.unique.capacity)
 
 -- without the gap at the end, if no size is requested
 abbrev pub trimmed : Directory → Option ℕ → Directory

@@ -1,5 +1,5 @@
-//! Objects made of the lines of a dump. Nothing here is believed: the segment that comes out is compared with the whole
-//! text.
+//! Makes objects from the lines of a dump. No line needs to be trusted: `load` compares the finished segment with the
+//! whole text.
 ghost use Rattle.std.specs.Prelude.{◌≡◌, ⊤, length, option_map, IfOk, Some, None, if◌then◌else◌};
 ghost use Rattle.raw_region.specs.{Format.current, Memory.SameSurroundings};
 ghost use Rattle.seg_types.specs.Commands.{Construct};
@@ -26,7 +26,7 @@ use segment_manager::{AnonymousInstance, ConstructKey, Segment, UniqueInstance};
 pub enum BuildError {
     /// The text is no dump.
     Syntax(SyntaxError),
-    /// From this offset on, objects need more than was counted for them.
+    /// From this offset on, objects need more space than was counted for them.
     NoSpace(usize),
     /// The text at this offset is longer than was counted for it.
     LongText(usize),
@@ -47,11 +47,11 @@ pub struct ObjectLine {
     pub kind: Kind,
     /// The number of elements.
     pub count: u64,
-    /// Where the text says so.
+    /// The offset of the kind in the text.
     pub at: usize,
 }
 
-/// Makes all objects that lines say, up to the line `end`.
+/// Makes all objects that the lines describe, up to the line `end`.
 pub fn build(
     segment: &mut Segment,
     lines: &mut Lines<'_>,
@@ -82,7 +82,7 @@ fn finish(lines: &Lines<'_>) -> Result<(), BuildError>
     Err(syntax_error(lines.at(), DumpFault::More))
 }
 
-/// Builds the object of a line, and the objects after it.
+/// Builds the object of a line, and fills it from the lines that follow.
 fn build_object(
     segment: &mut Segment,
     words: &mut Words<'_>,
@@ -98,7 +98,7 @@ fn build_object(
     fill(segment, object, shape, lines, room, scratch)
 }
 
-/// Constructs the object of a line, with capacity for its elements: empty, or with zeros.
+/// Constructs the object of a line: zeros if its kind is scalar, and otherwise empty.
 fn start_next(
     segment: &mut Segment,
     words: &mut Words<'_>,
@@ -135,7 +135,7 @@ fn next_class(words: &mut Words<'_>) -> Result<Class, SyntaxError>
     }
 }
 
-/// Returns the error that something is wrong at a place.
+/// Returns the error that the text is wrong at offset `at`, for this cause.
 pub fn syntax_error(at: usize, cause: DumpFault) -> BuildError {
     BuildError::Syntax(SyntaxError { at, cause })
 }
@@ -170,7 +170,8 @@ fn name_of<'a>(word: Word<'a>, scratch: &'a mut LineBuffer) -> Option<Name<'a>>
     }
 }
 
-/// Reads a kind and a count, and constructs such an object with capacity for its elements: empty, or with zeros.
+/// Reads a kind and a count, and constructs an object of that kind: that many zeros if it is scalar, and otherwise
+/// empty.
 fn start_under<D: ConstructKey>(
     segment: &mut Segment,
     words: &mut Words<'_>,
@@ -182,7 +183,7 @@ fn start_under<D: ConstructKey>(
     ensures in_place { IfOk result (λ made. HasObjectAt segment.new made.0) }
 {
     let shape = next_shape(words)?;
-    // The bytes are the bytes of a segment, so the objects constructed in it are there.
+    // The contract of `as_bytes` says that these are a segment's bytes, which `construct` requires.
     let _ = segment.as_bytes();
     match construct(segment, under, shape) {
         Ok(handle) => Ok((handle, shape)),
@@ -190,7 +191,7 @@ fn start_under<D: ConstructKey>(
     }
 }
 
-/// Returns the kind and the count that come next, and no more.
+/// Returns the kind and the count that come next, if nothing follows them in the line.
 fn next_shape(words: &mut Words<'_>) -> Result<ObjectLine, SyntaxError>
     ensures { ReadsKindAndCount words.old result }
 {
@@ -234,7 +235,7 @@ fn construct<D: ConstructKey>(
     }
 }
 
-/// Makes as many zeros of a kind.
+/// Makes an object of `count` zeros of a kind.
 fn construct_scalars<D: ConstructKey>(
     segment: &mut Segment,
     under: &D,
@@ -260,7 +261,7 @@ fn construct_scalars<D: ConstructKey>(
     by_kind!(kind, construct)
 }
 
-/// Makes a vector of a kind without elements.
+/// Makes an empty vector for elements of a kind.
 fn construct_vector<D: ConstructKey>(
     segment: &mut Segment,
     under: &D,

@@ -9,10 +9,11 @@ ghost use Rattle.segment_dump.specs.Counting.{IsFront, fronted};
 ghost use Rattle.segment_dump.specs.Notes.{without_notes};
 ghost use Rattle.segment_dump.specs.Reads.{Any};
 ghost use Rattle.segment_dump.specs.Succeeding.{AreNumbers, IsNumber, JudgesDump, LiesOf, MakesObjects, ReadsLead};
-ghost use Rattle.segment_dump.specs.Succeeding.{Sizes};
+ghost use Rattle.segment_dump.specs.Succeeding.{IndexesOf, KeepsIndexes, Sizes};
 ghost use Rattle.segment_dump.specs.Succeeding.{Succeeds, SucceedsOf, Takes, Trims, entries_said, size_said};
 ghost use Rattle.segment_dump.specs.Succeeding.{version_said};
-ghost use Rattle.segment_dump.specs.Loading.{HasSize, IsRequestedSize, IsExact, IsJudged, IsLacking, IsLetGo, IsLoaded};
+ghost use Rattle.segment_dump.specs.Loading.{HasExactIndexes, HasSize, IsRequestedSize, IsExact, IsJudged, IsLacking};
+ghost use Rattle.segment_dump.specs.Loading.{IsLetGo, IsLoaded};
 ghost use Rattle.segment_dump.specs.Loading.{LiesIn, LoadsUnlessLacking, IsNotLoaded, IsRefusalOf, IsWrong, asked_of};
 ghost use Rattle.segment_dump.specs.Loading.{cause_in};
 ghost use Rattle.segment_dump.specs.Loading.{refusal_for};
@@ -30,19 +31,20 @@ use segment_lang::numbers_are_decimals;
 use segment_manager::unchecked::cut_end;
 use segment_manager::{CreateRefused, Mode, Segment};
 
-/// Makes a segment of a dump, in the `size` bytes of the region from `base` on, which is a multiple of 16. Without a
-/// size it takes as many bytes as the dump says, and keeps those up to its last block: nothing in it is free then.
-/// Whatever segment the dump is of, this one has the same objects: the same names, classes, kinds and values, and
-/// anonymous objects in the same order. The room is for the longest text of a vector of strings: as many bytes as the
-/// dump has are enough. Notes after the dump are left out ([`without_notes`]), so that capacities are not kept.
+/// Makes a segment from a dump, in the `size` bytes of the region from `base` on. `base` is a multiple of 16. If `size`
+/// is `None`, the segment takes as many bytes as the dump says, and then keeps only those up to its last block, so that
+/// nothing in it is free. The new segment has the same objects as the dumped one: the same names, classes, kinds and
+/// values, and anonymous objects in the same order. `room` holds the longest text of a vector of strings: as many bytes
+/// as the dump has are enough. `load` leaves out notes after the dump ([`without_notes`]), so the new segment does not
+/// keep the capacities.
 ///
 /// # Errors
 ///
-/// `BadDump` says where the text is no dump, and why; if its lines cannot be counted, it is the only cause.
-/// `BadSize` and `RegionTooSmall` are as they are called. `NoSpace`: whatever segment the text is the dump of, its
-/// objects need more bytes than the size, and so it was longer itself. `LongText`: it has a vector of strings with a
-/// text that is longer than the room. The region comes back as it was if no segment was begun, as for these four, and
-/// otherwise is let go.
+/// `BadDump` says where the text is no dump, and why. If `load` cannot count the lines, `BadDump` is the only error.
+/// `BadSize`: no segment can have the size. `RegionTooSmall`: the region has too few bytes from `base` on. `NoSpace`:
+/// the objects need more bytes than the size, so the dumped segment was longer. `LongText`: a vector of strings has a
+/// text that is longer than the room. If no segment was begun, as for the last four errors, `load` gives the region
+/// back unchanged; otherwise it drops the region.
 pub fn load(
     text: &[u8],
     room: &mut [u8],
@@ -58,6 +60,7 @@ pub fn load(
         (IsLacking (without_notes text.now) (length region) base size (length room.old)) }
     ensures success { Succeeds (without_notes text.now) (length region) base size (length room.old) result }
     ensures place { IfOk result (LiesIn (without_notes text.now) region base size) }
+    ensures indexes { IfOk result (HasExactIndexes (without_notes text.now)) }
 {
     load_lines(without_notes(text), room, region, base, size)
 }
@@ -77,6 +80,7 @@ fn load_lines(
     ensures cause { IfSome (cause_in result) (IsLacking text.now (length region) base size (length room.old)) }
     ensures success { Succeeds text.now (length region) base size (length room.old) result }
     ensures place { IfOk result (LiesIn text.now region base size) }
+    ensures indexes { IfOk result (HasExactIndexes text.now) }
 {
     let counted = count_dump(text);
     if let Some(cause) = refusal_of(counted, &region, base, size, room.len()) {
@@ -86,7 +90,7 @@ fn load_lines(
     make(text, counted, room, region, base, size)
 }
 
-/// Makes the segment of a dump of which this was counted, if nothing is lacking for it.
+/// Makes the segment of a dump. `counted` is what `count_dump` returned. The caller checked that nothing is lacking.
 fn make(
     text: &[u8],
     counted: Result<Count, usize>,
@@ -101,6 +105,7 @@ fn make(
     ensures exact { LoadsUnlessLacking (length region) base size (length room.old) counted (cause_in result) }
     ensures success { SucceedsOf text.now (length region) base size (length room.old) counted result }
     ensures place { LiesOf text.now region base size (length room.old) counted result }
+    ensures indexes { IndexesOf text.now (length region) base size (length room.old) counted result }
 {
     let mut lines = Lines::new(text);
     let front = match read_front(&mut lines) {
@@ -123,7 +128,7 @@ fn make(
     judge(segment, text, front.size, size)
 }
 
-/// Returns the size that was counted with a dump, or else this.
+/// Returns the size in `counted`, or `said` if the lines could not be counted.
 fn declared_size(counted: Result<Count, usize>, said: u64) -> u64
     ensures { IfOk counted (λ count. result ≡ count.size) }
 {
@@ -147,7 +152,7 @@ fn read_front(lines: &mut Lines<'_>) -> Result<Front, SyntaxError>
     })
 }
 
-/// Returns the next line, after its first word, which is this one.
+/// Returns the next line without its first word, which must be `word`.
 fn read_lead<'a>(lines: &mut Lines<'a>, word: &[u8]) -> Result<Words<'a>, SyntaxError>
     ensures { ReadsLead word.now lines.old lines.new result }
 {
@@ -197,8 +202,8 @@ fn asked_size(size: Option<u64>, said: u64) -> u64
     size.unwrap_or(said)
 }
 
-/// Returns why no segment is begun for the objects of a dump, if anything is lacking: a legal size, a long enough
-/// region, a large enough size, or the room for a text.
+/// Returns why `load` begins no segment: the size is not legal, the region is too short, the objects need more than the
+/// size, or a text is longer than the room. Returns `None` if nothing is lacking.
 fn refusal_for(
     count: Count,
     region: &RawRegion,
@@ -224,7 +229,7 @@ fn refusal_for(
     None
 }
 
-/// Returns why no segment is begun for objects that were counted, if anything is lacking.
+/// Returns why `load` begins no segment, or `None` if nothing is lacking or the lines could not be counted.
 fn refusal_of(
     counted: Result<Count, usize>,
     region: &RawRegion,
@@ -240,8 +245,8 @@ fn refusal_of(
     }
 }
 
-/// Returns the reason for a refused creation that had enough room for the counted needs: some lines could not be
-/// counted.
+/// Returns the refusal after `Segment::create` refused. This only happens if some lines could not be counted, because
+/// for a count `refusal_of` has checked the size and the region.
 fn not_created(text: &[u8], refused: CreateRefused, counted: Result<Count, usize>) -> LoadRefused
     ensures return_path { result.region ≡ Some refused.region }
     ensures cause { IsWrong text.now result.cause }
@@ -277,8 +282,8 @@ fn bad_dump(text: &[u8], misfit: SyntaxError) -> LoadError
     })
 }
 
-/// Returns the reason for the end of a build. If objects or a text need more than was counted, lines are wrong: a line
-/// that could not be counted, or otherwise a line that was built.
+/// Returns why a build stopped. If objects or a text need more than was counted, a line is wrong: the first one that
+/// could not be counted, or the line at the stop if all could.
 fn cause_of(text: &[u8], stop: BuildError, counted: Result<Count, usize>) -> LoadError
     ensures { IsWrong text.now result }
 {
@@ -289,7 +294,7 @@ fn cause_of(text: &[u8], stop: BuildError, counted: Result<Count, usize>) -> Loa
     }
 }
 
-/// Returns the first line that could not be counted, or another place if all could.
+/// Returns the error at the first line that could not be counted, or at `at` if all could.
 fn uncounted(text: &[u8], at: usize, counted: Result<Count, usize>) -> SyntaxError {
     let at = match counted {
         Ok(_) => at,
@@ -301,7 +306,8 @@ fn uncounted(text: &[u8], at: usize, counted: Result<Count, usize>) -> SyntaxErr
     }
 }
 
-/// Makes all objects of a dump in a segment with nothing in it, with just as many places in its indexes.
+/// Makes all objects of a dump in an empty segment. Before that, it reserves the entries in the indexes that the front
+/// of the dump asks for.
 fn make_objects(
     segment: &mut Segment,
     front: Front,
@@ -322,7 +328,7 @@ fn make_objects(
     build(segment, lines, room, most)
 }
 
-/// Takes a segment as it is if the text is its dump, and it is open and as long as it should be.
+/// Trims a segment, and returns it if it is open for writing, the text is its dump, and it has the right size.
 fn judge(
     mut segment: Segment,
     text: &[u8],
@@ -332,6 +338,7 @@ fn judge(
     ensures completion { MatchResult result (IsJudged text.now size) (IsLetGo text.now) }
     ensures success { JudgesDump segment text.now said size result }
     ensures place { IfOk result (λ s. EndsAt segment.cut s.cut (length s.cut.bytes)) }
+    ensures indexes { KeepsIndexes segment result }
 {
     if !is_open(&segment) {
         return Err(unlike(text, 0));
@@ -361,7 +368,7 @@ fn trim(segment: &mut Segment, size: Option<u64>)
     }
 }
 
-/// Returns the refusal of a text that differs from the dump of its own segment from byte `at` on.
+/// Returns the refusal of a text that, from byte `at` on, differs from the dump of the segment built from it.
 fn unlike(text: &[u8], at: usize) -> LoadRefused
     ensures { IsLetGo text.now result }
 {

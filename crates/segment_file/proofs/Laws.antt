@@ -17,7 +17,7 @@ use Rattle.grow_shrink.proofs.ShortRegions.{short_of_room}
 use Rattle.segment_file.specs.Opening.{OpensImageOk}
 use Rattle.segment_file.proofs.opening.Fronts.{said-most, too-small-says}
 use Rattle.segment_file.proofs.opening.Rooms.{region-holds}
-use Rattle.segment_file.proofs.opening.Refusals.{as-long}
+use Rattle.segment_file.proofs.opening.Openings.{as-long}
 
 -- there was room for the image
 pub read-fits : (versions : AcceptedVersions) (len more : ℕ) (mode : Mode) (image : ReadDelta) (s : SegmentState)

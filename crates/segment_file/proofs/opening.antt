@@ -1,6 +1,5 @@
--- Opening a file: why there is no segment of it (`Refusals`), and how much room its region has.
-pub mod Refusals
-pub mod ReadAgain
-pub mod Rooms
+-- Opening a file: what is answered of its image (`Openings`), and why its front or the rest is not read (`Readings`).
+pub mod Openings
+pub mod Readings
 pub mod Fronts
-pub mod ReaderFront
+pub mod Rooms

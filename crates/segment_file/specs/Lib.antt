@@ -4,3 +4,4 @@ pub mod Holding
 pub mod ReadingOn
 pub mod Opening
 pub mod SegmentFiles
+pub mod Committing

@@ -1,32 +1,42 @@
--- How the rest of an image is read that says more bytes than there is room for.
-use Rattle.std.specs.Prelude.{◌≡◌, ◌⊎◌, ◌≤◌, ◌<◌, ℕ, true, List, length}
+-- How the front of an image is read before its region is made, and the rest if it says more bytes than were told.
+use Rattle.std.specs.Prelude.{◌≡◌, ◌⊎◌, ◌≤◌, ◌<◌, ◌++◌, ℕ, Bool, true, false, List, length, take, nat_lt}
+use Rattle.std.specs.Prelude.{Result, Ok, Err, if◌then◌else◌}
 use Rattle.raw_region.specs.Device.{ReaderHistory}
 use Rattle.raw_region.specs.Refusals.{out_of_memory_of}
-use Rattle.image_check.specs.declared.classes.ImageClass.TheVariants.{BadSize as MoreBytes, Truncated}
+use Rattle.image_check.specs.declared.classes.ImageClass.{ImageClass}
+use Rattle.image_check.specs.declared.classes.ImageClass.TheVariants.{BadSize, Truncated}
 use Rattle.image_check.specs.declared.errors.MemoryFault.{MemoryFault}
 use Rattle.image_check.specs.declared.errors.MemoryFault.TheVariants.{Bytes}
+use Rattle.image_check.specs.declared.errors.OpenError.{OpenError}
+use Rattle.image_check.specs.declared.errors.OpenError.TheVariants.{Image, RegionTooSmall, OutOfMemory, ReadFault}
+use Rattle.image_check.specs.declared.versions.AcceptedVersions.{AcceptedVersions}
 use Rattle.image_check.specs.EarlyTests.{has_front, size_word}
-use Rattle.image_check.specs.Formats.{format_of}
-use Rattle.segment_file.specs.declared.file_errors.OpenFault.{OpenFault}
-use Rattle.segment_file.specs.declared.file_errors.OpenFault.TheVariants.{ForeignLog, Image, OutOfMemory, ReadFault}
+use Rattle.image_check.specs.Formats.{format_in}
+use Rattle.image_check.specs.Reading.{front_of}
 
--- these are all bytes that a reader gave, and no read failed
-pub record IsReadUpTo (gave : ReaderHistory) (bytes : List ℕ) : Type 0 where
-  pub bytes_are : gave.bytes ≡ bytes
-  pub sound : gave.failures ≡ 0
+-- ---- as the front says it
 
--- a reader gave the first 24 bytes of an image, and no more, and no read failed
-pub record IsFrontGiven (gave : ReaderHistory) : Type 0 where
-  pub long : length gave.bytes ≡ 24
-  pub sound : gave.failures ≡ 0
+-- the bytes begin as an image of a format, of this many bytes
+pub record Says (format : ℕ) (b : List ℕ) (said : ℕ) : Type 0 where
+  pub long : 24 ≤ length b
+  pub front : has_front format b ≡ true
+  pub size : size_word b ≡ said
+
+abbrev pub size_or_0 : Result ℕ ImageClass → ℕ
+size_or_0 (Ok n) = n
+size_or_0 (Err c) = 0
+
+-- how many bytes an image of these versions has, as its front says, and 0 for bytes that begin none
+abbrev pub said_by : AcceptedVersions → List ℕ → ℕ
+said_by versions b = if nat_lt (length b) 24 then 0 else size_or_0 (front_of (format_in versions b) b)
 
 -- ---- by how many bytes are said
 
--- a reader ended before it gave as many bytes as the image says, and never failed
-pub record IsCutShort (said : ℕ) (gave : ReaderHistory) : Type 0 where
-  pub ended : gave.ended ≡ true
+-- these are all bytes that a reader gave, its last read met the end or not, and no read failed
+pub record IsReadUpTo (gave : ReaderHistory) (bytes : List ℕ) (ended : Bool) : Type 0 where
+  pub bytes_are : gave.bytes ≡ bytes
   pub sound : gave.failures ≡ 0
-  pub short : length gave.bytes < said
+  pub end_is : gave.ended ≡ ended
 
 -- the reader gave no more than these bytes, and failed
 pub record IsBroken (said : ℕ) (gave : ReaderHistory) : Type 0 where
@@ -41,37 +51,40 @@ pub record IsUnkept (said : ℕ) (gave : ReaderHistory) (refusal : MemoryFault) 
   pub within : asked ≤ said
   pub refused : refusal ≡ Bytes (out_of_memory_of asked)
 
--- fewer bytes were read than the image says, for this reason
-abbrev pub IsWhyNotUpTo : ℕ → ReaderHistory → OpenFault → Type 0
-IsWhyNotUpTo said gave (Image v) = (v.class ≡ Truncated) × (v.place ≡ length gave.bytes) × IsCutShort said gave
+-- reading stopped before the end and before as many bytes as are said, for this reason
+abbrev pub IsWhyNotUpTo : ℕ → ReaderHistory → OpenError → Type 0
+IsWhyNotUpTo said gave (Image v) = ⊥
+IsWhyNotUpTo said gave RegionTooSmall = ⊥
 IsWhyNotUpTo said gave (OutOfMemory refusal) = IsUnkept said gave refusal
 IsWhyNotUpTo said gave ReadFault = IsBroken said gave
-IsWhyNotUpTo said gave ForeignLog = ⊥
 
--- all of an image, which has as many bytes as it says
+-- the text is all that a reader gave up to its end, and has as many bytes as are said
 pub record IsWhole (said : ℕ) (gave : ReaderHistory) (text : List ℕ) : Type 0 where
-  pub up_to : IsReadUpTo gave text
-  pub ended : gave.ended ≡ true
-  pub long : length text ≡ said
+  pub up_to : IsReadUpTo gave text true
+  pub size : length text ≡ said
 
--- more bytes stand after them
+-- the reader ended before it gave as many bytes as are said, and no read failed
+pub record IsCutShort (said : ℕ) (gave : ReaderHistory) : Type 0 where
+  pub ended : gave.ended ≡ true
+  pub sound : gave.failures ≡ 0
+  pub short : length gave.bytes < said
+
+-- more bytes stand after those that are said
 pub record GaveMoreThan (said : ℕ) (gave : ReaderHistory) : Type 0 where
   pub sound : gave.failures ≡ 0
   pub long : said < length gave.bytes
 
 -- the bytes read are not all of an image, for this reason
-abbrev pub IsWhyNotWhole : ℕ → ReaderHistory → OpenFault → Type 0
-IsWhyNotWhole said gave (Image v) =
-    ((v.class ≡ MoreBytes) × (v.place ≡ said) × GaveMoreThan said gave)
+abbrev pub IsWhyNotWhole : ℕ → ReaderHistory → OpenError → Type 0
+IsWhyNotWhole said gave (Image v) = ((v.class ≡ BadSize) × (v.place ≡ said) × GaveMoreThan said gave)
     ⊎ ((v.class ≡ Truncated) × (v.place ≡ length gave.bytes) × IsCutShort said gave)
+IsWhyNotWhole said gave RegionTooSmall = ⊥
 IsWhyNotWhole said gave (OutOfMemory refusal) = IsUnkept said gave refusal
 IsWhyNotWhole said gave ReadFault = IsBroken said gave
-IsWhyNotWhole said gave ForeignLog = ⊥
 
--- ---- as the front says it
+-- ---- the front again
 
--- the bytes begin as an image of a format, of this many bytes
-pub record Says (format : ℕ) (b : List ℕ) (said : ℕ) : Type 0 where
-  pub long : 24 ≤ length b
-  pub front : has_front format b ≡ true
-  pub size : size_word b ≡ said
+-- what a reader gave that gives 24 bytes again: these as they were read first, this many of them again, and then what
+-- follows
+abbrev pub replayed : ℕ → List ℕ → List ℕ → List ℕ
+replayed given front bytes = front ++ (if nat_lt given 24 then take given front else bytes)

@@ -3,13 +3,12 @@ use Rattle.std.specs.Prelude.{◌≡◌, ◌≢◌, ◌⊎◌, ℕ, true, false,
 use Rattle.std.specs.Prelude.{Some, None, Result, Ok, Err, IfErr, MatchResult}
 use Rattle.raw_region.specs.Refusals.{out_of_memory_of}
 use Rattle.block_tags.specs.Format.{is_legal_size}
-use Rattle.segment_manager.specs.declared.modes.Mode.TheVariants.{Write}
+use Rattle.segment_manager.specs.declared.modes.Mode.TheVariants.{ReadOnly, Write}
 use Rattle.segment_manager.specs.Calls.{CreatesOk}
 use Rattle.segment_manager.specs.Directory.{Directory}
 use Rattle.segment_manager.specs.blocks.Resized.{Resizes}
 use Rattle.segment_manager.specs.State.{SegmentState, DenotesCurrent}
 use Rattle.segment_manager.specs.Step.{is_read_only}
-use Rattle.image_check.specs.declared.errors.MemoryFault.TheVariants.{Bytes}
 use Rattle.image_check.specs.declared.versions.AcceptedVersions.TheVariants.{Current, All}
 use Rattle.grow_shrink.specs.declared.larger_region.GrowOrMoveError.{GrowOrMoveError}
 use Rattle.grow_shrink.specs.declared.larger_region.GrowOrMoveError.TheVariants.{Growth as NoGrowth}
@@ -20,14 +19,14 @@ use Rattle.grow_shrink.specs.Resized.{shrink_refusal, shrunk}
 use Rattle.segment_disk.specs.declared.presence.Presence.{Presence}
 use Rattle.segment_disk.specs.declared.presence.Presence.TheVariants.{Absent, There}
 use Rattle.segment_disk.specs.Events.{CreateMode, New, Truncate, Event, Looked, Held, Released, After}
+use Rattle.segment_file.specs.declared.committing.CommitLog.TheVariants.{Absent as NoLog}
 use Rattle.segment_file.specs.declared.file_errors.FileError.{FileError}
 use Rattle.segment_file.specs.declared.file_errors.FileError.TheVariants.{Exists, BadSize, OutOfMemory, WriteFault}
 use Rattle.segment_file.specs.declared.file_errors.FileError.TheVariants.{InUse, Growth}
 use Rattle.segment_file.specs.declared.segment_files.SegmentFile.{SegmentFile}
-use Rattle.segment_file.specs.declared.file_errors.OpenFault.{OpenFault}
 use Rattle.segment_file.specs.Files.{WritesImage}
 use Rattle.segment_file.specs.Holding.{RunsLocked}
-use Rattle.segment_file.specs.Opening.{ExaminesFile, OpensFile, open_fault_error}
+use Rattle.segment_file.specs.Opening.{OpensFile}
 
 -- an answer of a writing that went well
 abbrev pub saved : Result (Unit {0}) FileError
@@ -35,7 +34,7 @@ saved = Ok tt
 
 -- the error of a refused request for this many bytes
 abbrev pub bytes_refused : ℕ → FileError
-bytes_refused n = OutOfMemory (Bytes (out_of_memory_of n))
+bytes_refused n = OutOfMemory (out_of_memory_of n)
 
 -- the error of a refused request for a region with room for this many bytes
 abbrev pub region_refused : ℕ → FileError
@@ -135,11 +134,12 @@ abbrev pub ComesHeld : {H : Type 0} → (Result SegmentState FileError → Type 
     → Type 0
 ComesHeld comes result = MatchResult result (λ held. comes (Ok held.0)) (λ why. comes (Err why))
 
--- `comes` holds for the segment, and the file keeps its path
+-- `comes` holds for the segment, the file keeps its path, and no log was begun
 pub record IsFileOf {H : Type 0} (path : List ℕ) (comes : Result SegmentState FileError
     → Type 0) (file : SegmentFile H) : Type 0 where
   pub path_is : string_bytes file.path ≡ path
   pub segment : comes (Ok file.segment)
+  pub log : file.log ≡ NoLog
 
 -- memory for the path was refused, and nothing was asked
 pub record RefusesPath {D : Type 0} (old new : D) (path : List ℕ) (why : FileError) : Type 0 where
@@ -170,16 +170,17 @@ SavesAs step old new path s result =
 
 -- ---- a file that is looked at, or written anew
 
-abbrev pub without_place : Result (Unit {0}) OpenFault → Result (Unit {0}) FileError
-without_place (Ok done) = Ok done
-without_place (Err unfit) = Err (open_fault_error unfit)
+-- an answer without its segment
+abbrev pub without_segment : {E : Type 0} → Result SegmentState E → Result (Unit {0}) E
+without_segment (Ok s) = Ok tt
+without_segment (Err why) = Err why
 
 -- `check`: the file has a segment, or this is why it has none; nothing is opened for writing
 pub record ChecksFile {D : Type 0} (step : D → Event → D
     → Type 0) (old new : D) (path : List ℕ) (result : Result (Unit {0}) FileError) : Type 0 where
-  pub examined : Result (Unit {0}) OpenFault
-  pub examines : ExaminesFile step old new path examined
-  pub answer : result ≡ without_place examined
+  pub opened : Result SegmentState FileError
+  pub opens : OpensFile step old new path Current ReadOnly 0 opened
+  pub answer : result ≡ without_segment opened
 
 -- the file was read, and then emptied for the image by the current format
 pub record MigratesInPlace {D : Type 0} (step : D → Event → D
@@ -206,7 +207,7 @@ Migrates step old new path result = MigrateRefused step old new path result ⊎ 
 -- converts the reason why a segment does not grow to the error of a file's call
 abbrev pub growth_file_error : GrowOrMoveError → FileError
 growth_file_error (NoGrowth reason) = Growth reason
-growth_file_error (NoLargerRegion refusal) = OutOfMemory (Bytes refusal)
+growth_file_error (NoLargerRegion refusal) = OutOfMemory refusal
 
 -- the segment is unchanged: for this reason it grows neither in place nor in a larger region
 pub record GrowsFileErr (old new : SegmentState) (extra : ℕ) (why : FileError) : Type 0 where

@@ -2,18 +2,18 @@
 //! images, over any disk.
 #![tactic(auto)]
 
-mod examining;
+mod committing;
 mod file_errors;
-mod heading;
 mod opening;
 mod reading;
 mod reading_on;
+mod replay;
 mod segment_files;
 mod theorems;
 mod writing;
 
-pub use examining::examine_file;
-pub use file_errors::{FileError, OpenFault};
+pub use committing::CommitFault;
+pub use file_errors::FileError;
 pub use opening::open_file;
 pub use reading::{check, migrate, read};
 pub use segment_files::SegmentFile;

@@ -1,133 +1,163 @@
 //! The opening of the image in a file, whatever it says of its size.
-ghost use Rattle.std.specs.Prelude.{◌≡◌, ◌+◌, IfErr, IfOk, length};
-ghost use Rattle.raw_region.specs.{Device.read_delta, Refusals.out_of_memory_of};
-ghost use Rattle.image_check.specs.{declared.errors.OpenError.TheVariants.RegionTooSmall, Formats.format_in};
-ghost use Rattle.image_check.specs.{Opening.IsTooSmallFor, Opening.as_given};
+ghost use Rattle.std.specs.Prelude.{◌≡◌, ◌+◌, ◌≤◌, IfErr, IfOk, MatchResult, length};
+ghost use Rattle.raw_region.specs.{Device.AppendsBytes, Device.read_delta, Refusals.out_of_memory_of};
+ghost use Rattle.image_check.specs.declared.errors.MemoryFault.TheVariants.{Bytes};
+ghost use Rattle.image_check.specs.declared.errors.OpenError.TheVariants.{OutOfMemory};
+ghost use Rattle.image_check.specs.Opening.{as_given};
 ghost use Rattle.grow_shrink.specs.LargerRegion.{region_len};
 ghost use Rattle.segment_disk.specs.Events.{nothing_given};
-ghost use Rattle.segment_file.specs.Opening.{WidensIfNeeded, OpensAt, OpensFile, OpensImage, file_error};
-ghost use Rattle.segment_file.specs.ReadingOn.{IsFrontGiven};
+ghost use Rattle.segment_file.specs.Opening.{IsPrepared, IsUnopenedBy, OpensFile, OpensIn, OpensReader};
+ghost use Rattle.segment_file.specs.ReadingOn.{said_by};
 
 use crate::file_errors::FileError;
-use crate::heading::Headed;
-use crate::reading_on::read_on;
-use grow_shrink::{copy_into, region_for, size_of};
-use image_check::{AcceptedVersions, OpenError, OpenRefused, open_bytes};
-use raw_region::{OutOfMemory, RawRegion, Source, Steps};
+use crate::reading_on::{read_rest, read_up_to};
+use crate::replay::Replay;
+use grow_shrink::region_for;
+use image_check::{
+    AcceptedVersions, FRONT, MemoryFault, OpenError, open_bytes, size_in, size_in_any,
+};
+use raw_region::{RawRegion, Source, Steps};
 use segment_disk::{Disk, OpenedFile};
 use segment_manager::{Mode, Segment};
 use std::alloc::Global;
 
 /// Returns a region with room for a segment of `bytes` bytes, and for `more` bytes.
 #[tactic(auto, using(crate::proofs::opening::Rooms::region_capped))]
-pub(crate) fn file_region(alloc: Global, bytes: u64, more: u64) -> Result<RawRegion, OutOfMemory>
+fn file_region(alloc: Global, bytes: u64, more: u64) -> Result<RawRegion, OpenError>
     ensures len { IfOk result (λ region. length region ≡ region_len (bytes + more)) }
-    ensures refused { IfErr result (λ refusal. refusal ≡ out_of_memory_of (region_len (bytes + more))) }
+    ensures refused { IfErr result (λ why. why ≡ OutOfMemory (Bytes (out_of_memory_of (region_len (bytes + more))))) }
 {
-    region_for(alloc, bytes.saturating_add(more))
+    match region_for(alloc, bytes.saturating_add(more)) {
+        Ok(region) => Ok(region),
+        Err(refusal) => Err(OpenError::OutOfMemory(MemoryFault::Bytes(refusal))),
+    }
 }
 
-/// Opens an image at the front of a region.
-fn open_at<S: Source>(
+/// Returns how many bytes an image of these versions has, as its front says, and 0 for bytes that begin none.
+fn size_said(versions: AcceptedVersions, text: &[u8]) -> u64
+    ensures { result ≡ said_by versions text.now }
+{
+    if text.len() < FRONT {
+        return 0;
+    }
+    let size = match versions {
+        AcceptedVersions::Current => size_in(text),
+        AcceptedVersions::All => size_in_any(text),
+    };
+    match size {
+        Ok(size) => size,
+        Err(_) => 0,
+    }
+}
+
+/// What was read of an image before it is opened, and the region for its segment.
+struct Prepared {
+    text: Vec<u8>,
+    /// Whether the text is all of the image.
+    is_whole: bool,
+    region: RawRegion,
+}
+
+/// Reads the front of an image, and makes a region for its segment, with room for `more` bytes more. One that ends in
+/// its front, or says more than `len` bytes, is read whole first, so that it takes no more memory than it has bytes.
+fn prepare<S: Source>(
     alloc: Global,
     versions: AcceptedVersions,
-    mode: Mode,
     reader: &mut S,
-    region: RawRegion,
-) -> Result<Segment, OpenRefused>
+    len: u64,
+    more: u64,
+) -> Result<Prepared, OpenError>
     requires { S.history reader.old ≡ nothing_given }
-    ensures opening { OpensAt versions (read_delta nothing_given (S.history reader.new)) region mode result }
-    ensures exclusive { IfErr result (λ refused. refused.cause ≡ RegionTooSmall → IsFrontGiven (S.history reader.new)) }
+    ensures { MatchResult result (IsPrepared versions len more (S.history reader.new))
+        (IsUnopenedBy versions len more (read_delta nothing_given (S.history reader.new))) }
 {
-    let steps = &mut Steps::new();
-    image_check::open_image(alloc, versions, reader, region, 0, mode, steps)
+    let mut text = Vec::new(alloc);
+    read_up_to(reader, &mut text, FRONT as u64)?;
+    let said = size_said(versions, text.as_slice());
+    if said <= len {
+        let region = file_region(alloc, len, more)?;
+        let is_whole = text.len() < FRONT;
+        return Ok(Prepared {
+            text,
+            is_whole,
+            region,
+        });
+    }
+    read_rest(reader, &mut text, said)?;
+    let larger = file_region(alloc, said, more)?;
+    Ok(Prepared {
+        text,
+        is_whole: true,
+        region: larger,
+    })
 }
 
-/// Opens an image that lies in memory, at the front of a region.
+/// Opens an image that was read whole, at the front of a region with room for it.
 fn open_text(
     alloc: Global,
     versions: AcceptedVersions,
     mode: Mode,
     text: &[u8],
     region: RawRegion,
-) -> Result<Segment, OpenRefused>
-    ensures { OpensAt versions (as_given text.now) region mode result }
+) -> Result<Segment, OpenError>
+    requires { said_by versions text.now ≤ length region }
+    ensures { OpensIn versions (as_given text.now) region mode result }
 {
     let steps = &mut Steps::new();
-    open_bytes(alloc, versions, text, region, 0, mode, steps)
-}
-
-/// Returns why an image is not opened. `None` is want of room.
-fn unopened(cause: OpenError) -> Option<FileError>
-    ensures { result ≡ file_error cause }
-{
-    match cause {
-        OpenError::Image(verdict) => Some(FileError::Image(verdict.class)),
-        OpenError::RegionTooSmall => None,
-        OpenError::OutOfMemory(refusal) => Some(FileError::OutOfMemory(refusal)),
-        OpenError::ReadFault => Some(FileError::ReadFault),
+    match open_bytes(alloc, versions, text, region, 0, mode, steps) {
+        Ok(segment) => Ok(segment),
+        Err(refused) => Err(refused.cause),
     }
 }
 
-/// Returns the segment with room for `more` bytes. If it has more than `len` bytes, its file grew while it was read,
-/// and it moves into a larger region.
-fn with_room(alloc: Global, segment: Segment, len: u64, more: u64) -> Result<Segment, FileError>
-    ensures { WidensIfNeeded len more segment result }
-{
-    let size = size_of(&segment);
-    if size <= len {
-        return Ok(segment);
-    }
-    let region = file_region(alloc, size, more)?;
-    Ok(copy_into(&segment, region))
-}
-
-/// Returns the segment of an image that says more bytes than there was room for, with room for `more` bytes more. The
-/// image is read first, so that it takes no more memory than it has bytes.
-fn open_behind<S: Source>(
+/// Opens an image of which the front was read, at the front of a region with room for it.
+fn open_replay<S: Source>(
     alloc: Global,
     versions: AcceptedVersions,
     mode: Mode,
-    reader: &mut Headed<S>,
-    len: u64,
-    more: u64,
-) -> Result<Segment, FileError>
-    requires exclusive { IsFrontGiven (S.history reader.old.inner) }
-    requires max_size { IsTooSmallFor (format_in versions (S.history reader.old.inner).bytes)
-        (read_delta nothing_given (S.history reader.old.inner)) 0 (region_len (len + more)) }
-    ensures { OpensImage versions more mode len (read_delta nothing_given (S.history reader.new.inner)) result }
+    reader: &mut Replay<S>,
+    region: RawRegion,
+) -> Result<Segment, OpenError>
+    requires fresh { reader.old.given ≡ 0 }
+    requires max_size { said_by versions reader.old.front ≤ length region }
+    ensures opening { OpensIn versions (read_delta nothing_given (S.history reader.new.inner)) region mode result }
+    ensures contents { AppendsBytes reader.old.front (S.history reader.new.inner).bytes }
 {
-    let text = read_on(alloc, reader)?;
-    let region = file_region(alloc, text.len() as u64, more)?;
-    match open_text(alloc, versions, mode, text.as_slice(), region) {
+    let steps = &mut Steps::new();
+    match image_check::open_image(alloc, versions, reader, region, 0, mode, steps) {
         Ok(segment) => Ok(segment),
-        Err(refused) => match unopened(refused.cause) {
-            Some(error) => Err(error),
-            None => unreachable!(),
-        },
+        Err(refused) => Err(refused.cause),
     }
 }
 
-/// Returns the segment of the image of a reader that was told to give `len` bytes, with room for `more` bytes more.
+/// Opens the image of a reader that was told to give `len` bytes, with room for `more` bytes more. Returns the reader
+/// too.
 fn open_image<S: Source>(
     alloc: Global,
     versions: AcceptedVersions,
     mode: Mode,
-    reader: &mut Headed<S>,
+    mut reader: S,
     len: u64,
     more: u64,
-) -> Result<Segment, FileError>
-    requires fresh { S.history reader.old.inner ≡ nothing_given }
-    ensures { OpensImage versions more mode len (read_delta nothing_given (S.history reader.new.inner)) result }
+) -> (S, Result<Segment, OpenError>)
+    requires { S.history reader ≡ nothing_given }
+    ensures { OpensReader versions more mode len (read_delta nothing_given (S.history result.0)) result.1 }
 {
-    let region = file_region(alloc, len, more)?;
-    match open_at(alloc, versions, mode, reader, region) {
-        Ok(segment) => with_room(alloc, segment, len, more),
-        Err(refused) => match unopened(refused.cause) {
-            Some(error) => Err(error),
-            None => open_behind(alloc, versions, mode, reader, len, more),
-        },
+    let Prepared {
+        text,
+        is_whole,
+        region,
+    } = match prepare(alloc, versions, &mut reader, len, more) {
+        Ok(prepared) => prepared,
+        Err(why) => return (reader, Err(why)),
+    };
+    let text = text.as_slice();
+    if is_whole {
+        return (reader, open_text(alloc, versions, mode, text, region));
     }
+    let mut reader = Replay::new(reader, text);
+    let opened = open_replay(alloc, versions, mode, &mut reader, region);
+    (reader.into_inner(), opened)
 }
 
 /// Returns the segment in a file, of any of these versions, in a region with room for `more` bytes more. The file is
@@ -135,8 +165,8 @@ fn open_image<S: Source>(
 ///
 /// # Errors
 ///
-/// `Image` with the class if the bytes of the file denote no directory. `ReadFault` if the file can't be opened or
-/// read, `ForeignLog` if the log beside it is of another file, and `OutOfMemory`.
+/// `Open` with the reason if there is no segment: `Image` if the bytes of the file denote no directory, `ReadFault` if
+/// the file can't be opened or read, or `OutOfMemory`. `ForeignLog` if the log beside the file is of another file.
 pub fn open_file<D: Disk>(
     alloc: Global,
     disk: &mut D,
@@ -151,8 +181,7 @@ pub fn open_file<D: Disk>(
         Ok(opened) => opened,
         Err(why) => return Err(FileError::from(why)),
     };
-    let mut reader = Headed::new(reader);
-    let read = open_image(alloc, versions, mode, &mut reader, len, more);
-    disk.close(reader.into_inner());
-    read
+    let (reader, opened) = open_image(alloc, versions, mode, reader, len, more);
+    disk.close(reader);
+    Ok(opened?)
 }

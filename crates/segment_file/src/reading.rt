@@ -4,7 +4,6 @@ ghost use Rattle.image_check.specs.declared.versions.AcceptedVersions.TheVariant
 ghost use Rattle.segment_file.specs.Opening.{OpensFile};
 ghost use Rattle.segment_file.specs.SegmentFiles.{ChecksFile, HoldsFile, Migrates};
 
-use crate::examining::examine_file;
 use crate::file_errors::FileError;
 use crate::opening::open_file;
 use crate::writing::write_image;
@@ -20,8 +19,8 @@ use std::alloc::Global;
 ///
 /// # Errors
 ///
-/// `Image` with the class if the bytes of the file denote no directory. `ReadFault` if the file can't be opened or
-/// read, `ForeignLog` if the log beside it is of another file, and `OutOfMemory`.
+/// `Open` with the reason if there is no segment: `Image` if the bytes of the file denote no directory, `ReadFault` if
+/// the file can't be opened or read, or `OutOfMemory`. `ForeignLog` if the log beside the file is of another file.
 pub fn read<D: Disk>(
     alloc: Global,
     disk: &mut D,
@@ -33,7 +32,7 @@ pub fn read<D: Disk>(
     open_file(alloc, disk, path, AcceptedVersions::Current, mode, 0)
 }
 
-/// Checks that a file holds a segment. Opens nothing for writing, and makes no segment.
+/// Checks that a file holds a segment. Opens nothing for writing, and keeps no segment.
 ///
 /// `crates/examples/src/migrating.rt` has an example.
 ///
@@ -43,7 +42,8 @@ pub fn read<D: Disk>(
 pub fn check<D: Disk>(alloc: Global, disk: &mut D, path: &str) -> Result<(), FileError>
     ensures { ChecksFile D.step disk.old disk.new path.now result }
 {
-    Ok(examine_file(alloc, disk, path)?)
+    read(alloc, disk, path, Mode::ReadOnly)?;
+    Ok(())
 }
 
 /// Writes the segment in a file of any of the three formats by the current one.

@@ -5,6 +5,7 @@ ghost use Rattle.segment_file.specs.SegmentFiles.{ComesHeld, CreatesSegment, Gro
 ghost use Rattle.segment_file.specs.SegmentFiles.{KeepsFile, MakesSegmentFile, OpensHeld, OpensOrCreates, SavesAs};
 ghost use Rattle.segment_file.specs.SegmentFiles.{SavesFile, ShrinksFile};
 
+use crate::committing::CommitLog;
 use crate::file_errors::FileError;
 use crate::opening::open_file;
 use crate::writing::{write_image, write_new};
@@ -66,14 +67,16 @@ fn open_held<D: Disk>(
 }
 
 /// A segment in memory, the path of the file that it was read from or made in, and the right to write that file. No
-/// other has that right until this one is closed or dropped. The file changes by `save` and `replace` alone.
+/// other has that right until this one is closed or dropped. The file changes by `save`, `replace` and `checkpoint`
+/// alone, and with its log it stands for the image of the last `commit`.
 #[derive(Drop)]
 pub struct SegmentFile<H> {
     /// The segment.
     pub segment: Segment,
     /// The path of its file.
     pub path: String,
-    hold: H,
+    pub(crate) hold: H,
+    pub(crate) log: CommitLog,
 }
 
 impl<H: Drop> SegmentFile<H> {
@@ -102,6 +105,7 @@ impl<H: Drop> SegmentFile<H> {
             segment,
             path: kept,
             hold,
+            log: CommitLog::Absent,
         })
     }
 
@@ -126,6 +130,7 @@ impl<H: Drop> SegmentFile<H> {
             segment,
             path: kept,
             hold,
+            log: CommitLog::Absent,
         })
     }
 
@@ -156,6 +161,7 @@ impl<H: Drop> SegmentFile<H> {
             segment,
             path: kept,
             hold,
+            log: CommitLog::Absent,
         })
     }
 
@@ -217,7 +223,8 @@ impl<H: Drop> SegmentFile<H> {
         Ok(())
     }
 
-    /// Gives the right to write the file back. The segment is gone, and what was not saved of it is not in the file.
+    /// Gives the right to write the file back. The segment is gone, and what was not saved of it is not in the file. A
+    /// log stays, with what was committed.
     pub fn close<D: Disk<Hold = H>>(self, disk: &mut D)
         ensures { D.step disk.old Released disk.new }
     {

@@ -5,7 +5,7 @@ use Rattle.std.specs.Prelude.{Result, Ok, Err, MatchResult, IfOk, OnOk, is_ok}
 use Rattle.segment_log.specs.Crashes.{LoggedFile}
 use Rattle.segment_log.specs.Records.{IsAjar, IsEndOfLog}
 use Rattle.segment_log.specs.Edits.{stands_for}
-use Rattle.segment_log.specs.Events.{LogEvent, leaves_after}
+use Rattle.segment_log.specs.Events.{LogEvent, leaves_after, seen_in_the_end}
 use Rattle.segment_log.specs.Laws.{through_events}
 use Rattle.segment_log.specs.Openings.{IsReady, IsPayloadFor, EndsReady}
 use Rattle.segment_log.specs.Tags.{AreTogether, IsMidCommit, KeepsImage}
@@ -41,6 +41,8 @@ pub record CommitsRecord {D : Type 0} (step : D → LogEvent → D → Type 0) (
       → IsPayloadFor files payload last image → CrashLeaves files events (IsMidCommit last image)
   pub on_ok : IfOk result (λ now. (files : LoggedFile) (last image : List ℕ) → IsReady files end last
       → IsPayloadFor files payload last image → EndsReady files events now image)
+  -- the file itself is not written
+  pub base : (files : LoggedFile) → (seen_in_the_end files events).base ≡ files.base
   -- without a question, if it is refused
   pub refused : (result ≡ Err OutOfMemory) ⊎ (result ≡ Err TooLong) → events ≡ []
   pub too_long : result ≡ Err TooLong → (2 ^ 40 ≤ end) ⊎ (2 ^ 40 ≤ length payload)

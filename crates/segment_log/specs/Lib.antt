@@ -8,3 +8,4 @@ pub mod Laws
 pub mod Openings
 pub mod Histories
 pub mod Committing
+pub mod CommittedImages

@@ -53,7 +53,7 @@ pub fn commit<D: LogDisk>(
     end: usize,
     payload: &[u8],
 ) -> Result<usize, CommitError>
-    ensures { CommitsRecord D.step disk.old disk.new end payload.now result }
+    ensures { CommitsRecord D.log_step disk.old disk.new end payload.now result }
 {
     if end >= MAX_LOG_LEN || payload.len() >= MAX_LOG_LEN {
         return Err(CommitError::TooLong);
@@ -76,7 +76,7 @@ pub fn shut<D: LogDisk>(
     hold: &mut D::Hold,
     end: usize,
 ) -> Result<(), CommitError>
-    ensures { ShutsGate D.step disk.old disk.new end result }
+    ensures { ShutsGate D.log_step disk.old disk.new end result }
 {
     let closed = shut_gate(alloc)?;
     write_through(disk, hold, end, &closed)?;
@@ -94,7 +94,7 @@ pub fn checkpoint<D: LogDisk>(
     hold: &mut D::Hold,
     image: &[u8],
 ) -> Result<(), CommitError>
-    ensures { MakesCheckpoint D.step disk.old disk.new image.now result }
+    ensures { MakesCheckpoint D.log_step disk.old disk.new image.now result }
 {
     let gate = shut_gate(alloc)?;
     disk.place(hold, image)?;

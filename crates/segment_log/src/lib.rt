@@ -1,11 +1,12 @@
 //! The log beside the file of a segment: a commit adds a record of what was changed, and costs that.
 //!
-//! `changes` makes the payload of a record, and `commit` writes it to a `LogDisk`; `recover` makes the image of a file
-//! with its log, and refuses the log of another file; `checkpoint` puts that image in the place of the file. The
-//! contracts and the laws, as `commit_finds_one`, say what opening finds after a crash at any moment. A caller that
-//! writes by itself has the bytes of `record_body` and of the gates.
+//! `changes` makes the payload of a record, and `commit` writes it to a `LogDisk`. A `CommittedImage` does both, and
+//! keeps the image. `recover` makes the image of a file with its log, and refuses the log of another file; `checkpoint`
+//! puts that image in the place of the file. The contracts and the laws, as `commit_finds_one`, say what opening finds
+//! after a crash at any moment. A caller that writes by itself has the bytes of `record_body` and of the gates.
 #![tactic(auto)]
 
+mod committed_image;
 mod committing;
 mod edits;
 mod fingerprints;
@@ -17,6 +18,7 @@ mod replaying;
 mod tags;
 mod theorems;
 
+pub use committed_image::CommittedImage;
 pub use committing::{CommitError, checkpoint, commit, shut};
 pub use edits::apply;
 pub use fingerprints::{PAGE_LEN, fingerprint, fingerprint_of_a_change, page_mark, with_page};

@@ -14,23 +14,23 @@ pub struct LogFault;
 /// and is tested.
 pub trait LogDisk {
     // One question with its answer leads from one state of the disk to another.
-    ghost step: { Self → LogEvent → Self → Type 0 };
+    ghost log_step: { Self → LogEvent → Self → Type 0 };
 
     /// The right to write the file and its log.
-    type Hold;
+    type Hold: Drop;
 
     /// Writes bytes at an offset of the log, over what it has there and past its end. Until it is written through, a
     /// crash may leave any bytes there.
     fn write_log(&mut self, hold: &mut Self::Hold, at: usize, bytes: &[u8]) -> Result<(), LogFault>
-        ensures { step self.old (Wrote at bytes.now (is_ok result)) self.new };
+        ensures { log_step self.old (Wrote at bytes.now (is_ok result)) self.new };
 
     /// Writes the log through. Ok says that all that it took lasts.
     fn sync_log(&mut self, hold: &mut Self::Hold) -> Result<(), LogFault>
-        ensures { step self.old (Synced (is_ok result)) self.new };
+        ensures { log_step self.old (Synced (is_ok result)) self.new };
 
     /// Puts a new file of these bytes in the place of the file. Ok says that the file is the new one for good.
     fn place(&mut self, hold: &mut Self::Hold, image: &[u8]) -> Result<(), LogFault>
-        ensures { step self.old (Placed image.now (is_ok result)) self.new };
+        ensures { log_step self.old (Placed image.now (is_ok result)) self.new };
 }
 
 /// Writes bytes at an offset of the log, and writes it through.
@@ -40,7 +40,7 @@ pub(crate) fn write_through<D: LogDisk>(
     at: usize,
     bytes: &[u8],
 ) -> Result<(), LogFault>
-    ensures { WritesThrough D.step disk.old disk.new at bytes.now result }
+    ensures { WritesThrough D.log_step disk.old disk.new at bytes.now result }
 {
     disk.write_log(hold, at, bytes)?;
     disk.sync_log(hold)

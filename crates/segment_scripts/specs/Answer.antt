@@ -14,7 +14,7 @@ use Rattle.segment_manager.specs.Directory.{Value, Numbers, Elements, Bytes, Pai
 use Rattle.segment_manager.specs.Answers.{Answer, Done, Absent, Boolean, Number, Made, Found, Element, TextElement}
 use Rattle.segment_manager.specs.Answers.{Shown, Told, Names, Kinds, Blocks, Refused}
 
--- words of a line, parted by one blank, and the end of the line
+-- the text of a line: its words with one blank between two words, and then a newline
 abbrev pub line : List (List ℕ) → List ℕ
 line [] = 0x0A ∷ []
 line (w ∷ []) = w ++ 0x0A ∷ []
@@ -72,7 +72,7 @@ abbrev pub truth_word : Bool → List ℕ
 truth_word true = codes "true"
 truth_word false = codes "false"
 
--- a line for each, and `end`
+-- a line for each element of the list, and then the line `end`
 abbrev pub listing : {A : Type 0} → (A → List (List ℕ)) → List A → List ℕ
 listing words [] = line (codes "end" ∷ [])
 listing words (x ∷ xs) = line (words x) ++ listing words xs

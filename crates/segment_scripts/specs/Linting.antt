@@ -1,4 +1,4 @@
--- The reports about the lines of a script that are no commands.
+-- The reports about the wrong lines of a script.
 use Rattle.std.specs.Prelude.{◌≡◌, ℕ, ◌+◌, ◌-◌, Bool, true, false, not, min, List, [], ◌∷◌, ◌++◌, length, take, decimal}
 use Rattle.std.specs.Prelude.{codes, if◌then◌else◌}
 use Rattle.raw_region.specs.Format.{current}
@@ -24,26 +24,28 @@ abbrev pub behind : Bool → List ℕ → List ℕ
 behind blanks [] = []
 behind blanks (c ∷ cs) = if same blanks (is_blank c) then behind blanks cs else c ∷ cs
 
--- the first word of a line, and the bytes from the second one on
+-- the first word of a line
 abbrev pub first_word : List ℕ → List ℕ
 first_word line = let rest = behind true line in take (length rest - length (behind false rest)) rest
 
+-- the bytes of a line from its second word on
 abbrev pub arguments : List ℕ → List ℕ
 arguments line = behind true (behind false (behind true line))
 
--- the column, in bytes from 1: of the command word, of the first byte past the limit, or of the arguments
+-- the column where a line is wrong, counted in bytes from 1: the column of the command word, of the first byte past the
+-- limit, or of the arguments
 abbrev pub column_of : LineError → List ℕ → ℕ
 column_of wrong.UnknownCommand line = length line - length (behind true line) + 1
 column_of wrong.LineTooLong line = 4097
 column_of wrong.BadSyntax line = length line - length (arguments line) + 1
 
--- what should stand there
+-- what the report says that it expected instead
 abbrev pub expected : List CommandRow → LineError → List ℕ → List ℕ
 expected rows wrong.UnknownCommand line = codes "a command"
 expected rows wrong.LineTooLong line = codes "at most 4096 bytes"
 expected rows wrong.BadSyntax line = usage_of rows (first_word line)
 
--- the line that says where a line is wrong
+-- the report about a wrong line of the script: where it is wrong, why, and what was expected
 abbrev pub finding_text : List CommandRow → ℕ → LineError → List ℕ → List ℕ
 finding_text rows n e line =
     decimal n ++ (codes ":" ++ (decimal (column_of e line)
@@ -51,7 +53,7 @@ finding_text rows n e line =
 
 -- ---- line by line
 
--- the number of lines, whether one of them is no command, and the table of commands
+-- the number of lines so far, whether one of them was wrong, and the table of commands
 pub record LintState : Type 0 where
   pub line : ℕ
   pub found : Bool
@@ -61,14 +63,14 @@ pub record LintState : Type 0 where
 abbrev pub start : List CommandRow → LintState
 start rows = record { line = 0; found = false; rows = rows }
 
--- the state is this one
+-- the state has these fields
 abbrev pub is_at : ℕ → Bool → List CommandRow → LintState → Type 0
 is_at line found rows at = (line ≡ at.line) × (found ≡ at.found) × (rows ≡ at.rows)
 
 abbrev pub tells : LintState → LineError → List ℕ → List ℕ × LintState
 tells at e line = (finding_text at.rows at.line e (without_return line), record at { found = true })
 
--- the line is no command
+-- the line is wrong
 abbrev pub misses_line : List ℕ → Bool
 misses_line line = is_wrong (reading (whole_language current) line)
 

@@ -1,7 +1,8 @@
 -- The outcome of a run, for any machine that answers lines: `respond place line` is the output for the line in a state
 -- of the machine, and the next state.
 use Rattle.std.specs.Prelude.{◌≡◌, ◌<◌, ◌≤◌, ℕ, ◌+◌, true, false, List, [], ◌∷◌, ◌++◌, length, take, Result, Ok, Err}
-use Rattle.raw_region.specs.Device.{ReaderHistory, ReadDelta, WriterHistory, WriteDelta, EndsAtMostOnce, ReadsSource}
+use Rattle.std.specs.Prelude.{if◌then◌else◌}
+use Rattle.raw_region.specs.Device.{ReaderHistory, ReadDelta, WriterHistory, WriteDelta, ReadsSource}
 use Rattle.raw_region.specs.Device.{IsProperPrefix}
 use Rattle.segment_scripts.specs.declared.faults.RunFault.{RunFault}
 use Rattle.segment_scripts.specs.declared.faults.RunFault.TheVariants.{ReadFault, WriteFault, ScriptTooLong}
@@ -92,11 +93,15 @@ failed_writes (Err WriteFault) = 1
 failed_writes (Err ScriptTooLong) = 0
 failed_writes (Ok x) = 0
 
--- the use of the devices in a run, wherever it began: the script was read at most to one byte past its limit, and not
--- again after its end; and each failure is the one that the run returned
+-- if the reader has ended, the last read of the call met the end; no other read met it
+abbrev pub MeetsEndOnce : ReaderHistory → ReaderHistory → Type 0
+MeetsEndOnce old new = new.ends ≡ old.ends + (if new.ended then 1 else 0)
+
+-- the use of the devices in a run, wherever it began: the script was read at most to one byte past its limit; if it has
+-- ended, one read of the run met the end, and no read followed; and each failure is the one that the run returned
 pub record UsesDevices {A : Type 0} (given given' : ReaderHistory) (taken taken' : WriterHistory)
     (result : Result A RunFault) : Type 0 where
   pub reads : ReadsSource given given' (failed_reads result)
   pub reads_no_further : length given'.bytes ≤ length given.bytes + script_limit + 1
-  pub ends : EndsAtMostOnce given given'
+  pub ends : MeetsEndOnce given given'
   pub writes_counted : taken'.failures ≡ taken.failures + failed_writes result

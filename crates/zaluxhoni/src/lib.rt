@@ -42,7 +42,7 @@ pub use seg_types::{
 };
 pub use seg_vector::{Place, SegVec};
 pub use segment_disk::{Disk, HostDisk, HostLock};
-pub use segment_file::{FileError, SegmentFile, check, migrate, read};
+pub use segment_file::{CommitFault, FileError, SegmentFile, check, migrate, read};
 pub use segment_manager::{
     AnonymousInstance, ConstructKey, CreateError, CreateRefused, FindOrConstructKey, Instance,
     Instances, Mode, Names, ObjectRef, Objects, RelocateRefused, Segment, TileInfo, Tiles,

@@ -4,8 +4,11 @@ use Rattle.image_check.proofs.Common.{arith, block_at, cond-false, cond-true, eq
 use Rattle.image_check.proofs.Common.{length, nat_eq, ne_eqb, refl, set_value, slice_get, subst, suc, sym, zero, ℕ}
 use Rattle.image_check.proofs.Common.{◌++◌, ◌+◌, ◌<◌, ◌^◌, ◌∙◌, ◌∷◌, ◌≡◌, ◌≢◌, ◌≤◌, ◌⊎◌}
 use Rattle.std.proofs.Common.{⊎_elim}
-use Rattle.std.specs.Prelude.{IfSome, IsOk, OnOk, position}
+use Rattle.std.specs.Prelude.{IfSome, IsOk, OnOk, position, true, ◌==◌}
 use Rattle.std.specs.Map.{keys_of}
+use Rattle.std.specs.Map.Iter.{deref_pair}
+use Rattle.std.specs.Option.{option_map}
+use Rattle.std.specs.Borrow.{Bor}
 use Rattle.std.proofs.lemmas.List.Quantifiers.{position-Some}
 use Rattle.std.proofs.lemmas.Option.{slice_get-get_or, slice_get_within}
 use Rattle.indexmap.specs.IndexMap.{set_value_at}
@@ -48,6 +51,14 @@ position-row es n None e = tt
 position-row es n (Some i) e =
     let p = position-Some (nat_eq n) (keys_of es) i 0 (sym e) in
     key-row es n i (slice_get-get_or (keys_of es) i 0 p.0 ∙ ap Some (sym (eqb-true n _ p.1)))
+
+-- the entry at a number, with this key, is the key's row
+pub row-here : (es : Blocks) (i n : ℕ) (r : Option (Bor ℕ × Bor Block)) (x : Bor ℕ × Bor Block)
+    → option_map deref_pair r ≡ slice_get es i → r ≡ Some x → (x.0.now == n) ≡ true → IsRow es n i
+row-here es i n r x e f h = record {
+  block = x.1.now;
+  is = sym e ∙ ap (option_map deref_pair) f ∙ ap (λ (k : ℕ). Some (k, x.1.now)) (eqb-true x.0.now n h);
+}
 
 row-absent : (es : Blocks) (n : ℕ) → ((i : ℕ) (x : ℕ × Block) → slice_get es i ≡ Some x → x.0 ≢ n)
     → block_at es n ≡ None

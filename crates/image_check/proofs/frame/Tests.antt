@@ -1,4 +1,4 @@
--- The frame of an image: header, tags and free tree. Its tests are exact.
+-- The frame of an image: header, tags and free tree. An image passes a test if and only if it has the tested property.
 use Rattle.image_check.proofs.Common.{IsTrue, List, and_from, and_parts, and_right, arith, eq-eqb, eqb-true, has_front}
 use Rattle.image_check.proofs.Common.{has_magic, has_reserved, has_size, has_version, is_legal_size, is_tiled, le-leb}
 use Rattle.image_check.proofs.Common.{le-ltb, legal_size, length, nat_le, nat_lt, not, not_from_true, or_from}
@@ -16,7 +16,7 @@ pub record IsFrame (format : ℕ) (b : List ℕ) : Type 0 where
   pub tiled : IsTrue (is_tiled format b)
   pub tree : IsTrue (has_tree format b)
 
--- six tests one after another
+-- if the conjunction of six tests holds, each of them holds
 six : (p q r s t u : Bool) → IsTrue (p && q && r && s && t && u) → IsTrue p × IsTrue q × IsTrue r × IsTrue s
     × IsTrue t × IsTrue u
 six p q r s t u h =
@@ -27,7 +27,7 @@ six p q r s t u h =
     let one = and_parts p q two.0 in
     (one.0, one.1, two.1, three.1, four.1, five.1)
 
--- and back
+-- if each of six tests holds, their conjunction holds
 from_six : (p q r s t u : Bool) → IsTrue p → IsTrue q → IsTrue r → IsTrue s → IsTrue t → IsTrue u
     → IsTrue (p && q && r && s && t && u)
 from_six p q r s t u a b c d e f =
@@ -51,18 +51,18 @@ IsFrame-has_frame format b f =
 
 -- ---- the size
 
--- the size word of a whole image is a legal size, its length
+-- the size word of a whole image is a legal size, and equal to the length of the image
 pub record HasWholeSize (b : List ℕ) : Type 0 where
   pub legal : IsTrue (is_legal_size (size_word b))
   pub same : size_word b ≡ length b
 
--- the test of the size is exact
+-- an image that passes the test of the size is whole
 pub has_whole_size-HasWholeSize : (b : List ℕ) → IsTrue (has_whole_size b) → HasWholeSize b
 has_whole_size-HasWholeSize b h =
     let parts = and_parts (is_legal_size (size_word b)) (size_word b == length b) h in
     record { legal = parts.0; same = eqb-true (size_word b) (length b) parts.1 }
 
--- and a size that meets this passes the test
+-- a whole image passes the test of the size
 pub HasWholeSize-has_whole_size : (b : List ℕ) → HasWholeSize b → IsTrue (has_whole_size b)
 HasWholeSize-has_whole_size b s =
     and_from (is_legal_size (size_word b)) (size_word b == length b) s.legal (eq-eqb (size_word b) (length b) s.same)

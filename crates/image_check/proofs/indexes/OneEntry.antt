@@ -1,4 +1,4 @@
--- One more entry is entered at its object.
+-- One more index entry: the check enters its link at the object to which the link leads.
 use Rattle.image_check.proofs.Common.{Block, Blocks, EntersLink, IsBlockAt, IsTileAt, List, None, NotesEntries, Option}
 use Rattle.image_check.proofs.Common.{Owner, Role, Some, Tile, [], and_parts, ap, block_at, cases_Bool, cases_eq, cond}
 use Rattle.image_check.proofs.Common.{cond-false, cond-true, entry_in, false, false≢true, frame_of, frames, good_for}
@@ -14,7 +14,7 @@ use Rattle.image_check.proofs.shared_blocks.OneLink.{put-other, put-same}
 use Rattle.image_check.proofs.block_collection.UsedTile.{same_role-is}
 use mathlib.Core.Logic.{inl, inr}
 
--- ---- one block in the place of another
+-- ---- one block replaces another
 
 frame-if : (n k : ℕ) (c b w : Block) (es fs : Blocks) (x : Bool) → w.role ≡ b.role → w.len ≡ b.len
     → (block_at es n ≡ Some b → frames fs ≡ frames es) → cond x (Some c) (block_at es n) ≡ Some b
@@ -80,7 +80,7 @@ module _ (ts : List Tile) (old es new : Blocks) (root place : ℕ) (xs : List �
   index-there : (q : ℕ) → q ≢ n → index_of new q ≡ index_of es q
   index-there q d = ap (λ o. root_in (entry_in o)) (there q d)
 
-  -- the object had no entry
+  -- the object had no entry in `es`, just before this entry
   index-before : index_of es n ≡ None
   index-before = ap (λ o. root_in (entry_in o)) e.is
       ∙ ap root_in (entry-of-object e.block object ∙ (new-object e.block e.new_block).1)
@@ -148,7 +148,7 @@ module _ (ts : List Tile) (old es new : Blocks) (root place : ℕ) (xs : List �
     | inr h ↦ h
   ]
 
-  -- the object had no entry before
+  -- the object had no entry in `old`, before the first entry
   pub new-before : index_of old n ≡ None
   new-before = sym (cond-false (is_among xs n) (Some root) (index_of old n) not-before) ∙ sym (a.entered n)
       ∙ index-before

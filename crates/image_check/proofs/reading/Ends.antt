@@ -1,17 +1,8 @@
--- The number of ends that a reader met in a call that makes no read after the end, or in two calls of which the first
--- met none.
-use Rattle.image_check.proofs.Common.{arith, false, if◌then◌else◌, true, ℕ, ◌+◌, ◌≡◌, ◌≤◌}
+-- The number of ends that a reader met in two calls that make no read after the end, of which the first met none.
+use Rattle.image_check.proofs.Common.{arith, false, if◌then◌else◌, true, ℕ, ◌+◌, ◌≡◌}
 use Rattle.std.proofs.Common.{Bool}
-use Rattle.raw_region.specs.Device.{EndsAtMostOnce, ReaderHistory}
+use Rattle.raw_region.specs.Device.{ReaderHistory}
 use Rattle.image_check.specs.Opening.{AsksToTheEnd}
-
-few : (old n : ℕ) (b : Bool) → n ≡ old + (if b then 1 else 0) → n ≤ old + 1
-few old n true e = omega arith
-few old n false e = omega arith
-
--- at most one
-pub ends_at_most_once : (old new : ReaderHistory) → AsksToTheEnd old new → EndsAtMostOnce old new
-ends_at_most_once old new e = few old.ends new.ends new.ended e
 
 both : (a b c n : ℕ) (e : Bool) → b ≡ a + (if e then 1 else 0) → e ≡ false → c ≡ b + n → c ≡ a + n
 both a b c n true first going next = absurd (cc)

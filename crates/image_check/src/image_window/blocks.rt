@@ -1,6 +1,6 @@
-//! The map of the blocks in use. It counts each look-up.
+//! A table of the blocks in use. Each look-up counts as one visit.
 ghost use Rattle.std.specs.Prelude.{◌≡◌, ◌+◌, ◌^◌, ◌++◌, ◌∷◌, ◌<◌, ◌≤◌, [], nat_eq, length, IfSome, IfNone, None, Some};
-ghost use Rattle.std.specs.Prelude.{slice_get};
+ghost use Rattle.std.specs.Prelude.{IsTrue, slice_get};
 ghost use Rattle.std.specs.Map.{set_value};
 ghost use Rattle.indexmap.specs.IndexMap.{IsEmpty, spare};
 ghost use Rattle.image_check.specs.Owners.{block_at};
@@ -31,7 +31,7 @@ impl Model for BlockTable {
 }
 
 impl BlockTable {
-    /// Makes an empty table over a map with its room.
+    /// Makes an empty table over an empty map. The table has the room of the map.
     pub(crate) fn new(map: IndexMap<u32, Row>) -> BlockTable
         requires { IsEmpty map }
         ensures entries { result.entries ≡ [] }
@@ -40,11 +40,45 @@ impl BlockTable {
         BlockTable { map }
     }
 
-    /// Returns the number of the block whose payload begins at `target`.
-    fn number_of(&self, target: u64) -> Option<usize>
+    /// Guesses the number of the block at `target`. The guess is right if all blocks from number `near` to this block
+    /// are of one length.
+    fn number_by_length(&self, near: usize, target: u64) -> usize {
+        let Some((payload, row)) = self.map.get_index(near) else {
+            return near;
+        };
+        let from = *payload as u64;
+        let steps = from.abs_diff(target).checked_div(row.block().len as u64);
+        let count = steps.unwrap_or(0) as usize;
+        if from <= target {
+            near.wrapping_add(count)
+        } else {
+            near.wrapping_sub(count)
+        }
+    }
+
+    /// Returns true if there is a block with the number `nth`, and its payload begins at `target`.
+    fn begins_at(&self, nth: usize, target: u64) -> bool
+        ensures { IsTrue result → IsRow self.now.entries target nth }
+    {
+        match self.map.get_index(nth) {
+            Some((payload, _)) => *payload as u64 == target,
+            None => false,
+        }
+    }
+
+    /// Returns the number of the block whose payload begins at `target`. The search is fast if the blocks from number
+    /// `near` to this block are of one length, and correct for any `near`.
+    fn number_of(&self, near: usize, target: u64) -> Option<usize>
         ensures search { IfSome result (IsRow self.now.entries target) }
         ensures absent { IfNone result (block_at self.now.entries target ≡ None) }
     {
+        if self.begins_at(near, target) {
+            return Some(near);
+        }
+        let guess = self.number_by_length(near, target);
+        if self.begins_at(guess, target) {
+            return Some(guess);
+        }
         match u32::try_from(target) {
             Ok(payload) => self.map.get_index_of(&payload),
             Err(_) => None,
@@ -80,18 +114,23 @@ impl BlockTable {
     }
 
     /// Returns the block whose payload begins at `target`. The caller counts the visit.
-    pub(super) fn get(&self, target: u64) -> Option<Block>
+    pub(super) fn get(&self, near: usize, target: u64) -> Option<Block>
         ensures { result ≡ block_at self.now.entries target }
     {
-        match self.number_of(target) {
+        match self.number_of(near, target) {
             Some(number) => Some(self.entry(number).1),
             None => None,
         }
     }
 
-    /// Returns the block whose payload begins at `target`, after its number and `target` in four bytes. It takes one
-    /// visit.
-    pub(crate) fn find(&self, target: u64, visits: &mut VisitCounter) -> Option<(usize, u32, Block)>
+    /// Finds the block whose payload begins at `target`. Returns its number, `target` as a `u32`, and the block. The
+    /// search is fast if the blocks from number `near` to this block are of one length. It takes one visit.
+    pub(crate) fn find(
+        &self,
+        near: usize,
+        target: u64,
+        visits: &mut VisitCounter,
+    ) -> Option<(usize, u32, Block)>
         ensures number { IfSome result (λ found. IsRow self.now.entries target found.0) }
         ensures payload { IfSome result (λ found. found.1 ≡ target) }
         ensures block { IfSome result (λ found. block_at self.now.entries target ≡ Some found.2) }
@@ -99,7 +138,7 @@ impl BlockTable {
         ensures visits { visits.new ≡ visits.old + 1 }
     {
         visits.visit();
-        match self.number_of(target) {
+        match self.number_of(near, target) {
             Some(number) => {
                 let (payload, block) = self.entry(number);
                 Some((number, payload, block))
@@ -108,20 +147,11 @@ impl BlockTable {
         }
     }
 
-    /// Returns the block whose payload begins at `target`. It takes one visit.
-    pub(crate) fn block_of(&self, target: u64, visits: &mut VisitCounter) -> Option<Block>
-        ensures value { result ≡ block_at self.now.entries target }
-        ensures visits { visits.new ≡ visits.old + 1 }
-    {
-        visits.visit();
-        self.get(target)
-    }
-
-    /// Returns the block whose payload begins at `target`. It is fast if the block has the number `guess`, and correct
-    /// for any guess. It takes one visit.
-    pub(crate) fn block_near(
+    /// Returns the block whose payload begins at `target`. The search is fast if the blocks from number `near` to this
+    /// block are of one length. It takes one visit.
+    pub(crate) fn block_of(
         &self,
-        guess: usize,
+        near: usize,
         target: u64,
         visits: &mut VisitCounter,
     ) -> Option<Block>
@@ -129,16 +159,10 @@ impl BlockTable {
         ensures visits { visits.new ≡ visits.old + 1 }
     {
         visits.visit();
-        if guess < self.map.len() {
-            let (payload, block) = self.entry(guess);
-            if payload as u64 == target {
-                return Some(block);
-            }
-        }
-        self.get(target)
+        self.get(near, target)
     }
 
-    /// Replaces the block with this number, at `target`. It takes one visit.
+    /// Puts `block` in place of the block number `number`, whose payload begins at `target`. It takes one visit.
     pub(crate) fn put(
         &mut self,
         number: usize,
@@ -164,7 +188,7 @@ impl BlockTable {
         ensures visits { visits.new ≡ visits.old + 1 }
     {
         visits.visit();
-        // There is room, so it allocates no memory.
+        // There is room, so `insert` allocates no memory.
         let _ = self.map.insert(target as u32, Row::new(block));
     }
 }

@@ -1,4 +1,4 @@
-//! The pairs of a map as the nodes of a tree, and the call that checks them and counts its steps.
+//! Checks the pairs of a map as the nodes of an ordered tree, and counts the visits of the check.
 ghost use Rattle.std.specs.Prelude.{◌≡◌, ◌↔◌, ◌+◌, ◌*◌, ◌≤◌, ◌<◌, ◌%◌, ◌^◌, true, false, ℕ, Some, IsTrue, length};
 ghost use Rattle.raw_region.specs.Memory.{bytes_of, read};
 ghost use Rattle.offset_link.specs.Link.{link_at};
@@ -21,17 +21,18 @@ use block_tags::{Role, TAG_LEN};
 use link_tree::{CheckedTree, Nodes, check};
 use seg_types::ScalarKind;
 
-/// The two links of a pair, before its key.
+/// The length of the two links of a pair. The key of the pair follows them.
 const LINKS: u64 = 16;
 
 /// The pairs of the map whose root link is at `root`, as the nodes of a tree, ordered by key.
 ///
-/// A pair is a node of the map with room for a key and a value, both of them valid. A link that leads to no pair is
-/// read as a link to its own node, which no ordered tree has.
+/// A pair is a node of the map with room for a key and a value, both of them valid. `child` reads a link to anything
+/// but a pair as a link to the node that has the link. No ordered tree has such a link, so the check fails.
 #[derive(Clone, Copy)]
 struct CheckedPairTree<'a> {
     window: &'a ImageWindow,
     blocks: &'a BlockTable,
+    near: usize,
     root: u64,
     key: ScalarKind,
     value: ScalarKind,
@@ -45,7 +46,7 @@ fn is_spelled(window: &ImageWindow, kind: ScalarKind, at: u64) -> bool
     kind.is_spelling(window.bytes(at, kind.size()))
 }
 
-/// Returns true if a payload can begin there.
+/// Returns true if a payload can begin at the offset `node`.
 #[tactic(auto, unfolding(crate::specs::FreeNodes::is_place))]
 fn is_place_in(window: &ImageWindow, node: u64) -> bool
     requires { IsTrue (is_legal_size (length window.now.bytes)) }
@@ -63,7 +64,7 @@ impl CheckedPairTree<'_> {
         ensures { result ≡ is_node_block self.now.root (pair_len self.now.key self.now.value)
             (block_at self.now.blocks.now.entries node) }
     {
-        let Some(block) = self.blocks.get(node) else {
+        let Some(block) = self.blocks.get(self.near, node) else {
             return false;
         };
         if !is_same(Role::Node, block.role) {
@@ -92,7 +93,7 @@ impl CheckedPairTree<'_> {
             && is_spelled(self.window, self.value, node + LINKS + self.key.size())
     }
 
-    /// Returns the target of the link at `at` of a node.
+    /// Returns the target of the link at `at` of a node, or the node itself if the target is no pair.
     fn child(&self, node: u64, at: u64) -> Option<u64>
         requires size { IsTrue (is_legal_size (length self.now.window.now.bytes)) }
         requires aligned { at % 8 ≡ 0 }
@@ -170,12 +171,14 @@ impl Nodes for CheckedPairTree<'_> {
     ghost agrees = { λ s sought a b x y. y };
 }
 
-/// Returns the result of the check of the map at `map` as an ordered tree of its pairs. It takes two visits for the
-/// root, a look-up and a read. It takes five for each step, which reads a node, and looks up and reads the nodes behind
-/// its two links.
+/// Checks that the pairs of the map at `map` are an ordered tree, and returns how many pairs and steps there were.
+///
+/// Counts two visits for the root, a look-up and a read. Counts five visits for each step: one to read the node, and a
+/// look-up and a read for each of the two nodes to which it links.
 pub(crate) fn check_pairs(
     window: &ImageWindow,
     blocks: &BlockTable,
+    near: usize,
     visits: &mut VisitCounter,
     key: ScalarKind,
     value: ScalarKind,
@@ -197,6 +200,7 @@ pub(crate) fn check_pairs(
     let pairs = CheckedPairTree {
         window,
         blocks,
+        near,
         root: map.at,
         key,
         value,

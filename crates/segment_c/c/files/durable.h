@@ -33,6 +33,7 @@ static zx_code lengthen(zx_file *file, struct zx_held_file *held, uint64_t size,
         return fault(file);
     (void)zx_detach(&file->segment, &memory);
     held->len = wanted;
+    held->is_watched = false;
     return attach(file, held, size, ZX_WRITE);
 }
 
@@ -167,15 +168,31 @@ static bool forget_alike(const struct zx_held_file *held, const struct record *r
     return true;
 }
 
+/* Notes the pages that may have changed since the last commit: those that were written, or all that are own. Returns
+   whether the system told. */
+static bool find_since(struct zx_held_file *held, uint64_t pages, uint8_t *noted) {
+    struct commits *commits = held->commits;
+    commits->is_untold |= !find_written(held, pages, commits->written);
+    if (commits->is_untold) return find_own(held->at, pages, noted);
+    memcpy(noted, commits->written, pages);
+    return true;
+}
+
+/* Forgets what was written up to a commit that is done. */
+static void forget_written(struct commits *commits, uint64_t pages) {
+    memset(commits->written, 0, pages);
+    commits->is_untold = false;
+}
+
 /* Finds the pages that changed since the last commit, and their edits. */
-static zx_code find_record(zx_file *file, const struct zx_held_file *held, struct record *record) {
+static zx_code find_record(zx_file *file, struct zx_held_file *held, struct record *record) {
     zx_code code = zx_size(&file->segment, &record->size);
     if (code != ZX_DONE) return code;
     record->len = 8 + FRONT;
     record->pages = pages_of(record->size);
     record->changed = malloc(record->pages);
     if (!record->changed) return ZX_NO_MEMORY;
-    bool is_told = find_own(held, record->pages, record->changed);
+    bool is_told = find_since(held, record->pages, record->changed);
     // behind an end that moved each page has another share
     uint64_t before = held->commits->len, moved = record->pages;
     if (before != record->size) moved = (before < record->size ? before : record->size) / PAGE;
@@ -285,6 +302,7 @@ static void note_record(const zx_file *file, struct zx_held_file *held, const st
     for (uint64_t page = 0; (page = next_noted(record->changed, record->pages, page)) < record->pages; page++)
         keep_page(commits, held->at, record->size, page);
     free_pages(commits, record->pages, pages_of(commits->len));
+    forget_written(commits, pages_of(record->size > commits->len ? record->size : commits->len));
     commits->len = record->size;
     commits->after += record->share;
     commits->end += record->len;
@@ -369,11 +387,22 @@ static zx_code take_log(zx_file *file, struct zx_held_file *held) {
     return code;
 }
 
+/* Brings what the opening found to the disk. Another process may have removed a log, or replaced or written the file, and
+   not have synced that: then a commit that has nothing to write would be lost all the same. */
+static zx_code sync_found(zx_file *file, struct zx_held_file *held) {
+    if (held->commits->is_synced) return ZX_DONE;
+    if (!sync_one(held->file)) return fault(file);
+    zx_code code = synced(sync_name(file, held));
+    held->commits->is_synced = code == ZX_DONE;
+    return code;
+}
+
 /* Commits the pages that changed. */
 static zx_code commit_pages(zx_file *file, struct zx_held_file *held) {
     struct record record = { 0 };
     if (held->commits->is_unsure) return faulty(file, ZX_FILE_UNSURE, EIO);
     zx_code code = still_named(file, held);
+    if (code == ZX_DONE) code = sync_found(file, held);
     if (code == ZX_DONE) code = take_log(file, held);
     if (code != ZX_DONE || is_committed(file)) return code;
     code = find_record(file, held, &record);
@@ -386,7 +415,10 @@ static zx_code commit_pages(zx_file *file, struct zx_held_file *held) {
         if (code == ZX_DONE) code = write_record(file, held, &record);
         if (code == ZX_DONE) note_record(file, held, &record);
     }
-    if (is_same_image) held->saved = file->segment.changes;
+    if (is_same_image) {
+        held->saved = file->segment.changes;
+        forget_written(held->commits, record.pages);
+    }
     free(record.changed);
     if (held->commits->buffer.len > LONG_BUFFER) free_buffer(held->commits);
     return code;
@@ -405,6 +437,7 @@ static zx_code empty_log(zx_file *file, struct zx_held_file *held) {
 static void map_committed(struct zx_held_file *held) {
     struct commits *commits = held->commits;
     int protection = PROT_READ | PROT_WRITE;
+    held->is_watched = false;
     if (mmap(held->at, commits->len, protection, MAP_PRIVATE | MAP_FIXED, held->file, 0) == MAP_FAILED) return;
     free_pages(commits, 0, pages_of(held->len));
 }
@@ -466,53 +499,5 @@ zx_code zx_file_commit(zx_file *file) {
     if (held->steps > 0) return faulty(file, ZX_FILE_IN_STEP, EBUSY);
     zx_code code = commit_pages(file, held);
     if (code == ZX_DONE) shorten_log(file, held);
-    return answered(file, code);
-}
-
-/* ---- transactions of files, ended */
-
-zx_code zx_file_keep(zx_file *file, zx_step *before) {
-    struct zx_held_file *held = file->held;
-    file->error = 0;
-    if (!before->kept) {
-        zx_commit(&before->copy);
-        return ZX_DONE;
-    }
-    bool is_open = held && held->mapped && held->steps > 0 && is_own(held);
-    bool is_last = is_open && held->steps == 1;
-    zx_code code = !is_last            ? (zx_code)ZX_DONE
-                   : is_durable(held)  ? commit_pages(file, held)
-                   : held->state != READ ? share_own(file, held)
-                                         : (zx_code)ZX_DONE;
-    if (code != ZX_DONE && code != ZX_FILE_UNSURE) return answered(file, code);
-    free_kept(before);
-    if (is_open) held->steps--;
-    if (is_last && code == ZX_DONE && is_durable(held)) shorten_log(file, held);
-    if (is_last && is_shared_writer(held)) (void)fit(file, ZX_DONE);
-    return answered(file, code);
-}
-
-void zx_file_leave(zx_file *file, zx_step *before) {
-    struct zx_held_file *held = file->held;
-    file->error = 0;
-    zx_commit(&before->copy);
-    if (!before->kept) return;
-    free_kept(before);
-    if (!held || !held->mapped || held->steps == 0 || !is_own(held)) return;
-    if (held->steps == 1 && is_shared_writer(held)) (void)share_own(file, held);
-    held->steps--;
-}
-
-zx_code zx_file_undo(zx_file *file, zx_step *before) {
-    struct zx_held_file *held = file->held;
-    file->error = 0;
-    if (!before->kept) return zx_file_rollback(file, &before->copy);
-    if (!held || !held->mapped || held->steps == 0 || !file->segment.at) return ZX_CLOSED;
-    bool was_clean = is_durable(held) && before->kept->count == 0 && before->kept->size == held->commits->len;
-    zx_code code = undo_pages(file, held, before->kept);
-    if (code != ZX_DONE && file->segment.at) return answered(file, code);
-    if (was_clean && code == ZX_DONE) held->saved = file->segment.changes;
-    free_kept(before);
-    held->steps--;
     return answered(file, code);
 }

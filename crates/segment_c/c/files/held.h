@@ -3,12 +3,15 @@
 #include <fcntl.h>
 #include <limits.h>
 #include <linux/magic.h>
+#include <linux/userfaultfd.h>
+#include <malloc.h>
 #include <pthread.h>
 #include <stdio.h>
 #include <stdlib.h>
 #include <sys/file.h>
 #include <sys/ioctl.h>
 #include <sys/mman.h>
+#include <sys/resource.h>
 #include <sys/stat.h>
 #include <sys/statfs.h>
 #include <sys/sysmacros.h>
@@ -16,6 +19,7 @@
 #include <time.h>
 #include <unistd.h>
 
+#include "blocks.h"
 #include "system.h"
 
 enum { LARGEST = 1 << 30, TRIES = 64, SPARES = 8, PAGE = 4096, PIECE = 8 * PAGE };
@@ -41,6 +45,8 @@ struct zx_held_file {
     unsigned steps;            /* open transactions that keep pages */
     struct commits *commits;   /* of a file that is durable, or null */
     int log;                   /* the log beside the file; -1 if none is open */
+    int watch;                 /* by which the system notes the pages that are written; -1 if there is none */
+    bool is_watched;           /* whether it does so for each page of the mapping */
     unsigned forks;            /* of the process that opened it */
     int folder;                /* of the name; AT_FDCWD for a mapped file that existed, whose name is a path */
     int file;                  /* with its lock; -1 if none exists under the name */
@@ -104,15 +110,29 @@ static unsigned forks; /* how often this process was forked off, with its parent
 
 static bool is_own(const struct zx_held_file *held) { return held->forks == forks; }
 
-static void before_fork(void) { pthread_mutex_lock(&guard); }
-static void after_fork(void) { pthread_mutex_unlock(&guard); }
+static void share_grounds(void);
+
+static void before_fork(void) {
+    pthread_mutex_lock(&guard);
+    rattle_hold_blocks();
+}
+
+/* Ends what before_fork began, in both processes. */
+static void end_fork(void) {
+    share_grounds();
+    rattle_let_blocks_go();
+    pthread_mutex_unlock(&guard);
+}
+
+static void after_fork(void) { end_fork(); }
 
 static void close_all(struct zx_held_file *held) {
     if (held->file >= 0) close(held->file);
     if (held->made >= 0) close(held->made);
     if (held->folder >= 0) close(held->folder);
     if (held->log >= 0) close(held->log);
-    held->file = held->made = held->folder = held->log = -1;
+    if (held->watch >= 0) close(held->watch);
+    held->file = held->made = held->folder = held->log = held->watch = -1;
 }
 
 static void unmap_all(struct zx_held_file *held) { munmap(held->at, held->room ? held->room : held->len); }
@@ -129,16 +149,21 @@ static void in_child(void) {
         each->mapped->changes++;
     }
     all_held = NULL;
-    pthread_mutex_unlock(&guard);
+    end_fork();
+}
+
+/* Has forks watched from now on. The guard is held. Returns false if there is no memory for that. */
+static bool watch_forks(void) {
+    if (!is_watching) is_watching = pthread_atfork(before_fork, after_fork, in_child) == 0;
+    return is_watching;
 }
 
 /* Puts a file into the list, before it is opened. Frees it, and returns null, if there is no memory to watch forks. */
 static struct zx_held_file *enlist(struct zx_held_file *held) {
     held->forks = forks;
-    held->file = held->made = held->log = -1;
+    held->file = held->made = held->log = held->watch = -1;
     pthread_mutex_lock(&guard);
-    if (!is_watching) is_watching = pthread_atfork(before_fork, after_fork, in_child) == 0;
-    bool is_watched = is_watching;
+    bool is_watched = watch_forks();
     if (is_watched) {
         held->next = all_held;
         all_held = held;

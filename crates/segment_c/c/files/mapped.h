@@ -1,11 +1,11 @@
 /* A part of files.c: files that are mapped, and their lengths. */
 
-/* Returns the image class of bytes that an opening refused, and stores the offset that shows it in `file->place`. Also
-   replaces ZX_SHORT_REGION, the code for an image that states more bytes than there are. Returns any other code as it
-   is. */
-static zx_code explained(zx_file *file, zx_code code, const uint8_t *image, size_t len) {
-    if (code != ZX_SHORT_REGION && code < ZX_TRUNCATED) return code;
-    return zx_explain(image, len, &file->place);
+/* Returns the code of an opening whose region holds all `len` bytes of the image. ZX_SHORT_REGION then says that the
+   image states more bytes than there are: it is truncated, and its end shows that. */
+static zx_code explained(zx_file *file, zx_code code, uint64_t len) {
+    if (code != ZX_SHORT_REGION) return code;
+    file->place = len;
+    return ZX_TRUNCATED;
 }
 
 /* Opens the segment of the file's bytes. */
@@ -21,8 +21,8 @@ static zx_code read_segment(zx_file *file, int from, uint32_t how) {
         code = fault(file);
     } else {
         uint64_t capacity = len < 16 ? 16 : ((uint64_t)len + 15) / 16 * 16;
-        code = zx_open(&file->segment, image.bytes, (size_t)len, capacity, how);
-        code = explained(file, code, image.bytes, (size_t)len);
+        code = zx_open_explained(&file->segment, image.bytes, (size_t)len, capacity, how, &file->place);
+        code = explained(file, code, (uint64_t)len);
     }
     free(image.bytes);
     return code;
@@ -31,11 +31,16 @@ static zx_code read_segment(zx_file *file, int from, uint32_t how) {
 /* Attaches the mapping, whose image has `size` bytes. */
 static zx_code attach(zx_file *file, struct zx_held_file *held, uint64_t size, uint32_t how) {
     zx_memory memory = { held->at, held->len };
-    zx_code code = zx_attach(&file->segment, &memory, size, how);
-    return explained(file, code, held->at, size);
+    zx_code code = zx_attach_explained(&file->segment, &memory, size, how, &file->place);
+    return explained(file, code, size);
 }
 
-static size_t page_size(void) { return (size_t)sysconf(_SC_PAGESIZE); }
+/* The size of a page of the system. To ask for it takes 30 instructions, and an opening needs it six times. */
+static size_t page_size(void) {
+    static size_t _Atomic size;
+    if (size == 0) size = (size_t)sysconf(_SC_PAGESIZE);
+    return size;
+}
 
 /* Returns true if the file is in a tmpfs, where pages are allocated one by one and counted as the file's blocks. */
 static bool is_in_memory(int file, const struct stat *found) {
@@ -170,9 +175,10 @@ static zx_code map(zx_file *file, struct zx_held_file *held, const struct stat *
     if (!map_listed(held, len, protection, how == ZX_WRITE ? MAP_SHARED : MAP_PRIVATE)) return fault(file);
     zx_code code = attach(file, held, len, how);
     // a process that was killed while it changed the file's length can leave bytes after the image
-    uint64_t said = code == ZX_BAD_IMAGE_SIZE ? size_said(held->at) : len;
+    uint64_t said = code == ZX_BAD_IMAGE_SIZE ? size_said(held->at) : len, shown = file->place;
     bool is_longer = said < len && attach(file, held, said, how) == ZX_DONE;
     if (is_longer) code = ZX_DONE;
+    file->place = shown;
     bool is_cut = is_longer && how == ZX_WRITE;
     if (is_cut) zx_close(&file->segment);
     if (code != ZX_DONE || is_cut) unmap_listed(held);
@@ -211,7 +217,7 @@ static zx_code remap(zx_file *file, struct zx_held_file *held, uint64_t size, ui
     struct stat found;
     if (wanted > held->len && (fstat(held->file, &found) != 0 || !allot(held->file, &found, wanted))) {
         zx_code code = fault(file);
-        if (held->steps == 0) cut(held->file, size);
+        if (held->steps == 0) cut(held->file, held->len);
         return code;
     }
     zx_detach(&file->segment, &memory);
@@ -227,7 +233,9 @@ static zx_code remap(zx_file *file, struct zx_held_file *held, uint64_t size, ui
     zx_code code = attach(file, held, size, ZX_WRITE);
     if (code == ZX_DONE && !is_done) code = faulty(file, ZX_FILE_FAULT, error);
     bool is_cut = held->steps == 0 && (code != ZX_DONE || wanted == size);
-    if (is_cut && !cut(held->file, size) && code == ZX_DONE) code = fault(file);
+    // an open segment may grow into all of its mapping, and behind the end of the file there are no pages
+    uint64_t len = file->segment.at ? held->len : size;
+    if (is_cut && !cut(held->file, len) && code == ZX_DONE) code = fault(file);
     return code;
 }
 

@@ -1,5 +1,6 @@
-/* A part of files.c: which pages of a private mapping this process changed, and transactions, which keep what the
-   pages held. A private mapping begins as the file; a page of it that is written is the process' own from then on. */
+/* A part of files.c: which pages of a private mapping this process changed, and transactions of files that are mapped,
+   which keep what the pages held. A private mapping begins as the file; a page of it that is written is the process' own
+   from then on. */
 
 /* How many entries of the page map are read at once. */
 enum { ENTRIES = 4096 };
@@ -36,18 +37,20 @@ struct range {
     uint64_t start, end, kinds;
 };
 
-enum { RANGES = 256, IS_FILE = 4, IS_PRESENT = 8, IS_SWAPPED = 16 };
+enum { RANGES = 256, PROTECT = 1, IF_WATCHED = 2, IS_WRITTEN = 2, IS_FILE = 4, IS_PRESENT = 8, IS_SWAPPED = 16 };
 
 #define SCAN _IOWR('f', 16, struct scan)
 
-/* Notes the own pages by that call. Returns false if the system does not have it. */
-static bool scan_own(int map, const struct zx_held_file *held, uint64_t pages, uint8_t *own) {
+/* Notes, beside those that are noted, the own pages by that call. For a mapping that is watched it notes those that were
+   written since the call before. Returns false if the system does not have it. */
+static bool scan_own(int map, const uint8_t *mapping, uint64_t pages, bool is_watched, uint8_t *own) {
     struct range found[RANGES] = { { 0 } }; // valgrind does not know that the call writes it
-    uint64_t from = (uintptr_t)held->at, end = from + pages * PAGE;
-    memset(own, 0, pages);
+    uint64_t from = (uintptr_t)mapping, end = from + pages * PAGE;
     for (uint64_t at = from; at < end;) {
-        struct scan scan = { .size = sizeof scan, .start = at, .end = end, .found = (uintptr_t)found, .room = RANGES,
-                             .inverted = IS_FILE, .all = IS_FILE, .any = IS_PRESENT | IS_SWAPPED, .told = IS_PRESENT };
+        struct scan scan = { .size = sizeof scan, .flags = is_watched ? PROTECT | IF_WATCHED : 0, .start = at, .end = end,
+                             .found = (uintptr_t)found, .room = RANGES, .inverted = IS_FILE,
+                             .all = is_watched ? IS_FILE | IS_WRITTEN : IS_FILE, .any = IS_PRESENT | IS_SWAPPED,
+                             .told = IS_PRESENT };
         int count = ioctl(map, SCAN, &scan);
         if (count < 0 || scan.stop <= at) return false;
         for (int i = 0; i < count; i++)
@@ -58,11 +61,11 @@ static bool scan_own(int map, const struct zx_held_file *held, uint64_t pages, u
 }
 
 /* Notes the own pages by their entries in the page map. */
-static bool read_own(int map, const struct zx_held_file *held, uint64_t pages, uint8_t *own) {
+static bool read_own(int map, const uint8_t *mapping, uint64_t pages, uint8_t *own) {
     uint64_t entries[ENTRIES];
     for (uint64_t at = 0; at < pages;) {
         size_t many = at_most(pages - at, ENTRIES);
-        ssize_t got = pread(map, entries, many * 8, (off_t)(((uintptr_t)held->at / PAGE + at) * 8));
+        ssize_t got = pread(map, entries, many * 8, (off_t)(((uintptr_t)mapping / PAGE + at) * 8));
         if (got <= 0) return false;
         for (size_t i = 0; i < (size_t)got / 8; i++) own[at + i] = is_own_page(entries[i]);
         at += (size_t)got / 8;
@@ -70,12 +73,43 @@ static bool read_own(int map, const struct zx_held_file *held, uint64_t pages, u
     return true;
 }
 
-/* Sets own[i] to 1 for each page that is own, or may be, and to 0 for the others. Returns whether the page map told. */
-static bool find_own(const struct zx_held_file *held, uint64_t pages, uint8_t *own) {
+/* Sets own[i] to 1 for each page of a mapping that is own, or may be, and to 0 for the others. Returns whether the page
+   map told. */
+static bool find_own(const uint8_t *mapping, uint64_t pages, uint8_t *own) {
     int map = open_page_map();
-    bool is_told = map >= 0 && (scan_own(map, held, pages, own) || read_own(map, held, pages, own));
+    memset(own, 0, pages);
+    bool is_told = map >= 0 && (scan_own(map, mapping, pages, false, own) || read_own(map, mapping, pages, own));
     if (map >= 0) close(map);
     if (!is_told) memset(own, 1, pages);
+    return is_told;
+}
+
+/* What Linux 6.7 and later have for a watch (linux/userfaultfd.h): no program waits for what is written to protected
+   pages, which the system notes and lets happen. */
+enum { OF_USER = 1, NOTED = 1 << 15, ALSO_ABSENT = 1 << 13 };
+
+/* Has the system watch the pages of a private mapping. Returns false if it does not do that. */
+static bool watch(struct zx_held_file *held) {
+    struct uffdio_api wanted = { .api = UFFD_API, .features = NOTED | ALSO_ABSENT };
+    struct uffdio_register all = { .range = { (uintptr_t)held->at, pages_of(held->len) * PAGE },
+                                   .mode = UFFDIO_REGISTER_MODE_WP };
+    if (held->watch < 0) {
+        pthread_mutex_lock(&guard);
+        held->watch = userfaultfd(O_CLOEXEC | OF_USER);
+        bool is_able = held->watch >= 0 && ioctl(held->watch, UFFDIO_API, &wanted) == 0;
+        pthread_mutex_unlock(&guard);
+        if (!is_able) return close_listed(&held->watch), false;
+    }
+    if (!held->is_watched) held->is_watched = ioctl(held->watch, UFFDIO_REGISTER, &all) == 0;
+    return held->is_watched;
+}
+
+/* Notes, beside those that are noted, the own pages that were written since the call before; at first all own pages.
+   Returns false if the system does not tell: then it may have forgotten some. */
+static bool find_written(struct zx_held_file *held, uint64_t pages, uint8_t *written) {
+    int map = open_page_map();
+    bool is_told = map >= 0 && watch(held) && scan_own(map, held->at, pages, true, written);
+    if (map >= 0) close(map);
     return is_told;
 }
 
@@ -102,15 +136,20 @@ struct commits {
     bool is_marked;  /* whether the two are known */
     bool is_unsure;  /* a commit failed, and may be in the log or not */
     bool is_left;    /* another process left the log: nothing is added to it, since a sync of it may have failed */
+    bool is_synced;  /* what the opening found is on the disk: the file, and which names there are */
     uint64_t end;    /* where the records of the log end */
     uint64_t room;   /* the length up to which this process allocated the log's blocks */
     uint64_t compared; /* pages that commits found the same since the last checkpoint */
     struct image buffer; /* room for a record */
+    uint8_t *written;    /* of each page: 1 if it may have changed since the last commit, by what the system told so far */
+    bool is_untold;      /* it told not all since then */
     uint8_t *kept[]; /* of each page that a commit changed, what it left; null for those that are the file's */
 };
 
-/* How many bytes that takes, for the largest image. They are mapped, since only those that are used take memory then. */
-static size_t commits_size(void) { return sizeof(struct commits) + pages_of(LARGEST) * sizeof(uint8_t *); }
+/* How many bytes that takes, for the largest image, and where the notes on pages stand in them. They are mapped, since
+   only those that are used take memory then. */
+static size_t notes_at(void) { return sizeof(struct commits) + pages_of(LARGEST) * sizeof(uint8_t *); }
+static size_t commits_size(void) { return notes_at() + pages_of(LARGEST); }
 
 /* Reads what the last commit left of a page. */
 static bool committed_page(const struct zx_held_file *held, uint64_t page, uint8_t bytes[PAGE]) {
@@ -133,19 +172,27 @@ static bool is_committed(const zx_file *file) {
 
 /* ---- transactions */
 
+struct ground;
+
 /* What pages held when a transaction began. */
 struct zx_kept {
-    uint64_t size;   /* of the image */
-    uint64_t len;    /* of the mapping */
+    uint64_t size;         /* of the image */
+    uint64_t len;          /* of the mapping */
     uint64_t count;
-    uint64_t *pages; /* rising */
-    uint8_t *bytes;  /* of each, one after another */
+    uint64_t *pages;       /* rising */
+    uint8_t *bytes;        /* of each, one after another */
+    struct ground *ground; /* of a segment in memory of the library, or null */
+    uint8_t *ends;         /* the bytes of that memory before its first whole page, and behind its last one */
 };
+
+static void leave_ground(struct ground *ground);
 
 static void free_kept(zx_step *before) {
     if (!before->kept) return;
+    if (before->kept->ground) leave_ground(before->kept->ground);
     free(before->kept->pages);
     free(before->kept->bytes);
+    free(before->kept->ends);
     free(before->kept);
     before->kept = NULL;
 }
@@ -168,7 +215,7 @@ static bool forget(const struct zx_held_file *held, uint64_t first, uint64_t beh
    again. Returns false if the file can't be read. */
 static bool find_changed(const struct zx_held_file *held, uint64_t pages, uint8_t *changed) {
     uint8_t bytes[PAGE];
-    bool is_told = find_own(held, pages, changed);
+    bool is_told = find_own(held->at, pages, changed);
     for (uint64_t page = 0; page < pages; page++) {
         changed[page] |= held->commits && held->commits->kept[page];
         if (!changed[page] || (is_told && !held->commits)) continue;
@@ -180,8 +227,8 @@ static bool find_changed(const struct zx_held_file *held, uint64_t pages, uint8_
     return true;
 }
 
-/* Copies the pages that differ. */
-static bool copy_changed(const struct zx_held_file *held, struct zx_kept *kept, const uint8_t *changed,
+/* Copies the pages that differ of `len` bytes. */
+static bool copy_changed(const uint8_t *mapping, uint64_t len, struct zx_kept *kept, const uint8_t *changed,
                          uint64_t pages) {
     for (uint64_t page = 0; page < pages; page++) kept->count += changed[page];
     kept->pages = malloc(kept->count * sizeof *kept->pages + 1);
@@ -191,7 +238,7 @@ static bool copy_changed(const struct zx_held_file *held, struct zx_kept *kept, 
     for (uint64_t page = 0; page < pages; page++) {
         if (!changed[page]) continue;
         kept->pages[at] = page;
-        memcpy(kept->bytes + at++ * PAGE, held->at + page * PAGE, page_len(held->len, page));
+        memcpy(kept->bytes + at++ * PAGE, mapping + page * PAGE, page_len(len, page));
     }
     return true;
 }
@@ -199,7 +246,7 @@ static bool copy_changed(const struct zx_held_file *held, struct zx_kept *kept, 
 static bool keep_changed(const struct zx_held_file *held, struct zx_kept *kept) {
     uint64_t pages = pages_of(kept->size);
     uint8_t *changed = malloc(pages);
-    bool is_done = changed && find_changed(held, pages, changed) && copy_changed(held, kept, changed, pages);
+    bool is_done = changed && find_changed(held, pages, changed) && copy_changed(held->at, held->len, kept, changed, pages);
     free(changed);
     return is_done;
 }
@@ -223,19 +270,6 @@ static zx_code begin_pages(zx_file *file, struct zx_held_file *held, zx_step *be
     if (code != ZX_DONE) free_kept(before);
     else held->steps++;
     return code;
-}
-
-zx_code zx_file_begin(zx_file *file, zx_step *before) {
-    struct zx_held_file *held = file->held;
-    uint32_t how;
-    file->error = 0;
-    zx_code code = zx_mode(&file->segment, &how);
-    if (code != ZX_DONE) return code;
-    if (how == ZX_READ) return ZX_READ_ONLY;
-    free_kept(before);
-    if (!held || !held->mapped) return zx_begin(&file->segment, &before->copy);
-    zx_close(&before->copy);
-    return begin_pages(file, held, before);
 }
 
 /* Writes the own pages of a transaction to the file that all see. If one can't be written, those before it get their
@@ -301,7 +335,7 @@ static zx_code undo_pages(zx_file *file, struct zx_held_file *held, const struct
     uint32_t how = ZX_WRITE;
     uint8_t *own = malloc(pages);
     if (!own) return ZX_NO_MEMORY;
-    (void)find_own(held, pages, own);
+    (void)find_own(held->at, pages, own);
     (void)zx_size(&file->segment, &size);
     (void)zx_mode(&file->segment, &how);
     zx_code code = zx_detach(&file->segment, &memory);

@@ -1,12 +1,13 @@
 /* A part of files.c: files that are opened with a log beside them. */
 
-/* Maps a file to read it. Null if that fails. */
+/* Maps a file to read all of it. Null if that fails. */
 static uint8_t *map_to_read(int file, uint64_t len) {
-    uint8_t *at = mmap(NULL, len, PROT_READ, MAP_SHARED, file, 0);
+    uint8_t *at = mmap(NULL, len, PROT_READ, MAP_SHARED | MAP_POPULATE, file, 0);
     return at == MAP_FAILED ? NULL : at;
 }
 
-/* Makes the image that the held file stands for with its log, which is open. Nobody else writes either. */
+/* Applies the open log of a held file to the bytes of the file, and stores the resulting image in `made`. Nobody
+   else writes to the file or to the log. */
 static zx_code recover(zx_file *file, const struct zx_held_file *held, uint64_t len, struct recovered *made) {
     struct stat found;
     uint8_t gate = 0;
@@ -21,7 +22,8 @@ static zx_code recover(zx_file *file, const struct zx_held_file *held, uint64_t 
     return code;
 }
 
-/* Keeps a page of the recovered image as committed. `old` is the page of the file, which has `len` bytes of it. */
+/* Keeps a page of the recovered image as committed. `old` is the same page in the file, and `len` the number of bytes
+   that the file has of that page. */
 static bool keep_recovered(struct commits *commits, const struct image *image, uint64_t page, const uint8_t *old,
                            size_t len) {
     commits->kept[page] = malloc(PAGE);
@@ -32,9 +34,9 @@ static bool keep_recovered(struct commits *commits, const struct image *image, u
     return true;
 }
 
-/* Puts the recovered image into the mapping of a file of `len` bytes: only the pages that differ become own. For a file
-   that is committed these are kept, and those whose length differs. Returns false without memory (errno is 0), or if
-   the file can't be read. */
+/* Copies the recovered image into the mapping of a file of `len` bytes. Writes only the pages that differ, because each
+   written page becomes a private copy. For a file with commits, also keeps each page whose bytes or length differ.
+   Returns false if there is no memory (errno is 0), or if the file can't be read. */
 static bool lay_over(const struct zx_held_file *held, uint64_t len, const struct image *image) {
     struct commits *commits = held->commits;
     uint8_t bytes[PAGE];
@@ -54,7 +56,7 @@ static bool lay_over(const struct zx_held_file *held, uint64_t len, const struct
     return true;
 }
 
-/* Maps a file privately, with what its log says. */
+/* Maps a file privately, and applies the records of its log to the mapping. */
 static zx_code map_recovered(zx_file *file, struct zx_held_file *held, uint64_t len, uint64_t room,
                              struct recovered *made) {
     zx_code code = recover(file, held, len, made);
@@ -71,7 +73,7 @@ static zx_code map_recovered(zx_file *file, struct zx_held_file *held, uint64_t 
     return code;
 }
 
-/* Maps a file that is read, with what its log says. */
+/* Maps a file that is only read, applies the records of its log to the mapping, and opens the segment. */
 static zx_code read_recovered(zx_file *file, struct zx_held_file *held, uint64_t len, uint32_t how) {
     struct recovered made;
     zx_code code = map_recovered(file, held, len, 0, &made);
@@ -83,13 +85,14 @@ static zx_code read_recovered(zx_file *file, struct zx_held_file *held, uint64_t
     return code;
 }
 
-/* Begins the commits of a file that is mapped, with what its log, if there is one, says. */
+/* Maps a file and begins its commits. Applies the records of its log to the mapping, if there is a log. */
 static zx_code begin_commits(zx_file *file, struct zx_held_file *held, uint64_t len) {
     struct recovered made = { .end = 0 };
     uint64_t room = pages_of(LARGEST) * PAGE;
     void *commits = mmap(NULL, commits_size(), PROT_READ | PROT_WRITE, MAP_PRIVATE | MAP_ANONYMOUS, -1, 0);
     if (commits == MAP_FAILED) return ZX_NO_MEMORY;
     held->commits = commits;
+    held->commits->written = (uint8_t *)commits + notes_at();
     zx_code code = open_log(file, held);
     if (code != ZX_DONE) return code;
     if (held->log < 0)
@@ -120,9 +123,9 @@ static zx_code open_durable(zx_file *file, struct zx_held_file *held, const stru
     return ZX_DONE;
 }
 
-/* ---- a log, where its file is opened otherwise */
+/* ---- the log of a file that is written without commits */
 
-/* Opens the folder of a file whose name is a path, and keeps its last name. */
+/* Opens the folder of a file whose name is a path, and shortens the name to the last part of the path. */
 static zx_code open_folder(zx_file *file, struct zx_held_file *held) {
     const char *name = last_name(held->name);
     size_t before = (size_t)(name - held->name);
@@ -139,7 +142,7 @@ static zx_code open_folder(zx_file *file, struct zx_held_file *held) {
     return code;
 }
 
-/* Makes the file what it stands for with its log. */
+/* Applies the records of the log to the file: replaces the file, and empties the log. */
 static zx_code replace_recovered(zx_file *file, struct zx_held_file *held, uint64_t len) {
     struct recovered made = { .end = 0 };
     zx_code code = len > 0 ? recover(file, held, len, &made) : (zx_code)ZX_DONE;
@@ -152,7 +155,7 @@ static zx_code replace_recovered(zx_file *file, struct zx_held_file *held, uint6
     return code;
 }
 
-/* Before a file is written otherwise than by commits, the records of its log become the file, and the log ends. */
+/* Applies the records of the log to the file and ends the log, before the file is written without commits. */
 static zx_code settle_log(zx_file *file, struct zx_held_file *held, struct stat *found) {
     zx_code code = open_log(file, held);
     if (code != ZX_DONE || held->log < 0) return code;
@@ -164,17 +167,17 @@ static zx_code settle_log(zx_file *file, struct zx_held_file *held, struct stat 
     return code == ZX_DONE && fstat(held->file, found) != 0 ? fault(file) : code;
 }
 
-/* Removes the log of a file that does not exist, or whose bytes are replaced whatever they are. */
+/* Removes the log of a file that does not exist, or whose bytes don't matter because all of them are replaced. */
 static zx_code drop_log(zx_file *file, struct zx_held_file *held) {
     char log[PATH_MAX + 8];
     bool is_gone = name_log(held->name, log) && unlinkat(held->folder, log, 0) == 0;
     return is_gone ? synced(sync_name(file, held)) : (zx_code)ZX_DONE;
 }
 
-/* ---- a file that is read while another may write it */
+/* ---- a file that is read while another process may write it */
 
-/* Opens the segment of the image that a file stands for with its log, which was read before. Returns
-   ZX_FILE_LOG_FOREIGN if another process changed the file between the two readings. */
+/* Reads a file, applies `log` to it and opens the segment. The caller read the log before the file. Returns
+   ZX_FILE_LOG_FOREIGN if another process changed the file between the two reads. */
 static zx_code read_with_log(zx_file *file, int from, const struct image *log, uint32_t how) {
     struct stat found;
     struct recovered made;
@@ -188,15 +191,17 @@ static zx_code read_with_log(zx_file *file, int from, const struct image *log, u
                         : replay(file, image.bytes, (uint64_t)len, log, &made);
     if (code == ZX_DONE) {
         const struct image *whole = made.end > 0 ? &made.image : &image;
-        code = zx_open(&file->segment, whole->bytes, whole->len, (whole->len + 15) / 16 * 16, how);
-        code = explained(file, code, whole->bytes, whole->len);
+        uint64_t capacity = (whole->len + 15) / 16 * 16;
+        code = zx_open_explained(&file->segment, whole->bytes, whole->len, capacity, how, &file->place);
+        code = explained(file, code, whole->len);
         free(made.image.bytes);
     }
     free(image.bytes);
     return code;
 }
 
-/* Opens the log of a path that is read, and reads it. No bytes if there is none, or none that counts. */
+/* Opens and reads the log of the file at `path`. Leaves `log` without bytes if there is no log, or if its first byte is
+   not 1, so that it does not count. */
 static zx_code log_of(zx_file *file, const char *path, struct image *log) {
     char name[PATH_MAX + 8];
     *log = (struct image){ NULL, 0 };

@@ -1,6 +1,14 @@
 /* A part of files.c: the calls of the system that it makes, and those for memory. A test compiles it with
    ZX_TEST_SYSTEM, and then each of them goes through one table of functions, which the test fills; ZX_TEST_TABLE gives
    the test the table alone. In the library they are the system's own. */
+#ifndef ZX_FILES_SYSTEM_H
+#define ZX_FILES_SYSTEM_H
+
+#include <sys/syscall.h>
+
+/* The C library has no function for this call. */
+static inline int userfaultfd(int how) { return (int)syscall(SYS_userfaultfd, how); }
+
 #if defined ZX_TEST_SYSTEM || defined ZX_TEST_TABLE
 
 struct zx_system {
@@ -35,9 +43,12 @@ struct zx_system {
     int (*munmap)(void *at, size_t len);
     int (*msync)(void *at, size_t len, int how);
     int (*madvise)(void *at, size_t len, int advice);
+    int (*memfd_create)(const char *name, unsigned how);
+    int (*userfaultfd)(int how);
     int (*close)(int file);
     void *(*malloc)(size_t size);
     void *(*calloc)(size_t count, size_t size);
+    void (*free)(void *at);
     char *(*realpath)(const char *path, char *found);
     int (*pthread_atfork)(void (*before)(void), void (*after)(void), void (*in_child)(void));
 };
@@ -78,10 +89,15 @@ extern struct zx_system zx_system;
 #define munmap(at, len) zx_system.munmap(at, len)
 #define msync(at, len, how) zx_system.msync(at, len, how)
 #define madvise(at, len, advice) zx_system.madvise(at, len, advice)
+#define memfd_create(name, how) zx_system.memfd_create(name, how)
+#define userfaultfd(how) zx_system.userfaultfd(how)
 #define close(file) zx_system.close(file)
 #define malloc(size) zx_system.malloc(size)
 #define calloc(count, size) zx_system.calloc(count, size)
+#define free(at) zx_system.free(at)
 #define realpath(path, found) zx_system.realpath(path, found)
 #define pthread_atfork(before, after, in_child) zx_system.pthread_atfork(before, after, in_child)
+
+#endif
 
 #endif

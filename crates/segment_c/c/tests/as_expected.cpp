@@ -7,10 +7,12 @@
 #include <chrono>
 #include <csignal>
 #include <cstdio>
+#include <cstdlib>
 #include <deque>
 #include <iostream>
 #include <limits>
 #include <list>
+#include <new>
 #include <numeric>
 #include <set>
 #include <sstream>
@@ -33,6 +35,21 @@ using u8 = std::uint8_t;
 using u16 = std::uint16_t;
 using u32 = std::uint32_t;
 using u64 = std::uint64_t;
+
+/* The most bytes that a thread asked for at once. */
+static thread_local std::size_t most_asked;
+
+void *operator new(std::size_t size) {
+    most_asked = std::max(most_asked, size);
+    if (void *at = std::malloc(size ? size : 1)) return at;
+    throw std::bad_alloc();
+}
+void *operator new(std::size_t size, const std::nothrow_t &) noexcept {
+    most_asked = std::max(most_asked, size);
+    return std::malloc(size ? size : 1);
+}
+void operator delete(void *at) noexcept { std::free(at); }
+void operator delete(void *at, std::size_t) noexcept { std::free(at); }
 
 namespace {
 
@@ -448,6 +465,14 @@ void own_types() {
     for (i32 n = 0; n < 100; n++) v.push_back({0.5 * n, n, n, n});
     IS(v.size() == 100 && v.capacity() >= 100 && v.back()->stock == 99);
     IS(v.pop_back().article == 99);
+    // it removes the last value, and copies no other
+    auto large = segment::create(1 << 20);
+    const auto many = large.vector<item>("many");
+    for (i32 n = 0; n < 4000; n++) many.push_back({0.5 * n, n, n, n});
+    most_asked = 0;
+    for (i32 n = 3999; n >= 3900; n--) IS(many.pop_back().article == n);
+    IS(most_asked < 4000);
+    IS(many.size() == 3900 && many.back()->article == 3899);
     v.erase(0);
     v.insert(1, first);
     IS(v[1] == first && v.size() == 99);

@@ -250,8 +250,9 @@ struct zx_system zx_system = {
     .flock = flock, .ioctl = disk_ioctl, .lstat = lstat, .stat = stat, .fstat = fstat, .fstatat = fstatat, .fstatfs = fstatfs,
     .fchmod = fchmod, .fchown = fchown, .fgetxattr = fgetxattr, .fsetxattr = fsetxattr, .fremovexattr = fremovexattr,
     .flistxattr = flistxattr, .linkat = disk_linkat, .renameat = disk_renameat, .unlinkat = disk_unlinkat, .mmap = mmap,
-    .mremap = disk_mremap, .munmap = munmap, .msync = msync, .madvise = madvise, .close = close, .malloc = disk_malloc,
-    .calloc = disk_calloc, .realpath = realpath, .pthread_atfork = pthread_atfork,
+    .mremap = disk_mremap, .munmap = munmap, .msync = msync, .madvise = madvise, .memfd_create = memfd_create, .userfaultfd = userfaultfd,
+    .close = close, .malloc = disk_malloc,
+    .calloc = disk_calloc, .free = free, .realpath = realpath, .pthread_atfork = pthread_atfork,
 };
 
 /* ---- states that the power may leave */
@@ -338,8 +339,11 @@ static void judge_state(void) {
     free(made.image.bytes);
 }
 
+/* How many states are built at each moment. */
+static int each_time = 24;
+
 static void at_moment(void) {
-    for (int i = 0; i < 24 && states < most_states; i++) judge_state();
+    for (int i = 0; i < each_time && states < most_states; i++) judge_state();
 }
 
 /* ---- runs */
@@ -512,7 +516,8 @@ static bool act_once(void) {
     return true;
 }
 
-static void run(void) {
+/* Creates the file, and begins with it. */
+static void begin_run(void) {
     is_noted = false;
     fuse = 0;
     (unlinkat)(AT_FDCWD, path, 0);
@@ -530,6 +535,42 @@ static void run(void) {
     begin_disk();
     set_image();
     is_noted = true;
+}
+
+static void end_run(void) {
+    is_noted = false;
+    fuse = 0;
+    zx_file_discard(&file);
+}
+
+/* One call of a commit fails, and then one of the end of the file. The process ends without more, and the next one commits
+   what it finds: then nothing that the first one did not sync counts. */
+static void fail_twice(uint64_t first, uint64_t second) {
+    each_time = 2;
+    begin_run();
+    change();
+    commit_once();
+    change();
+    has_failed = true;
+    fuse = calls + first;
+    add_image();
+    note_answer(zx_file_commit(&file), true);
+    fuse = calls + second;
+    add_image();
+    zx_code code = zx_file_close(&file);
+    fuse = 0;
+    if (code == ZX_DONE) {
+        struct bytes last = may[may_count - 1];
+        may[may_count - 1] = may[0], may[0] = last, may_count = 1;
+    } else zx_file_discard(&file);
+    if (open_again(may_count > 1) && may_count < MAY) commit_once();
+    each_time = 24;
+    at_moment();
+    end_run();
+}
+
+static void run(void) {
+    begin_run();
     for (uint64_t acts = 5 + some(40); acts > 0 && states < most_states; acts--) {
         if (some(8)) change();
         has_failed = false;
@@ -538,8 +579,7 @@ static void run(void) {
         fuse = 0;
         at_moment();
     }
-    is_noted = false;
-    zx_file_discard(&file);
+    end_run();
 }
 
 int main(int count, char **words) {
@@ -552,6 +592,7 @@ int main(int count, char **words) {
     if (mkdir(folder, 0700) != 0) return 2;
     most_states = strtoull(words[2], NULL, 10);
     uint64_t runs = 0;
+    for (uint64_t both = 0; both < 400 && states < most_states && wrong == 0; both++) fail_twice(1 + both / 20, 1 + both % 20);
     while (states < most_states && wrong == 0) run(), runs++;
     (unlinkat)(AT_FDCWD, path, 0);
     (unlinkat)(AT_FDCWD, log_path, 0);

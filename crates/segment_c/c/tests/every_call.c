@@ -1070,6 +1070,17 @@ static void is_shown(int line, const uint8_t *image, size_t len, zx_code code, u
     is_number(line, "zx_explain", zx_explain(image, len, &place), code);
     is_number(line, "the place", place, wanted);
     is_number(line, "zx_check", zx_check(image, len), code);
+    zx_segment s = ZX_CLOSED_HANDLE;
+    place = 7;
+    is_number(line, "zx_open_explained", zx_open_explained(&s, image, len, 2048, ZX_READ, &place), code);
+    is_number(line, "the place of an opening", place, wanted);
+    static uint64_t words_of[256];
+    memcpy(words_of, image, len);
+    zx_memory memory = { (uint8_t *)words_of, sizeof words_of };
+    place = 7;
+    is_number(line, "zx_attach_explained", zx_attach_explained(&s, &memory, len, ZX_READ, &place), code);
+    is_number(line, "the place in lent memory", place, wanted);
+    zx_close(&s);
 }
 #define SHOWN(code, place) is_shown(__LINE__, image, sizeof image, code, place)
 #define SHOWN_BY(word, at, code, place) \
@@ -1139,6 +1150,7 @@ static void what_is_passed_wrongly(void) {
     IS(size, 77);
     IS(made(&s, a, 1, value), REFUSED(ZX_CLOSED));
     IS(zx_open(&s, NULL, 1024, 1024, ZX_WRITE), ZX_NULL_SLICE);
+    IS(zx_open_explained(&s, NULL, 1024, 1024, ZX_WRITE, &size), ZX_NULL_SLICE);
     zx_close(&s);
     DONE(zx_create(&s, 4096));
     IS(made(&s, zx_name(NULL), 1, value), REFUSED(ZX_NULL_SLICE));
@@ -1255,6 +1267,38 @@ static int64_t first_number(zx_file *file, zx_key key) {
     zx_value got = zx_i64(-1);
     DONE(zx_get(&file->segment, &key, 0, &got));
     return got.number;
+}
+
+/* A transaction of a segment in memory that keeps pages, or, of a short one, a copy. */
+static void steps_in_memory(uint64_t size) {
+    zx_file file = ZX_CLOSED_FILE;
+    zx_key a = zx_name("a");
+    zx_value six = zx_i64(6);
+    zx_step before = ZX_NO_STEP;
+    uint64_t len = 0;
+    uint8_t *image = malloc(size), *now = malloc(size);
+    if (!image || !now) exit(1);
+    IS(zx_step_image(&before, image, size, &len), ZX_CLOSED);
+    DONE(zx_create(&file.segment, size));
+    IS(made(&file.segment, a, 1, zx_i64(5)), 192);
+    DONE(zx_save(&file.segment, image, size));
+    for (int i = 0; i < 3; i++) {
+        DONE(zx_file_begin(&file, &before));
+        DONE(zx_set(&file.segment, &a, 0, &six));
+        DONE(zx_file_grow(&file, 65536));
+        IS(zx_step_image(&before, now, size - 1, &len), ZX_SHORT_BUFFER);
+        DONE(zx_step_image(&before, now, size, &len));
+        IS(len, size);
+        IS(memcmp(now, image, size), 0);
+        DONE(zx_file_undo(&file, &before));
+        IS(first_number(&file, a), 5);
+        DONE(zx_save(&file.segment, now, size));
+        IS(memcmp(now, image, size), 0);
+        if (i == 1) DONE(zx_relocate(&file.segment, size));
+    }
+    zx_file_discard(&file);
+    free(image);
+    free(now);
 }
 
 /* Commits, and transactions that keep pages. */
@@ -1496,6 +1540,8 @@ int main(int count, char **arguments) {
     words();
     files();
     durable_files();
+    steps_in_memory(4096);
+    steps_in_memory(1 << 20);
     bytes_of_logs();
     extended();
     rows_of_numbers();

@@ -668,6 +668,10 @@ void calls_of_c() {
     std::vector<u8> image = made.save();
     zx_segment s = ZX_CLOSED_HANDLE;
     zx_memory memory = {image.data(), image.size()};
+    u64 place = 7;
+    IS(zx_open(&s, image.data(), image.size(), 512, ZX_WRITE), u64{ZX_SHORT_REGION});
+    IS(zx_attach_explained(&s, &memory, 1008, ZX_WRITE, &place), u64{ZX_TRUNCATED});
+    IS(place, u64{1008});
     IS(zx_attach(&s, &memory, image.size(), ZX_WRITE), u64{ZX_DONE});
     const zx_key name = zx_name("a/1");
     zx_elements there;

@@ -558,7 +558,9 @@ def calls_of_c():
     library = zaluxhoni._library
     room = ctypes.create_string_buffer(image, len(image))
     zx, handle = library.zx, library.Handle()
-    memory = library.Memory(ctypes.addressof(room), len(image))
+    memory, place = library.Memory(ctypes.addressof(room), len(image)), ctypes.c_uint64(7)
+    same(zx.zx_attach_explained(handle, memory, 1008, 0, place), zaluxhoni.Truncated.code)
+    same(place.value, 1008)
     same(zx.zx_attach(handle, memory, len(image), 0), 0)
     key, there, index = library.Key(0, 0, 0, b"a/1", 3), library.Elements(), ctypes.c_uint64(7)
     same(zx.zx_view(handle, key, there), 0)

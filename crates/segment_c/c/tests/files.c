@@ -130,6 +130,8 @@ WRAPPED(int, fchmod, (int file, mode_t mode), file, mode)
 WRAPPED(int, unlinkat, (int folder, const char *path, int flags), folder, path, flags)
 WRAPPED(int, msync, (void *at, size_t len, int flags), at, len, flags)
 WRAPPED(int, madvise, (void *at, size_t len, int advice), at, len, advice)
+WRAPPED(int, memfd_create, (const char *name, unsigned how), name, how)
+WRAPPED(int, userfaultfd, (int how), how)
 WRAPPED(int, ioctl, (int file, unsigned long call, void *words), file, call, words)
 INTERRUPTIBLE(int, fallocate, (int file, int mode, off_t at, off_t len), file, mode, at, len)
 
@@ -318,9 +320,12 @@ struct zx_system zx_system = {
     .munmap = munmap,
     .msync = system_msync,
     .madvise = system_madvise,
+    .memfd_create = system_memfd_create,
+    .userfaultfd = system_userfaultfd,
     .close = close,
     .malloc = system_malloc,
     .calloc = system_calloc,
+    .free = free,
     .realpath = system_realpath,
     .pthread_atfork = system_pthread_atfork,
 };

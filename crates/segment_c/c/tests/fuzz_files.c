@@ -1,46 +1,79 @@
 /* fuzz_files [CORPUS] [FLAGS OF libFuzzer]: random calls of zaluxhoni_files.h on three names in one folder, while calls
    of the system fail, others change the folder between two of them, and processes are killed and forked. After each
    call a name leads to the image that it had, or to the one that was saved, and never to anything else; the code says
-   which; and nobody may do more with it than before. It is linked with files.c, which takes its calls of the system
-   from the table below. The folder is in FUZZ_FOLDER, or in /dev/shm. */
+   which; and nobody may do more with it than before. files.c takes its calls of the system from the table below. The
+   folder is in FUZZ_FOLDER, or in /dev/shm. At the end it prints how many calls it made.
+
+   A process of libFuzzer is large, and a fork of it takes as long as a hundred calls. So the process that is killed is
+   this one: it leaves the call by a jump, and loses what that call has, as the system takes it from a killed process. */
 #define _GNU_SOURCE
-#undef ZX_TEST_SYSTEM
-#define ZX_TEST_TABLE
-#include "zaluxhoni_files.h"
+#define ZX_TEST_SYSTEM
+#include "../files.c"
 
 #include <dirent.h>
-#include <errno.h>
-#include <fcntl.h>
-#include <limits.h>
-#include <pthread.h>
-#include <signal.h>
-#include <stdio.h>
-#include <stdlib.h>
-#include <sys/file.h>
-#include <sys/ioctl.h>
-#include <sys/mman.h>
-#include <sys/stat.h>
-#include <sys/statfs.h>
+#include <setjmp.h>
 #include <sys/wait.h>
-#include <sys/xattr.h>
-#include <unistd.h>
-
-#include "../files/system.h"
 
 enum { NAMES = 3, FILES = 2, SIZE = 4096, LIST_LEN = 44, NAMED = 1234 };
+
+/* The first call that wants a fork makes one, and then one of RARELY calls does. */
+enum { RARELY = 1000 };
 enum { MISSING = -1, NO_IMAGE = -2, OTHERS_NUMBER = 1000 };
-static const char LIST[] = "system.posix_acl_access";
 
 /* ---- what happens to the calls of the system: one fails, or others act before it, or the process is killed */
 
 static int calls, fails_at, acts_at, killed_at, why, action;
 static bool is_disturbed; /* whether something of this happened */
+static uint64_t made; /* calls of zaluxhoni_files.h */
 
 static void act(int which);
 
+/* ---- what a process has that is killed: descriptors, memory, mappings */
+
+enum { MOST = 64 };
+
+static bool is_mortal; /* whether what it gets now is noted */
+static jmp_buf killed;
+static struct {
+    enum { DESCRIPTOR, MEMORY, MAPPING } what;
+    void *at;
+    size_t len; /* of a mapping, or the number of a descriptor */
+} has[MOST];
+static int has_count;
+
+static void note(int what, void *at, size_t len) {
+    if (!is_mortal) return;
+    if (has_count == MOST) abort();
+    has[has_count].what = what, has[has_count].at = at, has[has_count++].len = len;
+}
+
+/* Removes what was noted, if it was. */
+static void forget_noted(int what, const void *at, size_t len) {
+    for (int i = has_count; i-- > 0;) {
+        if (has[i].what != (unsigned)what || has[i].at != at || (what == DESCRIPTOR && has[i].len != len)) continue;
+        has[i] = has[--has_count];
+        return;
+    }
+}
+
+static int noted_file(int file) {
+    if (file >= 0) note(DESCRIPTOR, NULL, (size_t)file);
+    return file;
+}
+
+static void *noted_memory(void *at) {
+    if (at) note(MEMORY, at, 0);
+    return at;
+}
+
+static void *noted_mapping(void *at, size_t len) {
+    if (at != MAP_FAILED) note(MAPPING, at, len);
+    return at;
+}
+
 static bool happens(void) {
     calls++;
-    if (calls == killed_at) raise(SIGKILL);
+    if (is_mortal && calls == killed_at) longjmp(killed, 1);
     if (calls == acts_at) {
         is_disturbed = true;
         act(action);
@@ -52,10 +85,16 @@ static bool happens(void) {
 }
 
 #define CALL(answer, failed, name, parameters, ...) \
-    static answer fuzzed_##name parameters { return happens() ? failed : name(__VA_ARGS__); }
+    static answer fuzzed_##name parameters { return happens() ? failed : (name)(__VA_ARGS__); }
+#define FILE_CALL(name, parameters, ...) \
+    static int fuzzed_##name parameters { return happens() ? -1 : noted_file((name)(__VA_ARGS__)); }
+#define MEMORY_CALL(answer, name, parameters, ...) \
+    static answer fuzzed_##name parameters { return happens() ? NULL : noted_memory((name)(__VA_ARGS__)); }
 
-CALL(int, -1, open, (const char *path, int how), path, how)
-CALL(int, -1, openat, (int folder, const char *path, int how, mode_t mode), folder, path, how, mode)
+FILE_CALL(open, (const char *path, int how), path, how)
+FILE_CALL(openat, (int folder, const char *path, int how, mode_t mode), folder, path, how, mode)
+FILE_CALL(userfaultfd, (int how), how)
+FILE_CALL(memfd_create, (const char *name, unsigned how), name, how)
 CALL(ssize_t, -1, pread, (int file, void *bytes, size_t len, off_t from), file, bytes, len, from)
 CALL(ssize_t, -1, pwrite, (int file, const void *bytes, size_t len, off_t from), file, bytes, len, from)
 CALL(int, -1, ftruncate, (int file, off_t len), file, len)
@@ -81,24 +120,50 @@ CALL(ssize_t, -1, flistxattr, (int file, char *names, size_t room), file, names,
 CALL(int, -1, linkat, (int from, const char *one, int to, const char *other, int how), from, one, to, other, how)
 CALL(int, -1, renameat, (int from, const char *one, int to, const char *other), from, one, to, other)
 CALL(int, -1, unlinkat, (int folder, const char *path, int how), folder, path, how)
-CALL(void *, MAP_FAILED, mmap, (void *at, size_t len, int protection, int how, int file, off_t from), at, len,
-     protection, how, file, from)
-CALL(void *, MAP_FAILED, mremap, (void *at, size_t len, size_t wanted, int how), at, len, wanted, how)
 CALL(int, -1, msync, (void *at, size_t len, int how), at, len, how)
 CALL(int, -1, madvise, (void *at, size_t len, int advice), at, len, advice)
-CALL(void *, NULL, malloc, (size_t size), size)
-CALL(void *, NULL, calloc, (size_t count, size_t size), count, size)
-CALL(char *, NULL, realpath, (const char *path, char *found), path, found)
+MEMORY_CALL(void *, malloc, (size_t size), size)
+MEMORY_CALL(void *, calloc, (size_t count, size_t size), count, size)
+MEMORY_CALL(char *, realpath, (const char *path, char *found), path, found)
+
+static void *fuzzed_mmap(void *at, size_t len, int protection, int how, int file, off_t from) {
+    return happens() ? MAP_FAILED : noted_mapping((mmap)(at, len, protection, how, file, from), len);
+}
+
+static void *fuzzed_mremap(void *at, size_t len, size_t wanted, int how) {
+    if (happens()) return MAP_FAILED;
+    void *now = (mremap)(at, len, wanted, how);
+    if (now != MAP_FAILED) forget_noted(MAPPING, at, 0);
+    return noted_mapping(now, wanted);
+}
+
+static int fuzzed_munmap(void *at, size_t len) {
+    forget_noted(MAPPING, at, 0);
+    return (munmap)(at, len);
+}
+
+static int fuzzed_close(int file) {
+    forget_noted(DESCRIPTOR, NULL, (size_t)file);
+    return (close)(file);
+}
+
+static void fuzzed_free(void *at) {
+    forget_noted(MEMORY, at, 0);
+    (free)(at);
+}
 
 struct zx_system zx_system = {
     .open = fuzzed_open, .openat = fuzzed_openat, .pread = fuzzed_pread, .pwrite = fuzzed_pwrite,
     .ftruncate = fuzzed_ftruncate, .fallocate = fuzzed_fallocate, .lseek = fuzzed_lseek, .fsync = fuzzed_fsync,
-    .fdatasync = fuzzed_fdatasync, .madvise = fuzzed_madvise, .syncfs = fuzzed_syncfs, .flock = fuzzed_flock, .ioctl = fuzzed_ioctl, .lstat = fuzzed_lstat, .stat = fuzzed_stat, .fstat = fuzzed_fstat,
-    .fstatat = fuzzed_fstatat, .fstatfs = fuzzed_fstatfs, .fchmod = fuzzed_fchmod, .fchown = fuzzed_fchown,
-    .fgetxattr = fuzzed_fgetxattr, .fsetxattr = fuzzed_fsetxattr, .fremovexattr = fuzzed_fremovexattr,
-    .flistxattr = fuzzed_flistxattr, .linkat = fuzzed_linkat, .renameat = fuzzed_renameat, .unlinkat = fuzzed_unlinkat,
-    .mmap = fuzzed_mmap, .mremap = fuzzed_mremap, .munmap = munmap, .msync = fuzzed_msync, .close = close,
-    .malloc = fuzzed_malloc, .calloc = fuzzed_calloc, .realpath = fuzzed_realpath, .pthread_atfork = pthread_atfork,
+    .fdatasync = fuzzed_fdatasync, .madvise = fuzzed_madvise, .memfd_create = fuzzed_memfd_create,
+    .userfaultfd = fuzzed_userfaultfd,
+    .syncfs = fuzzed_syncfs, .flock = fuzzed_flock, .ioctl = fuzzed_ioctl, .lstat = fuzzed_lstat, .stat = fuzzed_stat,
+    .fstat = fuzzed_fstat, .fstatat = fuzzed_fstatat, .fstatfs = fuzzed_fstatfs, .fchmod = fuzzed_fchmod,
+    .fchown = fuzzed_fchown, .fgetxattr = fuzzed_fgetxattr, .fsetxattr = fuzzed_fsetxattr,
+    .fremovexattr = fuzzed_fremovexattr, .flistxattr = fuzzed_flistxattr, .linkat = fuzzed_linkat,
+    .renameat = fuzzed_renameat, .unlinkat = fuzzed_unlinkat, .mmap = fuzzed_mmap, .mremap = fuzzed_mremap,
+    .munmap = fuzzed_munmap, .msync = fuzzed_msync, .close = fuzzed_close, .malloc = fuzzed_malloc,
+    .calloc = fuzzed_calloc, .free = fuzzed_free, .realpath = fuzzed_realpath, .pthread_atfork = pthread_atfork,
 };
 
 /* Nothing happens to the calls until the next disturb. */
@@ -121,6 +186,9 @@ struct model {
     ino_t inode;     /* of its file, as far as this knows */
     int64_t number;  /* in memory */
     bool is_mapped, is_written;
+    zx_step step;    /* a transaction, if one is open */
+    bool is_in_step;
+    int64_t number_before;
 };
 
 static struct model files[FILES];
@@ -151,7 +219,7 @@ static struct standing stands(int name) {
     struct standing now = { .number = MISSING, .list_len = 0 };
     zx_file file = ZX_CLOSED_FILE;
     leave_alone();
-    if (lstat(paths[name], &now.found) != 0) return now;
+    if ((lstat)(paths[name], &now.found) != 0) return now;
     zx_code code = zx_file_open(&file, paths[name], ZX_OPEN_READ_ONLY, 0);
     now.number = code == ZX_DONE ? get(&file) : NO_IMAGE;
     zx_file_discard(&file);
@@ -186,9 +254,9 @@ static void put_another(const char *path) {
     snprintf(beside, sizeof beside, "%s.other", path);
     if (zx_create(&segment, SIZE) == ZX_DONE && zx_construct(&segment, &key, 1, &value, &handle) == ZX_DONE &&
         zx_save(&segment, image, SIZE) == ZX_DONE) {
-        int file = open(beside, O_CREAT | O_TRUNC | O_WRONLY, 0600);
+        int file = (open)(beside, O_CREAT | O_TRUNC | O_WRONLY, 0600);
         if (file >= 0 && write(file, image, SIZE) == SIZE) rename(beside, path);
-        if (file >= 0) close(file);
+        if (file >= 0) (close)(file);
     }
     zx_close(&segment);
 }
@@ -271,7 +339,7 @@ static bool is_done(zx_code code) { return code == ZX_DONE || code == ZX_FILE_UN
 
 static void note_inode(struct model *of) {
     struct stat found;
-    of->inode = stat(paths[of->name], &found) == 0 ? found.st_ino : 0;
+    of->inode = (stat)(paths[of->name], &found) == 0 ? found.st_ino : 0;
 }
 
 /* Returns true if its name leads to the file that it has; a mapped file keeps its bytes under any name. */
@@ -279,7 +347,7 @@ static bool is_home(const struct model *of) {
     struct stat found;
     for (int i = 0; i < NAMES; i++) {
         bool counts = i == of->name || of->is_mapped;
-        if (counts && stat(paths[i], &found) == 0 && found.st_ino == of->inode) return true;
+        if (counts && (stat)(paths[i], &found) == 0 && found.st_ino == of->inode) return true;
     }
     return false;
 }
@@ -323,45 +391,70 @@ static void save_one_as(struct model *of, struct input *input) {
     struct standing before[NAMES];
     int how = next(input), name = how / 4 % NAMES, fails = fails_at, acts = acts_at;
     uint32_t mode = ZX_CREATE_ONLY + (uint32_t)(how % 3);
-    bool was_open = of->file.segment.at;
+    bool was_open = of->file.segment.at, was_home = is_home(of);
     for (int i = 0; i < NAMES; i++) before[i] = stands(i);
     fails_at = fails, acts_at = acts, calls = 0;
     zx_code code = zx_file_save_as(&of->file, paths[name], mode);
     bool is_new = mode != ZX_OPEN_ONLY && before[name].number == MISSING;
     if (!is_disturbed && is_done(code) && mode == ZX_CREATE_ONLY && !is_new) fail("created what exists", name);
     check(before, name, of->number, was_open, was_open && is_done(code), of->is_mapped);
-    if (is_done(code) && of->file.held && of->name == name && !of->is_mapped) note_inode(of);
+    // a name that led elsewhere before leads to a file that is not its own
+    if (is_done(code) && of->file.held && was_home && of->name == name && !of->is_mapped) note_inode(of);
+}
+
+static zx_file mortal;
+
+/* Takes from a process that was killed what it had. `before` are the files that others hold. */
+static void lose_all(struct zx_held_file *before) {
+    guard = (pthread_mutex_t)PTHREAD_MUTEX_INITIALIZER;
+    while (all_held != before) all_held = all_held->next;
+    for (int i = 0; i < has_count; i++) {
+        if (has[i].what == DESCRIPTOR) (close)((int)has[i].len);
+        else if (has[i].what == MEMORY) (free)(has[i].at);
+        else (munmap)(has[i].at, has[i].len);
+    }
+    has_count = 0;
+    mortal.held = NULL;
+    zx_close(&mortal.segment);
 }
 
 /* A process is killed before a call of a save, and leaves the old image or the new one. */
 static void kill_one(struct input *input) {
     struct standing before[NAMES];
-    int name = next(input) % NAMES, at = next(input) % 48 + 1, status = 0;
+    int name = next(input) % NAMES, at = next(input) % 48 + 1;
     int64_t number = next(input) + 300;
+    struct zx_held_file *volatile held = all_held;
+    volatile bool was_killed = true;
     for (int i = 0; i < NAMES; i++) before[i] = stands(i);
-    pid_t child = fork();
-    if (child == 0) {
-        zx_file file = ZX_CLOSED_FILE;
-        calls = 0;
-        killed_at = at;
-        if (zx_file_open(&file, paths[name], ZX_OPEN_ONLY, SIZE) == ZX_DONE) {
-            set(&file, number);
-            zx_file_close(&file);
+    calls = has_count = 0;
+    killed_at = at;
+    is_mortal = true;
+    made += 2;
+    if (setjmp(killed) == 0) {
+        if (zx_file_open(&mortal, paths[name], ZX_OPEN_ONLY, SIZE) == ZX_DONE) {
+            set(&mortal, number);
+            zx_file_close(&mortal);
         }
-        _exit(0);
+        zx_file_discard(&mortal);
+        was_killed = false;
     }
-    waitpid(child, &status, 0);
-    if (WIFSIGNALED(status) && WTERMSIG(status) != SIGKILL) fail("a child ended by a signal", WTERMSIG(status));
+    is_mortal = false;
+    killed_at = 0;
+    lose_all(held);
     is_disturbed = false;
-    check(before, name, number, before[name].number != MISSING, false, WIFSIGNALED(status) || WEXITSTATUS(status) == 0);
+    check(before, name, number, before[name].number != MISSING, false, true);
     struct standing now = stands(name);
     if (now.number != before[name].number && now.number != number) fail("neither old nor new", (int)now.number);
     if (now.number == number && now.found.st_ino != before[name].found.st_ino) check_rights(&before[name], &now);
+    if (!was_killed && has_count > 0) fail("a process kept what it had", has_count);
 }
 
 /* A child has no part in the files of its parent. */
 static void fork_one(void) {
+    static uint64_t next_time;
     int status = 0;
+    if (made < next_time) return;
+    next_time = made + RARELY;
     pid_t child = fork();
     if (child == 0) {
         bool is_free = true;
@@ -378,10 +471,35 @@ static void fork_one(void) {
     if (status != 0) fail("a child saved a file", status);
 }
 
+/* Ends a transaction whose file may be closed by now. */
+static void leave_step(struct model *of) {
+    if (of->is_in_step) zx_file_leave(&of->file, &of->step);
+    of->is_in_step = false;
+}
+
+/* Begins a transaction, or ends it: one that is undone leaves the number that was there before. */
+static void step_one(struct model *of, struct input *input) {
+    bool keeps = next(input) % 2, was_open = of->file.segment.at;
+    calls = 0;
+    if (!of->is_in_step) {
+        of->number_before = of->number;
+        of->is_in_step = zx_file_begin(&of->file, &of->step) == ZX_DONE;
+        return;
+    }
+    zx_code code = keeps ? zx_file_keep(&of->file, &of->step) : zx_file_undo(&of->file, &of->step);
+    if (was_open && code != ZX_DONE && !is_disturbed) fail("a transaction is refused", (int)code);
+    if (code == ZX_DONE) of->is_in_step = false;
+    leave_step(of);
+    if (was_open && !of->file.segment.at && !is_disturbed) fail("a transaction closed the segment", keeps);
+    if (code == ZX_DONE && !keeps) of->number = of->number_before;
+    if (code == ZX_DONE && of->file.segment.at && get(&of->file) != of->number) fail("another number", keeps);
+}
+
 static void do_one(int what, struct input *input) {
     struct model *of = &files[what / 16 % FILES];
     int how;
     is_disturbed = false;
+    made++;
     switch (what % 16) {
     case 0: case 1: open_one(of, input); break;
     case 2: case 3:
@@ -389,8 +507,15 @@ static void do_one(int what, struct input *input) {
         if (set(&of->file, how) == ZX_DONE) of->number = how;
         return;
     case 4: case 5: save_one(of, false); break;
-    case 6: save_one(of, true); break;
-    case 7: zx_file_discard(&of->file); break;
+    case 6:
+        save_one(of, true);
+        // the end of a mapped file whose cut failed has ended the transaction too
+        if (!of->file.held || (of->is_mapped && is_disturbed)) leave_step(of);
+        break;
+    case 7:
+        zx_file_discard(&of->file);
+        leave_step(of);
+        break;
     case 8: save_one_as(of, input); break;
     case 9:
         if (next(input) % 2) zx_file_grow(&of->file, 4096);
@@ -408,7 +533,13 @@ static void do_one(int what, struct input *input) {
         return;
     case 13: leave_alone(); act(next(input)); break;
     case 14: leave_alone(); kill_one(input); break;
-    default: leave_alone(); fork_one();
+    default:
+        if (what < 255) {
+            step_one(of, input);
+        } else {
+            leave_alone();
+            fork_one();
+        }
     }
     leave_alone();
 }
@@ -425,6 +556,8 @@ static int count_in(const char *path, bool removes) {
     return count;
 }
 
+static void tell(void) { fprintf(stderr, "fuzz_files: %llu calls\n", (unsigned long long)made); }
+
 int LLVMFuzzerInitialize(int *count, char ***words);
 int LLVMFuzzerInitialize(int *count, char ***words) {
     const char *place = getenv("FUZZ_FOLDER");
@@ -432,7 +565,7 @@ int LLVMFuzzerInitialize(int *count, char ***words) {
     snprintf(folder, sizeof folder, "%.200s/fuzz_files.%d", place ? place : "/dev/shm", (int)getpid());
     if (mkdir(folder, 0755) != 0) return 1;
     for (int i = 0; i < NAMES; i++) snprintf(paths[i], sizeof paths[i], "%s/%c", folder, 'a' + i);
-    return 0;
+    return atexit(tell);
 }
 
 int LLVMFuzzerTestOneInput(const uint8_t *data, size_t len);
@@ -444,7 +577,10 @@ int LLVMFuzzerTestOneInput(const uint8_t *data, size_t len) {
     memset(files, 0, sizeof files);
     for (int i = 0; i < 60 && input.at < input.end; i++) do_one(next(&input), &input);
     leave_alone();
-    for (int i = 0; i < FILES; i++) zx_file_discard(&files[i].file);
+    for (int i = 0; i < FILES; i++) {
+        zx_file_discard(&files[i].file);
+        leave_step(&files[i]);
+    }
     if (count_in("/proc/self/fd", false) != before) fail("descriptors are left", before);
     removexattr(folder, "system.posix_acl_default");
     count_in(folder, true);

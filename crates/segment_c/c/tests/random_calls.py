@@ -1,8 +1,7 @@
-"""random_calls.py FOLDER [SEED [STEPS [plain]]]: the same random calls to objects of a segment and to Python's own list,
-dict and bytearray, STEPS of them for lists and records, as many for maps, and as many for names in a segment and in a
-group of it;
-answers are compared, and classes of errors; the segment is saved and opened again on the way. `plain` has the package
-do without what the library knows of CPython."""
+"""random_calls.py FOLDER [SEED [STEPS [plain]]]: makes the same random calls to objects of a segment and to Python's
+own list, dict and bytearray, and compares the answers and the classes of errors. It makes about STEPS calls to lists
+and records, as many to maps, and as many to the names in a segment and in a group of it. On the way it saves the
+segment and opens it again. With `plain`, the package does without what the library knows of CPython."""
 import collections.abc
 import os
 import random
@@ -37,7 +36,7 @@ def text():
 
 
 def outcome(call, of):
-    """What a call answers, or the class of its error that Python has too; those of this package derive from Error."""
+    """The answer of a call, or Python's own class of its error. An error of the package must also be its `Error`."""
     try:
         answer = call(of)
     except (IndexError, KeyError, TypeError, ValueError) as error:
@@ -54,7 +53,7 @@ def plain(answer):
 
 
 def compare(what, call, ours, theirs):
-    """The call, of both; the state of chance is the same."""
+    """Makes the call to both objects, from the same state of `chance`, and compares the outcomes."""
     global wrong, calls
     calls += 1
     state = chance.getstate()
@@ -76,7 +75,7 @@ def delete_item(of, index):
 
 
 def in_place(of, operation):
-    """The operation in place answers the object itself."""
+    """Returns whether an operation in place answers the object itself."""
     return operation(of) is of
 
 
@@ -94,7 +93,7 @@ def any_slice(of):
 
 
 def walk(of, changes):
-    """Goes over a list that is changed meanwhile."""
+    """Goes over a list, and changes the list meanwhile."""
     seen = []
     for value in of:
         seen.append(value)
@@ -115,7 +114,7 @@ def walk_back(of, changes):
 
 
 def one_of_list(theirs, new):
-    """A call of a list."""
+    """A random call to a list."""
     index, other, value, some = place(theirs), place(theirs), new(), [new() for _ in range(chance.randint(0, 5))]
     known = chance.choice(theirs) if theirs and chance.random() < 0.8 else value
     part, exact = any_slice(theirs), any_slice(theirs)
@@ -173,7 +172,7 @@ def updated(of, *others):
 
 
 def one_of_map(theirs, kinds):
-    """A call of a map. Keys are few, so that they are met again."""
+    """A random call to a map. Keys are few, so that calls meet the same key again."""
     key = scalar(kinds[0]) if kinds[0] == "bool" else chance.randint(0, 99)
     value = scalar(kinds[1])
     more = {scalar(kinds[0]) if kinds[0] == "bool" else chance.randint(0, 99): scalar(kinds[1]) for _ in range(3)}
@@ -212,7 +211,7 @@ def change_map(name, ours, theirs, kinds):
 
 
 def change_string(name, ours, theirs):
-    """One call of a string."""
+    """Makes a random call to a string, sometimes appends or assigns, and compares all bytes."""
     index, other, byte, more = place(theirs), place(theirs), chance.randint(0, 255), text().encode()
     call = chance.choice((
         lambda of: of[index], lambda of: set_item(of, index, byte), lambda of: bytes(of[index:other]),
@@ -234,7 +233,7 @@ def any_value():
 
 
 def value_like(known):
-    """Another value that an object with this one can have."""
+    """Another value for an object that has the value `known`."""
     if isinstance(known, bool):
         return not known
     if isinstance(known, int):
@@ -247,7 +246,7 @@ def value_like(known):
 
 
 def one_of_names(theirs):
-    """A call of a mapping of names. Names are few, so that they are met again."""
+    """A random call to a mapping of names. Names are few, so that calls meet the same name again."""
     name, other = (chance.choice(("a", "b", "é", "p/", "p/x", "p/y", "p/é", "q", "z" * 200)) for _ in range(2))
     value = value_like(theirs[name]) if name in theirs else any_value()
     strange = chance.choice((5, None, "", "n" * 256, 1.5, ("a",)))

@@ -1,5 +1,5 @@
-/* Each request for memory that the library makes is refused once: the call must answer ZX_NO_MEMORY and leave the
-   segment as it was, or, where it can do without, be done. All other calls ask for none. This file has the place of
+/* Refuses each of the library's requests for memory once. The call must then return ZX_NO_MEMORY and leave the segment
+   unchanged, or succeed if it can do without the memory. All other calls request no memory. This file replaces
    heap.c. */
 #include "zaluxhoni.h"
 
@@ -47,7 +47,7 @@ static void must(int line, bool holds) {
 
 static uint8_t image[4096], other[4096];
 
-/* Checks that the segment is unchanged: it has the number 5. */
+/* Returns true if the segment is unchanged: `a` is still 5, and saving the segment still gives the image. */
 static bool is_as_it_was(zx_segment *s) {
     zx_key a = zx_name("a");
     zx_value value = { 0, 0, 0 };
@@ -62,7 +62,8 @@ static bool is_done(zx_code code) {
     return code == ZX_DONE;
 }
 
-/* Makes one run, in which one request is refused. Returns false if the run made fewer requests. */
+/* Makes one run, and refuses the request with the number `number`. Returns false if the run made fewer requests than
+   that. */
 static bool run(long number) {
     zx_segment s = ZX_CLOSED_HANDLE;
     zx_key a = zx_name("a");

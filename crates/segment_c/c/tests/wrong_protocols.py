@@ -31,6 +31,11 @@ WRONG = [
     ("of a page the first change alone is written", "durable.h",
      "    while (code == ZX_DONE && next_run(old, now, len, &from, &behind)) {",
      "    if (next_run(old, now, len, &from, &behind)) {"),
+    ("what a failed commit had to write is forgotten", "durable.h",
+     "    commits->is_untold |= !find_written(held, pages, commits->written);",
+     "    memset(commits->written, 0, pages);\n    commits->is_untold = !find_written(held, pages, commits->written);"),
+    ("what an opening found is taken for synced", "durable.h",
+     "    if (held->commits->is_synced) return ZX_DONE;", "    if (held->commits) return ZX_DONE;"),
     ("the folder of a new log is not synced", "durable.h",
      "        zx_code code = sync_name(file, held);\n        if (code == ZX_DONE) return code;\n    }\n    zx_code code = fault(file);\n"
      "    held->state = state;",

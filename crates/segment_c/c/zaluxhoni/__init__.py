@@ -86,13 +86,13 @@ def load(image: Any, mode: str = "w", *, capacity: Optional[int] = None, grow: b
         raise BadMode(f"no mode is {shown(mode)}")
     made = new_segment(grow, encoding, check_same_thread)
     wanted = max(16, (len(image) + 15) // 16 * 16) if capacity is None else natural(capacity)
-    try:
-        made._call(zx.zx_open, image, len(image), wanted, MODES[mode])
-    except (BadImage, ShortRegion) as error:
+    place = ctypes.c_uint64()
+    code = made._code(zx.zx_open_explained, image, len(image), wanted, MODES[mode], place)
+    if code == ShortRegion.code and capacity is None:
         # an image that states more bytes than there are is rejected by that class
-        if capacity is None or isinstance(error, BadImage):
-            check(image)
-        raise
+        raise image_error_of(Truncated.code, len(image))
+    if code:
+        raise image_error_of(code, place.value)
     return made
 
 

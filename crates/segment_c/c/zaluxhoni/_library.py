@@ -104,6 +104,7 @@ def _calls() -> Dict[str, List[Any]]:
         "num_named": [number], "num_unique": [number], "named_at": [u64, info, memory, size],
         "unique_at": [u64, info], "tile_at": [u64, pointer(Tile)], "reserve_named": [u64], "reserve_unique": [u64],
         "shrink_indexes": [], "zero_free": [], "sanity": [truth], "all_deallocated": [truth],
+        "open_explained": [text, size, u64, u32, number], "attach_explained": [pointer(Memory), u64, u32, number],
         "write_elements": [key, u64, values], "attach": [pointer(Memory), u64, u32], "detach": [pointer(Memory)],
         "view": [key, pointer(Elements)], "view_mut": [key, pointer(Elements)], "named_from": [text, size, number],
         "begin": [pointer(Handle)], "rollback": [pointer(Handle)],
@@ -142,6 +143,8 @@ def _load() -> Any:
         call = getattr(library, "zx_file_" + name)
         call.argtypes, call.restype = [ctypes.POINTER(File), *arguments], u32
     library.zx_file_discard.restype = library.zx_file_leave.restype = None
+    library.zx_step_image.argtypes = [ctypes.POINTER(Step), ctypes.c_void_p, ctypes.c_size_t, ctypes.POINTER(u64)]
+    library.zx_step_image.restype = u32
     return library
 
 

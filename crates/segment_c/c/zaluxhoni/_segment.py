@@ -762,11 +762,12 @@ class Segment(_Named, _library.Block):
 
     def transaction(self) -> Transaction:
         """Makes all calls of a block one step. `with segment.transaction():` keeps all that the block did; if an
-        exception leaves the block, the segment is as before the block. For a file opened with `durable` or `mapped` the
-        cost depends on what the block changed; any other segment is copied. The end of the outermost block commits a
-        file opened with `durable`: if that raises anything but FileUnsure, the segment is as before the block. If a
-        task of asyncio makes the transaction, calls of other tasks raise WrongTask until the transaction ends.
-        NoMemory, Closed; the errors of `commit`."""
+        exception leaves the block, the segment is as before the block. The cost depends on what the block changed. A
+        segment in memory, or opened by copy, is copied by its first transaction, by the next one after it moved to grow
+        or the process forked, and always if it has less than 128 KiB. The end of the outermost block commits a file
+        opened with `durable`: if that raises anything but FileUnsure, the segment is as before the block. If a task of
+        asyncio makes the transaction, calls of other tasks raise WrongTask until the transaction ends. NoMemory, Closed;
+        the errors of `commit`."""
         if self._thread_number and _here.number != self._thread_number:
             self._refuse_stranger()
         return Transaction(self)
@@ -795,9 +796,9 @@ class Segment(_Named, _library.Block):
                 return self._file_call(zx.zx_file_undo, self._path, before)
             self._refuse_lent_file()
             length = ctypes.c_uint64()
-            zx.zx_size(before.copy, length)
+            zx.zx_step_image(before, None, 0, length)
             image = ctypes.create_string_buffer(length.value)
-            zx.zx_save(before.copy, image, len(image))
+            zx.zx_step_image(before, image, len(image), length)
             self._restored = image.raw, max(self.size + self.region_left, len(image)), MODES_OF[self.mode]
         image_before, capacity, mode = self._restored
         if self.is_open:

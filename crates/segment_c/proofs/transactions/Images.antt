@@ -1,20 +1,21 @@
 -- What the first bytes of an image say of its size, and which codes answer an image that is not opened.
-use Rattle.std.proofs.Common.{◌≡◌, ◌∙◌, ◌≤◌, inl, inr, ℕ, Bool, true, false, ◌&&◌, ◌+◌, ◌<◌, List, [], ◌∷◌, Some, refl}
-use Rattle.std.proofs.Common.{sym, ap, subst, length, IsTrue, arith}
+use Rattle.std.proofs.Common.{◌≡◌, ◌≢◌, ◌≤◌, inl, inr, ℕ, Bool, true, false, ◌&&◌, ◌<◌, List, [], ◌∷◌, Some, refl}
+use Rattle.std.proofs.Common.{ap, length, IsTrue, arith}
 use Rattle.std.specs.Prelude.{nat_le, nat_lt, find, min, if◌then◌else◌}
-use Rattle.std.proofs.lemmas.Bool.{and_from, and_parts, cond-true, le-leb, lt-ltb, or_right}
+use Rattle.std.proofs.lemmas.Bool.{and_from, and_parts, cond-true, false≢true, le-leb, lt-ltb, or_right}
 use Rattle.raw_region.specs.Format.{current}
 use Rattle.block_tags.specs.Format.{is_legal_size}
-use Rattle.image_check.specs.{declared.errors.OpenError.OpenError, declared.verdict.Verdict.Verdict}
-use Rattle.image_check.specs.{Causes.IsShown, Classes.class_of, Classes.holds, Classes.number_of}
-use Rattle.image_check.specs.Opening.{IsOpenCause, IsTooSmallFor, as_given}
+use Rattle.image_check.specs.declared.errors.OpenError.{OpenError}
+use Rattle.image_check.specs.{Causes.IsShown, Classes.class_of, Classes.holds}
+use Rattle.image_check.specs.Opening.{IsOpenCause, IsTooSmallFor, IsUndecided, as_given}
 use Rattle.image_check.proofs.Facts.{refused-class}
 use Rattle.image_check.specs.declared.classes.ImageClass.TheVariants.{Truncated, BadMagic, UnsupportedVersion, BadSize}
 use Rattle.image_check.specs.declared.classes.ImageClass.TheVariants.{BadReserved, BadTag, BadFreeTree, BadIndex}
 use Rattle.image_check.specs.declared.classes.ImageClass.TheVariants.{BadObject, SharedBlock, BadContainer, OrphanBlock}
-use Rattle.image_check.specs.declared.errors.OpenError.TheVariants.{Image, RegionTooSmall}
+use Rattle.image_check.specs.declared.errors.OpenError.TheVariants.{Image, RegionTooSmall, OutOfMemory, ReadFault}
 use Rattle.image_check.specs.EarlyTests.{has_front, has_magic, has_version, size_word}
-use Rattle.segment_c.specs.Opening.{IsExplained, IsNoImage, IsTooLongForRegion, IsWhyNotOpened, size_said}
+use Rattle.segment_c.specs.Opening.{IsNoImage, IsPlaced, IsTooLongForRegion, IsWhyNotOpened, size_said}
+use Rattle.segment_c.specs.Opening.{code_of_cause, place_of_cause}
 
 -- ---- the size
 
@@ -46,42 +47,45 @@ said_more image l =
 
 -- ---- the codes
 
+-- bytes that are there are read
+given_read : (image : List ℕ) → IsUndecided current (as_given image) → ⊥
+given_read image u = false≢true u.failed
+
+-- so no reader failed
+pub not_read_fault : (image : List ℕ) (capacity : ℕ) (cause : OpenError)
+    → IsOpenCause current (as_given image) 0 capacity cause → cause ≢ ReadFault
+not_read_fault image capacity (Image v) why e = absurd (cc)
+not_read_fault image capacity RegionTooSmall why e = absurd (cc)
+not_read_fault image capacity (OutOfMemory refusal) why e = absurd (cc)
+not_read_fault image capacity ReadFault why e = given_read image why
+
 module _ (image : List ℕ) (capacity : ℕ) where
   is_given : IsTooLongForRegion image capacity → IsTooSmallFor current (as_given image) 0 capacity
   is_given t = record { read = t.read; front = t.front; small = omega (arith, t.long) }
 
-  -- there was no memory
-  pub why_memory : IsWhyNotOpened image capacity 26
-  why_memory = record { why = inl refl; too_long = λ t. inl refl }
-
-  module _ (cause : OpenError) (why : IsOpenCause current (as_given image) 0 capacity cause)
-      (small : IsTooSmallFor current (as_given image) 0 capacity → cause ≡ RegionTooSmall) where
-    -- an image with a class has the code of the class
-    pub why_class : (v : Verdict) (code : ℕ) → cause ≡ Image v → code ≡ 100 + number_of v.class
-        → IsWhyNotOpened image capacity code
-    why_class v code e n = record {
-      why = inr (inr (
-        v.class,
-        n,
-        refused-class current (as_given image) v.class (subst (IsOpenCause current (as_given image) 0 capacity) e why),
-      ));
-      too_long = λ t. absurd (other (sym e ∙ small (is_given t)));
-    }
-      where
-        other : Image v ≡ RegionTooSmall → ⊥
-        other wrong = cc
-
-    -- an image without room has the code of its region
-    pub why_room : cause ≡ RegionTooSmall → IsWhyNotOpened image capacity 27
-    why_room e =
-        let told = subst (IsOpenCause current (as_given image) 0 capacity) e why in
-        record {
-          why = inr (inl (
-            refl,
-            record { read = told.read; front = told.front; long = omega (arith, told.small) },
-          ));
-          too_long = λ t. inr refl;
-        }
+  -- the code says why
+  pub why_refused : (cause : OpenError) → IsOpenCause current (as_given image) 0 capacity cause
+      → (IsTooSmallFor current (as_given image) 0 capacity → cause ≡ RegionTooSmall)
+      → (1 ≤ code_of_cause cause) × IsWhyNotOpened image capacity (code_of_cause cause)
+  why_refused (Image v) why small = (
+    omega arith,
+    record {
+      why = inr (inr (v.class, refl, refused-class current (as_given image) v.class why));
+      too_long = λ t. absurd (other (small (is_given t)));
+    },
+  )
+    where
+      other : Image v ≡ RegionTooSmall → ⊥
+      other wrong = cc
+  why_refused RegionTooSmall why small = (
+    omega arith,
+    record {
+      why = inr (inl (refl, record { read = why.read; front = why.front; long = omega (arith, why.small) }));
+      too_long = λ t. inr refl;
+    },
+  )
+  why_refused (OutOfMemory refusal) why small = (omega arith, record { why = inl refl; too_long = λ t. inl refl })
+  why_refused ReadFault why small = absurd (given_read image why)
 
   -- a region with room for what they say
   has_room : min (size_said image) 1073741824 ≤ capacity → IsTooSmallFor current (as_given image) 0 capacity → ⊥
@@ -92,26 +96,20 @@ module _ (image : List ℕ) (capacity : ℕ) where
       let small = t.small in
       omega (arith, room, size, most, small)
 
--- ---- with a place
+  -- and it says a class, or that there was no memory, if the region has room for what they say
+  pub why_examined : (cause : OpenError) → IsOpenCause current (as_given image) 0 capacity cause
+      → min (size_said image) 1073741824 ≤ capacity → IsNoImage image (code_of_cause cause)
+  why_examined (Image v) why room = inr (v.class, refl, refused-class current (as_given image) v.class why)
+  why_examined RegionTooSmall why room = absurd (has_room room why)
+  why_examined (OutOfMemory refusal) why room = inl refl
+  why_examined ReadFault why room = absurd (given_read image why)
 
--- a place is left out
-pub without_place : (image : List ℕ) (code old new : ℕ) → IsExplained image code old new → IsNoImage image code
-without_place image code old new (inl e) = inl e.0
-without_place image code old new (inr e) = inr (e.0, e.1, e.2)
+-- ---- the place
 
-module _ (image : List ℕ) (capacity : ℕ) (cause : OpenError)
-    (why : IsOpenCause current (as_given image) 0 capacity cause) where
-  -- an examined image is explained by its class
-  pub explained : (v : Verdict) (code old : ℕ) → cause ≡ Image v → IsShown current image cause
-      → code ≡ 100 + number_of v.class → IsExplained image code old v.place
-  explained v code old e shown n = inr (
-    v.class,
-    n,
-    refused-class current (as_given image) v.class (subst (IsOpenCause current (as_given image) 0 capacity) e why),
-    subst (IsShown current image) e shown,
-  )
-
-  -- a region that is large enough is not too small
-  pub not_small : min (size_said image) 1073741824 ≤ capacity → cause ≡ RegionTooSmall → ⊥
-  not_small room e = has_room image capacity room
-      (subst (IsOpenCause current (as_given image) 0 capacity) e why)
+-- the place of a verdict shows its class
+pub cause_placed : (image : List ℕ) (cause : OpenError) (old : ℕ) → IsShown current image cause
+    → IsPlaced image (code_of_cause cause) old (place_of_cause cause old)
+cause_placed image (Image v) old shown = inr (v.class, refl, shown)
+cause_placed image RegionTooSmall old shown = inl (omega arith, refl)
+cause_placed image (OutOfMemory refusal) old shown = inl (omega arith, refl)
+cause_placed image ReadFault old shown = inl (omega arith, refl)

@@ -1,6 +1,8 @@
 -- Neighbours in the map of a key: what the directory says of them, by the kind of the object.
 use Rattle.std.proofs.Common.{◌≡◌, ◌∙◌, refl, sym, ap, subst, ℕ, ℤ, List, Option, None, Some, Result, Ok, Err}
-use Rattle.std.proofs.Common.{option_map}
+use Rattle.std.proofs.Common.{option_map, Bool, true, false, []}
+use Rattle.std.proofs.lemmas.Bool.{eqb-true}
+use Rattle.std.specs.Prelude.{if◌then◌else◌}
 use Rattle.seg_types.specs.{declared.kinds.Kind.Kind, declared.refusals.Refusal.Refusal, Commands.Literal}
 use Rattle.seg_types.specs.{Commands.value_of_literal, Names.Key, Refusals.refusal_number}
 use Rattle.seg_types.specs.declared.kinds.Kind.TheVariants.{Map, Scalar, String, Strings, Vector}
@@ -8,9 +10,12 @@ use Rattle.seg_types.specs.declared.kinds.ScalarKind.{ScalarKind}
 use Rattle.seg_types.specs.declared.refusals.Refusal.TheVariants.{NotFound, WrongKind}
 use Rattle.seg_map.specs.{Numbers.NumberPair, Places.item_of}
 use Rattle.segment_manager.specs.{Calls.kind_at, objects.Instances.IsMissing, containers.Maps.pair_above}
-use Rattle.segment_manager.specs.Directory.{Directory, Object, kind_of}
+use Rattle.segment_manager.specs.Directory.{Directory, Object, Pairs, Value, kind_of, object_at}
+use Rattle.segment_manager.specs.containers.Maps.{answer_of_map, told_of}
+use Rattle.seg_types.specs.Kinds.{code_of, kind_of_code, same_kind}
+use Rattle.seg_types.proofs.Laws.{code-read}
 use Rattle.segment_manager.specs.State.{AnswersWith, DenotesCurrent, SegmentState}
-use Rattle.segment_manager.specs.containers.Walks.{KindedPair, first_of, pairs_at}
+use Rattle.segment_manager.specs.containers.Walks.{KindedPair, first_of, pairs_at, pairs_of}
 use Rattle.segment_c.specs.declared.values.CScalar.{CScalar}
 use Rattle.segment_c.specs.Reads.{TellsPair, above_in, first_at, first_in, item_in, next_at, next_in}
 
@@ -43,7 +48,54 @@ no_next ps l (Vector k) n = refl
 no_next ps l String n = refl
 no_next ps l Strings n = refl
 
+-- ---- the pair above a number, of a map of two kinds
+
+abbrev pairs_in : Option Object → List NumberPair
+pairs_in r = elim r as (λ _. List NumberPair) [ None ↦ [] | Some o ↦ pairs_of o.value ]
+
+abbrev Numbers : Type 0
+Numbers = Result (Option (ℤ × ℤ)) Refusal
+
+abbrev above_of : ScalarKind → ScalarKind → ℤ → Value → Numbers
+above_of k v z w = if same_kind (Map k v) (kind_of w) then told_of (pair_above z) w else Err WrongKind
+
+abbrev above_at : ScalarKind → ScalarKind → ℤ → Option Object → Numbers
+above_at k v z r = elim r as (λ _. Numbers) [ None ↦ Err NotFound | Some o ↦ above_of k v z o.value ]
+
+one-kind : (a b : Kind) → same_kind a b ≡ true → a ≡ b
+one-kind a b e = let same : Some a ≡ Some b =
+    sym (code-read a) ∙ ap kind_of_code (eqb-true (code_of a) (code_of b) e) ∙ code-read b in cc
+
+module _ (k v : ScalarKind) (l : Literal) (z : ℤ) (e : value_of_literal k l ≡ Ok z) (p : Option (ℤ × ℤ)) where
+  in-map : (w : Value) → Map k v ≡ kind_of w → (let r : Numbers = Ok p in r) ≡ told_of (pair_above z) w
+      → (let r : Pair = Ok (item_in k v p) in r) ≡ next_in (pairs_of w) l (kind_of w)
+  in-map (Pairs j i ps) f g = let same : j ≡ k = cc in let it : i ≡ v = cc in let there : p ≡ pair_above z ps = cc in
+      subst (λ (j : ScalarKind). Ok (item_in k v p) ≡ above_in ps j i (value_of_literal j l)) (sym same)
+      (subst (λ (i : ScalarKind). Ok (item_in k v p) ≡ above_in ps k i (value_of_literal k l)) (sym it)
+      (ap (λ (q : Option (ℤ × ℤ)). let r : Pair = Ok (item_in k v q) in r) there
+      ∙ ap (above_in ps k v) (sym e)))
+  in-map w f g = absurd (cc)
+
+  of-value : (w : Value) (b : Bool) → same_kind (Map k v) (kind_of w) ≡ b
+      → (let r : Numbers = Ok p in r) ≡ (if b then told_of (pair_above z) w else Err WrongKind)
+      → (let r : Pair = Ok (item_in k v p) in r) ≡ next_in (pairs_of w) l (kind_of w)
+  of-value w true s f = in-map w (one-kind (Map k v) (kind_of w) s) f
+  of-value w false s f = absurd (cc)
+
+  at-object : (r : Option Object) → (let r : Numbers = Ok p in r) ≡ above_at k v z r
+      → (let r : Pair = Ok (item_in k v p) in r) ≡ next_told (pairs_in r) l (kind_in r)
+  at-object None f = absurd (cc)
+  at-object (Some o) f = of-value o.value (same_kind (Map k v) (kind_of o.value)) refl f
+
 module _ (s : SegmentState) (key : Key) (at value : CScalar) where
+  -- the pair that a map of two kinds answers is told
+  pub next-of_kinds : (k v : ScalarKind) (l : Literal) (z : ℤ) → value_of_literal k l ≡ Ok z → (p : Option (ℤ × ℤ))
+      → AnswersWith s (λ d. answer_of_map d key k v (pair_above z)) (Ok p) → (code : ℕ)
+      → TellsPair at value code (Ok (item_in k v p)) → (d : Directory) → DenotesCurrent s.cut.bytes d
+      → TellsPair at value code (next_at d key l)
+  next-of_kinds k v l z e p a code told d st =
+      subst (TellsPair at value code) (at-object k v l z e p (object_at d key) (a.answers d st)) told
+
   -- no object has the key
   pub first-missing : (why : Refusal) → IsMissing s key why → (d : Directory) → DenotesCurrent s.cut.bytes d
       → TellsPair at value 6 (first_at d key)

@@ -3,7 +3,7 @@ use Rattle.std.proofs.Common.{◌≡◌, ℕ, false, true, inl, inr, List, [], �
 use Rattle.std.proofs.Common.{IsTrue, MatchResult, ◌+◌, ◌<◌, ◌≤◌, nat_lt, refl, sym, ap, subst, ◌∙◌, arith}
 use Rattle.std.proofs.lemmas.List.{append-nil, take-append-drop, length-drop, drop_all}
 use Rattle.raw_region.specs.Device.{ReaderHistory, ReadDelta, WriterHistory, WriteDelta, IsProperPrefix, read_delta}
-use Rattle.raw_region.specs.Device.{write_delta, AppendsBytes, EndsAtMostOnce}
+use Rattle.raw_region.specs.Device.{write_delta, AppendsBytes}
 use Rattle.raw_region.specs.{Answers.AppendsProperPrefix, Format.current, Memory.are_bytes}
 use Rattle.raw_region.proofs.Laws.{added}
 use Rattle.segment_manager.specs.declared.modes.Mode.TheVariants.{Write}
@@ -16,7 +16,7 @@ use Rattle.segment_lang.specs.Language.{whole_language}
 use Rattle.segment_cli.specs.declared.faults.SessionFault.TheVariants.{Image as Refused, RegionTooSmall, ScriptTooLong}
 use Rattle.segment_cli.specs.declared.faults.SessionFault.TheVariants.{BadSize, OutOfMemory, ReadFault, WriteFault}
 use Rattle.segment_cli.specs.Session.{SessionIo, KeepsZeros, SavesImage, IsSizeRefused, IsTooSmall, IsDone}
-use Rattle.segment_cli.specs.Session.{IsImageUnwritten}
+use Rattle.segment_cli.specs.Session.{IsImageUnwritten, MeetsScriptEnd}
 use Rattle.segment_cli.specs.Beginning.{BeginsSession, BeginsSessionOk, IsWhyNotBegun, run_fault}
 use Rattle.segment_cli.specs.Serving.{ServesOk}
 use Rattle.segment_cli.specs.{declared.faults.SessionFault.SessionFault, Session.IsRefusedBefore, Session.AnswersFault}
@@ -28,7 +28,8 @@ use Rattle.segment_scripts.specs.declared.ends.End.{End}
 use Rattle.segment_scripts.specs.declared.ends.End.TheVariants.{Complete, Refused as StoppedEarly}
 use Rattle.segment_scripts.specs.declared.ends.Until.TheVariants.{End as ToTheEnd}
 use Rattle.segment_scripts.specs.{declared.faults.RunFault.RunFault, Run.run, RunOutcome.LeavesFault}
-use Rattle.segment_scripts.specs.{RunOutcome.RunsWhole, Segments.MachineState, Segments.IsMachineAt}
+use Rattle.segment_scripts.specs.{RunOutcome.MeetsEndOnce, RunOutcome.RunsWhole, Segments.MachineState}
+use Rattle.segment_scripts.specs.{Segments.IsMachineAt}
 use Rattle.segment_scripts.specs.{Segments.answer_line}
 use Rattle.segment_scripts.proofs.Laws.{none_failed}
 use Rattle.segment_cli.proofs.sessions.Runs.{place, stands_done, prints_done, done, script_unread, answer_unwritten}
@@ -66,9 +67,27 @@ none_appended old = appended old old [] (sym (append-nil old))
 pub none_counted : (old new : ℕ) → new ≡ old + 0 → nat_lt old new ≡ false
 none_counted old new e = none_failed old new (omega arith)
 
--- a reader that was not asked met no end
-pub none_ended : (gave : ReaderHistory) → EndsAtMostOnce gave gave
-none_ended gave = omega arith
+-- a session that ended with a fault
+abbrev pub failed : SessionFault → Result (Unit {0}) SessionFault
+failed f = Err f
+
+-- a script was not read before the session ended
+pub unread : (start : Start) (image : ReadDelta) (base capacity : ℕ) (fault : SessionFault) (gave : ReaderHistory)
+    → IsWhyNotBegun start image base capacity fault → MeetsScriptEnd (failed fault) gave gave
+unread start image base capacity (Refused c) gave why = refl
+unread start image base capacity BadSize gave why = refl
+unread start image base capacity RegionTooSmall gave why = refl
+unread start image base capacity (OutOfMemory refusal) gave why = refl
+unread start image base capacity ReadFault gave why = inl refl
+unread start image base capacity WriteFault gave why = absurd why
+unread start image base capacity ScriptTooLong gave why = absurd why
+
+-- a run that ends with a fault reads no further than the end of the script
+pub read_on_fault : (fault : RunFault) (old new : ReaderHistory) → MeetsEndOnce old new
+    → MeetsScriptEnd (failed (run_fault fault)) old new
+read_on_fault ScriptNotRead old new ends = inr ends
+read_on_fault AnswerNotWritten old new ends = ends
+read_on_fault TooLong old new ends = ends
 
 -- nor did it give more than it may
 pub none_beyond : (count limit : ℕ) → count ≤ count + limit + 1
@@ -117,9 +136,6 @@ images_mean_one b h = one_directory current b (omega arith) h
 
 abbrev no_segment : SessionFault → Result SegmentState SessionFault
 no_segment f = Err f
-
-abbrev pub failed : SessionFault → Result (Unit {0}) SessionFault
-failed f = Err f
 
 same_fault : (a b : SessionFault) → no_segment a ≡ no_segment b → failed a ≡ failed b
 same_fault a b e =

@@ -1,4 +1,5 @@
--- The segment that a session begins with, or why it has none, from what the call that was to make or open it answered.
+-- The segment that a session begins with, or why it has none. Both follow from the result of the call that creates or
+-- opens the segment.
 use Rattle.std.proofs.Common.{◌≡◌, ℕ, List, length, false, true, IsTrue, Result, Ok, Err, refl, sym, ap, subst, ◌∙◌}
 use Rattle.std.proofs.Common.{arith}
 use Rattle.raw_region.specs.{Device.ReadDelta, Format.current, Memory.SameSurroundings, Memory.cut_at}
@@ -56,7 +57,7 @@ created region base size mode image s h untouched = record {
   too_small = λ p. absurd (let fits = h.fits in let short = p.1 in omega arith);
 }
 
--- the same, by what the call answered
+-- the same, from the result of the call that creates a segment
 module _ (region : List ℕ) (base size : ℕ) (mode : Mode) (image : ReadDelta)
     (result : Result SegmentState CreateRefused)
     (made : Creates region base size mode result) (untouched : IsUntouched image) where
@@ -67,7 +68,7 @@ module _ (region : List ℕ) (base size : ℕ) (mode : Mode) (image : ReadDelta)
       let h = subst (λ (r : Result SegmentState CreateRefused). Creates region base size mode r) is made in
       created region base size mode image s h untouched
 
-  -- it lies where it was created
+  -- the segment is in the `size` bytes of the region from `base` on
   pub placed_by : (s : SegmentState) → result ≡ Ok s → SameSurroundings (cut_at region base size) s.cut
   placed_by s is =
       let h : CreatesOk region base size mode s =
@@ -123,7 +124,7 @@ not_opened image base capacity mode cause why small = record {
   too_small = λ p. ap no_segment (small p);
 }
 
--- the same, by what the call answered
+-- the same, from the result of the call that opens an image
 module _ (region : List ℕ) (base : ℕ) (mode : Mode) (image : ReadDelta) (result : Result SegmentState OpenRefused)
     (o : Opens current image region base mode result) where
   -- a session begins with the segment that was opened
@@ -132,7 +133,7 @@ module _ (region : List ℕ) (base : ℕ) (mode : Mode) (image : ReadDelta) (res
       let h = subst (λ (r : Result SegmentState OpenRefused). Opens current image region base mode r) is o in
       opened region base mode image s h.answers h.too_small
 
-  -- it lies where it was opened
+  -- the segment is in the region from `base` on, in as many bytes as the image has
   pub opened_in : (s : SegmentState) → result ≡ Ok s → SameSurroundings (cut_at region base (length image.bytes)) s.cut
   opened_in s is =
       let h = subst (λ (r : Result SegmentState OpenRefused). Opens current image region base mode r) is o in

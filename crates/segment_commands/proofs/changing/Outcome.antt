@@ -6,7 +6,8 @@ use Rattle.segment_disk.specs.Events.{CreateMode, Event}
 use Rattle.segment_file.specs.Files.{WritesImage}
 use Rattle.segment_cli.specs.declared.faults.SessionFault.TheVariants.{WriteFault}
 use Rattle.segment_commands.specs.declared.command_faults.CommandFault.{CommandFault}
-use Rattle.segment_commands.specs.{Commands.written_as, Faults.Session, Resizing.TellsAndWrites}
+use Rattle.segment_commands.specs.declared.command_faults.CommandFault.TheVariants.{Session}
+use Rattle.segment_commands.specs.{Commands.written_as, Resizing.TellsAndWrites}
 
 module _ {A B D : Type 0} (step : D → Event → D → Type 0) (old new : D) (how : CreateMode) (path image : List ℕ) where
   -- an image that was written whole is so whatever the error's type

@@ -16,7 +16,7 @@ use Rattle.segment_commands.specs.declared.command_faults.CommandFault.{CommandF
 use Rattle.segment_commands.specs.Checking.{Checked, ChecksAll, ChecksOneFile, TellsFit, all_unfit_lines, fit_line}
 use Rattle.segment_commands.specs.Checking.{fit_lines}
 use Rattle.segment_commands.specs.Checking.{status_in, unfit_lines, worse, worst_status}
-use Rattle.segment_commands.specs.Faults.{Session}
+use Rattle.segment_commands.specs.declared.command_faults.CommandFault.TheVariants.{Session}
 use Rattle.segment_commands.specs.Opening.{VerifiesFile}
 use Rattle.segment_commands.specs.Telling.{FailsOutput, FlushesText}
 use Rattle.segment_disk.specs.declared.presence.FileProblem.{FileProblem}

@@ -23,7 +23,8 @@ use Rattle.segment_cli.specs.declared.faults.SessionFault.TheVariants.{Image as 
 use Rattle.segment_cli.specs.declared.faults.SessionFault.TheVariants.{OutOfMemory, ReadFault, WriteFault}
 use Rattle.segment_cli.specs.declared.faults.SessionFault.TheVariants.{ScriptTooLong}
 use Rattle.segment_commands.specs.declared.command_faults.CommandFault.{CommandFault}
-use Rattle.segment_commands.specs.Faults.{IsNoMemory, Session}
+use Rattle.segment_commands.specs.declared.command_faults.CommandFault.TheVariants.{Session}
+use Rattle.segment_commands.specs.Faults.{IsNoMemory}
 use Rattle.segment_commands.specs.Loading.{HasRoomForSize, IsFitting, IsReadWhole, IsWantedSize, IsWhyUnread}
 use Rattle.segment_commands.specs.Loading.{LoadsDump, NeedsRoom}
 use Rattle.segment_commands.proofs.loading.LongTexts.{fits-room}

@@ -8,8 +8,7 @@ use Rattle.segment_cli.specs.declared.faults.Start.TheVariants.{Fresh, Image}
 use Rattle.segment_cli.specs.declared.faults.SessionFault.{SessionFault}
 use Rattle.segment_cli.specs.Beginning.{BeginsSession}
 use Rattle.segment_scripts.specs.declared.ends.End.{End}
-use Rattle.segment_scripts.specs.declared.ends.Until.{Until}
-use Rattle.segment_disk.specs.Events.{CreateMode, New, Event, After}
+use Rattle.segment_disk.specs.Events.{New, Event, After, create_mode_of}
 use Rattle.image_check.specs.declared.versions.AcceptedVersions.TheVariants.{Current}
 use Rattle.segment_file.specs.declared.file_errors.FileError.{FileError}
 use Rattle.segment_file.specs.Files.{open_events}
@@ -20,6 +19,7 @@ use Rattle.segment_commands.proofs.running.Session.{begun}
 use Rattle.segment_commands.specs.Opening.{OpensFile, as_session, session_fault}
 use Rattle.segment_commands.specs.Commands.{MakesSegment}
 use Rattle.segment_commands.specs.Running.{EndsRun, RunsFree, RunsOpened, RunsReadable, MakesRun}
+use Rattle.segment_commands.specs.declared.running.RunRequest.{RunRequest}
 use Rattle.segment_commands.specs.declared.command_faults.CommandFault.{CommandFault}
 
 -- what is answered as a segment is answered as no fault
@@ -41,24 +41,24 @@ was_read (Ok t) s e = ap (λ (u : SegmentState). Ok u) (same_segment s t e)
 was_read (Err error) s e = absurd (no_fault s (session_fault error) e)
 
 module _ {D O : Type 0} (step : D → Event → D
-    → Type 0) (old read new : D) (path : List ℕ) (until : Until) (script script' : ReaderHistory) (history : O
+    → Type 0) (old read new : D) (request : RunRequest) (script script' : ReaderHistory) (history : O
     → WriterHistory) (flushes : Bool → Type 0) (out out' : O)
     (result : Result End SessionFault) (s : SegmentState) where
-  module _ (mode : Mode) (how : CreateMode)
+  module _ (mode : Mode)
       (ends : (capacity : ℕ) (image : ReadDelta) → BeginsSession Image mode 0 capacity image (Ok s)
-      → EndsRun step read new how path
+      → EndsRun step read new (create_mode_of request.saving) request.path.now
       (record {
         start = Image;
         mode = mode;
         capacity = capacity;
         image = image;
-        until = until;
+        until = request.until;
         script = read_delta script script';
         out = write_delta (history out) (history out');
       }) flushes result) where
-    begun_run : (len : ℕ) (image : ReadDelta) → After step old (open_events path len image) read
+    begun_run : (len : ℕ) (image : ReadDelta) → After step old (open_events request.path.now len image) read
         → OpensImageOk Current len 0 mode image s
-        → RunsOpened step old new path mode how until script script' history flushes out out' result
+        → RunsOpened step old new request mode script script' history flushes out out' result
     begun_run len image asked r = inr (record {
       len = len;
       image = image;
@@ -70,31 +70,32 @@ module _ {D O : Type 0} (step : D → Event → D
           (begun image r.region mode s r.opened (read-fits Current len 0 mode image s r));
     })
 
-    read_run : (x : Result SegmentState FileError) → ReadsFile step old read path Current mode 0 x → x ≡ Ok s
-        → RunsOpened step old new path mode how until script script' history flushes out out' result
+    read_run : (x : Result SegmentState FileError) → ReadsFile step old read request.path.now Current mode 0 x
+        → x ≡ Ok s
+        → RunsOpened step old new request mode script script' history flushes out out' result
     read_run x (inl u) e = absurd (no_error s (unopened_error u.why) (sym e ∙ u.refused))
     read_run x (inr r) e = begun_run r.len r.image r.asked (subst (OpensImage Current 0 mode r.len r.image) e r.answer)
 
     -- a run goes on from an opened segment
-    pub opened_run : OpensFile step old read path mode (Ok s)
-        → RunsOpened step old new path mode how until script script' history flushes out out' result
+    pub opened_run : OpensFile step old read request.path.now mode (Ok s)
+        → RunsOpened step old new request mode script script' history flushes out out' result
     opened_run o = read_run o.read o.reads (was_read o.read s o.answer)
 
   module _ (size : ℕ)
       (ends : (capacity : ℕ) (image : ReadDelta) → BeginsSession (Fresh size) Write 0 capacity image (Ok s)
-      → EndsRun step old new New path
+      → EndsRun step old new New request.path.now
       (record {
         start = Fresh size;
         mode = Write;
         capacity = capacity;
         image = image;
-        until = until;
+        until = request.until;
         script = read_delta script script';
         out = write_delta (history out) (history out');
       }) flushes result) where
     -- a run goes on from a new segment
     pub made_run : MakesSegment size (Ok s)
-        → MakesRun step old new path size until script script' history flushes out out' result
+        → MakesRun step old new request size script script' history flushes out out' result
     made_run (inl w) = absurd (no_fault s _ w.refused)
     made_run (inr f) = let a = f.answers
         in inr (record {
@@ -105,13 +106,12 @@ module _ {D O : Type 0} (step : D → Event → D
         })
 
 module _ {D O : Type 0} (step : D → Event → D
-    → Type 0) (old new : D) (path : List ℕ) (how : CreateMode) (until : Until) (script script' : ReaderHistory)
-    (history : O → WriterHistory) (flushes : Bool → Type 0) (out out' : O)
-    (result : Result (Unit {0}) CommandFault) where
+    → Type 0) (old new : D) (request : RunRequest) (script script' : ReaderHistory) (history : O
+    → WriterHistory) (flushes : Bool → Type 0) (out out' : O) (result : Result (Unit {0}) CommandFault) where
   -- a run that does not save
   pub in_reading : (mode : Mode) → mode ≢ Write
-      → RunsFree step old new path how until script script' history flushes out out' result mode
-      → RunsReadable step old new path how until script script' history flushes out out' result mode
+      → RunsFree step old new request script script' history flushes out out' result mode
+      → RunsReadable step old new request script script' history flushes out out' result mode
   in_reading Write is_not h = absurd (is_not refl)
   in_reading ReadOnly is_not h = h
   in_reading CopyOnWrite is_not h = h

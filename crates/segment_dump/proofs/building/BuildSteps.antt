@@ -252,7 +252,7 @@ pub named-reserved : (size n rest : ℕ) → IsDirectory current (empty size)
     → HasBuiltItems (empty size) (record { named = 0; unique = 0; size = size }) [] (block_room (8 * n) + rest)
     → IsRest rest → StepsTo (step Write (empty size) (asked.ReserveNamed n)) Done (IsFronted size n rest)
 named-reserved size n rest i b r =
-    let fronted-so : (t : BackingArray) → n ≤ t.capacity → HasExactRoom (all_extents (fronted size t)) size rest
+    let fronted-so : (t : BackingArray) → t.capacity ≡ n → HasExactRoom (all_extents (fronted size t)) size rest
     → IsFronted size n rest (fronted size t) = λ t l room. record {
       table = t;
       is = refl;

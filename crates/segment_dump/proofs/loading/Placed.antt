@@ -5,7 +5,8 @@ use Rattle.segment_dump.proofs.Common.{length-take, SegmentState, DenotesCurrent
 use Rattle.segment_dump.proofs.Common.{IsExact, cause_in, live-size, StandsBuilt, DumpItem, Site, Directory}
 use Rattle.best_fit.specs.Ends.{EndsAt}
 use Rattle.raw_region.specs.Memory.{SameSurroundings, WindowState, cut_at, part, whole}
-use Rattle.segment_dump.specs.{Items.portable, Loading.LiesIn, Succeeding.LiesOf}
+use Rattle.segment_dump.specs.{Items.portable, Loading.HasExactIndexes, Loading.LiesIn, Succeeding.IndexesOf}
+use Rattle.segment_dump.specs.{Succeeding.LiesOf}
 use Rattle.segment_dump.proofs.loading.Judgement.{portable-countable}
 
 long-whole : (c : WindowState) → length (whole c) ≡ length c.before + length c.bytes + length c.after
@@ -53,3 +54,14 @@ lies-made text region base size room counted (Ok s) h x o = record {
       o.lies b d n st l t (h.counts n (portable d) l (portable-countable b d st) t) (sym (x.exact b d n st l t));
 }
 lies-made text region base size room counted (Err why) h x o = tt
+
+-- of a load that was made, the indexes have the places that the text tells
+pub indexes-made : (text : List ℕ) (capacity base : ℕ) (size : Option ℕ) (room : ℕ) (counted : Result Count ℕ)
+    (result : Result SegmentState LoadRefused) → CountsDump text counted
+    → IsExact text capacity base size room (cause_in result)
+    → IndexesOf text capacity base size room counted result → IfOk result (HasExactIndexes text)
+indexes-made text capacity base size room counted (Ok s) h x o = record {
+  exact = λ b d n st l t.
+      o.indexes b d n st l t (h.counts n (portable d) l (portable-countable b d st) t) (sym (x.exact b d n st l t));
+}
+indexes-made text capacity base size room counted (Err why) h x o = tt

@@ -27,7 +27,7 @@ use Rattle.segment_dump.proofs.building.BuildSteps.{unique-reserved}
 use Rattle.best_fit.specs.Ends.{EndsAt}
 use Rattle.raw_region.proofs.Laws.{SameSurroundings-trans}
 use Rattle.raw_region.specs.Memory.{SameSurroundings, WindowState, cut_at}
-use Rattle.segment_dump.specs.Succeeding.{LiesOf}
+use Rattle.segment_dump.specs.{Loading.HasIndexes, Succeeding.IndexesOf, Succeeding.KeepsIndexes, Succeeding.LiesOf}
 use Rattle.segment_dump.proofs.loading.Placed.{built-long, ends-in}
 use Rattle.segment_dump.proofs.building.WholeDump.{built-portable, cut-free, portable-sorted, text-behind}
 
@@ -131,6 +131,15 @@ trimmed-sized : (b : List ℕ) (d : Directory) (site : Site) (items : List DumpI
     → HasRequestedSize (trimmed d o) o
 trimmed-sized b d site items None s h a = cut-free d 0 s.denotes.directory.proper h.room
 trimmed-sized b d site items (Some m) s h a = h.size_is ∙ a
+
+trimmed-indexes : (s : SegmentState) (d : Directory) (o : Option ℕ) → DenotesCurrent s.cut.bytes (trimmed d o)
+    → HasIndexes d.named.capacity d.unique.capacity s
+trimmed-indexes s d None st = record { directory = shrunk d; stands = st; named_is = refl; unique_is = refl }
+trimmed-indexes s d (Some m) st = record { directory = d; stands = st; named_is = refl; unique_is = refl }
+
+-- a segment that is cut after its last block keeps its indexes
+pub trims-keep : (s new : SegmentState) (size : Option ℕ) → Trims s new size → KeepsIndexes s (Ok new)
+trims-keep s new size h = record { keeps = λ d st. trimmed-indexes new d size (h.trims d st) }
 
 module _ (s new : SegmentState) (text : List ℕ) (said : ℕ) (size : Option ℕ) where
   -- a text that is no dump of the segment
@@ -299,6 +308,18 @@ module _ (text : List ℕ) (capacity base : ℕ) (size : Option ℕ) (room : ℕ
           let v = building b d n s l t c f in
           j.judges (site_of (front_of n (portable d)) asked) (portable d) v.built (portable-sorted b d s)
           (asked-by size asked n v.asked_is) (t ∙ ap (λ (x : Front). dump_text x.size (portable d)) (sym v.front_is));
+    }
+
+    -- the indexes of the segment that was judged have the places that the front says
+    pub good-indexed : (result : Result SegmentState LoadRefused) → KeepsIndexes s1 result
+        → IndexesOf text capacity base size room counted result
+    good-indexed result k = record {
+      indexes = λ b d n s l t c f.
+          let v = building b d n s l t c f in
+          let of = v.built.built in
+          subst (λ m. IfOk result (HasIndexes m (length (portable d).unique))) of.named
+          (subst (λ m. IfOk result (HasIndexes v.built.directory.named.capacity m)) of.unique
+          (k.keeps v.built.directory v.built.stands));
     }
 
     -- the segment that was judged lies in the region

@@ -1,4 +1,4 @@
--- What stands in front of a text is read.
+-- What a reader finds at the front of a text: lines, words, numbers, kinds, quoted bytes and names.
 use Rattle.segment_dump.proofs.Common.{◌≡◌, ◌≢◌, ℕ, suc, ◌+◌, ◌-◌, ◌<◌, ◌≤◌, List, [], ◌∷◌, ◌++◌, length, take, drop}
 use Rattle.segment_dump.proofs.Common.{get_or, refl, sym, ap, subst, ◌∙◌, arith, append_assoc, ◌^◌, Option, Some, None}
 use Rattle.segment_dump.proofs.Common.{decimal, flat_map, option_map, take_all, AllByRecursion, kind_text, name_text}
@@ -12,22 +12,22 @@ use Rattle.segment_dump.proofs.{texts.Words.decimal-word}
 use Rattle.segment_dump.proofs.texts.KindWords.{kind-named, kind-word}
 use Rattle.segment_dump.proofs.texts.QuotedTexts.{IsName, bare, item-is, item-opens, name-is, quoted}
 
--- ---- where nothing is found
+-- ---- equal results
 
 module _ {X Y : Type 0} (say : X → List ℕ) (IsSaid : X → Type 0) (Follows : List ℕ → Type 0) (value : X
     → Y) (text : List ℕ) where
-  -- what was parsed is what was seen
+  -- if one of two equal results parses the prefix, so does the other
   pub as-seen : (o p : Option (Y × Bor (List ℕ))) → o ≡ p → ParsesPrefix say IsSaid Follows value text (seen o)
       → ParsesPrefix say IsSaid Follows value text (seen p)
   as-seen o p e h = subst (λ (q : Option (Y × Bor (List ℕ))). ParsesPrefix say IsSaid Follows value text (seen q)) e h
 
 -- ---- a line
 
--- what is left of a line, after which this stands
+-- `rest` is what is left of a line, and then `a`
 abbrev pub LineLeft : List ℕ → List ℕ → Type 0
 LineLeft rest a = (left : List ℕ) × HasNoEnd left × (rest ≡ ended left ++ a)
 
--- whatever line it was
+-- for every line with which `text` can begin, `rest` is what is left of that line, and then what follows the line
 pub record InLine (text rest : List ℕ) : Type 0 where
   pub left : (line a : List ℕ) → HasNoEnd line → text ≡ ended line ++ a → LineLeft rest a
 
@@ -43,7 +43,7 @@ line-goes f tail (c ∷ cs) a n h e = (cs, h.1, tails e)
 
 -- ---- a word
 
--- the bytes in front are of a word
+-- the bytes of `text` before `rest` are bytes of a word
 pub record InWord (text rest : List ℕ) : Type 0 where
   pub word : List ℕ
   pub high : IsWord word
@@ -53,7 +53,7 @@ word-append : (w : List ℕ) (c : ℕ) → IsWord w → 0x20 < c → IsWord (w +
 word-append [] c h l = (l, tt)
 word-append (d ∷ w) c h l = (h.0, word-append w c h.1 l)
 
--- all after the first
+-- taking one byte less than the whole length takes all of the tail
 pub tail-all : (c : ℕ) (tail : List ℕ) → take (length (c ∷ tail) - 1) tail ≡ tail
 tail-all c tail = take_all (length (c ∷ tail) - 1) tail (omega arith)
 
@@ -71,7 +71,7 @@ word-goes text (c ∷ tail) l g h =
 
 -- ---- numbers
 
--- a word in front of a text, after which no word goes on
+-- `text` begins with a word, and the word ends before `rest`
 pub record IsSplit (text word rest : List ℕ) : Type 0 where
   pub whole : text ≡ word ++ rest
   pub high : IsWord word
@@ -84,7 +84,7 @@ split-read text w rest v a s h b e = words-read w v rest a s.high h s.breaks b (
 abbrev pub NumberReads : List ℕ → Option (ℕ × List ℕ) → Type 0
 NumberReads = ParsesPrefix number_text (λ n. n < 2 ^ 64) Breaks itself
 
--- a word that is a number is read as it
+-- reading a word that spells a number gives that number
 pub number-reads : NumbersAreDecimals → (text w rest : List ℕ) (o : Option ℕ) → o ≡ number_of w
     → IsSplit text w rest → NumberReads text (option_map (λ n. (n, rest)) o)
 number-reads law text w rest o f s = record {
@@ -95,7 +95,7 @@ number-reads law text w rest o f s = record {
       ap (option_map (λ m. (m, rest))) found ∙ ap (λ l. Some (n, l)) r.1;
 }
 
--- what was read is spelled there
+-- the text begins with the spelling of the number that was read
 pub number-whole_language : NumbersAreDecimals → (text w rest : List ℕ) (n : ℕ) → number_of w ≡ Some n
     → text ≡ w ++ rest
     → text ≡ number_text n ++ rest
@@ -106,7 +106,7 @@ number-whole_language law text w rest n e s = s ∙ ap (λ v. v ++ rest) ((law w
 abbrev pub KindReads : List ℕ → Option (Kind × List ℕ) → Type 0
 KindReads = ParsesPrefix kind_text Any Breaks itself
 
--- a word that is a kind is read as it
+-- reading a word that spells a kind gives that kind
 pub kind-reads : (text w rest : List ℕ) (o : Option Kind) → o ≡ kind_named (whole_language current) w
     → IsSplit text w rest
     → KindReads text (option_map (λ k. (k, rest)) o)
@@ -119,7 +119,7 @@ kind-reads text w rest o f s = record {
 
 -- ---- lines
 
--- what is left of this many lines, after which this stands
+-- `rest` is `n` lines, and then `a`
 pub record LinesLeft (rest : List ℕ) (n : ℕ) (a : List ℕ) : Type 0 where
   pub lines : List (List ℕ)
   pub good : AllByRecursion HasNoEnd lines
@@ -150,7 +150,7 @@ lines-end text rest count counter l h = record {
       in ap Some (no-lines rest a f.lines f.whole (omega (arith, f.many)));
 }
 
--- one line less
+-- skipping the first line leaves one line less
 first-line : (rest : List ℕ) (n : ℕ) (a : List ℕ) (lines : List (List ℕ)) (o : Option (List ℕ))
     → AllByRecursion HasNoEnd lines → length lines ≡ suc n → rest ≡ lines_text lines ++ a → Skips ended HasNoEnd rest o
     → (new : List ℕ) × (o ≡ Some new) × LinesLeft new n a
@@ -199,7 +199,7 @@ pub record QuotesLeft (rest : List ℕ) (len n : ℕ) (a : List ℕ) : Type 0 wh
 abbrev pub IsShort : List ℕ → Type 0
 IsShort bs = IsSmall (length bs)
 
--- the bytes of a quoted text so far, and the text that is left
+-- `len` bytes of a quoted text are read, and `rest` is the text that is left
 pub record InQuotes (text rest : List ℕ) (len : ℕ) : Type 0 where
   pub left : (bs a : List ℕ) → IsShort bs → text ≡ closed_text bs ++ a → QuotesLeft rest len (length bs) a
 
@@ -283,7 +283,7 @@ name-bare text w rest q s = record {
       in λ i. Some (length (r.0 i), r.1 i);
 }
 
--- a name that is too long is none
+-- a word that is too long is no name
 pub name-long : (text w rest : List ℕ) → ((x : List ℕ) → text ≢ 0x22 ∷ x) → IsSplit text w rest
     → 1073741824 < length w → NameReads text None
 name-long text w rest q s l = record {

@@ -1,4 +1,4 @@
--- Kinds are words, and are found by them.
+-- The text of each kind is one word, and the language finds the kind by this word.
 use Rattle.segment_dump.proofs.Common.{◌≡◌, ℕ, true, Some, List, ◌++◌, refl, ◌<◌, length, sym, ap, ◌∙◌, arith, codes}
 use Rattle.segment_dump.proofs.Common.{list_all, current, Kind, Scalar, ScalarKind, U8, I32, I64, U64, kind_text}
 use Rattle.segment_dump.proofs.Common.{scalar_text, whole_language, kind_named, is_bare}
@@ -33,7 +33,7 @@ kind-bare (Map k v) =
     (codes ">") (AllByRecursion-append (λ c. is_bare c ≡ true) (codes "map<" ++ scalar_text k ++ codes ",")
     (scalar_text v) keys (scalar-bare v)) (bare-test (codes ">") refl)
 
--- a kind is a word
+-- the text of a kind is one word
 pub kind-word : (k : Kind) → IsWord (kind_text k)
 kind-word k = bare-word (kind_text k) (kind-bare k)
 
@@ -49,7 +49,7 @@ kind-long (Vector k) = omega arith
 kind-long Strings = omega arith
 kind-long (Map k v) = omega arith
 
--- ---- the kind of its word
+-- ---- the kind that a word names
 
 map-named : (k v : ScalarKind) → kind_named (whole_language current) (kind_text (Map k v)) ≡ Some (Map k v)
 unfolding kind_named current
@@ -77,7 +77,7 @@ kind-named (Vector U64) = refl
 kind-named Strings = refl
 kind-named (Map k v) = map-named k v
 
--- so it tells the kind
+-- so a text that begins with the word of a kind tells the kind and the rest
 pub kinds-read : (k l : Kind) (a b : List ℕ) → Breaks a → Breaks b → kind_text k ++ a ≡ kind_text l ++ b
     → (k ≡ l) × (a ≡ b)
 kinds-read k l a b f g e =

@@ -3,7 +3,7 @@ use Rattle.std.proofs.Common.{◌≡◌, ◌≢◌, ◌⊎◌, ⊎_elim, inl, in
 use Rattle.std.proofs.Common.{false, List, [], ◌∷◌}
 use Rattle.std.proofs.Common.{length, take, Result, Ok, Err, refl, sym, ◌∙◌, ap, subst}
 use Rattle.segment_log.specs.Crashes.{LoggedFile}
-use Rattle.segment_log.specs.Events.{LogEvent, Placed, Synced, Wrote, leaves_after}
+use Rattle.segment_log.specs.Events.{LogEvent, Placed, Synced, Wrote, leaves_after, seen_in_the_end}
 use Rattle.segment_log.specs.Laws.{CommitOutcome, Unwritten, Unsynced, Unmarked, Unsure, Committed, body, open_gate}
 use Rattle.segment_log.specs.Laws.{commit_events, through_events, shut_events, checkpoint_events}
 use Rattle.segment_log.specs.Records.{zeros}
@@ -45,9 +45,19 @@ module _ {D : Type 0} (step : D → LogEvent → D → Type 0) (old new : D) (en
     crash = λ files last image ready for. nothing files (commit_events end payload Unwritten) _
         (λ k c left. commit_finds_one files end payload last image Unwritten ready for k c left);
     on_ok = tt;
+    base = λ files. refl;
     refused = λ _. refl;
     too_long = λ is. long (cc is);
   }
+
+  -- a commit writes the log alone
+  same_base : (how : CommitOutcome) (files : LoggedFile)
+      → (seen_in_the_end files (commit_events end payload how)).base ≡ files.base
+  same_base Unwritten files = refl
+  same_base Unsynced files = refl
+  same_base Unmarked files = refl
+  same_base Unsure files = refl
+  same_base Committed files = refl
 
   -- a commit that failed while it wrote
   pub failed : (how : CommitOutcome) → AsksFor step old (commit_events end payload how) new
@@ -58,6 +68,7 @@ module _ {D : Type 0} (step : D → LogEvent → D → Type 0) (old new : D) (en
     crash = λ files last image ready for k c left.
         commit_finds_one files end payload last image how ready for k c left;
     on_ok = tt;
+    base = same_base how;
     refused = ⊎_elim (λ is. absurd (cc is)) (λ is. absurd (cc is));
     too_long = λ is. absurd (cc is);
   }
@@ -71,6 +82,7 @@ module _ {D : Type 0} (step : D → LogEvent → D → Type 0) (old new : D) (en
     crash = λ files last image ready for k c left.
         commit_finds_one files end payload last image Committed ready for k c left;
     on_ok = λ files last image ready for. committed_finds_the_new files end payload last image ready for;
+    base = same_base Committed;
     refused = ⊎_elim (λ is. absurd (cc is)) (λ is. absurd (cc is));
     too_long = λ is. absurd (cc is);
   }

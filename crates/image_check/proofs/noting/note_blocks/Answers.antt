@@ -2,8 +2,8 @@ use Rattle.image_check.proofs.Common.{IsTrue, WindowState, arith, is_live_in, su
 use Rattle.best_fit.specs.Heap.{live_of}
 use Rattle.image_check.proofs.noting.note_blocks.Goals as goal
 
-pub insert_hint-requires : goal.insert_hint-requires
-insert_hint-requires c =
+pub note_block-requires : goal.note_block-requires
+note_block-requires c =
     subst (λ (v : WindowState). IsTrue (is_live_in (live_of v.bytes) c.row-payload.result.0))
     (sym c.rows.invariant.unchanged)
     (c.requires c.row-payload.result.0 c.row-payload.result.1 c.row-payload.ensures.block)
@@ -14,6 +14,6 @@ rows-preserved c =
     let visits = inv.visits in
     record {
       within = omega arith;
-      unchanged = c.insert_hint.ensures ∙ inv.unchanged;
+      unchanged = c.note_block.ensures ∙ inv.unchanged;
       visits = omega arith;
     }

@@ -12,8 +12,10 @@ returns-then-len-size-clause-cause c = λ _.
       c.class_code.ensures,
       said_more c.args.image.now
           (subst (λ (n : ℕ). length c.args.image.now < n) c.size_said-size.ensures c.if-len-size.true),
-      refl,
     )
+
+pub returns-then-len-size-clause-place : goal.returns-then-len-size-clause-place
+returns-then-len-size-clause-place c = inr (Truncated, c.class_code.ensures, refl)
 
 pub examine_in-requires : goal.examine_in-requires
 examine_in-requires c =

@@ -1,22 +1,19 @@
-use Rattle.std.proofs.Common.{arith, length}
-use Rattle.segment_c.proofs.transactions.Images.{why_class, why_memory, why_room}
+-- The code and the place say why the image is not opened.
+use Rattle.std.proofs.Common.{length}
+use Rattle.segment_c.proofs.transactions.Images.{cause_placed, not_read_fault, why_refused}
 use Rattle.segment_c.proofs.images.open_in.Goals as goal
 
-pub returns-in-Image : goal.returns-in-Image
-returns-in-Image c =
-    let o = c.in-Err.ensures.opening in
-    let code = c.class_code.ensures in (
-      omega (arith, code),
-      why_class c.args.image.now (length c.args.region) _ o.answers.why o.too_small
-          c.in-Image.verdict c.class_code.result c.in-Image.is code,
-    )
+pub refused_code-requires : goal.refused_code-requires
+refused_code-requires c =
+    not_read_fault c.args.image.now (length c.args.region) _ c.in-Err.ensures.opening.answers.why
 
-pub returns-in-RegionTooSmall : goal.returns-in-RegionTooSmall
-returns-in-RegionTooSmall c =
+pub returns-in-Err-clause-opening : goal.returns-in-Err-clause-opening
+returns-in-Err-clause-opening c =
     let o = c.in-Err.ensures.opening in
-    (omega arith, why_room c.args.image.now (length c.args.region) _ o.answers.why o.too_small c.in-RegionTooSmall.is)
+    rw c.refused_code.ensures.code
+    (why_refused c.args.image.now (length c.args.region) c.in-Err.refused.cause o.answers.why o.too_small)
 
-pub returns-in-OutOfMemory : goal.returns-in-OutOfMemory
-returns-in-OutOfMemory c =
-    let code = c.no_memory.ensures in
-    (omega (arith, code), rw code (why_memory c.args.image.now (length c.args.region)))
+pub returns-in-Err-clause-place : goal.returns-in-Err-clause-place
+returns-in-Err-clause-place c =
+    rw c.refused_code.ensures.code (rw c.refused_code.ensures.place
+    (cause_placed c.args.image.now c.in-Err.refused.cause c.args.place.now c.in-Err.ensures.place))

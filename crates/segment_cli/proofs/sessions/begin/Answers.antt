@@ -1,4 +1,4 @@
-use Rattle.std.proofs.lemmas.Result.{err_from_is_err_and}
+use Rattle.std.proofs.{Common.refl, lemmas.Result.err_from_is_err_and}
 use Rattle.raw_region.specs.Device.{read_delta}
 use Rattle.segment_cli.proofs.sessions.Start.{created_by, not_created_by, not_opened_by, opened_by, opened_in}
 use Rattle.segment_cli.proofs.sessions.Start.{placed_by}
@@ -38,3 +38,15 @@ returns-in_ok-create-in-Fresh-clause-place g c =
 pub returns-in_ok-open-in-Image-clause-place : goal.returns-in_ok-open-in-Image-clause-place
 returns-in_ok-open-in-Image-clause-place g c = rw c.in-Image.is
     (opened_in c.args.region c.args.base c.args.mode _ _ c.open.ensures.opening _ c.in_ok-open-in-Image.was)
+
+pub returns-in_err-create-in-Fresh-clause-image_end : goal.returns-in_err-create-in-Fresh-clause-image_end
+returns-in_err-create-in-Fresh-clause-image_end g c = rw c.in-Fresh.is refl
+
+pub returns-in_ok-create-in-Fresh-clause-image_end : goal.returns-in_ok-create-in-Fresh-clause-image_end
+returns-in_ok-create-in-Fresh-clause-image_end g c = rw c.in-Fresh.is refl
+
+pub returns-in_err-open-in-Image-clause-image_end : goal.returns-in_err-open-in-Image-clause-image_end
+returns-in_err-open-in-Image-clause-image_end g c = rw c.in-Image.is c.open.ensures.ends
+
+pub returns-in_ok-open-in-Image-clause-image_end : goal.returns-in_ok-open-in-Image-clause-image_end
+returns-in_ok-open-in-Image-clause-image_end g c = rw c.in-Image.is c.open.ensures.ends

@@ -3,7 +3,7 @@ use Rattle.raw_region.proofs.Laws.{added}
 use Rattle.segment_scripts.specs.Lines.{script_limit}
 use Rattle.segment_scripts.proofs.Laws.{one_failed}
 use Rattle.segment_cli.proofs.sessions.Ends.{at_first, first, images_mean_one, none_appended, none_beyond, none_counted}
-use Rattle.segment_cli.proofs.sessions.Ends.{none_ended}
+use Rattle.segment_cli.proofs.sessions.Ends.{read_on_fault, unread}
 use Rattle.segment_cli.proofs.sessions.Ends.{not_asked, not_written, served, unbegun_session}
 use Rattle.segment_cli.proofs.sessions.Ends.{stopped_session, done_session, unsaved_session}
 use Rattle.segment_cli.proofs.sessions.session.Goals as goal
@@ -68,7 +68,21 @@ pub returns-in_err-serve-clause-saved_history : goal.returns-in_err-serve-clause
 returns-in_err-serve-clause-saved_history g c = none_appended (g.W.Sink.history c.args.image_out.now).bytes
 
 pub returns-in_err-segment-clause-script_end : goal.returns-in_err-segment-clause-script_end
-returns-in_err-segment-clause-script_end g c = none_ended (g.S.Source.history c.args.script.now)
+returns-in_err-segment-clause-script_end g c =
+    let p = err_from_is_err_and c.from_residual.result c.from_residual.ensures.1 in
+    rw (p.1, p.2) (unread _ _ _ _ c.in_err-segment.field-0.0 (g.S.Source.history c.args.script.now)
+    c.in_err-segment.ensures.start.answers)
+
+pub returns-in_err-serve-clause-script_end : goal.returns-in_err-serve-clause-script_end
+returns-in_err-serve-clause-script_end g c =
+    let p = err_from_is_err_and c.from_residual-in_err-serve.result c.from_residual-in_err-serve.ensures.1 in
+    rw (p.1, p.2, c.in_err-serve.ensures.service.why)
+    (read_on_fault _ _ _ c.serve.ensures.script_end)
+
+pub returns-in_err-save_segment-clause-script_end : goal.returns-in_err-save_segment-clause-script_end
+returns-in_err-save_segment-clause-script_end g c =
+    let from = c.from_residual-in_err-save_segment in let p = err_from_is_err_and from.result from.ensures.1 in
+    rw (p.1, p.2) c.serve.ensures.script_end
 
 pub returns-in_err-segment-clause-read_limit : goal.returns-in_err-segment-clause-read_limit
 returns-in_err-segment-clause-read_limit g c =
@@ -85,3 +99,6 @@ returns-clause-unique g c = images_mean_one
 
 pub returns-in_err-save_segment-clause-unique : goal.returns-in_err-save_segment-clause-unique
 returns-in_err-save_segment-clause-unique g c = images_mean_one
+
+pub returns-clause-script_end : goal.returns-clause-script_end
+returns-clause-script_end g c = c.serve.ensures.script_end

@@ -10,6 +10,12 @@ puts-of : {A E : Type 0} (old new : WriterHistory) (result : Result A E) (text :
 puts-of old new (Ok a) text w = let counted = w.counted in inl (omega (arith, counted), w.ok)
 puts-of old new (Err e) text w = inr (w.counted, w.err)
 
+pub returns-in-Growth-clause-text : goal.returns-in-Growth-clause-text
+returns-in-Growth-clause-text g c =
+    subst (λ (f : CommandFault). WritesText (g.S.Sink.history c.args.err.now)
+    (g.S.Sink.history c.report-in-Growth.new.err) (command_text f)) (sym c.in-Growth.is)
+    c.report-in-Growth.ensures.text
+
 pub returns-in-InUse-clause-text : goal.returns-in-InUse-clause-text
 returns-in-InUse-clause-text g c =
     subst (λ (f : CommandFault). WritesText (g.S.Sink.history c.args.err.now) (g.S.Sink.history c.put_line.new.err)

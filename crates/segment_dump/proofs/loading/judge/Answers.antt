@@ -1,4 +1,4 @@
-use Rattle.segment_dump.proofs.loading.Success.{judged-other, judged-unlike}
+use Rattle.segment_dump.proofs.loading.Success.{judged-other, judged-unlike, trims-keep}
 use Rattle.segment_dump.proofs.loading.judge.Goals as goal
 
 pub returns-in-Err-clause-success : goal.returns-in-Err-clause-success
@@ -10,3 +10,7 @@ pub returns-else-has_size-clause-success : goal.returns-else-has_size-clause-suc
 returns-else-has_size-clause-success c =
     judged-unlike c.args.segment c.trim.new.segment c.args.text.now c.args.said c.args.size _ c.trim.ensures.changes
     c.if-has_size.ensures.every
+
+pub returns-then-has_size-clause-indexes : goal.returns-then-has_size-clause-indexes
+returns-then-has_size-clause-indexes c =
+    trims-keep c.args.segment c.trim.new.segment c.args.size c.trim.ensures.changes

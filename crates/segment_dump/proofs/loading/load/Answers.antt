@@ -1,5 +1,5 @@
 use Rattle.std.specs.Prelude.{IfOk}
-use Rattle.segment_dump.specs.Loading.{LiesIn}
+use Rattle.segment_dump.specs.Loading.{HasExactIndexes, LiesIn}
 use Rattle.segment_dump.proofs.Common.{length, subst, MatchResult, IsExact, IsLoaded, IsNotLoaded, cause_in, Succeeds}
 use Rattle.std.specs.Prelude.{IfSome}
 use Rattle.segment_dump.specs.Loading.{IsLacking}
@@ -28,3 +28,7 @@ returns-clause-cause c = subst (λ t. IfSome (cause_in c.load_lines.result) (IsL
 pub returns-clause-place : goal.returns-clause-place
 returns-clause-place c = subst (λ t. IfOk c.load_lines.result (LiesIn t c.args.region c.args.base c.args.size))
     c.without_notes.ensures c.load_lines.ensures.place
+
+pub returns-clause-indexes : goal.returns-clause-indexes
+returns-clause-indexes c = subst (λ t. IfOk c.load_lines.result (HasExactIndexes t)) c.without_notes.ensures
+    c.load_lines.ensures.indexes

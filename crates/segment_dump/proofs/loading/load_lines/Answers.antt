@@ -1,4 +1,4 @@
-use Rattle.segment_dump.proofs.loading.Placed.{lies-made}
+use Rattle.segment_dump.proofs.loading.Placed.{indexes-made, lies-made}
 use Rattle.segment_dump.proofs.loading.load_lines.Goals as goal
 use Rattle.segment_dump.proofs.{Common.length, Common.cause_in, loading.Success.succeeds-lacking}
 use Rattle.segment_dump.proofs.{loading.Success.succeeds-made}
@@ -53,3 +53,9 @@ returns-clause-place c =
     lies-made c.args.text.now c.args.region c.args.base c.args.size (length c.args.room.now)
     c.count_dump-counted.result c.make.result c.count_dump-counted.ensures.count (returns-clause-exact c)
     c.make.ensures.place
+
+pub returns-clause-indexes : goal.returns-clause-indexes
+returns-clause-indexes c =
+    indexes-made c.args.text.now (length c.args.region) c.args.base c.args.size (length c.args.room.now)
+    c.count_dump-counted.result c.make.result c.count_dump-counted.ensures.count (returns-clause-exact c)
+    c.make.ensures.indexes

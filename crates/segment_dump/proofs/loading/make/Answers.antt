@@ -1,4 +1,4 @@
-use Rattle.segment_dump.proofs.loading.Success.{good-placed}
+use Rattle.segment_dump.proofs.loading.Success.{good-indexed, good-placed}
 use Rattle.segment_dump.proofs.loading.make.Goals as goal
 use Rattle.segment_dump.proofs.{Common.length, Common.refl, loading.Judgement.back-some, loading.Judgement.judged}
 use Rattle.segment_dump.proofs.{loading.Judgement.unlacking, loading.Judgement.wrong-why}
@@ -74,3 +74,13 @@ returns-clause-place c =
     c.read_front.result c.create.result c.new-lines.ensures c.read_front.ensures c.in-Ok.is c.declared_size.ensures
     c.asked_size-asked.ensures.value c.create.ensures c.in-Ok-create.is c.make_objects.ensures.objects _ refl
     c.make_objects.ensures.place c.judge.ensures.place
+
+pub returns-clause-indexes : goal.returns-clause-indexes
+returns-clause-indexes c =
+    good-indexed c.args.text.now (length c.args.region) c.args.base c.args.size (length c.args.room.now)
+    c.args.counted _ _ c.args.region c.new-lines.result c.read_front.new.lines c.in-Ok.front
+    c.asked_size-asked.result c.declared_size.result c.in-Ok-create.segment c.make_objects.new.segment
+    c.make_objects.result
+    c.read_front.result c.create.result c.new-lines.ensures c.read_front.ensures c.in-Ok.is c.declared_size.ensures
+    c.asked_size-asked.ensures.value c.create.ensures c.in-Ok-create.is c.make_objects.ensures.objects _
+    c.judge.ensures.indexes

@@ -10,18 +10,18 @@ use Rattle.segment_log.proofs.committing.checkpoint.Goals as goal
 pub returns-in_err-gate : goal.returns-in_err-gate
 returns-in_err-gate g c =
     let p = err_from_is_err_and c.from_residual.result c.from_residual.ensures.1 in
-    rw (p.1, p.2) (not_begun g.D.LogDisk.step c.args.disk.now c.args.disk.now c.args.image.now OutOfMemory refl)
+    rw (p.1, p.2) (not_begun g.D.LogDisk.log_step c.args.disk.now c.args.disk.now c.args.image.now OutOfMemory refl)
 
 pub returns-in_err-place : goal.returns-in_err-place
 returns-in_err-place g c =
     let from = c.from_residual-in_err-place in
     let p = err_from_is_err_and from.result from.ensures.1 in
-    rw (p.1, p.2) (not_placed g.D.LogDisk.step c.args.disk.now c.place.new.self c.args.image.now WriteFault
+    rw (p.1, p.2) (not_placed g.D.LogDisk.log_step c.args.disk.now c.place.new.self c.args.image.now WriteFault
     c.in_err-place.ensures)
 
 pub returns-in_err-write_through : goal.returns-in_err-write_through
 returns-in_err-write_through g c =
-    let step = g.D.LogDisk.step in
+    let step = g.D.LogDisk.log_step in
     let from = c.from_residual-in_err-write_through in
     let p = err_from_is_err_and from.result from.ensures.1 in
     let w = c.in_err-write_through.ensures in
@@ -33,7 +33,7 @@ returns-in_err-write_through g c =
 
 pub returns : goal.returns
 returns g c =
-    let step = g.D.LogDisk.step in
+    let step = g.D.LogDisk.log_step in
     let w = c.in_ok-write_through.ensures in
     let mid = c.place.new.self in
     let new = c.write_through.new.disk in

@@ -15,24 +15,24 @@ returns-then-end-ge-MAX_LOG_LEN g c =
       | then-end-ge-MAX_LOG_LEN-via-else-end-ge-MAX_LOG_LEN+then-payload-ge-MAX_LOG_LEN w ↦
           inr w.if-payload-ge-MAX_LOG_LEN.true
     ] in
-    refused g.D.LogDisk.step c.args.disk.now c.args.disk.now c.args.end c.args.payload.now TooLong refl (λ _. long)
+    refused g.D.LogDisk.log_step c.args.disk.now c.args.disk.now c.args.end c.args.payload.now TooLong refl (λ _. long)
 
 pub returns-in_err-body : goal.returns-in_err-body
 returns-in_err-body g c =
     let p = err_from_is_err_and c.from_residual.result c.from_residual.ensures.1 in
-    rw (p.1, p.2) (refused g.D.LogDisk.step c.args.disk.now c.args.disk.now c.args.end c.args.payload.now OutOfMemory
-    refl (λ is. absurd (cc is)))
+    rw (p.1, p.2) (refused g.D.LogDisk.log_step c.args.disk.now c.args.disk.now c.args.end c.args.payload.now
+    OutOfMemory refl (λ is. absurd (cc is)))
 
 pub returns-in_err-gate : goal.returns-in_err-gate
 returns-in_err-gate g c =
     let from = c.from_residual-in_err-gate in
     let p = err_from_is_err_and from.result from.ensures.1 in
-    rw (p.1, p.2) (refused g.D.LogDisk.step c.args.disk.now c.args.disk.now c.args.end c.args.payload.now OutOfMemory
-    refl (λ is. absurd (cc is)))
+    rw (p.1, p.2) (refused g.D.LogDisk.log_step c.args.disk.now c.args.disk.now c.args.end c.args.payload.now
+    OutOfMemory refl (λ is. absurd (cc is)))
 
 pub returns-in_err-write_through : goal.returns-in_err-write_through
 returns-in_err-write_through g c =
-    let step = g.D.LogDisk.step in
+    let step = g.D.LogDisk.log_step in
     let from = c.from_residual-in_err-write_through in
     let p = err_from_is_err_and from.result from.ensures.1 in
     let w = c.in_err-write_through.ensures in
@@ -44,7 +44,7 @@ returns-in_err-write_through g c =
 
 pub returns-in_err-write_through-2 : goal.returns-in_err-write_through-2
 returns-in_err-write_through-2 g c =
-    let step = g.D.LogDisk.step in
+    let step = g.D.LogDisk.log_step in
     let from = c.from_residual-in_err-write_through-2 in
     let p = err_from_is_err_and from.result from.ensures.1 in
     let first = c.in_ok-write_through.ensures in
@@ -62,7 +62,7 @@ returns-in_err-write_through-2 g c =
 
 pub returns : goal.returns
 returns g c =
-    let step = g.D.LogDisk.step in
+    let step = g.D.LogDisk.log_step in
     let first = c.in_ok-write_through.ensures in
     let second = c.in_ok-write_through-2.ensures in
     let mid = c.write_through.new.disk in

@@ -10,11 +10,11 @@ use Rattle.segment_log.proofs.committing.shut.Goals as goal
 pub returns-in_err-closed : goal.returns-in_err-closed
 returns-in_err-closed g c =
     let p = err_from_is_err_and c.from_residual.result c.from_residual.ensures.1 in
-    rw (p.1, p.2) (not_shut g.D.LogDisk.step c.args.disk.now c.args.disk.now c.args.end OutOfMemory refl)
+    rw (p.1, p.2) (not_shut g.D.LogDisk.log_step c.args.disk.now c.args.disk.now c.args.end OutOfMemory refl)
 
 pub returns-in_err-write_through : goal.returns-in_err-write_through
 returns-in_err-write_through g c =
-    let step = g.D.LogDisk.step in
+    let step = g.D.LogDisk.log_step in
     let from = c.from_residual-in_err-write_through in
     let p = err_from_is_err_and from.result from.ensures.1 in
     let w = c.in_err-write_through.ensures in
@@ -26,7 +26,7 @@ returns-in_err-write_through g c =
 
 pub returns : goal.returns
 returns g c =
-    let step = g.D.LogDisk.step in
+    let step = g.D.LogDisk.log_step in
     let w = c.in_ok-write_through.ensures in
     let new = c.write_through.new.disk in
     let gate : c.deref.result.now ≡ zeros 4096 = c.deref.ensures.value ∙ c.in_ok-closed.ensures in

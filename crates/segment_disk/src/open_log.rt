@@ -1,0 +1,160 @@
+//! The log that is begun beside a file of the system, for the commits of a writer.
+
+use crate::locks::{FileLock, Identity, are_different, leads_to, sync_file};
+use crate::logs::{LogTrouble, log_paths, trouble_of};
+use crate::presence::FileProblem;
+use crate::replacement_file::take_rights;
+use crate::settling::settle;
+use crate::spare_file::{SpareFile, is_folder_synced};
+use crate::sparse::are_zeros;
+use segment_log::{GATE_LEN, LogFault, shut_gate};
+use std::fs::{self, File};
+use std::io::{self, ErrorKind, Read, Write};
+use std::os::unix::fs::FileExt;
+use std::path::PathBuf;
+use std::rt::Files;
+use std::time::Clock;
+
+/// A log that is open for commits.
+#[derive(Drop)]
+pub(crate) struct OpenLog {
+    log: File,
+    /// The path of the log.
+    path: String,
+    /// The path of the file, which leads through no link.
+    file: PathBuf,
+}
+
+/// Returns the bytes of the file that is held, and writes it through, since it may have been written by another.
+fn synced_bytes<R: Files<File = File> + AllocGlobal>(
+    rt: &R,
+    path: &str,
+    lock: &FileLock,
+) -> Result<(File, Vec<u8>), LogTrouble> {
+    let mut file = fs::open(rt, path).map_err(trouble_of)?;
+    if are_different(lock.identity(), Identity::of(&file)) {
+        return Err(Some(FileProblem::Exists));
+    }
+    let mut bytes = Vec::new(rt.alloc());
+    file.read_to_end(&mut bytes).map_err(trouble_of)?;
+    if sync_file(&file) {
+        Ok((file, bytes))
+    } else {
+        Err(None)
+    }
+}
+
+/// Tells whether a file begins with a gate of zeros, as a log without a record does.
+fn is_shut(mut log: File) -> io::Result<bool> {
+    let mut gate = [1; GATE_LEN];
+    match log.read_exact(&mut gate) {
+        Ok(()) => Ok(are_zeros(&gate)),
+        Err(error) if error.kind() == ErrorKind::UnexpectedEof => Ok(false),
+        Err(error) => Err(error),
+    }
+}
+
+/// Removes a log without a record that a writer left. Another file that has the name of a log stays.
+fn remove_left<R: Files<File = File>>(files: &R, path: &str) -> io::Result<()> {
+    match fs::symlink_metadata(files, path) {
+        Ok(found) if found.is_file() => {}
+        Ok(_) => return Err(io::Error::from(ErrorKind::AlreadyExists)),
+        Err(error) if error.kind() == ErrorKind::NotFound => return Ok(()),
+        Err(error) => return Err(error),
+    }
+    if !is_shut(fs::open(files, path)?)? {
+        return Err(io::Error::from(ErrorKind::AlreadyExists));
+    }
+    fs::remove_file(files, path)
+}
+
+/// Gives a log the rights of its file, and writes its shut gate through.
+fn write_gate(log: &mut File, file: &File, gate: &[u8]) -> io::Result<()> {
+    take_rights(log, &file.metadata()?)?;
+    log.write_all(gate)?;
+    log.sync_all()
+}
+
+/// Makes a log of a shut gate, with the rights of its file, and gives it its name when it is on the disk.
+fn make_log<R: Files<File = File> + AllocGlobal + Clock>(
+    rt: &R,
+    path: &str,
+    file: &File,
+) -> io::Result<File> {
+    let gate = shut_gate(rt.alloc())?;
+    let (mut log, spare, _) = SpareFile::make(rt, path, 0o600)?;
+    let named = match write_gate(&mut log, file, &gate) {
+        Ok(()) => spare.give_name(rt, path),
+        Err(error) => Err(error),
+    };
+    if let Err(error) = named {
+        spare.discard(rt);
+        return Err(error);
+    }
+    if is_folder_synced(rt, path) == Some(true) {
+        Ok(log)
+    } else {
+        Err(io::Error::from(ErrorKind::Other))
+    }
+}
+
+impl OpenLog {
+    /// Puts a log without a record beside the file that is held, and returns it with the bytes of the file. The commits
+    /// of a log that is there are put into the file before.
+    pub(crate) fn begin<R: Files<File = File> + AllocGlobal + Clock>(
+        rt: &R,
+        path: &str,
+        lock: &mut FileLock,
+    ) -> Result<(OpenLog, Vec<u8>), LogTrouble> {
+        settle(rt, path, lock)?;
+        let (real, log) = log_paths(rt, path).map_err(trouble_of)?;
+        let (file, bytes) = synced_bytes(rt, real.as_str(), lock)?;
+        remove_left(rt, log.as_str()).map_err(trouble_of)?;
+        let made = make_log(rt, log.as_str(), &file).map_err(trouble_of)?;
+        Ok((
+            OpenLog {
+                log: made,
+                path: log,
+                file: real,
+            },
+            bytes,
+        ))
+    }
+
+    /// Returns the path of the file.
+    pub(crate) fn file_path(&self) -> &str {
+        self.file.as_str()
+    }
+
+    /// Tells whether the log and the held file still have their names.
+    pub(crate) fn is_beside<R: Files<File = File>>(&self, files: &R, lock: &FileLock) -> bool {
+        leads_to(files, self.path.as_str(), &self.log)
+            && !are_different(
+                lock.identity(),
+                Identity::at(files, self.file.as_str()).ok(),
+            )
+    }
+
+    /// Writes bytes at an offset of the log.
+    pub(crate) fn write(&self, at: usize, bytes: &[u8]) -> Result<(), LogFault> {
+        self.log
+            .write_all_at(bytes, at as u64)
+            .map_err(|_| LogFault)
+    }
+
+    /// Writes the log through.
+    pub(crate) fn sync(&self) -> Result<(), LogFault> {
+        if sync_file(&self.log) {
+            Ok(())
+        } else {
+            Err(LogFault)
+        }
+    }
+
+    /// Removes the log, if it still has its name and can be removed.
+    pub(crate) fn remove<R: Files<File = File>>(&self, files: &R) {
+        if leads_to(files, self.path.as_str(), &self.log) {
+            let _ = fs::remove_file(files, self.path.as_str());
+        }
+    }
+}

@@ -1,0 +1,2 @@
+-- Giving a front again: what a reader gave after that (`Again`).
+pub mod Again

@@ -1,0 +1,4 @@
+pub mod Steps
+pub mod Lists
+pub mod Maps
+pub mod Calls

@@ -1,0 +1,13 @@
+-- A string whose bytes stand in the image is made.
+use Rattle.segment_salvage.proofs.Calls.{string-stands}
+use Rattle.segment_salvage.proofs.rebuilding.rebuild_string.Goals as goal
+
+pub returns : goal.returns
+returns c =
+    string-stands c.args.image.now _ _ c.args._at c.args.head.value _ _ _ _ c.construct_string.ensures.step
+    c.requires.head c.in-Some.ensures.content c.in-Some.ensures.size
+
+pub returns-in_err-construct_string : goal.returns-in_err-construct_string
+returns-in_err-construct_string c =
+    string-stands c.args.image.now _ _ c.args._at c.args.head.value _ _ _ _ c.construct_string.ensures.step
+    c.requires.head c.in-Some.ensures.content c.in-Some.ensures.size

@@ -1,0 +1,8 @@
+-- All texts so far stand in the image.
+use Rattle.std.proofs.Common.{map}
+use Rattle.std.specs.List.{AllByRecursion}
+use Rattle.segment_salvage.specs.Standing.{Stands}
+use Rattle.segment_salvage.proofs.texts.texts_at.Given as goal
+
+abbrev pub invariant-texts : goal.invariant-texts
+invariant-texts l = AllByRecursion (Stands l.image) (map (λ text. text.now) l.texts.items)

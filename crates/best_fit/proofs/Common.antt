@@ -12,14 +12,14 @@ pub use Rattle.std.proofs.lemmas.Option.{none-some, same_Some}
 pub use Rattle.std.specs.List.{AllByRecursion, cons_option, length_refill, list_all, list_any, refill}
 pub use Rattle.std.specs.Prelude.{All, IfSome, None, Option, Result, Some, filter, filter_map, find, is_some, map}
 pub use Rattle.std.specs.Prelude.{min, option_map, slice_get, slice_index, ⊤}
-pub use Rattle.block_tags.proofs.Laws.{front_is_a_window, good_tags_say_tiles, header_may_change, legal}
+pub use Rattle.block_tags.proofs.Laws.{prefix_is_a_window, good_tags_say_tiles, header_may_change, legal}
 pub use Rattle.block_tags.proofs.Laws.{next_stands_behind, one_tile_at_an_offset, payload_may_change}
 pub use Rattle.block_tags.proofs.Laws.{tile_is_read_off, tiles_are_read_off}
 pub use Rattle.block_tags.specs.Format.{is_legal_size}
 pub use Rattle.block_tags.specs.Lists.{IsBesideTags, first_in, free_tile, in_two, last_in, next_in, of_colour}
 pub use Rattle.block_tags.specs.Lists.{previous_in, tile_in, used_for, with_red_at, with_use_at, without_last}
 pub use Rattle.block_tags.specs.Tiles.{AreTags, has_tags, is_free, is_merged, may_be_red, tag_word, tile_at, tiles_of}
-pub use Rattle.block_tags.specs.Windows.{FrontSaysTiles, HasFreeNext, HasTileAt, CanTakeUse, MayHaveColour}
+pub use Rattle.block_tags.specs.Windows.{PrefixSaysTiles, HasFreeNext, HasTileAt, CanTakeUse, MayHaveColour}
 pub use Rattle.block_tags.specs.Windows.{SameExceptTags, EncodesTiles}
 pub use Rattle.block_tags.specs.declared.tile.Role.{Role}
 pub use Rattle.block_tags.specs.declared.tile.Role.TheVariants.{Index, Node, Object, Storage}
@@ -72,6 +72,6 @@ pub use Rattle.raw_region.specs.Memory.{AreBytes}
 pub use Rattle.best_fit.specs.Resizes.{SplitsBlock}
 pub use Rattle.best_fit.specs.Table.{same_role, serves}
 pub use Rattle.best_fit.specs.Tiling.{cut_to, free_behind, free_len, joined_before, joined_free_at, with_free_behind}
-pub use Rattle.best_fit.specs.BlockHints.{IsHintedHeap, IsHinted, LeadToBlocks, place_of}
+pub use Rattle.best_fit.specs.BlockHints.{IsHintedHeap, IsHinted, LeadToBlocks, slot_of}
 pub use Rattle.best_fit.specs.declared.heap.nodes.GapTree.{GapTree}
 pub use Rattle.best_fit.specs.declared.block_hints.BlockHints.{BlockHints}

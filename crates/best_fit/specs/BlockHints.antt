@@ -5,21 +5,21 @@ use Rattle.best_fit.specs.declared.block_hints.BlockHints.{BlockHints}
 use Rattle.best_fit.specs.Heap.{IsHeap, is_live_in, live_of}
 
 -- the place of the piece that contains an offset, after 256 other places, if pieces have 2 ^ piece bytes
-abbrev pub place_of : ℕ → ℕ → ℕ
-place_of piece offset = min (offset / 2 ^ (piece % 64) + 256) 18446744073709551615
+abbrev pub slot_of : ℕ → ℕ → ℕ
+slot_of piece offset = min (offset / 2 ^ (piece % 64) + 256) 18446744073709551615
 
 -- the place for a remembered handle
-abbrev pub known_place_of : ℕ → ℕ
-known_place_of h = h / 16 % 256
+abbrev pub known_slot_of : ℕ → ℕ
+known_slot_of h = h / 16 % 256
 
 -- the handle is remembered, or is the hint of its piece
 abbrev pub IsHinted : BlockHints → ℕ → Type 0
 IsHinted p h = (0 < h)
-    × ((slice_index p.handles (known_place_of h) ≡ h) ⊎ (slice_index p.handles (place_of p.piece h) ≡ h))
+    × ((slice_index p.handles (known_slot_of h) ≡ h) ⊎ (slice_index p.handles (slot_of p.piece h) ≡ h))
 
 -- the place no longer contains the handle; each other number is unchanged or 0
-pub record LacksHandle (old new : List ℕ) (place handle : ℕ) : Type 0 where
-  pub gone : 0 < handle → slice_index new place ≢ handle
+pub record LacksHandle (old new : List ℕ) (slot handle : ℕ) : Type 0 where
+  pub gone : 0 < handle → slice_index new slot ≢ handle
   pub others : (i : ℕ) → (slice_index new i ≡ slice_index old i) ⊎ (slice_index new i ≡ 0)
 
 -- there is no hint

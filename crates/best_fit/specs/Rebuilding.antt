@@ -2,7 +2,7 @@
 use Rattle.std.specs.Prelude.{◌≡◌, ℕ, ◌+◌, ◌<◌, ◌≤◌, ◌⊎◌, List, ◌∷◌, ◌++◌, length}
 use Rattle.std.specs.List.{AllByRecursion}
 use Rattle.raw_region.specs.Memory.{WindowState, SameBytes, bytes_of}
-use Rattle.best_fit.specs.{Extents.Gap, Extents.gaps, FreeTree.gap_front}
+use Rattle.best_fit.specs.{Extents.Gap, Extents.gaps, FreeTree.gap_head}
 use Rattle.best_fit.specs.GapNodes.{gaps_in}
 use Rattle.best_fit.specs.GapTrees.{HasGapTree}
 use Rattle.best_fit.specs.Heap.{KeepsBlocks, EncodesLiveSet, live_of}
@@ -25,5 +25,5 @@ pub record RebuildsFreeTree (format : ℕ) (old new : WindowState) : Type 0 wher
   pub rest : (k : ℕ) → k < length old.bytes → (k < 24) ⊎ (32 ≤ k)
       → AllByRecursion (IsBesideGap k) (gaps (live_of old.bytes)) → bytes_of new.bytes k ≡ bytes_of old.bytes k
   pub free : AllByRecursion (λ (g : Gap).
-      SameBytes (bytes_of old.bytes) (bytes_of new.bytes) (g.offset + gap_front format) (g.offset + g.len))
+      SameBytes (bytes_of old.bytes) (bytes_of new.bytes) (g.offset + gap_head format) (g.offset + g.len))
       (gaps (live_of old.bytes))

@@ -1,8 +1,8 @@
 //! Block hints: known handles of blocks in use. A search for a handle finds it there, or starts at the nearest hint.
 ghost use Rattle.std.specs.Prelude.{◌≡◌, ◌≢◌, ℕ, ◌⊎◌, ◌<◌, ◌≤◌, IfSome, slice_index, true};
-ghost use Rattle.best_fit.specs.BlockHints.{AreNone, IsHinted, LacksHandle, known_place_of, place_of};
+ghost use Rattle.best_fit.specs.BlockHints.{AreNone, IsHinted, LacksHandle, known_slot_of, slot_of};
 
-use raw_region::Notes;
+use raw_region::HintTable;
 
 /// The binary logarithm of the first length of the pieces, in bytes.
 const SHORTEST: u32 = 11;
@@ -16,14 +16,14 @@ const KNOWN: usize = 256;
 #[derive(Drop)]
 pub struct BlockHints {
     /// The remembered handles, then the least known handle of each piece; 0 for an empty place.
-    handles: Notes,
+    handles: HintTable,
     /// The binary logarithm of the length of a piece, in bytes.
     piece: u32,
 }
 
 impl BlockHints {
     /// Makes empty hints in the room of notes that are all 0.
-    pub fn none_in(handles: Notes) -> BlockHints
+    pub fn none_in(handles: HintTable) -> BlockHints
         requires { (i : ℕ) → slice_index handles i ≡ 0 }
         ensures { AreNone result }
     {
@@ -34,7 +34,7 @@ impl BlockHints {
     }
 
     /// Returns the room for notes.
-    pub fn into_notes(self) -> Notes {
+    pub fn into_table(self) -> HintTable {
         let BlockHints { handles, piece: _ } = self;
         handles
     }
@@ -44,8 +44,8 @@ impl BlockHints {
     pub fn insert(&mut self, handle: u64)
         ensures { (h : ℕ) → IsHinted self.new h → (h ≡ handle) ⊎ IsHinted self.old h }
     {
-        if place(self.piece, handle) < self.handles.len() {
-            note(&mut self.handles, self.piece, handle);
+        if slot(self.piece, handle) < self.handles.len() {
+            write_hint(&mut self.handles, self.piece, handle);
         } else {
             self.widen();
         }
@@ -65,7 +65,7 @@ impl BlockHints {
         ensures { (h : ℕ) → IsHinted self.new h → (h ≡ handle) ⊎ IsHinted self.old h }
     {
         if handle <= u32::MAX as u64 {
-            self.handles.set(known_place(handle), handle as u32);
+            self.handles.set(known_slot(handle), handle as u32);
         }
     }
 
@@ -73,15 +73,15 @@ impl BlockHints {
     pub(crate) fn is_known(&self, handle: u64) -> bool
         ensures { result ≡ true → IsHinted self.now handle }
     {
-        handle != 0 && self.handles.get(known_place(handle)) as u64 == handle
+        handle != 0 && self.handles.get(known_slot(handle)) as u64 == handle
     }
 
     /// Removes a handle, and returns true if it was the hint of its piece.
     pub(crate) fn remove(&mut self, handle: u64) -> bool
         ensures { (h : ℕ) → IsHinted self.new h → (h ≢ handle) × IsHinted self.old h }
     {
-        clear(&mut self.handles, known_place(handle), handle);
-        clear(&mut self.handles, place(self.piece, handle), handle)
+        clear(&mut self.handles, known_slot(handle), handle);
+        clear(&mut self.handles, slot(self.piece, handle), handle)
     }
 
     /// Returns the greatest hint of a piece that is at most `handle`, if there is one.
@@ -89,12 +89,12 @@ impl BlockHints {
         ensures { IfSome result (λ h. IsHinted self.now h × (h ≤ handle)) }
     {
         let handles = self.handles.as_slice();
-        let behind = place(self.piece, handle)
+        let behind = slot(self.piece, handle)
             .saturating_add(1)
             .min(handles.len());
         'pieces: for piece in (KNOWN..behind).rev() {
             let known = handles[piece] as u64;
-            if known != 0 && known <= handle && place(self.piece, known) == piece {
+            if known != 0 && known <= handle && slot(self.piece, known) == piece {
                 return Some(known);
             }
         }
@@ -103,55 +103,55 @@ impl BlockHints {
 }
 
 /// Notes a handle as the hint of its piece if no lower one is known there.
-fn note(handles: &mut Notes, piece: u32, handle: u64)
+fn write_hint(handles: &mut HintTable, piece: u32, handle: u64)
     ensures { (i : ℕ) → (slice_index handles.new i ≡ slice_index handles.old i)
-        ⊎ ((i ≡ place_of piece handle) × (slice_index handles.new i ≡ handle)) }
+        ⊎ ((i ≡ slot_of piece handle) × (slice_index handles.new i ≡ handle)) }
 {
-    let place = place(piece, handle);
-    let known = handles.get(place) as u64;
+    let slot = slot(piece, handle);
+    let known = handles.get(slot) as u64;
     if handle <= u32::MAX as u64 {
         if known == 0 || handle < known {
-            handles.set(place, handle as u32);
+            handles.set(slot, handle as u32);
         }
     }
 }
 
 /// Empties a place if it contains the handle, and returns true if it did.
-fn clear(handles: &mut Notes, place: usize, handle: u64) -> bool
-    ensures { LacksHandle handles.old handles.new place handle }
+fn clear(handles: &mut HintTable, slot: usize, handle: u64) -> bool
+    ensures { LacksHandle handles.old handles.new slot handle }
 {
-    if handles.get(place) as u64 == handle {
-        handles.set(place, 0);
+    if handles.get(slot) as u64 == handle {
+        handles.set(slot, 0);
         return true;
     }
     false
 }
 
 /// Moves the hints of shorter pieces to wider ones.
-fn spread(handles: &mut Notes, shorter: u32, wider: u32)
-    ensures piece { (h : ℕ) → 0 < h → slice_index handles.new (place_of wider h) ≡ h
-        → slice_index handles.old (place_of shorter h) ≡ h }
+fn spread(handles: &mut HintTable, shorter: u32, wider: u32)
+    ensures piece { (h : ℕ) → 0 < h → slice_index handles.new (slot_of wider h) ≡ h
+        → slice_index handles.old (slot_of shorter h) ≡ h }
     ensures frame { (i : ℕ) → i < 256 → slice_index handles.new i ≡ slice_index handles.old i }
 {
     'pieces: for piece in KNOWN..handles.len() {
         let handle = handles.get(piece) as u64;
         handles.set(piece, 0);
-        if place(shorter, handle) == piece && place(wider, handle) <= piece {
-            note(handles, wider, handle);
+        if slot(shorter, handle) == piece && slot(wider, handle) <= piece {
+            write_hint(handles, wider, handle);
         }
     }
 }
 
 /// Returns the place of the piece that contains an offset.
-fn place(piece: u32, offset: u64) -> usize
-    ensures { result ≡ place_of piece offset }
+fn slot(piece: u32, offset: u64) -> usize
+    ensures { result ≡ slot_of piece offset }
 {
     (offset.wrapping_shr(piece) as usize).saturating_add(KNOWN)
 }
 
 /// Returns the place for a remembered handle.
-fn known_place(handle: u64) -> usize
-    ensures { result ≡ known_place_of handle }
+fn known_slot(handle: u64) -> usize
+    ensures { result ≡ known_slot_of handle }
 {
     (handle / 16 % KNOWN as u64) as usize
 }

@@ -94,9 +94,9 @@ fn cut_gap(touches: &mut TouchCounter)
 
 /// Shortens a window by the gap at its end, which is not in the tree of the other gaps.
 fn drop_gap(touches: &mut TouchCounter)
-    requires tree { (front : List ATile) × (t : ATile) × (tiles_in touches.old.gaps.now.window ≡ front ++ t ∷ [])
+    requires tree { (prefix : List ATile) × (t : ATile) × (tiles_in touches.old.gaps.now.window ≡ prefix ++ t ∷ [])
         × (t.use_of ≡ None)
-        × HasGapTree touches.old.gaps.now.window (gaps_of front) }
+        × HasGapTree touches.old.gaps.now.window (gaps_of prefix) }
     requires no_overflow { touches.old.count + 1 < 2 ^ 64 }
     ensures changes { MovesEnd current touches.old.gaps.now.window touches.new.gaps.now.window
         (least_size (live_of touches.old.gaps.now.window.bytes)) }

@@ -72,7 +72,7 @@ impl Heap {
         ensures { result ≡ window }
     {
         let mut heap = Heap::adopt_without_hints(window);
-        tile_walk::note_blocks(&heap.gaps.window, &mut heap.hints);
+        tile_walk::hint_blocks(&heap.gaps.window, &mut heap.hints);
         heap
     }
 
@@ -82,7 +82,7 @@ impl Heap {
         ensures { result ≡ window }
     {
         let mut window = window;
-        let hints = BlockHints::none_in(window.take_notes());
+        let hints = BlockHints::none_in(window.take_hints());
         let gaps = GapTree { window };
         Heap { gaps, hints }
     }
@@ -111,7 +111,7 @@ impl Heap {
     {
         let Heap { gaps, hints } = self;
         let GapTree { mut window } = gaps;
-        window.keep_notes(hints.into_notes());
+        window.keep_hints(hints.into_table());
         window
     }
 

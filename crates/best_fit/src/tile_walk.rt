@@ -51,7 +51,7 @@ pub fn remember(window: &Window, hints: &mut BlockHints, handle: u64)
 }
 
 /// Notes the first block in use of each piece of a heap's window. It reads all tiles.
-pub fn note_blocks(window: &Window, hints: &mut BlockHints)
+pub fn hint_blocks(window: &Window, hints: &mut BlockHints)
     requires { IsHintedHeap window.now.bytes hints.old }
     ensures { LeadToBlocks hints.new window.now.bytes }
 {

@@ -11,4 +11,4 @@ pub use Rattle.block_tags.proofs.tiles.TileLists.{next_stands_behind, none_last,
 pub use Rattle.block_tags.proofs.tiles.TileLists.{tile_stands_in_list}
 pub use Rattle.block_tags.proofs.tiles.TileLists.{tiles_fill_the_window}
 -- the tags describe the same tiles if bytes of the header or of a payload change
-pub use Rattle.block_tags.proofs.changes.UnchangedTags.{front_is_a_window, header_may_change, payload_may_change}
+pub use Rattle.block_tags.proofs.changes.UnchangedTags.{prefix_is_a_window, header_may_change, payload_may_change}

@@ -8,7 +8,7 @@ use Rattle.block_tags.specs.Format.{is_legal_size}
 use Rattle.block_tags.specs.Tiles.{has_tags, is_merged, tile_at, tiles_of}
 use Rattle.block_tags.specs.Lists.{AreContiguous, tile_in, first_in, next_in, previous_in, last_in, changed_at}
 use Rattle.block_tags.specs.Lists.{without_last, IsBesideTags}
-use Rattle.block_tags.specs.Windows.{EncodesTiles, FrontSaysTiles}
+use Rattle.block_tags.specs.Windows.{EncodesTiles, PrefixSaysTiles}
 
 -- the law: the tiles that a reading finds are the tiles of the tags
 abbrev pub TilesAreReadOff : Type 0
@@ -44,13 +44,13 @@ PayloadIsBesideTags = (c : WindowState) (ts : List Tile) (at : ℕ) (t : Tile) �
 
 -- a tile at an offset splits a list: the tiles before it, the tiles after it, and the list after a change of it
 pub record SplitsListAt (ts : List Tile) (at : ℕ) (t : Tile) : Type 0 where
-  pub front : List Tile
+  pub prefix : List Tile
   pub back : List Tile
-  pub is : ts ≡ front ++ t ∷ back
+  pub is : ts ≡ prefix ++ t ∷ back
   pub offset : t.offset ≡ at
   pub next : next_in ts at ≡ first_in back
-  pub previous : previous_in ts at ≡ last_in front
-  pub changed : (change : Tile → List Tile → List Tile) → changed_at at change ts ≡ front ++ change t back
+  pub previous : previous_in ts at ≡ last_in prefix
+  pub changed : (change : Tile → List Tile → List Tile) → changed_at at change ts ≡ prefix ++ change t back
 
 -- the law: a tile of the list splits the list
 abbrev pub TileStandsInList : Type 0
@@ -58,8 +58,8 @@ TileStandsInList = (ts : List Tile) (at : ℕ) (t : Tile) → tile_in ts at ≡ 
 
 -- the law: each tile of the tags is the only one at its offset
 abbrev pub OneTileAtAnOffset : Type 0
-OneTileAtAnOffset = (c : WindowState) (front : List Tile) (t : Tile) (back : List Tile)
-    → EncodesTiles c (front ++ t ∷ back) → tile_in (front ++ t ∷ back) t.offset ≡ Some t
+OneTileAtAnOffset = (c : WindowState) (prefix : List Tile) (t : Tile) (back : List Tile)
+    → EncodesTiles c (prefix ++ t ∷ back) → tile_in (prefix ++ t ∷ back) t.offset ≡ Some t
 
 -- the law: the last tile ends the list
 abbrev pub LastTileEndsList : Type 0
@@ -88,7 +88,7 @@ HeaderMayChange = (c d : WindowState) (ts : List Tile) → EncodesTiles c ts →
     → (from n : ℕ) → from + n ≤ 128 → SameBytesExcept (bytes_of c.bytes) (bytes_of d.bytes) from n → EncodesTiles d ts
 
 -- the law: the front of a window has the same tiles as a window of its own
-abbrev pub FrontIsAWindow : Type 0
-FrontIsAWindow = (c d : WindowState) (ts : List Tile) → length c.bytes ≤ length d.bytes
+abbrev pub PrefixIsAWindow : Type 0
+PrefixIsAWindow = (c d : WindowState) (ts : List Tile) → length c.bytes ≤ length d.bytes
     → SameBytes (bytes_of c.bytes) (bytes_of d.bytes) 0 (length c.bytes)
-    → (EncodesTiles c ts ↔ FrontSaysTiles d (length c.bytes) ts)
+    → (EncodesTiles c ts ↔ PrefixSaysTiles d (length c.bytes) ts)

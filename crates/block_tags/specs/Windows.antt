@@ -15,7 +15,7 @@ pub record EncodesTiles (c : WindowState) (ts : List Tile) : Type 0 where
   pub tags : AreTilesOf current (bytes_of c.bytes) (length c.bytes) ts
 
 -- the first n bytes of the window are a segment whose tags encode these tiles
-pub record FrontSaysTiles (c : WindowState) (n : ℕ) (ts : List Tile) : Type 0 where
+pub record PrefixSaysTiles (c : WindowState) (n : ℕ) (ts : List Tile) : Type 0 where
   pub size : IsTrue (is_legal_size n)
   pub within : n ≤ length c.bytes
   pub tags : AreTilesOf current (bytes_of c.bytes) n ts
@@ -78,7 +78,7 @@ pub record MayHaveColour (c : WindowState) (at : ℕ) (red : Bool) : Type 0 wher
 -- the tags fill the first n bytes, and there is room for one more tile after them
 pub record CanAppend (c : WindowState) (n : ℕ) : Type 0 where
   pub tiles : List Tile
-  pub said : FrontSaysTiles c n tiles
+  pub said : PrefixSaysTiles c n tiles
   pub size : IsTrue (is_legal_size (length c.bytes))
   pub room : n + 32 ≤ length c.bytes
 

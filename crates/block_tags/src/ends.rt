@@ -3,7 +3,7 @@ ghost use Rattle.std.specs.Prelude.{◌-◌, List, [], IsTrue, length};
 ghost use Rattle.block_tags.specs.declared.tile.Tile.{Tile};
 ghost use Rattle.block_tags.specs.Format.{is_legal_size};
 ghost use Rattle.block_tags.specs.Lists.{laid, with_free, without_last};
-ghost use Rattle.block_tags.specs.Windows.{CanAppend, FrontSaysTiles, HasFreeLast, SameExceptTags, EncodesTiles};
+ghost use Rattle.block_tags.specs.Windows.{CanAppend, PrefixSaysTiles, HasFreeLast, SameExceptTags, EncodesTiles};
 
 use crate::sizes::{HEADER_LEN, TAG_LEN};
 use crate::words::{END_MARK, put_word};
@@ -29,9 +29,9 @@ pub fn lay(window: &mut Window)
 /// to the window's end.
 pub fn append_free(window: &mut Window, old_size: u64)
     requires { CanAppend window.old old_size }
-    ensures tags { (ts : List Tile) → FrontSaysTiles window.old old_size ts
+    ensures tags { (ts : List Tile) → PrefixSaysTiles window.old old_size ts
         → EncodesTiles window.new (with_free ts (old_size - TAG_LEN) (length window.old.bytes - TAG_LEN)) }
-    ensures frame { (ts : List Tile) → FrontSaysTiles window.old old_size ts
+    ensures frame { (ts : List Tile) → PrefixSaysTiles window.old old_size ts
         → SameExceptTags window.old window.new ts
         (with_free ts (old_size - TAG_LEN) (length window.old.bytes - TAG_LEN)) }
 {
@@ -47,7 +47,7 @@ pub fn append_free(window: &mut Window, old_size: u64)
 pub fn drop_last(window: &mut Window) -> u64
     requires { HasFreeLast window.old }
     ensures tags { (ts : List Tile) → EncodesTiles window.old ts
-        → FrontSaysTiles window.new result (without_last ts) }
+        → PrefixSaysTiles window.new result (without_last ts) }
     ensures frame { (ts : List Tile) → EncodesTiles window.old ts
         → SameExceptTags window.old window.new ts (without_last ts) }
 {

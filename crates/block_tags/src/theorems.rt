@@ -1,6 +1,6 @@
 //! Laws of the tiles in the tags. Each law is the contract of a function that does nothing.
 
-ghost use Rattle.block_tags.specs.Laws.{FrontIsAWindow, GoodTagsSayTiles, HeaderIsBesideTags, HeaderMayChange};
+ghost use Rattle.block_tags.specs.Laws.{PrefixIsAWindow, GoodTagsSayTiles, HeaderIsBesideTags, HeaderMayChange};
 ghost use Rattle.block_tags.specs.Laws.{LastTileEndsList, OneTileAtAnOffset, PayloadIsBesideTags, PayloadMayChange};
 ghost use Rattle.block_tags.specs.Laws.{TagsThatStaySayTheSame, TileIsReadOff, TileStandsInList, TilesAreReadOff};
 ghost use Rattle.block_tags.specs.Laws.{TilesFillTheWindow};
@@ -73,8 +73,8 @@ pub fn header_may_change()
 {}
 
 /// States that the front of a window describes the same tiles as a window of its own.
-pub fn front_is_a_window()
-    ensures { FrontIsAWindow }
+pub fn prefix_is_a_window()
+    ensures { PrefixIsAWindow }
 {}
 
 /// States examples of the definitions, for the tiles of one window.

@@ -55,7 +55,7 @@ fn run(rt: &HostRuntime, disk: &mut impl Disk) -> Result<()> {
     moving::move_a_segment(rt, disk)?;
     migrating::migrate_an_older_file(rt, disk)?;
     handles::follow_a_handle(rt, disk)?;
-    timetable::note_departures(rt)?;
+    timetable::record_departures(rt)?;
     views::view_objects(rt, disk)?;
     listing::list_a_segment(rt, disk)?;
     commits::commit_sales(rt, disk)

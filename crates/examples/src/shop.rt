@@ -15,7 +15,7 @@ fn fill(shop: &mut Segment) -> Result<()> {
 
 /// Counts the things in the basket of a shop.
 fn count(shop: &Segment) -> Result<u64> {
-    let (count, _places) = shop.measure(&named("basket")?)?;
+    let (count, _capacity) = shop.measure(&named("basket")?)?;
     Ok(count)
 }
 

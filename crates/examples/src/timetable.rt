@@ -18,7 +18,7 @@ fn begun<T: Plain>(alloc: Global) -> Result<(Heap, SegVec<T>)>
 }
 
 /// Puts a value after the last one. The vector stands after the call, also if it is refused.
-fn note<T: Plain>(heap: &mut Heap, vector: SegVec<T>, value: T) -> Result<(), Refusal>
+fn append_value<T: Plain>(heap: &mut Heap, vector: SegVec<T>, value: T) -> Result<(), Refusal>
     requires { IsSomeVector T.SIZE T.is_value T.spelling heap.old.bytes vector.place }
     ensures { IsSomeVector T.SIZE T.is_value T.spelling heap.new.bytes vector.place }
 {
@@ -26,10 +26,10 @@ fn note<T: Plain>(heap: &mut Heap, vector: SegVec<T>, value: T) -> Result<(), Re
 }
 
 /// Notes two departures, and reads the second.
-pub fn note_departures(rt: &HostRuntime) -> Result<()> {
+pub fn record_departures(rt: &HostRuntime) -> Result<()> {
     let (mut heap, departures) = begun::<Time>(rt.alloc())?;
-    note(&mut heap, departures, Time::at(7, 40))?;
-    note(&mut heap, departures, Time::at(9, 5))?;
+    append_value(&mut heap, departures, Time::at(7, 40))?;
+    append_value(&mut heap, departures, Time::at(9, 5))?;
     let count = departures.len(&heap);
     let Time { hour, minute } = departures.get(&heap, 1)?;
     println!(rt; "a type of one's own: {count} departures, the second at {hour}:{minute:02}")?;

@@ -39,7 +39,7 @@ fn change_an_array(segment: &mut Segment, name: &Name) -> Result<u8, Refusal> {
 }
 
 /// Puts a year for each of three numbers into a map, and erases one.
-fn note_years(years: &mut MapView<'_, i32, i64>) -> Result<(), Refusal> {
+fn record_years(years: &mut MapView<'_, i32, i64>) -> Result<(), Refusal> {
     years.insert(1, 1972)?;
     years.insert(2, 1978)?;
     let same = years.get(2)?.unwrap_or(0);
@@ -61,7 +61,7 @@ fn add_up_years(years: &MapView<'_, i32, i64>) -> i64 {
 fn look_into_a_map(segment: &mut Segment, name: &Name) -> Result<([Option<(i32, i64)>; 2], i64)> {
     segment.construct_map::<i32, i64, _>(name)?;
     let mut years = MapView::<i32, i64>::of(segment, name)?;
-    note_years(&mut years)?;
+    record_years(&mut years)?;
     Ok(([years.first()?, years.next_after(3)?], add_up_years(&years)))
 }
 

@@ -39,21 +39,21 @@ pub use Rattle.image_check.specs.Counting.{AreCounted}
 pub use Rattle.image_check.specs.Deciding.{decided_by}
 pub use Rattle.image_check.specs.EarlyTests.{has_free_tree, has_front, has_magic, has_reserved, has_size, has_version}
 pub use Rattle.image_check.specs.EarlyTests.{is_among, is_tiled, is_zero, size_word}
-pub use Rattle.image_check.specs.Entered.{EntersLink, HaveEntries, NotesEntries, are_enterable, are_new, can_enter}
+pub use Rattle.image_check.specs.Entered.{EntersLink, HaveEntries, EntersEntries, are_enterable, are_new, can_enter}
 pub use Rattle.image_check.specs.Entered.{index_of, links_in}
 pub use Rattle.image_check.specs.Fields.{Field, are_pairs, counted_fields, element_fields, element_offsets}
 pub use Rattle.image_check.specs.Fields.{has_containers, has_storage, index_field, is_container, is_element_at}
 pub use Rattle.image_check.specs.Fields.{is_map_at, is_node_of, is_orphaned, is_shared, key_at, leads_there}
 pub use Rattle.image_check.specs.Fields.{needs_owner, node_fields, root_link, storage_field, values}
 pub use Rattle.image_check.specs.Formats.{format_in, format_of}
-pub use Rattle.image_check.specs.FreeLaws.{before_irreflexive, is_place-PayloadBounds, is_place-from, small_size}
-pub use Rattle.image_check.specs.FreeNodes.{is_place, is_planted, stands_before}
-pub use Rattle.image_check.specs.IndexPlaces.{first_targets, is_new}
+pub use Rattle.image_check.specs.FreeLaws.{before_irreflexive, is_target-PayloadBounds, is_target-from, small_size}
+pub use Rattle.image_check.specs.FreeNodes.{is_target, is_planted, stands_before}
+pub use Rattle.image_check.specs.IndexOffsets.{first_targets, is_new}
 pub use Rattle.image_check.specs.MapLaws.{is_pair-IsPairNode}
 pub use Rattle.image_check.specs.MapNodes.{is_rooted, kept_link}
 pub use Rattle.image_check.specs.Meaning.{IsCountedLink, LeadsTo}
 pub use Rattle.image_check.specs.ObjectPasses.{are_ranked, is_right_tile, object_walk_rates}
-pub use Rattle.image_check.specs.ObjectPlaces.{IsFirstWrongTile}
+pub use Rattle.image_check.specs.ObjectOffsets.{IsFirstWrongTile}
 pub use Rattle.image_check.specs.ObjectTests.{are_distinct, are_spellings, entries, good_for, has_index, has_indexes}
 pub use Rattle.image_check.specs.ObjectTests.{has_name, has_objects, has_padding, index_capacity, is_indexed}
 pub use Rattle.image_check.specs.ObjectTests.{is_object_tile, is_table_link, is_use, is_value_in, kind_at, leads_to}
@@ -61,7 +61,7 @@ pub use Rattle.image_check.specs.ObjectTests.{object_tiles, payload, rise_by, ta
 pub use Rattle.image_check.specs.Opening.{IsHandedBack, IsImage, IsOpenCause, IsTooSmallFor, failed_reads}
 pub use Rattle.image_check.specs.Opening.{as_given, has_early_class}
 pub use Rattle.image_check.specs.Upgrading.{UpgradesFormat}
-pub use Rattle.image_check.specs.OwnerPlaces.{IsSharedAt}
+pub use Rattle.image_check.specs.OwnerOffsets.{IsSharedAt}
 pub use Rattle.image_check.specs.Owners.{AreBlocks, BlockMap, Blocks, IsBlockAt, IsFollowed, IsMarkedLink, IsMarking}
 pub use Rattle.image_check.specs.Owners.{IsMarkingOf, IsRooted, IsSharedIn, IsTileAt, IsUnmarked, IsWholeMarking}
 pub use Rattle.image_check.specs.Owners.{IsWholeMarkingOf, MarksLink, MayCount, block_at, debts, entries_of, entry_in}
@@ -71,7 +71,7 @@ pub use Rattle.image_check.specs.Passes.{ChecksClass, HasTiles, Spends, has_bloc
 pub use Rattle.image_check.specs.Reading.{HasFront, IsImageRead, IsNotRead, IsShort, ReadsPastEnd, Stops, front_of}
 pub use Rattle.image_check.specs.Rows.{AreBelow, IsRow}
 pub use Rattle.image_check.specs.Sharing.{AreElementsNoted, AreIndexesNoted, AreTextsNoted, IsIndexNoted}
-pub use Rattle.image_check.specs.Sharing.{IsStorageNoted, IsTileGrown, IsValueGrown, IsValueReady, NotesValues}
+pub use Rattle.image_check.specs.Sharing.{IsStorageNoted, IsTileGrown, IsValueGrown, IsValueReady, EntersValues}
 pub use Rattle.image_check.specs.Sharing.{has_link}
 pub use Rattle.image_check.specs.Verdicts.{Shows}
 pub use Rattle.image_check.specs.Visits.{Rates, planting_rates, rate_of, tag_rates, tree_rates, weigh}

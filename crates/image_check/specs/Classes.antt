@@ -74,19 +74,19 @@ name_of BadContainer = codes "BadContainer"
 name_of OrphanBlock = codes "OrphanBlock"
 
 -- the text of a class
-abbrev pub words_of : ImageClass → List ℕ
-words_of Truncated = codes "the image ends too early"
-words_of BadMagic = codes "the image does not begin with the magic"
-words_of UnsupportedVersion = codes "the version is not supported"
-words_of BadSize = codes "the size is wrong"
-words_of BadReserved = codes "a reserved byte is not zero"
-words_of BadTag = codes "the tags are wrong"
-words_of BadFreeTree = codes "the free tree is wrong"
-words_of BadIndex = codes "an index is wrong"
-words_of BadObject = codes "an object is wrong"
-words_of SharedBlock = codes "two links lead to one block"
-words_of BadContainer = codes "a container is wrong"
-words_of OrphanBlock = codes "a block belongs to nothing"
+abbrev pub message_of : ImageClass → List ℕ
+message_of Truncated = codes "the image ends too early"
+message_of BadMagic = codes "the image does not begin with the magic"
+message_of UnsupportedVersion = codes "the version is not supported"
+message_of BadSize = codes "the size is wrong"
+message_of BadReserved = codes "a reserved byte is not zero"
+message_of BadTag = codes "the tags are wrong"
+message_of BadFreeTree = codes "the free tree is wrong"
+message_of BadIndex = codes "an index is wrong"
+message_of BadObject = codes "an object is wrong"
+message_of SharedBlock = codes "two links lead to one block"
+message_of BadContainer = codes "a container is wrong"
+message_of OrphanBlock = codes "a block belongs to nothing"
 
 -- what is wrong with an image of a class, after the offset of the byte that shows it
 abbrev pub explanation_of : ImageClass → List ℕ
@@ -94,14 +94,14 @@ explanation_of Truncated = codes "the file ends before the image does"
 explanation_of BadMagic = codes "this byte is not that of the magic, MSEGFILE"
 explanation_of UnsupportedVersion = codes "the version is not the one that is read"
 explanation_of BadSize = codes "the size that stands at 16 is none of a segment, or the file goes on behind it"
-explanation_of BadReserved = words_of BadReserved
+explanation_of BadReserved = message_of BadReserved
 explanation_of BadTag = codes "the tag of a block or gap, or the end tag, is wrong"
 explanation_of BadFreeTree = codes "the links from here on do not make up the tree of the gaps"
 explanation_of BadIndex = codes "an index has a wrong count, capacity, block or entry"
 explanation_of BadObject = codes "an object has a wrong kind, count, name, class, padding or value, or is not in its index"
-explanation_of SharedBlock = words_of SharedBlock
+explanation_of SharedBlock = message_of SharedBlock
 explanation_of BadContainer = codes "the block, elements, pairs or counts of a container are wrong"
-explanation_of OrphanBlock = words_of OrphanBlock
+explanation_of OrphanBlock = message_of OrphanBlock
 
 -- the bytes read so far decide the class: all inputs that begin with them have it
 abbrev pub DecidesClass : ℕ → List ℕ → ImageClass → Type 0

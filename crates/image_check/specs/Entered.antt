@@ -85,7 +85,7 @@ abbrev pub is_enterable : Memory → List Tile → Blocks → ℕ → Bool
 is_enterable m ts es at = has_index m ts at && are_new es (targets m at)
 
 -- a pass enters the entries of these objects in the index at a root, and changes nothing else
-pub record NotesEntries (ts : List Tile) (old es : Blocks) (root : ℕ) (xs : List ℕ) : Type 0 where
+pub record EntersEntries (ts : List Tile) (old es : Blocks) (root : ℕ) (xs : List ℕ) : Type 0 where
   pub blocks : AreBlocks ts es
   pub frame : frames es ≡ frames old
   pub owners : (n : ℕ) → owner_at es n ≡ owner_at old n

@@ -5,11 +5,11 @@ use Rattle.std.specs.Prelude.{Option, Some, None, if◌then◌else◌}
 use Rattle.std.proofs.lemmas.Bool.{both_ways, cases_Bool, cases_lt, and_parts, and_from, or_left, or_right, leb-true}
 use Rattle.std.proofs.lemmas.Bool.{eqb-true, eq-eqb, cond-true, cond-false}
 use Rattle.raw_region.specs.Memory.{Memory, WindowState, bytes_of}
-use Rattle.offset_link.specs.Link.{is_handle_place, link_at}
+use Rattle.offset_link.specs.Link.{is_handle_offset, link_at}
 use Rattle.link_tree.specs.Nodes.{is_in, leads}
 use Rattle.block_tags.specs.Format.{is_legal_size}
 use Rattle.best_fit.specs.GapLaws.{Comes, comes-false, comes-trans}
-use Rattle.image_check.specs.FreeNodes.{is_place, placed, place_cells, len_at, stands_before, is_before}
+use Rattle.image_check.specs.FreeNodes.{is_target, good_target, target_cells, len_at, stands_before, is_before}
 
 -- ---- there are few places
 
@@ -43,10 +43,10 @@ pub record PayloadBounds (c : WindowState) (n : ℕ) : Type 0 where
   pub low : 144 ≤ n
   pub high : n + 32 ≤ length c.bytes
 
-pub is_place-PayloadBounds : (c : WindowState) (n : ℕ) → is_place c n ≡ true → PayloadBounds c n
-unfolding is_place
-is_place-PayloadBounds c n h =
-    let two = and_parts (is_legal_size (length c.bytes)) (is_handle_place (length c.bytes) n) h in
+pub is_target-PayloadBounds : (c : WindowState) (n : ℕ) → is_target c n ≡ true → PayloadBounds c n
+unfolding is_target
+is_target-PayloadBounds c n h =
+    let two = and_parts (is_legal_size (length c.bytes)) (is_handle_offset (length c.bytes) n) h in
     let three = and_parts ((n % 16 == 0) && nat_le 144 n) (nat_le (n + 32) (length c.bytes)) two.1 in
     let four = and_parts (n % 16 == 0) (nat_le 144 n) three.0 in
     record {
@@ -56,57 +56,58 @@ is_place-PayloadBounds c n h =
       high = leb-true (n + 32) (length c.bytes) three.1;
     }
 
-pub is_place-from : (c : WindowState) (n : ℕ) → IsTrue (is_legal_size (length c.bytes))
-    → is_handle_place (length c.bytes) n ≡ true → is_place c n ≡ true
-unfolding is_place
-is_place-from c n size h = and_from (is_legal_size (length c.bytes)) (is_handle_place (length c.bytes) n) size h
+pub is_target-from : (c : WindowState) (n : ℕ) → IsTrue (is_legal_size (length c.bytes))
+    → is_handle_offset (length c.bytes) n ≡ true → is_target c n ≡ true
+unfolding is_target
+is_target-from c n size h = and_from (is_legal_size (length c.bytes)) (is_handle_offset (length c.bytes) n) size h
 
-pub place_listed : (c : WindowState) (n : ℕ) → PayloadBounds c n → is_in n (multiples (length c.bytes / 16)) ≡ true
-place_listed c n p =
+pub target_listed : (c : WindowState) (n : ℕ) → PayloadBounds c n → is_in n (multiples (length c.bytes / 16)) ≡ true
+target_listed c n p =
     let whole = p.whole in
     let high = p.high in
     let e : 16 * (n / 16) ≡ n = omega arith in
     subst (λ k. is_in k (multiples (length c.bytes / 16))
     ≡ true) e (in_multiples (length c.bytes / 16) (n / 16) (omega arith))
 
-pub places_finite : (c : WindowState) → (ns : List ℕ) × (length ns ≤ 2 ^ 40)
-    × ((n : ℕ) → is_place c n ≡ true → is_in n ns ≡ true)
-places_finite c = by_test (cases_Bool (is_legal_size (length c.bytes)))
+pub targets_finite : (c : WindowState) → (ns : List ℕ) × (length ns ≤ 2 ^ 40)
+    × ((n : ℕ) → is_target c n ≡ true → is_in n ns ≡ true)
+targets_finite c = by_test (cases_Bool (is_legal_size (length c.bytes)))
   where
     by_test : (is_legal_size (length c.bytes) ≡ true) ⊎ (is_legal_size (length c.bytes) ≡ false)
-        → (ns : List ℕ) × (length ns ≤ 2 ^ 40) × ((n : ℕ) → is_place c n ≡ true → is_in n ns ≡ true)
+        → (ns : List ℕ) × (length ns ≤ 2 ^ 40) × ((n : ℕ) → is_target c n ≡ true → is_in n ns ≡ true)
     by_test (inl e) =
         let small = small_size (length c.bytes) e in
         let len = length-multiples (length c.bytes / 16) in
-        (multiples (length c.bytes / 16), omega arith, λ n h. place_listed c n (is_place-PayloadBounds c n h))
+        (multiples (length c.bytes / 16), omega arith, λ n h. target_listed c n (is_target-PayloadBounds c n h))
     by_test (inr e) = (
       [],
       omega arith,
-      λ n h. absurd (both_ways (is_legal_size (length c.bytes)) e (is_place-PayloadBounds c n h).size),
+      λ n h. absurd (both_ways (is_legal_size (length c.bytes)) e (is_target-PayloadBounds c n h).size),
     )
 
 -- ---- links lead to places
 
-pub placed_leads : (c : WindowState) (link : Option ℕ) → IsTrue (is_legal_size (length c.bytes))
-    → leads (is_place c) (placed (length c.bytes) link) ≡ true
-unfolding placed
-placed_leads c None size = refl
-placed_leads c (Some n) size = by_test (cases_Bool (is_handle_place (length c.bytes) n))
+pub target_leads : (c : WindowState) (link : Option ℕ) → IsTrue (is_legal_size (length c.bytes))
+    → leads (is_target c) (good_target (length c.bytes) link) ≡ true
+unfolding good_target
+target_leads c None size = refl
+target_leads c (Some n) size = by_test (cases_Bool (is_handle_offset (length c.bytes) n))
   where
-    by_test : (is_handle_place (length c.bytes) n ≡ true) ⊎ (is_handle_place (length c.bytes) n ≡ false)
-        → leads (is_place c) (if is_handle_place (length c.bytes) n then Some n else None) ≡ true
-    by_test (inl e) = subst (λ o. leads (is_place c) o
-        ≡ true) (sym (cond-true (is_handle_place (length c.bytes) n) (Some n) None e)) (is_place-from c n size e)
-    by_test (inr e) = subst (λ o. leads (is_place c) o
-        ≡ true) (sym (cond-false (is_handle_place (length c.bytes) n) (Some n) None e)) refl
+    by_test : (is_handle_offset (length c.bytes) n ≡ true) ⊎ (is_handle_offset (length c.bytes) n ≡ false)
+        → leads (is_target c) (if is_handle_offset (length c.bytes) n then Some n else None) ≡ true
+    by_test (inl e) = subst (λ o. leads (is_target c) o
+        ≡ true) (sym (cond-true (is_handle_offset (length c.bytes) n) (Some n) None e)) (is_target-from c n size e)
+    by_test (inr e) = subst (λ o. leads (is_target c) o
+        ≡ true) (sym (cond-false (is_handle_offset (length c.bytes) n) (Some n) None e)) refl
 
-pub places_left : (c : WindowState) (n : ℕ) → is_place c n ≡ true → leads (is_place c) (place_cells c n).left ≡ true
-unfolding place_cells
-places_left c n h = placed_leads c (link_at (bytes_of c.bytes) n) (is_place-PayloadBounds c n h).size
+pub targets_left : (c : WindowState) (n : ℕ) → is_target c n ≡ true → leads (is_target c) (target_cells c n).left ≡ true
+unfolding target_cells
+targets_left c n h = target_leads c (link_at (bytes_of c.bytes) n) (is_target-PayloadBounds c n h).size
 
-pub places_right : (c : WindowState) (n : ℕ) → is_place c n ≡ true → leads (is_place c) (place_cells c n).right ≡ true
-unfolding place_cells
-places_right c n h = placed_leads c (link_at (bytes_of c.bytes) (n + 8)) (is_place-PayloadBounds c n h).size
+pub targets_right : (c : WindowState) (n : ℕ) → is_target c n ≡ true → leads (is_target c) (target_cells c
+    n).right ≡ true
+unfolding target_cells
+targets_right c n h = target_leads c (link_at (bytes_of c.bytes) (n + 8)) (is_target-PayloadBounds c n h).size
 
 -- ---- the order
 

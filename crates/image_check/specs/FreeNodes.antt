@@ -2,7 +2,7 @@
 use Rattle.std.specs.Prelude.{ℕ, ◌+◌, ◌-◌, ◌*◌, ◌/◌, Bool, true, ◌&&◌, not, Option, Some, None, List, length}
 use Rattle.std.specs.Prelude.{if◌then◌else◌}
 use Rattle.raw_region.specs.Memory.{Memory, WindowState, bytes_of, word_at}
-use Rattle.offset_link.specs.Link.{is_handle_place, link_at}
+use Rattle.offset_link.specs.Link.{is_handle_offset, link_at}
 use Rattle.offset_link.specs.Relinked.{is_bad}
 use Rattle.link_tree.specs.Tree.{Cell}
 use Rattle.link_tree.specs.Nodes.{is_in}
@@ -13,21 +13,21 @@ use Rattle.best_fit.specs.FreeTree.{is_red}
 use Rattle.best_fit.specs.GapLaws.{comes}
 
 -- whether a payload can begin at the offset
-unfoldable pub is_place : WindowState → ℕ → Bool
-is_place c n = is_legal_size (length c.bytes) && is_handle_place (length c.bytes) n
+unfoldable pub is_target : WindowState → ℕ → Bool
+is_target c n = is_legal_size (length c.bytes) && is_handle_offset (length c.bytes) n
 
 -- the target of a link; none if no payload can begin there
-unfoldable pub placed : ℕ → Option ℕ → Option ℕ
-placed size None = None
-placed size (Some n) = if is_handle_place size n then Some n else None
+unfoldable pub good_target : ℕ → Option ℕ → Option ℕ
+good_target size None = None
+good_target size (Some n) = if is_handle_offset size n then Some n else None
 
 -- the links as cells: each offset at which a payload can begin is a node, and a link to any other offset is null
-unfoldable pub place_cells : WindowState → ℕ → Cell
-unfolding placed
-place_cells c n =
+unfoldable pub target_cells : WindowState → ℕ → Cell
+unfolding good_target
+target_cells c n =
     record {
-      left = placed (length c.bytes) (link_at (bytes_of c.bytes) n);
-      right = placed (length c.bytes) (link_at (bytes_of c.bytes) (n + 8));
+      left = good_target (length c.bytes) (link_at (bytes_of c.bytes) n);
+      right = good_target (length c.bytes) (link_at (bytes_of c.bytes) (n + 8));
       red = is_red (bytes_of c.bytes) n;
     }
 

@@ -9,14 +9,14 @@ use Rattle.link_tree.specs.Nodes.{is_in, leads}
 use Rattle.seg_types.specs.declared.kinds.ScalarKind.{ScalarKind}
 use Rattle.seg_types.specs.Kinds.{size_of, is_spelling}
 use Rattle.image_check.specs.Fields.{key_at}
-use Rattle.image_check.specs.FreeNodes.{is_place}
-use Rattle.image_check.specs.FreeLaws.{places_finite}
+use Rattle.image_check.specs.FreeNodes.{is_target}
+use Rattle.image_check.specs.FreeLaws.{targets_finite}
 use Rattle.image_check.specs.Owners.{Blocks, block_at}
 use Rattle.image_check.specs.MapNodes.{is_pair, is_node_block, kept_link, key_before, pair_cells, pair_len}
 
 -- a block is a pair of the map
 pub record IsPairNode (c : WindowState) (es : Blocks) (root : ℕ) (k v : ScalarKind) (n : ℕ) : Type 0 where
-  pub place : is_place c n ≡ true
+  pub place : is_target c n ≡ true
   pub block : is_node_block root (pair_len k v) (block_at es n) ≡ true
   pub key : is_spelling k (read (bytes_of c.bytes) (n + 16) (size_of k)) ≡ true
   pub value : is_spelling v (read (bytes_of c.bytes) (n + 16 + size_of k) (size_of v)) ≡ true
@@ -25,7 +25,7 @@ pub is_pair-IsPairNode : (c : WindowState) (es : Blocks) (root : ℕ) (k v : Sca
     → is_pair c es root k v n ≡ true → IsPairNode c es root k v n
 unfolding is_pair
 is_pair-IsPairNode c es root k v n h =
-    let place = is_place c n in
+    let place = is_target c n in
     let block = is_node_block root (pair_len k v) (block_at es n) in
     let key = is_spelling k (read (bytes_of c.bytes) (n + 16) (size_of k)) in
     let value = is_spelling v (read (bytes_of c.bytes) (n + 16 + size_of k) (size_of v)) in
@@ -36,7 +36,7 @@ is_pair-IsPairNode c es root k v n h =
 
 pub pairs_finite : (c : WindowState) (es : Blocks) (root : ℕ) (k v : ScalarKind)
     → (ns : List ℕ) × (length ns ≤ 2 ^ 40) × ((n : ℕ) → is_pair c es root k v n ≡ true → is_in n ns ≡ true)
-pairs_finite c es root k v = let f = places_finite c
+pairs_finite c es root k v = let f = targets_finite c
     in (f.0, f.1, λ n h. f.2 n (is_pair-IsPairNode c es root k v n h).place)
 
 -- ---- links lead to pairs

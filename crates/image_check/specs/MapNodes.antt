@@ -11,7 +11,7 @@ use Rattle.seg_types.specs.Kinds.{size_of, is_spelling}
 use Rattle.image_check.specs.declared.owners.Block.{Block}
 use Rattle.image_check.specs.declared.owners.Owner.{Owner}
 use Rattle.image_check.specs.Fields.{key_at}
-use Rattle.image_check.specs.FreeNodes.{is_place}
+use Rattle.image_check.specs.FreeNodes.{is_target}
 use Rattle.image_check.specs.Owners.{Blocks, block_at}
 
 -- the length of a node with two links, a key and a value, including its tag
@@ -31,7 +31,7 @@ is_node_block root len (Some b) = same_role Node b.role && nat_le len b.len && i
 -- whether a node is a pair of the map whose root link is at this offset, with a valid key and a valid value
 unfoldable pub is_pair : WindowState → Blocks → ℕ → ScalarKind → ScalarKind → ℕ → Bool
 is_pair c es root k v n =
-    is_place c n && is_node_block root (pair_len k v) (block_at es n)
+    is_target c n && is_node_block root (pair_len k v) (block_at es n)
     && is_spelling k (read (bytes_of c.bytes) (n + 16) (size_of k))
     && is_spelling v (read (bytes_of c.bytes) (n + 16 + size_of k) (size_of v))
 

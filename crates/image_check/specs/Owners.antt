@@ -20,7 +20,7 @@ use Rattle.image_check.specs.ObjectTests.{tile_of, good_for, payload, index_capa
 use Rattle.image_check.specs.Fields.{values, has_storage, needs_owner}
 use Rattle.image_check.specs.Passes.{tiles_in}
 use Rattle.image_check.specs.Meaning.{LeadsTo, IsCountedLink}
-use Rattle.image_check.specs.OwnerPlaces.{IsSharedAt}
+use Rattle.image_check.specs.OwnerOffsets.{IsSharedAt}
 
 -- the entries of the map
 abbrev pub Blocks : Type 0
@@ -275,5 +275,5 @@ abbrev pub has_owner : Blocks → Tile → Bool
 has_owner es t = not (needs_owner t) || is_some (owner_at es (payload t))
 
 -- the offsets of the indexes in the header
-abbrev pub IsIndexPlace : ℕ → Type 0
-IsIndexPlace at = (at ≡ 32) ⊎ (at ≡ 56)
+abbrev pub IsIndexOffset : ℕ → Type 0
+IsIndexOffset at = (at ≡ 32) ⊎ (at ≡ 56)

@@ -108,6 +108,6 @@ pub record IsMisfit (format : ℕ) (b : List ℕ) (base capacity : ℕ) (cause :
   pub early : is_late cause ≡ false
 
 -- the bytes are not copied to the region, which is returned unchanged
-pub record IsNotPlaced (format : ℕ) (b region : List ℕ) (base : ℕ) (refused : OpenRefused) : Type 0 where
+pub record IsNotCopied (format : ℕ) (b region : List ℕ) (base : ℕ) (refused : OpenRefused) : Type 0 where
   pub misfit : IsMisfit format b base (length region) refused.cause
   pub back : refused.region ≡ region

@@ -56,13 +56,13 @@ pub record IsStorageNoted (format : ℕ) (b : List ℕ) (at : ℕ) (old : Blocks
 -- ---- elements
 
 -- the offset of one of the first n elements of an array
-abbrev pub IsElementPlace : ℕ → ℕ → ℕ → Type 0
-IsElementPlace array n p = (i : ℕ) × (i < n) × (p ≡ array + 16 * i)
+abbrev pub IsElementOffset : ℕ → ℕ → ℕ → Type 0
+IsElementOffset array n p = (i : ℕ) × (i < n) × (p ≡ array + 16 * i)
 
 -- the links of the first n elements of an array are entered
 pub record AreElementsNoted (format : ℕ) (b : List ℕ) (array n : ℕ) (old : Blocks) (waited : ℕ) (es : Blocks)
     (pending : Option ℕ) (waiting : ℕ) : Type 0 where
-  pub grown : MarksLinks format b (IsElementPlace array n) old waited es pending waiting
+  pub grown : MarksLinks format b (IsElementOffset array n) old waited es pending waiting
   pub noted : (i : ℕ) → i < n → IsMarkedLink (bytes_of b) (tiles_in b) es Storage (array + 16 * i) (array + 16 * i)
 
 -- the offset is not in a node, and a link at the offset counts if it leads to storage
@@ -140,17 +140,17 @@ pub record IsLinkOf (format : ℕ) (m : Memory) (t : Tile) (p : ℕ) : Type 0 wh
   pub place : p ≡ value_offset m (payload t)
 
 -- the offset is the offset of the link of the tile's object, or is in a storage
-abbrev pub IsPlaceOf : ℕ → Memory → List Tile → Tile → ℕ → Type 0
-IsPlaceOf format m ts t p = IsLinkOf format m t p ⊎ IsInStorage ts p
+abbrev pub IsLinkOffset : ℕ → Memory → List Tile → Tile → ℕ → Type 0
+IsLinkOffset format m ts t p = IsLinkOf format m t p ⊎ IsInStorage ts p
 
 -- the links of a tile's object are entered
 pub record IsTileGrown (format : ℕ) (b : List ℕ) (t : Tile) (old : Blocks) (waited : ℕ) (es : Blocks)
     (pending : Option ℕ) (waiting : ℕ) : Type 0 where
-  pub grown : MarksLinks format b (IsPlaceOf format (bytes_of b) (tiles_in b) t) old waited es pending waiting
+  pub grown : MarksLinks format b (IsLinkOffset format (bytes_of b) (tiles_in b) t) old waited es pending waiting
   pub noted : OfObject format (bytes_of b) t (λ kind at. IsValueNoted (bytes_of b) (tiles_in b) kind at es)
 
 -- the links behind all values are entered, except links in nodes
-pub record NotesValues (format : ℕ) (b : List ℕ) (old es : Blocks) (pending : Option ℕ) (waiting : ℕ) : Type 0 where
+pub record EntersValues (format : ℕ) (b : List ℕ) (old es : Blocks) (pending : Option ℕ) (waiting : ℕ) : Type 0 where
   pub marking : IsMarkingOf format b None es pending waiting
   pub keeps : KeepsMarks old es
   pub noted : (kind : Kind) (at : ℕ) → Contains (values format (bytes_of b) (tiles_in b)) (kind, at)

@@ -12,10 +12,10 @@ use Rattle.image_check.specs.Classes.{class_of}
 use Rattle.image_check.specs.Containers.{has_container}
 use Rattle.image_check.specs.EarlyTests.{size_word}
 use Rattle.image_check.specs.Fields.{counted_fields, is_left}
-use Rattle.image_check.specs.HeaderPlaces.{IsFirstOther, IsFirstReserved, shown_size}
-use Rattle.image_check.specs.IndexPlaces.{IsWrongIndex}
-use Rattle.image_check.specs.ObjectPlaces.{IsFirstTile, IsFirstWrongTile, IsWrongObject}
-use Rattle.image_check.specs.OwnerPlaces.{IsSharedAt}
+use Rattle.image_check.specs.HeaderOffsets.{IsFirstOther, IsFirstReserved, shown_size}
+use Rattle.image_check.specs.IndexOffsets.{IsWrongIndex}
+use Rattle.image_check.specs.ObjectOffsets.{IsFirstTile, IsFirstWrongTile, IsWrongObject}
+use Rattle.image_check.specs.OwnerOffsets.{IsSharedAt}
 use Rattle.block_tags.specs.Checks.{StopsAt}
 
 -- the tiles of the tags, by the size in the header

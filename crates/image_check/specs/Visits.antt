@@ -96,5 +96,5 @@ abbrev pub all_rates : Rates
 all_rates = both frame_rates (both gathering_rates block_rates)
 
 -- the rates of adding the blocks to the hints of the new heap
-abbrev pub note_rates : Rates
-note_rates = record { free = 0; object = 1; index = 1; storage = 1; node = 1 }
+abbrev pub hint_rates : Rates
+hint_rates = record { free = 0; object = 1; index = 1; storage = 1; node = 1 }

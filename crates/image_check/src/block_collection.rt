@@ -11,7 +11,7 @@ use crate::checking::VisitCounter;
 use crate::counting::Counts;
 use crate::image_window::{BlockTable, ImageWindow};
 use crate::owners::{Block, Owners};
-use crate::room::{NoBlockMemory, room_for};
+use crate::room::{NoBlockMemory, table_for};
 use block_tags::Tile;
 use std::alloc::Global;
 
@@ -37,7 +37,7 @@ pub(crate) fn collect_blocks(
     ensures visits { Spends gathering_rates 2 window.now.bytes visits.old visits.new }
     ensures tiles { OnOk result (CountsTiles window.now.bytes visits.old visits.new) }
 {
-    match room_for(&alloc, counts.used) {
+    match table_for(&alloc, counts.used) {
         Ok(mut blocks) => {
             add_all(window, &mut blocks, visits);
             Ok(Owners {

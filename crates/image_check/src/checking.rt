@@ -6,7 +6,7 @@ ghost use Rattle.raw_region.specs.Memory.{are_bytes};
 ghost use Rattle.image_check.specs.Counting.{AreCounted};
 ghost use Rattle.image_check.specs.EarlyTests.{has_reserved as is_reserved};
 ghost use Rattle.image_check.specs.Frame.{has_frame};
-ghost use Rattle.image_check.specs.HeaderPlaces.{IsFirstReserved};
+ghost use Rattle.image_check.specs.HeaderOffsets.{IsFirstReserved};
 ghost use Rattle.image_check.specs.Opening.{IsImage, IsRaisedFor, is_late};
 ghost use Rattle.image_check.specs.Owners.{entries_of, frames};
 ghost use Rattle.image_check.specs.Passes.{CountsBlocks, CountsTiles, ChecksClass, Spends, tiles_in};

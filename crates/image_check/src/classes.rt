@@ -1,6 +1,6 @@
 //! The reasons why bytes are not the image of a directory.
 ghost use Rattle.std.specs.Prelude.{◌≡◌, Some};
-ghost use Rattle.image_check.specs.Classes.{explanation_of, name_of, number_of, words_of};
+ghost use Rattle.image_check.specs.Classes.{explanation_of, name_of, number_of, message_of};
 
 use std::fmt;
 use thiserror::Error;
@@ -76,8 +76,8 @@ impl ImageClass {
     }
 
     /// Returns the text of the class.
-    pub fn words(self) -> &'static str
-        ensures { result.now ≡ words_of self }
+    pub fn message(self) -> &'static str
+        ensures { result.now ≡ message_of self }
     {
         match self {
             ImageClass::Truncated => "the image ends too early",
@@ -113,17 +113,17 @@ impl ImageClass {
             ImageClass::BadContainer =>
                 "the block, elements, pairs or counts of a container are wrong",
             ImageClass::BadReserved | ImageClass::SharedBlock | ImageClass::OrphanBlock =>
-                self.words(),
+                self.message(),
         }
     }
 }
 
 impl fmt::Display for ImageClass {
-    ghost output = { λ class. Some (words_of class) };
+    ghost output = { λ class. Some (message_of class) };
 
-    ghost styled_output = { λ class spec. Some (words_of class) };
+    ghost styled_output = { λ class spec. Some (message_of class) };
 
     fn fmt<W: fmt::Write>(&self, f: &mut fmt::Formatter<W>) -> fmt::Result {
-        f.write_str(self.words())
+        f.write_str(self.message())
     }
 }

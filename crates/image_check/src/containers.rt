@@ -8,7 +8,7 @@ ghost use Rattle.image_check.specs.Owners.{IsWholeMarkingOf, entries_of, frames}
 ghost use Rattle.image_check.specs.Containers.{AreFollowed, IsLinkNoted, IsCheckedTile, LiesInWindow, PaysFor};
 ghost use Rattle.image_check.specs.Containers.{has_container, is_scalar, rooted_weight, container_walk_rates};
 ghost use Rattle.image_check.specs.Containers.{weigh_blocks, weight_below};
-ghost use Rattle.image_check.specs.ObjectPlaces.{IsFirstWrongTile};
+ghost use Rattle.image_check.specs.ObjectOffsets.{IsFirstWrongTile};
 ghost use Rattle.image_check.specs.Passes.{ChecksClass, HasTiles, Spends, tiles_in};
 ghost use Rattle.image_check.specs.Visits.{AddsVisits, container_rates, weigh};
 ghost use Rattle.block_tags.specs.declared.tile.Tile.{Tile};

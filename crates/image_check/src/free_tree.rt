@@ -12,16 +12,16 @@ ghost use Rattle.block_tags.specs.Tiles.{has_tags, tiles_of};
 ghost use Rattle.best_fit.specs.GapNodes.{tiles_in};
 ghost use Rattle.image_check.specs.Counting.{AreCounted};
 ghost use Rattle.image_check.specs.EarlyTests.{has_free_tree as has_tree};
-ghost use Rattle.image_check.specs.FreeNodes.{has_good_links, is_before, is_planted as is_planted_in, is_place};
-ghost use Rattle.image_check.specs.FreeNodes.{len_at as len_there, place_cells, placed, stands_before};
+ghost use Rattle.image_check.specs.FreeNodes.{has_good_links, is_before, is_planted as is_planted_in, is_target};
+ghost use Rattle.image_check.specs.FreeNodes.{len_at as len_there, target_cells, good_target, stands_before};
 ghost use Rattle.image_check.specs.Passes.{HasTiles, Spends};
 ghost use Rattle.image_check.specs.Visits.{planting_rates, planting_visits, tag_rates, tree_rates};
-ghost use Rattle.image_check.specs.FreeLaws.{before_agrees, before_irreflexive, before_transitive, places_finite};
-ghost use Rattle.image_check.specs.FreeLaws.{places_left, places_right};
+ghost use Rattle.image_check.specs.FreeLaws.{before_agrees, before_irreflexive, before_transitive, targets_finite};
+ghost use Rattle.image_check.specs.FreeLaws.{targets_left, targets_right};
 
 use crate::checking::VisitCounter;
 use crate::counting::Counts;
-use crate::image_window::{ImageWindow, TileProbe, check_places, find_tile, has_good_links};
+use crate::image_window::{ImageWindow, TileProbe, check_targets, find_tile, has_good_links};
 use best_fit::FREE_TREE_ROOT;
 use block_tags::{TAG_LEN, Tile};
 use offset_link::NULL;
@@ -79,7 +79,7 @@ fn check_free_tree(window: &ImageWindow, visits: &mut VisitCounter) -> Option<Co
     let Ok(root) = window.checked_header_link(FREE_TREE_ROOT) else {
         return None;
     };
-    let tree = check_places(window, root, visits);
+    let tree = check_targets(window, root, visits);
     let Some(nodes) = tree.nodes else {
         return None;
     };
@@ -100,10 +100,10 @@ fn count_planted(
 ) -> Option<Counts>
     requires size { IsTrue (is_legal_size (length window.now.bytes)) }
     requires tags { IsTrue (has_tags current (bytes_of window.now.bytes) (length window.now.bytes)) }
-    requires root { leads (is_place window.now) root ≡ true }
-    requires tree { (t : Tree) × IsSearchTree (stands_before (bytes_of window.now.bytes)) (place_cells window.now)
+    requires root { leads (is_target window.now) root ≡ true }
+    requires tree { (t : Tree) × IsSearchTree (stands_before (bytes_of window.now.bytes)) (target_cells window.now)
         root t × (length (nodes_of t) < 2 ^ 26 - 1) }
-    ensures value { (t : Tree) → IsSearchTree (stands_before (bytes_of window.now.bytes)) (place_cells window.now)
+    ensures value { (t : Tree) → IsSearchTree (stands_before (bytes_of window.now.bytes)) (target_cells window.now)
         root t
         → is_some result ≡ list_all (is_planted_in window.now (nodes_of t)) (tiles_in window.now) }
     ensures steps_lower { IfSome result (AreCounted (tiles_in window.now)) }
@@ -129,12 +129,12 @@ fn is_planted(
     tile: Tile,
     visits: &mut VisitCounter,
 ) -> bool
-    requires place { is_place window.now (tile.offset + 16) ≡ true }
+    requires place { is_target window.now (tile.offset + 16) ≡ true }
     requires len { len_there (bytes_of window.now.bytes) (tile.offset + 16) ≡ tile.len }
-    requires root { leads (is_place window.now) root ≡ true }
-    requires tree { (t : Tree) × IsSearchTree (stands_before (bytes_of window.now.bytes)) (place_cells window.now)
+    requires root { leads (is_target window.now) root ≡ true }
+    requires tree { (t : Tree) × IsSearchTree (stands_before (bytes_of window.now.bytes)) (target_cells window.now)
         root t × (length (nodes_of t) < 2 ^ 26 - 1) }
-    ensures value { (t : Tree) → IsSearchTree (stands_before (bytes_of window.now.bytes)) (place_cells window.now)
+    ensures value { (t : Tree) → IsSearchTree (stands_before (bytes_of window.now.bytes)) (target_cells window.now)
         root t
         → result ≡ is_planted_in window.now (nodes_of t) tile }
     ensures visits { visits.old ≤ visits.new }
@@ -159,10 +159,10 @@ fn is_reached(
     visits: &mut VisitCounter,
 ) -> bool
     requires len { len_there (bytes_of window.now.bytes) sought.node ≡ sought.len }
-    requires root { leads (is_place window.now) root ≡ true }
-    requires tree { (t : Tree) × IsSearchTree (stands_before (bytes_of window.now.bytes)) (place_cells window.now)
+    requires root { leads (is_target window.now) root ≡ true }
+    requires tree { (t : Tree) × IsSearchTree (stands_before (bytes_of window.now.bytes)) (target_cells window.now)
         root t × (length (nodes_of t) < 2 ^ 26 - 1) }
-    ensures value { (t : Tree) → IsSearchTree (stands_before (bytes_of window.now.bytes)) (place_cells window.now)
+    ensures value { (t : Tree) → IsSearchTree (stands_before (bytes_of window.now.bytes)) (target_cells window.now)
         root t
         → result ≡ is_in sought.node (nodes_of t) }
     ensures visits { visits.old ≤ visits.new }

@@ -4,7 +4,7 @@ ghost use Rattle.raw_region.specs.Format.{current};
 ghost use Rattle.image_check.specs.Causes.{class_in};
 ghost use Rattle.image_check.specs.EarlyTests.{has_magic};
 ghost use Rattle.image_check.specs.Formats.{format_in, format_of};
-ghost use Rattle.image_check.specs.HeaderPlaces.{IsFirstOther, IsFrontPlace};
+ghost use Rattle.image_check.specs.HeaderOffsets.{IsFirstOther, IsFrontOffset};
 ghost use Rattle.image_check.specs.Reading.{front_of};
 
 use crate::classes::ImageClass;
@@ -64,11 +64,11 @@ pub fn size_in_any(front: &[u8]) -> Result<u64, ImageClass>
 pub(crate) fn judge_front(versions: AcceptedVersions, front: &[u8]) -> Result<u64, Verdict>
     requires { 24 ≤ length front.now }
     ensures text { class_in result ≡ front_of (format_in versions front.now) front.now }
-    ensures output { IfErr result (λ verdict. IsFrontPlace front.now verdict.class verdict.place) }
+    ensures output { IfErr result (λ verdict. IsFrontOffset front.now verdict.class verdict.place) }
 {
     if word_in(front, MAGIC_AT as usize) != MAGIC {
         let class = ImageClass::BadMagic;
-        let place = other_place(front);
+        let place = other_offset(front);
         return Err(Verdict { class, place });
     }
     if !versions.has(version_in(front)) {
@@ -86,7 +86,7 @@ pub(crate) fn judge_front(versions: AcceptedVersions, front: &[u8]) -> Result<u6
 }
 
 /// Returns the offset of the first byte that differs from the magic, for bytes that do not begin with it.
-fn other_place(front: &[u8]) -> Offset
+fn other_offset(front: &[u8]) -> Offset
     requires min_len { 24 ≤ length front.now }
     requires magic { has_magic front.now ≡ false }
     ensures { IsFirstOther front.now (codes "MSEGFILE") result }

@@ -4,7 +4,7 @@ ghost use Rattle.raw_region.specs.Format.{current};
 ghost use Rattle.image_check.specs.Causes.{IsShown};
 ghost use Rattle.image_check.specs.Formats.{format_in};
 ghost use Rattle.image_check.specs.Opening.{as_given};
-ghost use Rattle.image_check.specs.Reading.{FitsIn, IsImageRead, IsMisfit, IsNotPlaced};
+ghost use Rattle.image_check.specs.Reading.{FitsIn, IsImageRead, IsMisfit, IsNotCopied};
 ghost use Rattle.raw_region.specs.Memory.{part, whole};
 
 use crate::classes::ImageClass;
@@ -29,7 +29,7 @@ pub fn copy_image(
     requires aligned { base % 16 ≡ 0 }
     ensures placement { MatchResult result
         (IsImageRead (format_in versions image.now) (as_given image.now) region base)
-        (λ refused. IsNotPlaced (format_in versions image.now) image.now region base refused) }
+        (λ refused. IsNotCopied (format_in versions image.now) image.now region base refused) }
     ensures output { IfErr result (λ refused. IsShown (format_in versions image.now) image.now refused.cause) }
 {
     match size_for(versions, image, &region, base) {
@@ -52,7 +52,7 @@ pub fn find_image(region: RawRegion, base: u64, len: u64) -> Result<ImageWindow,
     requires aligned { base % 16 ≡ 0 }
     requires in_bounds { base + len ≤ length region }
     ensures search { MatchResult result (IsImageRead current (as_given (part region base len)) region base)
-        (λ refused. IsNotPlaced current (part region base len) region base refused) }
+        (λ refused. IsNotCopied current (part region base len) region base refused) }
     ensures output { IfErr result (λ refused. IsShown current (part region base len) refused.cause) }
     ensures not_written { IfOk result (λ window. whole window ≡ region) }
 {

@@ -12,13 +12,13 @@ ghost use Rattle.block_tags.specs.Tiles.{has_tags};
 ghost use Rattle.block_tags.specs.Windows.{HasTileAt, IsTiledWindow, EncodesTiles};
 ghost use Rattle.block_tags.specs.declared.tile.Tile.{Tile as ATile};
 ghost use Rattle.image_check.specs.Formats.{version_word};
-ghost use Rattle.image_check.specs.HeaderPlaces.{IsFirstNonzero};
+ghost use Rattle.image_check.specs.HeaderOffsets.{IsFirstNonzero};
 
 mod blocks;
 mod objects;
 mod pairs;
-mod places;
 mod renewing;
+mod targets;
 
 use crate::checking::VisitCounter;
 use crate::header::FRONT;
@@ -28,9 +28,9 @@ pub(crate) use blocks::BlockTable;
 pub(crate) use objects::{Object, Value};
 use offset_link::{BadLink, checked, load};
 pub(crate) use pairs::check_pairs;
-pub(crate) use places::{TileProbe, check_places, find_tile, has_good_links};
 use raw_region::{RawRegion, Window, bytes_are_octets};
 use std::marker::Model;
+pub(crate) use targets::{TileProbe, check_targets, find_tile, has_good_links};
 
 /// The window of an image in a check.
 #[derive(Drop)]

@@ -4,12 +4,12 @@ ghost use Rattle.std.specs.Prelude.{OnOk};
 ghost use Rattle.raw_region.specs.Memory.{bytes_of};
 ghost use Rattle.block_tags.specs.declared.tile.Tile.{Tile};
 ghost use Rattle.image_check.specs.ObjectTests.{has_indexes, targets};
-ghost use Rattle.image_check.specs.IndexPlaces.{IsFirstWrong, IsWrongAt, IsWrongHead, IsWrongIndex, earlier_targets};
-ghost use Rattle.image_check.specs.IndexPlaces.{first_targets, is_head};
-ghost use Rattle.image_check.specs.Owners.{AreBlocks, IsIndexPlace, IsMarking, IsUnmarked, entries_of};
+ghost use Rattle.image_check.specs.IndexOffsets.{IsFirstWrong, IsWrongAt, IsWrongHead, IsWrongIndex, earlier_targets};
+ghost use Rattle.image_check.specs.IndexOffsets.{first_targets, is_head};
+ghost use Rattle.image_check.specs.Owners.{AreBlocks, IsIndexOffset, IsMarking, IsUnmarked, entries_of};
 ghost use Rattle.image_check.specs.Passes.{HasTiles, ChecksClass, Spends, tiles_in};
 ghost use Rattle.image_check.specs.Visits.{AddsVisits, index_rates, weigh};
-ghost use Rattle.image_check.specs.Entered.{NotesEntries, AreEntered, HaveEntries, are_enterable, is_enterable};
+ghost use Rattle.image_check.specs.Entered.{EntersEntries, AreEntered, HaveEntries, are_enterable, is_enterable};
 ghost use Rattle.image_check.specs.Entered.{links_in};
 
 use crate::arrays::is_table;
@@ -69,13 +69,13 @@ fn enter_index(
     at: u64,
 ) -> Result<(), Offset>
     requires tiles { HasTiles window.now.bytes }
-    requires place { IsIndexPlace at }
+    requires place { IsIndexOffset at }
     requires blocks { AreBlocks (tiles_in window.now.bytes) owners.old.blocks.entries }
     requires previous { HaveEntries owners.old.blocks.entries (earlier_targets (bytes_of window.now.bytes) at) }
     ensures entry { MatchResult result
         (λ done. (is_enterable (bytes_of window.now.bytes) (tiles_in window.now.bytes) owners.old.blocks.entries at
         ≡ true)
-        × NotesEntries (tiles_in window.now.bytes) owners.old.blocks.entries owners.new.blocks.entries at
+        × EntersEntries (tiles_in window.now.bytes) owners.old.blocks.entries owners.new.blocks.entries at
         (targets (bytes_of window.now.bytes) at))
         (λ place. (is_enterable (bytes_of window.now.bytes) (tiles_in window.now.bytes) owners.old.blocks.entries at
         ≡ false)
@@ -114,7 +114,7 @@ fn check_head(
     at: u64,
 ) -> Result<(), Offset>
     requires tiles { HasTiles window.now.bytes }
-    requires place { IsIndexPlace at }
+    requires place { IsIndexOffset at }
     requires blocks { AreBlocks (tiles_in window.now.bytes) blocks.now.entries }
     ensures verdict { ChecksClass (is_head (bytes_of window.now.bytes) (tiles_in window.now.bytes) at)
         (IsWrongHead (bytes_of window.now.bytes) (tiles_in window.now.bytes) at) result }
@@ -151,7 +151,7 @@ fn enter_all(
     requires in_bounds { block + 8 * count ≤ length window.now.bytes }
     ensures entry { (ts : List Tile) → AreBlocks ts owners.old.blocks.entries → MatchResult result
         (λ done. (are_enterable ts owners.old.blocks.entries (links_in (bytes_of window.now.bytes) block count) ≡ true)
-        × NotesEntries ts owners.old.blocks.entries owners.new.blocks.entries root
+        × EntersEntries ts owners.old.blocks.entries owners.new.blocks.entries root
         (first_targets (bytes_of window.now.bytes) block count))
         (λ place. (are_enterable ts owners.old.blocks.entries (links_in (bytes_of window.now.bytes) block count)
         ≡ false)

@@ -1,7 +1,7 @@
 //! Enters the links of indexes, storage and elements in the map of owners.
 ghost use Rattle.std.specs.Prelude.{◌≡◌, ◌+◌, ◌*◌, ◌%◌, ◌<◌, ◌≤◌, ℕ, MatchResult, None, length};
 ghost use Rattle.raw_region.specs.Memory.{bytes_of, word_at};
-ghost use Rattle.image_check.specs.Owners.{IsIndexPlace, IsMarkingOf, IsSharedIn};
+ghost use Rattle.image_check.specs.Owners.{IsIndexOffset, IsMarkingOf, IsSharedIn};
 ghost use Rattle.image_check.specs.Passes.{HasTiles};
 ghost use Rattle.image_check.specs.Sharing.{AreElementsNoted, IsIndexNoted, IsStorageNoted, IsStorageStart};
 ghost use Rattle.image_check.specs.Visits.{AddsVisits};
@@ -26,7 +26,7 @@ pub(crate) fn mark_index(
 ) -> Result<(), Offset>
     ghost format: { ℕ }
     requires tiles { HasTiles window.now.bytes }
-    requires place { IsIndexPlace at }
+    requires place { IsIndexOffset at }
     requires marking { IsMarkingOf format window.now.bytes None owners.old.blocks.entries owners.old.pending
         owners.old.waiting }
     ensures mark { MatchResult result

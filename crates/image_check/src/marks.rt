@@ -10,7 +10,7 @@ ghost use Rattle.best_fit.specs.Table.{same_role};
 ghost use Rattle.image_check.specs.Owners.{FollowsAll, MarksLink, IsMarking, IsMarkingOf, IsRooted, IsSharedIn};
 ghost use Rattle.image_check.specs.Owners.{IsTurn, MayCount, unspent_budget, next_in as next_there};
 ghost use Rattle.image_check.specs.Owners.{root_in as root_there};
-ghost use Rattle.image_check.specs.OwnerPlaces.{IsSharedAt};
+ghost use Rattle.image_check.specs.OwnerOffsets.{IsSharedAt};
 ghost use Rattle.image_check.specs.Passes.{HasTiles};
 ghost use Rattle.image_check.specs.Visits.{AddsVisits};
 

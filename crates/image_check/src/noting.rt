@@ -12,7 +12,7 @@ const PIECE: u32 = 2048;
 
 /// Adds the blocks in use to the heap's block hints. It takes one visit for each block, reads no tag and changes no
 /// byte.
-pub(crate) fn note_blocks(blocks: &BlockTable, heap: &mut Heap, visits: &mut VisitCounter)
+pub(crate) fn hint_blocks(blocks: &BlockTable, heap: &mut Heap, visits: &mut VisitCounter)
     requires { AreBlocksIn (live_of heap.old.bytes) blocks.now.entries }
     ensures unchanged { heap.new ≡ heap.old }
     ensures visits { visits.new ≡ visits.old + length blocks.now.entries }
@@ -21,7 +21,7 @@ pub(crate) fn note_blocks(blocks: &BlockTable, heap: &mut Heap, visits: &mut Vis
     let mut last = u32::MAX;
     'rows: while number < blocks.len() {
         let (payload, _) = blocks.row(number, visits);
-        note_block(heap, last, payload);
+        hint_block(heap, last, payload);
         last = payload;
         number += 1;
     }
@@ -29,7 +29,7 @@ pub(crate) fn note_blocks(blocks: &BlockTable, heap: &mut Heap, visits: &mut Vis
 
 /// Adds the block at `payload` to the heap's block hints, unless the block at `last` is in the same piece: a heap keeps
 /// only the lowest hint of a piece.
-fn note_block(heap: &mut Heap, last: u32, payload: u32)
+fn hint_block(heap: &mut Heap, last: u32, payload: u32)
     requires { IsTrue (is_live_in (live_of heap.old.bytes) payload) }
     ensures { heap.new ≡ heap.old }
 {

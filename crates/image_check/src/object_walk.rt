@@ -4,7 +4,7 @@ ghost use Rattle.std.specs.List.{list_all};
 ghost use Rattle.raw_region.specs.Memory.{bytes_of};
 ghost use Rattle.image_check.specs.ObjectTests.{has_indexes, has_objects};
 ghost use Rattle.image_check.specs.ObjectPasses.{is_object_at, is_right_tile, object_walk_rates};
-ghost use Rattle.image_check.specs.ObjectPlaces.{IsFirstWrongTile, IsWrongObject};
+ghost use Rattle.image_check.specs.ObjectOffsets.{IsFirstWrongTile, IsWrongObject};
 ghost use Rattle.image_check.specs.Entered.{AreEntered};
 ghost use Rattle.image_check.specs.Owners.{entries_of, frames};
 ghost use Rattle.image_check.specs.Passes.{HasTiles, ChecksClass, Spends, tiles_in};

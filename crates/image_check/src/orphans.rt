@@ -3,7 +3,7 @@ ghost use Rattle.std.specs.Prelude.{◌≡◌, ℕ, List, not, length};
 ghost use Rattle.std.specs.List.{list_all};
 ghost use Rattle.raw_region.specs.Memory.{WindowState, bytes_of};
 ghost use Rattle.image_check.specs.Fields.{counted_fields, is_left, is_orphaned};
-ghost use Rattle.image_check.specs.ObjectPlaces.{IsFirstTile, IsFirstWrongTile};
+ghost use Rattle.image_check.specs.ObjectOffsets.{IsFirstTile, IsFirstWrongTile};
 ghost use Rattle.image_check.specs.Orphans.{is_owned as is_owned_block};
 ghost use Rattle.image_check.specs.Owners.{IsWholeMarkingOf, entries_of, frames, has_owner};
 ghost use Rattle.image_check.specs.Passes.{ChecksClass, HasTiles, Spends, tiles_in};

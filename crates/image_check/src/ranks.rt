@@ -6,9 +6,9 @@ ghost use Rattle.seg_index.specs.Keys.{name_len_at};
 ghost use Rattle.image_check.specs.ObjectTests.{has_index, targets};
 ghost use Rattle.image_check.specs.ObjectPasses.{HaveHeads, LeadToHeads, are_ranked, entry_rates};
 ghost use Rattle.image_check.specs.ObjectPasses.{follows as comes_behind, key_before};
-ghost use Rattle.image_check.specs.Owners.{IsIndexPlace};
-ghost use Rattle.image_check.specs.IndexPlaces.{first_targets};
-ghost use Rattle.image_check.specs.ObjectPlaces.{IsMisplaced, IsOutOfOrder};
+ghost use Rattle.image_check.specs.Owners.{IsIndexOffset};
+ghost use Rattle.image_check.specs.IndexOffsets.{first_targets};
+ghost use Rattle.image_check.specs.ObjectOffsets.{IsMisplaced, IsOutOfOrder};
 ghost use Rattle.image_check.specs.Passes.{ChecksClass, HasTiles, tiles_in};
 ghost use Rattle.image_check.specs.Visits.{AddsVisits, weigh};
 
@@ -29,7 +29,7 @@ pub(crate) fn has_order(
     class: u64,
 ) -> Result<(), Offset>
     requires tiles { HasTiles window.now.bytes }
-    requires place { IsIndexPlace at }
+    requires place { IsIndexOffset at }
     requires index { has_index (bytes_of window.now.bytes) (tiles_in window.now.bytes) at ≡ true }
     requires heads { HaveHeads (bytes_of window.now.bytes) at (length window.now.bytes) }
     ensures verdict { ChecksClass (are_ranked class (bytes_of window.now.bytes)

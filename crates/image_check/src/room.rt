@@ -7,7 +7,8 @@ use crate::rows::Row;
 use indexmap::IndexMap;
 use std::alloc::{AllocError, Global};
 
-/// The error of the allocation for the blocks of an image. Its private field means that only `room_for` makes it, after
+/// The error of the allocation for the blocks of an image. Its private field means that only `table_for` makes it,
+/// after
 /// a refusal.
 #[derive(Clone, Copy, Debug, PartialEq, Eq)]
 pub struct NoBlockMemory {
@@ -46,7 +47,7 @@ impl MapAllocator for Global {
 /// # Errors
 ///
 /// If the allocator refuses the memory.
-pub(crate) fn room_for<A: MapAllocator>(
+pub(crate) fn table_for<A: MapAllocator>(
     alloc: &A,
     count: usize,
 ) -> Result<BlockTable, NoBlockMemory>

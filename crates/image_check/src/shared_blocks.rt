@@ -5,11 +5,11 @@ ghost use Rattle.raw_region.specs.Memory.{bytes_of, word_at};
 ghost use Rattle.seg_types.specs.declared.kinds.Kind.TheVariants.{Strings as StringsKind};
 ghost use Rattle.image_check.specs.ObjectTests.{has_objects};
 ghost use Rattle.image_check.specs.Fields.{is_shared};
-ghost use Rattle.image_check.specs.Owners.{IsIndexPlace, IsMarkingOf, IsSharedIn, IsUnmarked, IsWholeMarkingOf};
+ghost use Rattle.image_check.specs.Owners.{IsIndexOffset, IsMarkingOf, IsSharedIn, IsUnmarked, IsWholeMarkingOf};
 ghost use Rattle.image_check.specs.Owners.{unspent_budget};
 ghost use Rattle.image_check.specs.Passes.{ChecksClass, HasTiles, Spends, tiles_in};
 ghost use Rattle.image_check.specs.Sharing.{AllElements, AreElementsNoted, AreIndexesNoted, AreTextsNoted};
-ghost use Rattle.image_check.specs.Sharing.{NotesValues, IsIndexNoted, IsStorageNoted, IsStorageStart, IsTileGrown};
+ghost use Rattle.image_check.specs.Sharing.{EntersValues, IsIndexNoted, IsStorageNoted, IsStorageStart, IsTileGrown};
 ghost use Rattle.image_check.specs.Sharing.{IsValueGrown, IsValueReady, OfObject, Pays, array_cost, object_cost};
 ghost use Rattle.image_check.specs.Sharing.{value_rates};
 ghost use Rattle.image_check.specs.Visits.{AddsVisits, sharing_rates, weigh};
@@ -206,7 +206,7 @@ fn mark_values(
         owners.old.waiting }
     requires front { (n : ℕ) (o : OwnerValue) → owner_at owners.old.blocks.entries n ≡ Some o → o.at < 128 }
     ensures mark { MatchResult result
-        (λ done. NotesValues said window.now.bytes owners.old.blocks.entries owners.new.blocks.entries
+        (λ done. EntersValues said window.now.bytes owners.old.blocks.entries owners.new.blocks.entries
         owners.new.pending owners.new.waiting)
         (IsSharedIn said window.now.bytes) }
     ensures visits { Pays (weigh value_rates (tiles_in window.now.bytes)) result visits.old

@@ -55,14 +55,14 @@ impl Article {
 }
 
 /// Keeps the name of an article.
-fn note_name(alloc: Global, shop: &mut Segment, number: i32, name: &str) -> Result<()> {
+fn record_name(alloc: Global, shop: &mut Segment, number: i32, name: &str) -> Result<()> {
     let key = format!(in alloc; "names/{number}")?;
     shop.construct_string(&named(key.as_str())?, name.as_bytes())?;
     Ok(())
 }
 
 /// Puts an article after those that a supplier sells.
-fn note_supplier(alloc: Global, shop: &mut Segment, number: i32, supplier: &str) -> Result<()> {
+fn record_supplier(alloc: Global, shop: &mut Segment, number: i32, supplier: &str) -> Result<()> {
     let text = format!(in alloc; "suppliers/{supplier}")?;
     let key = named(text.as_str())?;
     shop.find_or_construct_vec::<i32, _>(&key, &[])?;
@@ -80,8 +80,8 @@ fn add(
 ) -> Result<()> {
     VectorView::<u8>::of(shop, &named("articles")?)?.extend(&article.to_bytes())?;
     shop.map_put(&named("prices")?, article.number, price)?;
-    note_name(alloc, shop, article.number, name)?;
-    note_supplier(alloc, shop, article.number, supplier)
+    record_name(alloc, shop, article.number, name)?;
+    record_supplier(alloc, shop, article.number, supplier)
 }
 
 /// Puts the first three articles into the inventory.
@@ -102,10 +102,10 @@ fn fill(alloc: Global, shop: &mut Segment) -> Result<()> {
 /// Returns the article at an index.
 fn article_at(shop: &Segment, articles: &Name, index: u64) -> Result<Article> {
     let mut bytes = [0u8; 16];
-    let mut place = index.saturating_mul(16);
+    let mut offset = index.saturating_mul(16);
     for byte in bytes.iter_mut() {
-        *byte = shop.vec_get(articles, place)?;
-        place = place.saturating_add(1);
+        *byte = shop.vec_get(articles, offset)?;
+        offset = offset.saturating_add(1);
     }
     Ok(Article::of_bytes(bytes))
 }
@@ -118,10 +118,10 @@ fn sell(shop: &mut Segment) -> Result<()> {
         return Ok(());
     }
     sold.count -= 1;
-    let mut place = 0u64;
+    let mut offset = 0u64;
     for byte in sold.to_bytes() {
-        shop.vec_set(&articles, place, byte)?;
-        place = place.saturating_add(1);
+        shop.vec_set(&articles, offset, byte)?;
+        offset = offset.saturating_add(1);
     }
     let price: Option<i64> = shop.map_get(&named("prices")?, sold.number)?;
     let sum: i64 = shop.get(&earned, 0)?;
@@ -158,8 +158,8 @@ fn tell_of_suppliers(rt: &HostRuntime, shop: &Segment) -> Result<()> {
         };
         print!(rt; "{supplier} sells")?;
         let seller = named(name)?;
-        for place in 0..shop.vec_len::<i32, _>(&seller)? {
-            let number: i32 = shop.vec_get(&seller, place)?;
+        for offset in 0..shop.vec_len::<i32, _>(&seller)? {
+            let number: i32 = shop.vec_get(&seller, offset)?;
             print!(rt; " {number}")?;
         }
         println!(rt; "")?;
@@ -225,9 +225,9 @@ fn earn_by_commits(rt: &HostRuntime, disk: &mut impl Disk, path: &str, times: u6
 /// Trades over the files of the system.
 fn main(rt: HostRuntime) -> Result<()> {
     let mut disk = HostDisk::new(&rt);
-    let mut words = env::args(&rt)?.skip(1);
-    if let Some(path) = words.next() {
-        return match words.next() {
+    let mut arguments = env::args(&rt)?.skip(1);
+    if let Some(path) = arguments.next() {
+        return match arguments.next() {
             Some(times) => earn_by_commits(&rt, &mut disk, path.as_str(), times.parse()?),
             None => keep_an_inventory(&rt, &mut disk, path.as_str()),
         };

@@ -60,12 +60,12 @@ fn meets_all<R: Abort, N: Numbered>(rt: &R, nodes: &N, root: Option<u64>, count:
         panic!(rt; "the links are no tree");
     };
     let mut next = 0u64;
-    let mut note = |node| {
+    let mut collect = |node| {
         if node == next {
             next = next.wrapping_add(1);
         }
     };
-    let steps = walk(nodes, root, &mut note);
+    let steps = walk(nodes, root, &mut collect);
     steps == count && next == count
 }
 

@@ -2,7 +2,7 @@
 //! without facts.
 use crate::checks::{done, holds, same};
 use offset_link::{
-    Places, all_lead, are_links, checked, copy, load, shift, shift_non_null, store, store_null,
+    Distance, all_lead, are_links, checked, copy, load, shift, shift_non_null, store, store_null,
 };
 use raw_region::{RawRegion, Window};
 use std::process::Abort;
@@ -84,14 +84,14 @@ fn a_copy_leads_where_its_source_leads(rt: HostRuntime) {
 fn moves_up(rt: &impl Abort, w: &mut Window) {
     holds(rt, w.in_range(24, 32));
     holds(rt, are_links(w, 24, 3));
-    shift(w, 24, 3, Places::Up(1));
+    shift(w, 24, 3, Distance::Up(1));
 }
 
 /// Moves two links from 24 on to 8.
 fn moves_back(rt: &impl Abort, w: &mut Window) {
     holds(rt, w.in_range(8, 32));
     holds(rt, are_links(w, 24, 2));
-    shift(w, 24, 2, Places::Down(2));
+    shift(w, 24, 2, Distance::Down(2));
 }
 
 /// Checks that a word that leads to no multiple of 16 is no link.
@@ -130,14 +130,14 @@ fn links_move(rt: HostRuntime) {
 fn moves_run_up(rt: &impl Abort, w: &mut Window) {
     holds(rt, w.in_range(24, 96));
     holds(rt, all_lead(w, 24, 11));
-    shift_non_null(w, 24, 11, Places::Up(1));
+    shift_non_null(w, 24, 11, Distance::Up(1));
 }
 
 /// Moves eleven links from 32 on down.
 fn moves_run_down(rt: &impl Abort, w: &mut Window) {
     holds(rt, w.in_range(16, 104));
     holds(rt, all_lead(w, 32, 11));
-    shift_non_null(w, 32, 11, Places::Down(2));
+    shift_non_null(w, 32, 11, Distance::Down(2));
 }
 
 /// Checks that eleven links from an offset on lead to one block of 16 bytes after another.

@@ -17,8 +17,8 @@ use std::process::Abort;
 fn is_spelled<T: Plain + PartialEq + Drop>(rt: &impl Abort, value: T, spelled: &[u8]) {
     holds(rt, spelled.len() as u64 == T::SIZE);
     holds(rt, spelled.len() <= 8);
-    let mut room = [0; 8];
-    let bytes = &mut room[..spelled.len()];
+    let mut scratch = [0; 8];
+    let bytes = &mut scratch[..spelled.len()];
     value.write(bytes);
     holds(rt, &*bytes == spelled);
     same(rt, T::read(spelled), Some(value));
@@ -295,6 +295,6 @@ fn names_are_printed(rt: HostRuntime) {
 fn errors_are_printed(rt: HostRuntime) {
     is_printed(&rt, rt.alloc(), LineError::BadSyntax, "bad syntax");
     is_printed(&rt, rt.alloc(), Refusal::ReadOnly, "read only");
-    let words = "a name has 1 to 255 bytes of UTF-8 without control characters";
-    is_printed(&rt, rt.alloc(), BadName, words);
+    let message = "a name has 1 to 255 bytes of UTF-8 without control characters";
+    is_printed(&rt, rt.alloc(), BadName, message);
 }

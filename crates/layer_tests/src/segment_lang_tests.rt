@@ -2,8 +2,8 @@
 use crate::checks::{holds, same};
 use seg_types::Key;
 use segment_lang::{
-    CommandForm, LineBuffer, LineError, Literal, Operation, OperationForm, Reading, Word,
-    next_word, number_of, only_word, parse_line, whole_of,
+    CommandForm, LineBuffer, LineError, Literal, Operation, OperationForm, Reading, Token,
+    next_token, number_of, only_token, parse_line, whole_of,
 };
 use std::mem::size_of;
 use std::process::Abort;
@@ -16,8 +16,8 @@ const _: () = prove!(size_of::<Literal<'static>>() <= 24);
 const _: () = prove!(size_of::<Operation<'static>>() <= 64);
 
 /// Returns the whole number that a word spells.
-fn whole(word: &[u8]) -> Option<i128> {
-    Some(whole_of(word)?.get())
+fn whole(token: &[u8]) -> Option<i128> {
+    Some(whole_of(token)?.get())
 }
 
 /// Words, the numbers and the whole numbers that they spell.
@@ -38,35 +38,35 @@ const SPELLINGS: [(&[u8], Option<u64>, Option<i128>); 8] = [
 
 #[test]
 fn numbers_have_one_spelling(rt: HostRuntime) {
-    for (word, number, wanted) in SPELLINGS {
-        same(&rt, number_of(word), number);
-        same(&rt, whole(word), wanted);
+    for (token, number, wanted) in SPELLINGS {
+        same(&rt, number_of(token), number);
+        same(&rt, whole(token), wanted);
     }
 }
 
 /// Returns the first word of a line, and what stands after it.
-fn first_word<'a>(rt: &impl Abort, line: &'a [u8]) -> (Word<'a>, &'a [u8]) {
-    let Some(parts) = next_word(line) else {
+fn first_token<'a>(rt: &impl Abort, line: &'a [u8]) -> (Token<'a>, &'a [u8]) {
+    let Some(parts) = next_token(line) else {
         panic!(rt; "no word");
     };
     parts
 }
 
 /// Tells whether a word has these bytes, and is bare.
-fn is_bare(word: Word<'_>, bytes: &[u8]) -> bool {
-    match word {
-        Word::Bare(bare) => bare == bytes,
-        Word::Text(_) => false,
+fn is_bare(token: Token<'_>, bytes: &[u8]) -> bool {
+    match token {
+        Token::Bare(bare) => bare == bytes,
+        Token::Text(_) => false,
     }
 }
 
 #[test]
-fn words_come_one_after_another(rt: HostRuntime) {
-    let (word, rest) = first_word(&rt, b" ab\t-7 \"true\"");
-    holds(&rt, is_bare(word, b"ab"));
-    let (word, rest) = first_word(&rt, rest);
-    holds(&rt, is_bare(word, b"-7"));
-    holds(&rt, matches!(only_word(rest), Some(Word::Text(_))));
+fn tokens_come_one_after_another(rt: HostRuntime) {
+    let (token, rest) = first_token(&rt, b" ab\t-7 \"true\"");
+    holds(&rt, is_bare(token, b"ab"));
+    let (token, rest) = first_token(&rt, rest);
+    holds(&rt, is_bare(token, b"-7"));
+    holds(&rt, matches!(only_token(rest), Some(Token::Text(_))));
 }
 
 #[test]

@@ -11,7 +11,7 @@ path_length before (fork red left n right) =
 
 -- the value that a search folds over its path, from each node, its colour, and whether it precedes the probe
 abbrev pub noted : {K : Type 0} → (K → ℕ → Bool → Bool → K) → (ℕ → Bool) → K → Tree → K
-noted pass before notes leaf = notes
-noted pass before notes (fork red left n right) =
-    if before n then noted pass before (pass notes n red true) right
-    else noted pass before (pass notes n red false) left
+noted pass before folded leaf = folded
+noted pass before folded (fork red left n right) =
+    if before n then noted pass before (pass folded n red true) right
+    else noted pass before (pass folded n red false) left

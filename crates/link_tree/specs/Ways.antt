@@ -19,10 +19,10 @@ insert_point_of before (fork red left n right) =
 
 -- the state of a search after one more node of its path
 abbrev pub passed : Passed → ℕ → Bool → Bool → Passed
-passed notes n red before = record {
-  node = if before then notes.node else Some n;
+passed folded n red before = record {
+  node = if before then folded.node else Some n;
   above = if red then None else Some n;
-  entry = if red then notes.entry else option_or notes.above notes.entry;
+  entry = if red then folded.entry else option_or folded.above folded.entry;
 }
 
 -- the point found below a node; if there is none, the node itself if the path continues to a red node
@@ -41,9 +41,9 @@ remove_point_of precedes x (fork red left n right) =
 
 -- the state of a search for a node to remove, after one more node of its path
 abbrev pub followed : Followed → ℕ → Bool → Bool → Followed
-followed notes n red before = record {
-  node = if before then notes.node else Some n;
+followed folded n red before = record {
+  node = if before then folded.node else Some n;
   above = Some n;
-  exit = if red then notes.above else notes.exit;
-  of_node = if before then notes.of_node else (if red then notes.above else notes.exit);
+  exit = if red then folded.above else folded.exit;
+  of_node = if before then folded.of_node else (if red then folded.above else folded.exit);
 }

@@ -128,8 +128,8 @@ pub fn find_insert_point<N: Nodes>(nodes: &N, root: Option<u64>, probe: &N::Prob
     };
     let way = descend(nodes, root, probe, start);
     InsertPoint {
-        node: way.notes.node,
-        entry: way.notes.end(),
+        node: way.folded.node,
+        entry: way.folded.end(),
         steps: way.steps,
     }
 }
@@ -160,8 +160,8 @@ pub fn find_remove_point<N: Nodes>(nodes: &N, root: Option<u64>, probe: &N::Prob
     };
     let way = descend(nodes, root, probe, start);
     RemovePoint {
-        node: way.notes.node,
-        exit: way.notes.of_node,
+        node: way.folded.node,
+        exit: way.folded.of_node,
         steps: way.steps,
     }
 }

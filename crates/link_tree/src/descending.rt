@@ -30,7 +30,7 @@ pub trait PathFold: Copy {
 #[derive(Clone, Copy)]
 pub struct Descent<K> {
     /// The folded value.
-    pub notes: K,
+    pub folded: K,
     /// The number of steps.
     pub steps: u64,
 }
@@ -46,7 +46,7 @@ pub fn descend<N: Nodes, K: PathFold>(
     requires root { leads (N.is_node nodes.now) root ≡ true }
     requires tree { (t : Tree) × IsSearchTree (N.order nodes.now) (N.cells nodes.now) root t }
     ensures mark { (t : Tree) → IsSearchTree (N.order nodes.now) (N.cells nodes.now) root t
-        → result.notes ≡ noted K.passed (N.before nodes.now probe.now) start t }
+        → result.folded ≡ noted K.passed (N.before nodes.now probe.now) start t }
     ensures steps { (t : Tree) → IsSearchTree (N.order nodes.now) (N.cells nodes.now) root t
         → result.steps ≤ 2 * bits (length (nodes_of t) + 1) }
     ensures steps_exact { (t : Tree) → IsSearchTree (N.order nodes.now) (N.cells nodes.now) root t
@@ -54,10 +54,10 @@ pub fn descend<N: Nodes, K: PathFold>(
 {
     let mut visits = NodeCursor::new(nodes);
     let mut link = root;
-    let mut notes = start;
+    let mut folded = start;
     while let Some(node) = link {
         let before = visits.before_probe(node, probe);
-        notes = notes.fold_node(&mut visits, node, before);
+        folded = folded.fold_node(&mut visits, node, before);
         if before {
             link = visits.right(node);
         } else {
@@ -65,7 +65,7 @@ pub fn descend<N: Nodes, K: PathFold>(
         }
     }
     Descent {
-        notes,
+        folded,
         steps: visits.steps(),
     }
 }

@@ -28,7 +28,7 @@ struct First {
 }
 
 impl PathFold for First {
-    ghost passed = { λ notes n red before. record { node = if before then notes.node else Some n } };
+    ghost passed = { λ folded n red before. record { node = if before then folded.node else Some n } };
 
     fn fold_node<N: Nodes>(self, _visits: &mut NodeCursor<N>, node: u64, before: bool) -> First {
         if before {
@@ -45,7 +45,7 @@ struct Last {
 }
 
 impl PathFold for Last {
-    ghost passed = { λ notes n red before. record { node = if before then Some n else notes.node } };
+    ghost passed = { λ folded n red before. record { node = if before then Some n else folded.node } };
 
     fn fold_node<N: Nodes>(self, _visits: &mut NodeCursor<N>, node: u64, before: bool) -> Last {
         if before {
@@ -77,7 +77,7 @@ pub fn find_first_not_before<N: Nodes>(
 {
     let way = descend(nodes, root, probe, First { node: None });
     SearchResult {
-        node: way.notes.node,
+        node: way.folded.node,
         steps: way.steps,
     }
 }
@@ -98,7 +98,7 @@ pub fn find_last_before<N: Nodes>(nodes: &N, root: Option<u64>, probe: &N::Probe
 {
     let way = descend(nodes, root, probe, Last { node: None });
     SearchResult {
-        node: way.notes.node,
+        node: way.folded.node,
         steps: way.steps,
     }
 }

@@ -106,13 +106,13 @@ const DUMP: &[u8] =
 const NOTED: &[u8] =
     b"segment dump 1\nsize 4096\nindexes 1 0\nnamed a vec<i64> 1\n  7\nanonymous string 1\n  2 \"xy\"\nend\n# capacity of names: 4\n# capacity of kinds: 0\n# capacity of named a vec<i64>: 10\n# capacity of anonymous string: 2\n";
 
-/// Checks that a writer with room for `room` bytes of the dump with capacities takes these, and then fails.
-fn is_noted<R: Abort + AllocGlobal>(rt: &R, segment: &Segment, room: usize) {
-    let mut out = writer(rt, room);
+/// Checks that a writer with room for `capacity` bytes of the dump with capacities takes these, and then fails.
+fn is_noted<R: Abort + AllocGlobal>(rt: &R, segment: &Segment, capacity: usize) {
+    let mut out = writer(rt, capacity);
     let told = dump_with_capacities(segment, &mut out).is_ok();
-    same(rt, told, room >= NOTED.len());
+    same(rt, told, capacity >= NOTED.len());
     holds(rt, NOTED.starts_with(out.taken()));
-    same(rt, out.taken().len(), room.min(NOTED.len()));
+    same(rt, out.taken().len(), capacity.min(NOTED.len()));
 }
 
 #[test]
@@ -158,12 +158,12 @@ const ONE_OF_EACH_IN_JSON: &[u8] =
 const TEXTS_IN_JSON: &[u8] =
     b"{\"class\":\"named\",\"name\":\"\xc3\xa4\\\"\",\"kind\":\"vec<string>\",\"value\":[\"\xc3\xa4\\u001f\\\\/\",{\"base64\":\"/w==\"},{\"base64\":\"+P4=\"},{\"base64\":\"TWHz\"},{\"base64\":\"AICAgA==\"},\"\"]}\n";
 
-/// Checks that a writer with room for `room` bytes takes these of the lines of JSON, and then fails.
-fn is_in_json<R: Abort + AllocGlobal>(rt: &R, segment: &Segment, room: usize, lines: &[u8]) {
-    let mut out = writer(rt, room);
+/// Checks that a writer with room for `capacity` bytes takes these of the lines of JSON, and then fails.
+fn is_in_json<R: Abort + AllocGlobal>(rt: &R, segment: &Segment, capacity: usize, lines: &[u8]) {
+    let mut out = writer(rt, capacity);
     let told = dump_json(segment, &mut out).is_ok();
-    same(rt, told, room >= lines.len());
-    same(rt, out.taken(), &lines[..room.min(lines.len())]);
+    same(rt, told, capacity >= lines.len());
+    same(rt, out.taken(), &lines[..capacity.min(lines.len())]);
     drop(out);
 }
 
@@ -173,8 +173,8 @@ fn objects_are_lines_of_json(rt: HostRuntime) {
     is_in_json(&rt, &segment, 100, b"");
     fill(&rt, &mut segment);
     is_in_json(&rt, &segment, 16384, ONE_OF_EACH_IN_JSON);
-    for room in [0, 11, 50, 56, 57, 100, 200, 300] {
-        is_in_json(&rt, &segment, room, ONE_OF_EACH_IN_JSON);
+    for capacity in [0, 11, 50, 56, 57, 100, 200, 300] {
+        is_in_json(&rt, &segment, capacity, ONE_OF_EACH_IN_JSON);
     }
     drop(segment);
 }
@@ -193,8 +193,8 @@ fn texts_of_other_bytes_are_base64(rt: HostRuntime) {
     ];
     done(&rt, segment.construct_texts(&name, &texts));
     is_in_json(&rt, &segment, 16384, TEXTS_IN_JSON);
-    for room in [60, 80, 97, 100, 130] {
-        is_in_json(&rt, &segment, room, TEXTS_IN_JSON);
+    for capacity in [60, 80, 97, 100, 130] {
+        is_in_json(&rt, &segment, capacity, TEXTS_IN_JSON);
     }
     drop(segment);
 }

@@ -14,11 +14,11 @@ pub fn empty<R: Abort + AllocGlobal>(rt: &R) -> Segment {
     done(rt, Segment::create(region, 0, 4096, Mode::Write))
 }
 
-/// Returns a writer with room for `room` bytes, which takes 7 at a time.
-pub fn writer<R: Abort + AllocGlobal>(rt: &R, room: usize) -> MemorySink
+/// Returns a writer with room for `capacity` bytes, which takes 7 at a time.
+pub fn writer<R: Abort + AllocGlobal>(rt: &R, capacity: usize) -> MemorySink
     ensures { result.failures ≡ 0 }
 {
-    let Ok(out) = MemorySink::new(rt.alloc(), room, 7, EndBehaviour::Fails) else {
+    let Ok(out) = MemorySink::new(rt.alloc(), capacity, 7, EndBehaviour::Fails) else {
         panic!(rt; "out of memory");
     };
     out
@@ -48,11 +48,11 @@ pub fn loaded<R: Abort + AllocGlobal>(rt: &R, text: &[u8], size: Option<u64>) ->
 pub fn refused_in<R: Abort + AllocGlobal>(
     rt: &R,
     text: &[u8],
-    room: &mut [u8],
+    capacity: &mut [u8],
     size: Option<u64>,
 ) -> LoadRefused {
     let region = done(rt, RawRegion::new(rt.alloc(), 8192));
-    refusal(rt, load(text, room, region, 16, size))
+    refusal(rt, load(text, capacity, region, 16, size))
 }
 
 /// Checks that a text is not loaded as a segment of a size, and for which reason.

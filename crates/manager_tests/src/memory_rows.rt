@@ -40,8 +40,8 @@ fn map(rt: &impl Abort, alloc: Global) -> Option<Segment> {
 
 /// Writes other bytes into an image from `from` on.
 fn write(rt: &impl Abort, image: &mut [u8], from: usize, bytes: &[u8]) {
-    let room = image.get_mut(from..from.saturating_add(bytes.len()));
-    room.expect(rt, "no such bytes").copy_from_slice(bytes);
+    let part = image.get_mut(from..from.saturating_add(bytes.len()));
+    part.expect(rt, "no such bytes").copy_from_slice(bytes);
 }
 
 /// Returns the image of a segment with the map.

@@ -221,8 +221,8 @@ fn the_place_of_a_wrong_tag_is_told(rt: HostRuntime) {
 }
 
 #[test]
-fn each_reason_has_its_words(rt: HostRuntime) {
+fn each_reason_has_its_text(rt: HostRuntime) {
     let (size, region) = (CreateError::BadSize, CreateError::RegionTooSmall);
-    let words = done(&rt, format!(in rt.alloc(); "{size}, {region}"));
-    same(&rt, words.as_str(), "size refused, region too small");
+    let text = done(&rt, format!(in rt.alloc(); "{size}, {region}"));
+    same(&rt, text.as_str(), "size refused, region too small");
 }

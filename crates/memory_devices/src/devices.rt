@@ -100,16 +100,16 @@ impl Model for MemorySink {
 }
 
 impl MemorySink {
-    /// Makes a writer with room for `room` bytes, which takes at most `piece` of them a write, or `AllocError`.
+    /// Makes a writer with room for `capacity` bytes, which takes at most `piece` of them a write, or `AllocError`.
     pub fn new(
         alloc: Global,
-        room: usize,
+        capacity: usize,
         piece: usize,
         last: EndBehaviour,
     ) -> Result<MemorySink, AllocError>
         ensures { IfOk result (λ w. w ≡ record { bytes = []; failures = 0 }) }
     {
-        let buffer = Vec::from_elem(alloc, 0u8, room)?;
+        let buffer = Vec::from_elem(alloc, 0u8, capacity)?;
         Ok(MemorySink {
             buffer,
             len: 0,
@@ -132,8 +132,8 @@ impl Sink for MemorySink {
     ghost history = { λ w. w };
 
     fn write(&mut self, bytes: &[u8]) -> Result<usize, DeviceFault> {
-        let room = self.buffer.len() - self.len;
-        let count = bytes.len().min(room).min(self.piece);
+        let capacity = self.buffer.len() - self.len;
+        let count = bytes.len().min(capacity).min(self.piece);
         if count == 0 && !bytes.is_empty() {
             self.failures += 1;
             return match self.last {

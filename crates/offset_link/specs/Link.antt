@@ -20,5 +20,5 @@ abbrev pub link : ℕ → Option ℕ → List ℕ
 link at target = word_bytes (link_word at target)
 
 -- an offset at which a block's payload can begin in a segment of this size
-abbrev pub is_handle_place : ℕ → ℕ → Bool
-is_handle_place size target = (target % 16 == 0) && nat_le 144 target && nat_le (target + 32) size
+abbrev pub is_handle_offset : ℕ → ℕ → Bool
+is_handle_offset size target = (target % 16 == 0) && nat_le 144 target && nat_le (target + 32) size

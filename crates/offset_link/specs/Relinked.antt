@@ -2,7 +2,7 @@
 use Rattle.std.specs.Prelude.{◌≡◌, ◌≢◌, ℕ, zero, suc, ◌+◌, ◌*◌, ◌<◌, ◌%◌, ◌^◌, ◌==◌, if◌then◌else◌}
 use Rattle.std.specs.Prelude.{Option, Some, None, IfSome, List, [], ◌++◌, Bool, false, not}
 use Rattle.raw_region.specs.Memory.{Memory, word_at, word_bytes}
-use Rattle.offset_link.specs.Link.{is_handle_place, link_at, link_word, target_of}
+use Rattle.offset_link.specs.Link.{is_handle_offset, link_at, link_word, target_of}
 
 -- a link is null or leads to a multiple of 16
 abbrev pub IsLink : Memory → ℕ → Type 0
@@ -53,4 +53,4 @@ pub record KeepTargets (m m' : Memory) (at to n : ℕ) : Type 0 where
 -- the link is invalid in a segment of this size
 abbrev pub is_bad : ℕ → Option ℕ → Bool
 is_bad size None = false
-is_bad size (Some target) = not (is_handle_place size target)
+is_bad size (Some target) = not (is_handle_offset size target)

@@ -6,4 +6,4 @@ mod link;
 mod moves;
 
 pub use link::{BadLink, NULL, checked, copy, load, store, store_null};
-pub use moves::{Places, all_lead, are_links, shift, shift_non_null};
+pub use moves::{Distance, all_lead, are_links, shift, shift_non_null};

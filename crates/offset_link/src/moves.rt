@@ -13,7 +13,7 @@ use raw_region::{Window, bytes_are_octets, set_word_in, word_in};
 
 /// The distance and the direction of a move.
 #[derive(Clone, Copy, Debug)]
-pub enum Places {
+pub enum Distance {
     /// The number of 8-byte places towards the end.
     Up(u64),
     /// The number of 8-byte places towards the start.
@@ -59,7 +59,7 @@ pub fn all_lead(w: &Window, at: u64, n: u64) -> bool
 
 /// Moves the `n` links from `at` on, eight at a time. A link keeps its target, a multiple of 16, or stays null. The old
 /// and the new places can overlap.
-pub fn shift(w: &mut Window, at: u64, n: u64, by: Places)
+pub fn shift(w: &mut Window, at: u64, n: u64, by: Distance)
     requires aligned { at % 8 ≡ 0 }
     requires source { at + 8 * n ≤ length w.old.bytes }
     requires in_range { StaysInside at by }
@@ -73,18 +73,18 @@ pub fn shift(w: &mut Window, at: u64, n: u64, by: Places)
     let size = w.size();
     let bytes = w.bytes_mut(0, size);
     match by {
-        Places::Up(places) => move_up::<false>(bytes, at as usize, n as usize, 8 * places as usize),
-        Places::Down(places) => move_down::<false>(
+        Distance::Up(slots) => move_up::<false>(bytes, at as usize, n as usize, 8 * slots as usize),
+        Distance::Down(slots) => move_down::<false>(
             bytes,
             at as usize,
             n as usize,
-            8 * places as usize,
+            8 * slots as usize,
         ),
     }
 }
 
 /// Moves links as `shift` does, if no link is null. Every word changes by the distance, so it tests no word.
-pub fn shift_non_null(w: &mut Window, at: u64, n: u64, by: Places)
+pub fn shift_non_null(w: &mut Window, at: u64, n: u64, by: Distance)
     requires aligned { at % 8 ≡ 0 }
     requires source { at + 8 * n ≤ length w.old.bytes }
     requires in_range { StaysInside at by }
@@ -98,12 +98,12 @@ pub fn shift_non_null(w: &mut Window, at: u64, n: u64, by: Places)
     let size = w.size();
     let bytes = w.bytes_mut(0, size);
     match by {
-        Places::Up(places) => move_up::<true>(bytes, at as usize, n as usize, 8 * places as usize),
-        Places::Down(places) => move_down::<true>(
+        Distance::Up(slots) => move_up::<true>(bytes, at as usize, n as usize, 8 * slots as usize),
+        Distance::Down(slots) => move_down::<true>(
             bytes,
             at as usize,
             n as usize,
-            8 * places as usize,
+            8 * slots as usize,
         ),
     }
 }
@@ -140,7 +140,7 @@ impl Seen {
 #[inline(always)]
 fn move_up<const NON_NULL: bool>(bytes: &mut [u8], at: usize, n: usize, by: usize)
     requires in_bounds { at + by + 8 * n ≤ length bytes.old }
-    requires places { by % 8 ≡ 0 }
+    requires slots { by % 8 ≡ 0 }
     requires non_null { IsTrue NON_NULL → HasNoNullLink (bytes_of bytes.old) at n }
     ensures { bytes.new ≡ patched bytes.old (at + by) (relinked (bytes_of bytes.old) at (at + by) n) }
 {
@@ -158,7 +158,7 @@ fn move_up<const NON_NULL: bool>(bytes: &mut [u8], at: usize, n: usize, by: usiz
 #[inline(always)]
 fn runs_up<const NON_NULL: bool>(bytes: &mut [u8], at: usize, n: usize, by: usize)
     requires in_bounds { at + by + 64 * n ≤ length bytes.old }
-    requires places { by % 8 ≡ 0 }
+    requires slots { by % 8 ≡ 0 }
     requires non_null { IsTrue NON_NULL → HasNoNullLink (bytes_of bytes.old) at (8 * n) }
     ensures { bytes.new ≡ patched bytes.old (at + by) (relinked (bytes_of bytes.old) at (at + by) (8 * n)) }
 {
@@ -173,7 +173,7 @@ fn runs_up<const NON_NULL: bool>(bytes: &mut [u8], at: usize, n: usize, by: usiz
 #[inline(always)]
 fn all_turns_up<const NON_NULL: bool>(bytes: &mut [u8], at: usize, n: usize, by: usize) -> Seen
     requires in_bounds { at + by + 64 * n ≤ length bytes.old }
-    requires places { by % 8 ≡ 0 }
+    requires slots { by % 8 ≡ 0 }
     ensures changes { bytes.new ≡ patched bytes.old (at + by)
         (reworded word_by_distance (bytes_of bytes.old) at (at + by)
         (8 * n)) }
@@ -207,7 +207,7 @@ fn move_runs_up<const NON_NULL: bool>(
 ) -> Seen
     requires in_range { ahead ≤ at }
     requires in_bounds { at + by + 64 * n ≤ length bytes.old }
-    requires places { by % 8 ≡ 0 }
+    requires slots { by % 8 ≡ 0 }
     ensures changes { bytes.new ≡ patched bytes.old (at + by)
         (reworded word_by_distance (bytes_of bytes.old) at (at + by)
         (8 * n)) }
@@ -249,7 +249,7 @@ fn look_ahead(bytes: &[u8], later: usize, far: bool, seen: Seen) -> Seen
 fn see_run<const NON_NULL: bool>(bytes: &mut [u8], from: usize, to: usize, seen: Seen) -> Seen
     requires from_in_bounds { from + 64 ≤ length bytes.old }
     requires to_in_bounds { to + 64 ≤ length bytes.old }
-    requires places { from % 8 ≡ to % 8 }
+    requires slots { from % 8 ≡ to % 8 }
     ensures changes { bytes.new ≡ patched bytes.old to (reworded word_by_distance (bytes_of bytes.old) from to 8) }
     ensures keys_seen { NON_NULL ≡ false → BothEven result.first result.second → BothEven seen.first seen.second
         × HasNoNullLink (bytes_of bytes.old) from 8 }
@@ -276,7 +276,7 @@ fn links_up(bytes: &mut [u8], at: usize, n: usize, by: usize)
 fn move_down<const NON_NULL: bool>(bytes: &mut [u8], at: usize, n: usize, by: usize)
     requires source { at + 8 * n ≤ length bytes.old }
     requires in_bounds { by ≤ at }
-    requires places { by % 8 ≡ 0 }
+    requires slots { by % 8 ≡ 0 }
     requires non_null { IsTrue NON_NULL → HasNoNullLink (bytes_of bytes.old) at n }
     ensures { bytes.new ≡ patched bytes.old (at - by) (relinked (bytes_of bytes.old) at (at - by) n) }
 {
@@ -296,7 +296,7 @@ fn move_down<const NON_NULL: bool>(bytes: &mut [u8], at: usize, n: usize, by: us
 fn runs_down<const NON_NULL: bool>(bytes: &mut [u8], at: usize, n: usize, by: usize)
     requires source { at + 64 * n ≤ length bytes.old }
     requires in_bounds { by ≤ at }
-    requires places { by % 8 ≡ 0 }
+    requires slots { by % 8 ≡ 0 }
     requires non_null { IsTrue NON_NULL → HasNoNullLink (bytes_of bytes.old) at (8 * n) }
     ensures { bytes.new ≡ patched bytes.old (at - by) (relinked (bytes_of bytes.old) at (at - by) (8 * n)) }
 {
@@ -312,7 +312,7 @@ fn runs_down<const NON_NULL: bool>(bytes: &mut [u8], at: usize, n: usize, by: us
 fn all_turns_down<const NON_NULL: bool>(bytes: &mut [u8], at: usize, n: usize, by: usize) -> Seen
     requires source { at + 64 * n ≤ length bytes.old }
     requires in_bounds { by ≤ at }
-    requires places { by % 8 ≡ 0 }
+    requires slots { by % 8 ≡ 0 }
     ensures changes { bytes.new ≡ patched bytes.old (at - by)
         (reworded word_by_distance (bytes_of bytes.old) at (at - by)
         (8 * n)) }
@@ -340,7 +340,7 @@ fn move_runs_down<const NON_NULL: bool>(
 ) -> Seen
     requires source { at + 64 * n + ahead ≤ length bytes.old }
     requires in_bounds { by ≤ at }
-    requires places { by % 8 ≡ 0 }
+    requires slots { by % 8 ≡ 0 }
     ensures changes { bytes.new ≡ patched bytes.old (at - by)
         (reworded word_by_distance (bytes_of bytes.old) at (at - by)
         (8 * n)) }
@@ -379,7 +379,7 @@ fn links_down(bytes: &mut [u8], at: usize, n: usize, by: usize)
 fn move_run(bytes: &mut [u8], from: usize, to: usize, seen: Seen) -> Seen
     requires from_in_bounds { from + 64 ≤ length bytes.old }
     requires to_in_bounds { to + 64 ≤ length bytes.old }
-    requires places { from % 8 ≡ to % 8 }
+    requires slots { from % 8 ≡ to % 8 }
     ensures changes { bytes.new ≡ patched bytes.old to (reworded word_by_distance (bytes_of bytes.old) from to 8) }
     ensures keys_seen { BothEven result.first result.second → BothEven seen.first seen.second
         × HasNoNullLink (bytes_of bytes.old) from 8 }

@@ -61,4 +61,4 @@ EndsAtMostOnce old new = new.ends ≤ old.ends + 1
 
 -- front is a proper prefix of all
 abbrev pub IsProperPrefix : List ℕ → List ℕ → Type 0
-IsProperPrefix front all = (rest : List ℕ) × (all ≡ front ++ rest) × (0 < length rest)
+IsProperPrefix prefix all = (rest : List ℕ) × (all ≡ prefix ++ rest) × (0 < length rest)

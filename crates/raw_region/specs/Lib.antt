@@ -12,4 +12,4 @@ pub mod Answers
 pub mod Device
 pub mod Streams
 pub mod Refusals
-pub mod Notes
+pub mod HintTable

@@ -53,7 +53,8 @@ fn answers_alike(alloc: Global, segment: Segment, case: &Case<'_>, place: Place)
 /// Runs the script on a segment: whether it prints what is wanted.
 fn answers(alloc: Global, segment: &mut Segment, case: &Case<'_>) -> bool {
     let mut reader = MemorySource::new(case.script, 4096, EndBehaviour::Ends);
-    let Ok(mut answers) = MemorySink::new(alloc, case.answer_room, 4096, EndBehaviour::Fails) else {
+    let Ok(mut answers) = MemorySink::new(alloc, case.answer_capacity, 4096, EndBehaviour::Fails)
+    else {
         return false;
     };
     let is_run = run(segment, &mut reader, &mut answers).is_ok();
@@ -64,13 +65,13 @@ fn answers(alloc: Global, segment: &mut Segment, case: &Case<'_>) -> bool {
 /// place among others that are as they were.
 fn moves_alike(alloc: Global, segment: Segment, wanted: &[u8], place: Place) -> bool {
     match region_of(alloc, place) {
-        Ok(room) => relocates_alike(segment, room, wanted, place),
+        Ok(target) => relocates_alike(segment, target, wanted, place),
         Err(_) => false,
     }
 }
 
-fn relocates_alike(segment: Segment, room: RawRegion, wanted: &[u8], place: Place) -> bool {
-    match segment.relocate(room, 0) {
+fn relocates_alike(segment: Segment, target: RawRegion, wanted: &[u8], place: Place) -> bool {
+    match segment.relocate(target, 0) {
         Ok((segment, left)) => is_moved(&segment, &left, place, wanted),
         Err(_) => false,
     }

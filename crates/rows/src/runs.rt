@@ -17,7 +17,7 @@ struct Lengths {
 }
 
 impl Machine for Lengths {
-    ghost Place = { ℕ };
+    ghost RunState = { ℕ };
 
     ghost respond = { λ count line.
         let len = min (length line) 4098 in
@@ -112,33 +112,33 @@ impl Tally {
         Ok(())
     }
 
-    /// Runs the script with a writer that takes `room` bytes: these go out, and `lines` lines are executed.
+    /// Runs the script with a writer that takes `capacity` bytes: these go out, and `lines` lines are executed.
     fn writes(
         &mut self,
         alloc: Global,
-        room: usize,
+        capacity: usize,
         last: EndBehaviour,
         lines: u8,
     ) -> Result<(), AllocError> {
         let mut machine = Lengths { count: 0 };
         let mut reader = MemorySource::new(SCRIPT, 4096, EndBehaviour::Ends);
-        let mut out = MemorySink::new(alloc, room, 2, last)?;
+        let mut out = MemorySink::new(alloc, capacity, 2, last)?;
         let result = run(&mut machine, &mut reader, &mut out);
         let is_told = result == Err(RunFault::WriteFault) && machine.count == lines;
-        self.count(is_told && ANSWERS.get(..room) == Some(out.taken()));
+        self.count(is_told && ANSWERS.get(..capacity) == Some(out.taken()));
         Ok(())
     }
 
-    /// Runs a script on a segment with a writer that takes `room` bytes. These go out, and the line whose answer is
+    /// Runs a script on a segment with a writer that takes `capacity` bytes. These go out, and the line whose answer is
     /// cut is executed, so that `free` bytes are free.
-    fn stops(&mut self, alloc: Global, room: usize, free: u64) -> Result<(), AllocError> {
-        let mut out = MemorySink::new(alloc, room, 3, EndBehaviour::Fails)?;
+    fn stops(&mut self, alloc: Global, capacity: usize, free: u64) -> Result<(), AllocError> {
+        let mut out = MemorySink::new(alloc, capacity, 3, EndBehaviour::Fails)?;
         let mut segment = empty_segment(alloc)?;
         let mut script = MemorySource::new(COMMANDS, 4096, EndBehaviour::Ends);
         let result = run(&mut segment, &mut script, &mut out);
         let is_left = result == Err(RunFault::WriteFault) && segment.free() == free;
         drop(segment);
-        self.count(is_left && b"1024\n#144\n832\n".get(..room) == Some(out.taken()));
+        self.count(is_left && b"1024\n#144\n832\n".get(..capacity) == Some(out.taken()));
         Ok(())
     }
 
@@ -171,17 +171,17 @@ impl Tally {
 
     /// Writes the answers of the machine with too little room.
     fn fail_writing(&mut self, alloc: Global) -> Result<(), AllocError> {
-        for (room, lines) in [(0, 1), (3, 2), (4, 2), (8, 3), (9, 4), (11, 4)] {
-            self.writes(alloc, room, EndBehaviour::Fails, lines)?;
-            self.writes(alloc, room, EndBehaviour::Ends, lines)?;
+        for (capacity, lines) in [(0, 1), (3, 2), (4, 2), (8, 3), (9, 4), (11, 4)] {
+            self.writes(alloc, capacity, EndBehaviour::Fails, lines)?;
+            self.writes(alloc, capacity, EndBehaviour::Ends, lines)?;
         }
         Ok(())
     }
 
     /// Writes the answers of a segment with too little room.
     fn stop_writing(&mut self, alloc: Global) -> Result<(), AllocError> {
-        for (room, free) in [(0, 880), (4, 880), (5, 832), (9, 832), (13, 832)] {
-            self.stops(alloc, room, free)?;
+        for (capacity, free) in [(0, 880), (4, 880), (5, 832), (9, 832), (13, 832)] {
+            self.stops(alloc, capacity, free)?;
         }
         Ok(())
     }

@@ -75,8 +75,8 @@ pub fn base_of(place: Place) -> u64
 /// Makes a call, and gives what comes of it.
 fn outcome(alloc: Global, case: &Case<'_>) -> Result<Outcome, AllocError> {
     let piece = case.piece;
-    let mut answers = MemorySink::new(alloc, case.answer_room, piece, case.writers_last)?;
-    let mut saved = MemorySink::new(alloc, case.image_room, piece, case.writers_last)?;
+    let mut answers = MemorySink::new(alloc, case.answer_capacity, piece, case.writers_last)?;
+    let mut saved = MemorySink::new(alloc, case.image_capacity, piece, case.writers_last)?;
     outcome_by(alloc, case, &mut answers, &mut saved)
 }
 

@@ -60,8 +60,8 @@ pub struct Case<'a> {
     pub image_last: EndBehaviour,
     pub script_last: EndBehaviour,
     /// How many bytes writers have room for, and what comes if they are full.
-    pub answer_room: usize,
-    pub image_room: usize,
+    pub answer_capacity: usize,
+    pub image_capacity: usize,
     pub writers_last: EndBehaviour,
     /// Where the answer to each line ends.
     pub marks: &'a [Mark],
@@ -89,8 +89,8 @@ impl<'a> Case<'a> {
             piece: 4096,
             image_last: EndBehaviour::Ends,
             script_last: EndBehaviour::Ends,
-            answer_room: 16,
-            image_room: size.saturating_add(16) as usize,
+            answer_capacity: 16,
+            image_capacity: size.saturating_add(16) as usize,
             writers_last: EndBehaviour::Fails,
             marks: &[],
             fault: "",
@@ -104,16 +104,16 @@ impl<'a> Case<'a> {
         let mut case = *self;
         case.script = script;
         case.answers = Some(answers);
-        case.answer_room = answers.len().saturating_add(16);
+        case.answer_capacity = answers.len().saturating_add(16);
         case
     }
 
-    /// Returns the case with another script, of which nothing is known but that it prints no more than `room` bytes.
-    pub fn unknown(&self, script: &'a [u8], room: usize) -> Case<'a> {
+    /// Returns the case with another script, of which nothing is known but that it prints no more than `limit` bytes.
+    pub fn unknown(&self, script: &'a [u8], limit: usize) -> Case<'a> {
         let mut case = *self;
         case.script = script;
         case.answers = None;
-        case.answer_room = room;
+        case.answer_capacity = limit;
         case.saved = None;
         case
     }
@@ -129,7 +129,7 @@ impl<'a> Case<'a> {
     pub fn saving(&self, saved: &'a [u8]) -> Case<'a> {
         let mut case = *self;
         case.saved = Some(saved);
-        case.image_room = saved.len().saturating_add(16);
+        case.image_capacity = saved.len().saturating_add(16);
         case
     }
 
@@ -148,9 +148,9 @@ impl<'a> Case<'a> {
         case.image = image;
         case.script = &[];
         case.answers = Some(&[]);
-        case.answer_room = 16;
+        case.answer_capacity = 16;
         case.saved = Some(image);
-        case.image_room = image.len().saturating_add(16);
+        case.image_capacity = image.len().saturating_add(16);
         case
     }
 

@@ -3,7 +3,7 @@
 use crate::cases::{Case, Place};
 use crate::images::size_said;
 use crate::row_runners::{RowRunner, Runner};
-use crate::scripts::{Script, front_of};
+use crate::scripts::{Script, prefix_of};
 use memory_devices::EndBehaviour;
 
 impl<R: Runner> RowRunner<R> {
@@ -16,10 +16,10 @@ impl<R: Runner> RowRunner<R> {
         self.cut_script(&case, script);
         case.fault = "fault WriteFault";
         for step in 0..script.answers.len().saturating_mul(2) {
-            let room = step / 2;
+            let capacity = step / 2;
             case.writers_last = last_of(step);
-            case.answer_room = room;
-            case.answers = script.answers.get(..room);
+            case.answer_capacity = capacity;
+            case.answers = script.answers.get(..capacity);
             self.check_device_fault(&case);
         }
     }
@@ -29,7 +29,7 @@ impl<R: Runner> RowRunner<R> {
         case.fault = "fault ReadFault";
         case.script_last = EndBehaviour::Fails;
         for len in 0..script.text.len().saturating_add(1) {
-            case.script = front_of(&script.text, len);
+            case.script = prefix_of(&script.text, len);
             case.answers = Some(script.answers_within(len));
             self.check_device_fault(&case);
         }
@@ -42,10 +42,10 @@ impl<R: Runner> RowRunner<R> {
         let mut case = *case;
         case.fault = "fault WriteFault";
         for step in 0..saved.len().saturating_mul(2) {
-            let room = step / 2;
+            let capacity = step / 2;
             case.writers_last = last_of(step);
-            case.image_room = room;
-            case.saved = saved.get(..room);
+            case.image_capacity = capacity;
+            case.saved = saved.get(..capacity);
             self.check_device_fault(&case);
         }
     }
@@ -54,8 +54,8 @@ impl<R: Runner> RowRunner<R> {
     /// region.
     pub fn cut_image(&self, case: &Case<'_>) {
         self.cut_saving(case);
-        let mut longer = self.notes.copy(case.image);
-        self.notes.put(&mut longer, &[0]);
+        let mut longer = self.findings.copy(case.image);
+        self.findings.put(&mut longer, &[0]);
         let mut case = *case;
         self.cut_reading(&case.on(&longer), "BadSize");
         case.place = Place::new(case.image.len() as u64, 16);
@@ -73,7 +73,7 @@ impl<R: Runner> RowRunner<R> {
         case.saved = Some(&[]);
         for len in 0..image.len().saturating_add(1) {
             let is_decided = from <= len as u64;
-            case.image = front_of(image, len);
+            case.image = prefix_of(image, len);
             case.fault = if is_decided { fault } else { "Truncated" };
             case.image_last = EndBehaviour::Ends;
             if is_decided || (len as u64) < size.max(144) {

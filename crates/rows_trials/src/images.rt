@@ -1,7 +1,7 @@
 //! Images under names, and changes of them.
 
+use crate::findings::Findings;
 use crate::lines::Line;
-use crate::notes::Notes;
 use crate::parts::Part;
 
 /// An image of a file, and its name.
@@ -19,14 +19,14 @@ pub struct Images<'a> {
 
 impl<'a> Images<'a> {
     /// Makes a set of no images.
-    pub fn new(notes: &Notes) -> Images<'a> {
+    pub fn new(findings: &Findings) -> Images<'a> {
         Images {
-            named: Vec::new(notes.alloc),
+            named: Vec::new(findings.alloc),
         }
     }
 
     /// Returns the image of a name, which is said in a line: the last one that got it.
-    pub fn get(&self, notes: &Notes, line: &Line<'_>, name: &str) -> &[u8] {
+    pub fn get(&self, findings: &Findings, line: &Line<'_>, name: &str) -> &[u8] {
         let mut found: Option<&[u8]> = None;
         for it in &self.named {
             if it.name == name {
@@ -34,52 +34,58 @@ impl<'a> Images<'a> {
             }
         }
         let what = "there is no image of this name";
-        notes.holds(found.is_some(), line.number, what);
+        findings.holds(found.is_some(), line.number, what);
         found.unwrap_or(&[])
     }
 
     /// Returns the image that a line names, with the changes that others say.
-    pub fn changed(&self, notes: &Notes, line: &Line<'_>, changes: &[Line<'_>]) -> Vec<u8> {
-        let mut image = notes.copy(self.get(notes, line, line.rest));
+    pub fn changed(&self, findings: &Findings, line: &Line<'_>, changes: &[Line<'_>]) -> Vec<u8> {
+        let mut image = findings.copy(self.get(findings, line, line.rest));
         for change in changes {
-            notes.change(change, &mut image);
+            findings.change(change, &mut image);
         }
         image
     }
 
-    fn keep(&mut self, notes: &Notes, name: &'a str, image: Vec<u8>) {
-        notes.has_memory(self.named.push(Named { name, image }).is_ok());
+    fn keep(&mut self, findings: &Findings, name: &'a str, image: Vec<u8>) {
+        findings.has_memory(self.named.push(Named { name, image }).is_ok());
     }
 
     /// Sees that a part of a row saves the image that it names, and keeps what it saves under the name that it gives
     /// it.
-    pub fn keep_saved(&mut self, notes: &Notes, row: &Line<'_>, part: &Part<'a>, saved: &[u8]) {
+    pub fn keep_saved(
+        &mut self,
+        findings: &Findings,
+        row: &Line<'_>,
+        part: &Part<'a>,
+        saved: &[u8],
+    ) {
         if !part.saves.is_empty() {
             let what = "another image is saved than the one that it names";
-            let is_same = self.get(notes, row, part.saves) == saved;
-            notes.holds(is_same, row.number, what);
+            let is_same = self.get(findings, row, part.saves) == saved;
+            findings.holds(is_same, row.number, what);
         }
         if !part.keeps.is_empty() {
-            self.keep(notes, part.keeps, notes.copy(saved));
+            self.keep(findings, part.keeps, findings.copy(saved));
         }
     }
 
     /// Makes the image that some lines say: zeros alone, or another image, with changes.
-    pub fn make(&mut self, notes: &Notes, first: &Line<'a>, changes: &[Line<'a>]) {
+    pub fn make(&mut self, findings: &Findings, first: &Line<'a>, changes: &[Line<'a>]) {
         let (name, made) = first.rest.split_once(' ').unwrap_or((first.rest, ""));
         let mut image = match made.strip_prefix("of ") {
-            Some(other) => notes.copy(self.get(notes, first, other)),
-            None => notes.zeros(notes.number(first, made)),
+            Some(other) => findings.copy(self.get(findings, first, other)),
+            None => findings.zeros(findings.number(first, made)),
         };
         for line in changes {
-            notes.is_placed(line.is_change(), line);
-            notes.change(line, &mut image);
+            findings.is_placed(line.is_change(), line);
+            findings.change(line, &mut image);
         }
-        self.keep(notes, name, image);
+        self.keep(findings, name, image);
     }
 }
 
-impl Notes {
+impl Findings {
     /// Returns `len` zeros.
     fn zeros(&self, len: u64) -> Vec<u8> {
         let zeros = Vec::from_elem(self.alloc, 0u8, len as usize);
@@ -89,7 +95,7 @@ impl Notes {
 
     /// Makes the change of an image that a line says, if it says one.
     pub fn change(&self, line: &Line<'_>, image: &mut Vec<u8>) {
-        match line.word {
+        match line.token {
             "word" => {
                 let (offset, number) = self.pair(line, line.rest, ' ');
                 put_number(image, offset, 8, number);

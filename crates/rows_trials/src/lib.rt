@@ -13,9 +13,9 @@
 
 mod cases;
 mod cuts;
+mod findings;
 mod images;
 mod lines;
-mod notes;
 mod parts;
 mod read_only;
 mod requests;
@@ -25,7 +25,7 @@ mod scripts;
 mod trials;
 
 pub use cases::{Call, Case, Outcome, Place};
+pub use findings::Trouble;
 pub use lines::{Line, lines_of};
-pub use notes::Trouble;
 pub use row_file_runs::RowFileRun;
 pub use row_runners::Runner;

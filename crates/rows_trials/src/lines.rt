@@ -7,7 +7,7 @@ use std::alloc::{AllocError, Global};
 #[derive(Clone, Copy)]
 pub struct Line<'a> {
     pub number: usize,
-    pub word: &'a str,
+    pub token: &'a str,
     pub rest: &'a str,
     /// All of it.
     pub text: &'a str,
@@ -16,23 +16,23 @@ pub struct Line<'a> {
 impl Line<'_> {
     /// Tells whether it begins an image, a row, or a table of images, of places or of requests.
     pub fn begins_item(&self) -> bool {
-        let is_image = self.word == "image" && self.rest.contains(' ');
-        is_image || ["row", "damaged", "places", "requests"].contains(&self.word)
+        let is_image = self.token == "image" && self.rest.contains(' ');
+        is_image || ["row", "damaged", "places", "requests"].contains(&self.token)
     }
 
     /// Tells whether it begins a part of a row.
     pub fn begins_part(&self) -> bool {
-        ["again", "read", "alone", "migrate"].contains(&self.word)
+        ["again", "read", "alone", "migrate"].contains(&self.token)
     }
 
     /// Tells whether it says what a row begins with.
     pub fn is_beginning(&self) -> bool {
-        ["size", "image"].contains(&self.word)
+        ["size", "image"].contains(&self.token)
     }
 
     /// Tells whether it says a change of an image.
     pub fn is_change(&self) -> bool {
-        ["word", "at", "first", "more"].contains(&self.word)
+        ["word", "at", "first", "more"].contains(&self.token)
     }
 }
 
@@ -41,11 +41,11 @@ pub fn lines_of(alloc: Global, text: &str) -> Result<Vec<Line<'_>>, AllocError> 
     let mut lines = Vec::new(alloc);
     for (index, text) in text.lines().enumerate() {
         if !text.is_empty() && !text.starts_with('#') {
-            let (word, rest) = text.split_once(' ').unwrap_or((text, ""));
+            let (token, rest) = text.split_once(' ').unwrap_or((text, ""));
             let number = index.saturating_add(1);
             lines.push(Line {
                 number,
-                word,
+                token,
                 rest,
                 text,
             })?;

@@ -1,7 +1,7 @@
 //! The lines of a part of a row.
 
+use crate::findings::Findings;
 use crate::lines::Line;
-use crate::notes::Notes;
 use crate::scripts::Script;
 
 /// What a part of a row does.
@@ -35,31 +35,31 @@ const OF_ROW: [&str; 5] = ["row", "size", "image", "place", "once"];
 
 impl<'a> Part<'a> {
     /// Reads the lines of a part, or those before the parts with the first one, if no line begins it.
-    pub fn read(notes: &Notes, lines: &[Line<'a>]) -> Part<'a> {
+    pub fn read(findings: &Findings, lines: &[Line<'a>]) -> Part<'a> {
         let mut part = Part {
             kind: PartKind::Nothing,
-            script: Script::new(notes.alloc),
+            script: Script::new(findings.alloc),
             fault: "",
             saves: "",
             keeps: "",
         };
-        for said in lines.chunk_by(|_, line| line.word == "<") {
+        for said in lines.chunk_by(|_, line| line.token == "<") {
             if let [line, answers @ ..] = said {
-                part.add(notes, line, answers);
+                part.add(findings, line, answers);
             }
         }
         part
     }
 
     /// Adds a line, and what it prints.
-    fn add(&mut self, notes: &Notes, line: &Line<'a>, answers: &[Line<'a>]) {
-        if let Some(times) = line.word.strip_suffix('>') {
+    fn add(&mut self, findings: &Findings, line: &Line<'a>, answers: &[Line<'a>]) {
+        if let Some(times) = line.token.strip_suffix('>') {
             let times = if times.is_empty() { "1" } else { times };
-            let times = notes.number(line, times);
-            self.script.add(notes, line, answers, times);
+            let times = findings.number(line, times);
+            self.script.add(findings, line, answers, times);
         } else {
-            notes.is_placed(answers.is_empty(), line);
-            self.add_said(notes, line);
+            findings.is_placed(answers.is_empty(), line);
+            self.add_said(findings, line);
         }
         if matches!(self.kind, PartKind::Nothing) && !is_of_row(line) {
             self.kind = PartKind::Write;
@@ -67,8 +67,8 @@ impl<'a> Part<'a> {
     }
 
     /// Adds a line that is none of a script.
-    fn add_said(&mut self, notes: &Notes, line: &Line<'a>) {
-        match line.word {
+    fn add_said(&mut self, findings: &Findings, line: &Line<'a>) {
+        match line.token {
             "read" => self.kind = PartKind::Read,
             "alone" => self.kind = PartKind::Alone,
             "migrate" => self.kind = PartKind::Migrate,
@@ -76,12 +76,12 @@ impl<'a> Part<'a> {
             "keeps" => self.keeps = line.rest,
             "class" => self.fault = line.rest,
             "fault" => self.fault = line.text,
-            word => notes.is_placed(word == "again" || is_of_row(line), line),
+            token => findings.is_placed(token == "again" || is_of_row(line), line),
         }
     }
 }
 
 /// Tells whether a line says something of the whole row.
 fn is_of_row(line: &Line<'_>) -> bool {
-    line.is_change() || OF_ROW.contains(&line.word)
+    line.is_change() || OF_ROW.contains(&line.token)
 }

@@ -2,7 +2,7 @@
 
 use crate::cases::{Call, Case};
 use crate::row_runners::{RowRunner, Runner};
-use crate::scripts::{Mark, Script, front_of};
+use crate::scripts::{Mark, Script, prefix_of};
 
 /// The commands that may change a segment.
 const CHANGING: [&[u8]; 21] = [
@@ -32,7 +32,7 @@ const CHANGING: [&[u8]; 21] = [
 impl Script {
     /// Tells whether a line may change a segment. One with an error before the fourth is refused whatever the mode is.
     fn is_changing(&self, mark: &Mark) -> bool {
-        let first = first_word(self.text_of(mark));
+        let first = first_token(self.text_of(mark));
         CHANGING.contains(&first) && !is_misspelled(self.answer_of(mark))
     }
 }
@@ -51,11 +51,11 @@ impl Script {
 }
 
 /// Returns the first word of a line, or nothing.
-fn first_word(line: &[u8]) -> &[u8] {
+fn first_token(line: &[u8]) -> &[u8] {
     let line = line.trim_ascii_start();
     for (index, byte) in line.iter().enumerate() {
         if b" \t\r".contains(byte) {
-            return front_of(line, index);
+            return prefix_of(line, index);
         }
     }
     line

@@ -1,8 +1,8 @@
 //! Requests that have no fit, and that all is as before if one has none.
 
 use crate::cases::{Case, Place};
+use crate::findings::Findings;
 use crate::lines::Line;
-use crate::notes::Notes;
 use crate::row_runners::{PIECES, RowRunner, Runner, count};
 use crate::scripts::{Script, has_piece};
 
@@ -13,7 +13,7 @@ const LOOK: &[u8] = b"free\nblocks\nlist\nunique\nnum_named\nnum_unique\nsanity\
     reserve_named 0\nreserve_unique 0\nzero_free\n";
 
 /// More bytes than a look prints.
-const ROOM: usize = 4112;
+const LOOK_CAPACITY: usize = 4112;
 
 /// The lines before the command, and the command with the answer that it gives if each request has a fit.
 #[derive(Drop)]
@@ -24,13 +24,13 @@ struct Requests {
 
 impl Requests {
     /// Adds what a line says, if it says no sizes.
-    fn add(&mut self, notes: &Notes, line: &Line<'_>, answers: &[Line<'_>]) {
-        let script = match line.word {
+    fn add(&mut self, findings: &Findings, line: &Line<'_>, answers: &[Line<'_>]) {
+        let script = match line.token {
             ">" => &mut self.before,
             "?" => &mut self.command,
-            word => return notes.is_placed(word == "requests", line),
+            token => return findings.is_placed(token == "requests", line),
         };
-        script.add(notes, line, answers, 1);
+        script.add(findings, line, answers, 1);
     }
 }
 
@@ -45,10 +45,10 @@ impl<R: Runner> RowRunner<R> {
     /// Makes the requests that the lines say, in each of the sizes. The lines before the command are a script.
     pub fn check_requests(&self, lines: &[Line<'_>]) {
         let mut requests = Requests {
-            before: Script::new(self.notes.alloc),
-            command: Script::new(self.notes.alloc),
+            before: Script::new(self.findings.alloc),
+            command: Script::new(self.findings.alloc),
         };
-        for said in lines.chunk_by(|_, line| line.word == "<") {
+        for said in lines.chunk_by(|_, line| line.token == "<") {
             self.check_said(said, &mut requests);
         }
         drop(requests);
@@ -56,10 +56,10 @@ impl<R: Runner> RowRunner<R> {
 
     fn check_said(&self, said: &[Line<'_>], requests: &mut Requests) {
         if let [line, answers @ ..] = said {
-            if ["refused", "granted"].contains(&line.word) {
+            if ["refused", "granted"].contains(&line.token) {
                 self.check_fits(line, requests);
             } else {
-                requests.add(&self.notes, line, answers);
+                requests.add(&self.findings, line, answers);
             }
         }
     }
@@ -68,8 +68,8 @@ impl<R: Runner> RowRunner<R> {
     fn check_fits(&self, line: &Line<'_>, requests: &Requests) {
         for fit in line.rest.split_whitespace() {
             let (size, free) = fit.split_once(':').unwrap_or((fit, ""));
-            let free = self.notes.line_of(free);
-            self.check_fit(line, self.notes.number(line, size), &free, requests);
+            let free = self.findings.line_of(free);
+            self.check_fit(line, self.findings.number(line, size), &free, requests);
             count(&self.rows, 1);
         }
     }
@@ -78,10 +78,10 @@ impl<R: Runner> RowRunner<R> {
     fn check_fit(&self, line: &Line<'_>, size: u64, free: &[u8], requests: &Requests) {
         let places = Place::usual(size);
         let case = Case::new(line.number, Some(size), &[], &places);
-        let is_granted = line.word == "granted";
+        let is_granted = line.token == "granted";
         let fit = Fit { free, is_granted };
         self.request_in_places(
-            &case.unknown(&requests.before.text, ROOM),
+            &case.unknown(&requests.before.text, LOOK_CAPACITY),
             &fit,
             &requests.command,
         );
@@ -108,7 +108,7 @@ impl<R: Runner> RowRunner<R> {
         let made = self.outcome(case);
         let is_sound = !has_piece(&made.answers, b"error");
         let what = "a line before the command is refused";
-        self.notes.holds(is_sound, case.line, what);
+        self.findings.holds(is_sound, case.line, what);
         let case = *case;
         self.request_on(&case.on(&made.saved), fit, command);
     }
@@ -123,12 +123,12 @@ impl<R: Runner> RowRunner<R> {
 
     /// Makes requests of which one has no fit: after it all is as before.
     fn ask_in_vain(&self, case: &Case<'_>, free: &[u8], command: &Script) {
-        let stood = self.outcome(&case.unknown(LOOK, ROOM));
+        let stood = self.outcome(&case.unknown(LOOK, LOOK_CAPACITY));
         let what = "before the command another number of bytes is free";
-        self.notes
+        self.findings
             .holds(stood.answers.starts_with(free), case.line, what);
         let refused = (command.text.as_slice(), b"error 9 no space\n".as_slice());
-        let behind = Script::of(&self.notes, case.line, refused, (LOOK, &stood.answers));
+        let behind = Script::of(&self.findings, case.line, refused, (LOOK, &stood.answers));
         let case = *case;
         self.check(&case.with_script(&behind).saving(&stood.saved));
     }
@@ -136,7 +136,7 @@ impl<R: Runner> RowRunner<R> {
     /// Makes requests that have a fit: what they leave is an image, which is read and saved as it is.
     fn ask(&self, case: &Case<'_>, free: &[u8], command: &Script) {
         let granted = (command.text.as_slice(), command.answers.as_slice());
-        let behind = Script::of(&self.notes, case.line, granted, (b"free\n", free));
+        let behind = Script::of(&self.findings, case.line, granted, (b"free\n", free));
         let case = *case;
         let done = self.outcome(&case.with_script(&behind));
         self.check(&case.saved_as_is(&done.saved));

@@ -1,9 +1,9 @@
 //! The items of a row file, one after another.
 
 use crate::cases::{Case, Place};
+use crate::findings::{Findings, Trouble};
 use crate::images::{Images, size_said};
 use crate::lines::Line;
-use crate::notes::{Notes, Trouble};
 use crate::parts::Part;
 use crate::row_runners::{RowRunner, Runner, count};
 use std::alloc::Global;
@@ -19,11 +19,11 @@ pub struct RowFileRun<'a, R> {
 impl<'a, R: Runner> RowFileRun<'a, R> {
     /// Makes a run without images, which counted nothing.
     pub fn new(alloc: Global, runner: R) -> RowFileRun<'a, R> {
-        let notes = Notes::new(alloc);
+        let findings = Findings::new(alloc);
         RowFileRun {
-            images: Images::new(&notes),
+            images: Images::new(&findings),
             bench: RowRunner {
-                notes,
+                findings,
                 runner,
                 rows: Cell::new(0),
                 lines: Cell::new(0),
@@ -37,35 +37,35 @@ impl<'a, R: Runner> RowFileRun<'a, R> {
         if let [first, rest @ ..] = lines {
             self.bench.check_item(&mut self.images, first, rest);
         }
-        self.bench.notes.take()
+        self.bench.findings.take()
     }
 }
 
 // The images are lent to each of these, so that a change of them is one of a small struct.
 impl<R: Runner> RowRunner<R> {
     fn check_item<'a>(&self, images: &mut Images<'a>, first: &Line<'a>, rest: &[Line<'a>]) {
-        match first.word {
-            "image" => images.make(&self.notes, first, rest),
+        match first.token {
+            "image" => images.make(&self.findings, first, rest),
             "row" => self.check_row(images, first, rest),
             "damaged" => self.check_damaged(images, first, rest),
             "places" => self.check_verdicts(images, first, rest),
             "requests" => self.check_requests(rest),
-            _ => self.notes.is_placed(false, first),
+            _ => self.findings.is_placed(false, first),
         }
     }
 
     /// Runs a row: in fresh segments of some sizes, or on an image with changes.
     fn check_row<'a>(&self, images: &mut Images<'a>, row: &Line<'a>, lines: &[Line<'a>]) {
-        let notes = &self.notes;
+        let findings = &self.findings;
         let line = beginning_of(row, lines);
-        notes.is_placed(line.is_beginning(), row);
-        if line.word == "image" {
-            let image = images.changed(notes, line, lines);
+        findings.is_placed(line.is_beginning(), row);
+        if line.token == "image" {
+            let image = images.changed(findings, line, lines);
             return self.check_parts(images, line, lines, None, image);
         }
         for size in line.rest.split_whitespace() {
-            let size = Some(notes.number(line, size));
-            self.check_parts(images, line, lines, size, Vec::new(notes.alloc));
+            let size = Some(findings.number(line, size));
+            self.check_parts(images, line, lines, size, Vec::new(findings.alloc));
         }
     }
 
@@ -82,11 +82,11 @@ impl<R: Runner> RowRunner<R> {
         let places = self.places(lines, fresh.unwrap_or(size_of(&image)));
         let once = is_said(lines, "once");
         for lines in lines.chunk_by(|_, line| !line.begins_part()) {
-            let part = Part::read(&self.notes, lines);
+            let part = Part::read(&self.findings, lines);
             count(&self.lines, part.script.marks.len());
             let case = Case::new(row.number, fresh, &image, &places);
             if let Some(saved) = self.saved_by(&case, &part, once) {
-                images.keep_saved(&self.notes, row, &part, &saved);
+                images.keep_saved(&self.findings, row, &part, &saved);
                 fresh = None;
                 image = saved;
             }
@@ -97,26 +97,26 @@ impl<R: Runner> RowRunner<R> {
 
     /// Returns the places that a row says, or the usual ones.
     fn places(&self, lines: &[Line<'_>], size: u64) -> Vec<Place> {
-        let mut places = Vec::new(self.notes.alloc);
+        let mut places = Vec::new(self.findings.alloc);
         for line in lines {
-            if line.word == "place" {
+            if line.token == "place" {
                 let place = self.place(line);
-                self.notes.has_memory(places.push(place).is_ok());
+                self.findings.has_memory(places.push(place).is_ok());
             }
         }
         if places.is_empty() {
             let usual = places.extend_from_slice(&Place::usual(size));
-            self.notes.has_memory(usual.is_ok());
+            self.findings.has_memory(usual.is_ok());
         }
         places
     }
 
     /// Returns the place that a line says.
     fn place(&self, line: &Line<'_>) -> Place {
-        let (capacity, base) = self.notes.pair(line, line.rest, ' ');
+        let (capacity, base) = self.findings.pair(line, line.rest, ' ');
         let place = Place { capacity, base };
         let what = "there is no such place";
-        self.notes.holds(place.is_right(), line.number, what);
+        self.findings.holds(place.is_right(), line.number, what);
         place
     }
 
@@ -141,18 +141,18 @@ impl<R: Runner> RowRunner<R> {
 
     fn check_verdict(&self, line: &Line<'_>, places: &str, image: &[u8]) {
         let is_told = match self.runner.verdict(image) {
-            Some((class, place)) => class == line.word && self.is_among(line, places, place),
+            Some((class, place)) => class == line.token && self.is_among(line, places, place),
             None => false,
         };
         let what = "another class or place is told, or none";
-        self.notes.holds(is_told, line.number, what);
+        self.findings.holds(is_told, line.number, what);
     }
 
     /// Tells whether a place is one of those that a text says.
     fn is_among(&self, line: &Line<'_>, places: &str, place: u64) -> bool {
         let mut is_found = false;
         for one in places.split('|') {
-            is_found = is_found || self.notes.number(line, one) == place;
+            is_found = is_found || self.findings.number(line, one) == place;
         }
         is_found
     }
@@ -165,9 +165,11 @@ impl<R: Runner> RowRunner<R> {
         line: &Line<'_>,
         changes: &str,
     ) -> Vec<u8> {
-        let mut image = self.notes.copy(images.get(&self.notes, line, first.rest));
+        let mut image = self
+            .findings
+            .copy(images.get(&self.findings, line, first.rest));
         for change in changes.split(',') {
-            self.notes.damage(line, change.trim_start(), &mut image);
+            self.findings.damage(line, change.trim_start(), &mut image);
         }
         image
     }
@@ -177,7 +179,7 @@ impl<R: Runner> RowRunner<R> {
         let places = Place::usual((image.len() as u64).max(4096));
         let case = Case::new(line.number, None, image, &places).saving(&[]);
         let case = case.with_text(b"size\n", &[]);
-        self.refuse(&case.failing(line.word), false);
+        self.refuse(&case.failing(line.token), false);
         count(&self.rows, 1);
     }
 }
@@ -193,9 +195,9 @@ fn beginning_of<'x, 'a>(row: &'x Line<'a>, lines: &'x [Line<'a>]) -> &'x Line<'a
 }
 
 /// Tells whether some line has this word.
-fn is_said(lines: &[Line<'_>], word: &str) -> bool {
+fn is_said(lines: &[Line<'_>], token: &str) -> bool {
     for line in lines {
-        if line.word == word {
+        if line.token == token {
             return true;
         }
     }

@@ -1,7 +1,7 @@
 //! What runs calls.
 
 use crate::cases::{Case, Outcome};
-use crate::notes::Notes;
+use crate::findings::Findings;
 use std::cell::Cell;
 
 /// How many bytes readers and writers give and take at once.
@@ -25,7 +25,7 @@ pub trait Runner: Drop {
 /// and what went wrong first.
 #[derive(Drop)]
 pub struct RowRunner<R> {
-    pub notes: Notes,
+    pub findings: Findings,
     pub runner: R,
     pub rows: Cell<u64>,
     pub lines: Cell<u64>,
@@ -41,22 +41,22 @@ impl<R: Runner> RowRunner<R> {
     /// Makes a call, and gives what comes of it. It is noted if this is not what is wanted.
     pub fn outcome(&self, case: &Case<'_>) -> Outcome {
         let done = self.runner.run(case);
-        let notes = &self.notes;
-        notes.holds(
+        let findings = &self.findings;
+        findings.holds(
             done.fault == case.fault,
             case.line,
             "another fault, or none",
         );
         let wanted = case.answers.unwrap_or(&done.answers);
         if done.answers.as_slice() != wanted {
-            notes.holds(
+            findings.holds(
                 false,
                 case.differs_at(wanted, &done.answers),
                 "another answer",
             );
         }
         let wanted = case.saved.unwrap_or(&done.saved);
-        notes.holds(
+        findings.holds(
             done.saved.as_slice() == wanted,
             case.line,
             "another image is saved",

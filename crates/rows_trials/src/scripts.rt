@@ -1,7 +1,7 @@
 //! Scripts of lines, and what they print.
 
+use crate::findings::Findings;
 use crate::lines::Line;
-use crate::notes::Notes;
 use std::alloc::Global;
 
 /// Where a line and its answer begin and end, in the script and in the answers.
@@ -34,33 +34,44 @@ impl Script {
     }
 
     /// Makes a script of two lines, each with what it prints, that stand in one line of the file.
-    pub fn of(notes: &Notes, number: usize, one: (&[u8], &[u8]), other: (&[u8], &[u8])) -> Script {
-        let mut script = Script::new(notes.alloc);
-        script.add_line(notes, number, one.0, one.1);
-        script.add_line(notes, number, other.0, other.1);
+    pub fn of(
+        findings: &Findings,
+        number: usize,
+        one: (&[u8], &[u8]),
+        other: (&[u8], &[u8]),
+    ) -> Script {
+        let mut script = Script::new(findings.alloc);
+        script.add_line(findings, number, one.0, one.1);
+        script.add_line(findings, number, other.0, other.1);
         script
     }
 
     /// Adds a command and the lines that it prints, so that they stand there so often.
-    pub fn add(&mut self, notes: &Notes, command: &Line<'_>, answers: &[Line<'_>], times: u64) {
-        let mut text = Vec::new(notes.alloc);
-        let mut answer = Vec::new(notes.alloc);
-        notes.spell(command, &mut text);
+    pub fn add(
+        &mut self,
+        findings: &Findings,
+        command: &Line<'_>,
+        answers: &[Line<'_>],
+        times: u64,
+    ) {
+        let mut text = Vec::new(findings.alloc);
+        let mut answer = Vec::new(findings.alloc);
+        findings.spell(command, &mut text);
         for line in answers {
-            notes.is_placed(line.word == "<", line);
-            notes.spell(line, &mut answer);
+            findings.is_placed(line.token == "<", line);
+            findings.spell(line, &mut answer);
         }
         for _ in 0..times {
-            self.add_line(notes, command.number, &text, &answer);
+            self.add_line(findings, command.number, &text, &answer);
         }
     }
 
     /// Adds a line of a script, and what it prints.
-    pub fn add_line(&mut self, notes: &Notes, number: usize, text: &[u8], answer: &[u8]) {
+    pub fn add_line(&mut self, findings: &Findings, number: usize, text: &[u8], answer: &[u8]) {
         let script_begin = self.text.len();
         let answers_begin = self.answers.len();
-        notes.put(&mut self.text, text);
-        notes.put(&mut self.answers, answer);
+        findings.put(&mut self.text, text);
+        findings.put(&mut self.answers, answer);
         let mark = Mark {
             number,
             script_begin,
@@ -68,7 +79,7 @@ impl Script {
             answers_begin,
             answers_end: self.answers.len(),
         };
-        notes.has_memory(self.marks.push(mark).is_ok());
+        findings.has_memory(self.marks.push(mark).is_ok());
     }
 
     /// Returns a line without its end.
@@ -91,24 +102,24 @@ impl Script {
                 end = mark.answers_end;
             }
         }
-        front_of(&self.answers, end)
+        prefix_of(&self.answers, end)
     }
 
     /// Returns the script with a CR more at the end of each line.
-    pub fn with_returns(&self, notes: &Notes) -> Vec<u8> {
-        let mut text = Vec::new(notes.alloc);
+    pub fn with_returns(&self, findings: &Findings) -> Vec<u8> {
+        let mut text = Vec::new(findings.alloc);
         for byte in &self.text {
             if *byte == b'\n' {
-                notes.put(&mut text, b"\r");
+                findings.put(&mut text, b"\r");
             }
-            notes.put(&mut text, &[*byte]);
+            findings.put(&mut text, &[*byte]);
         }
         text
     }
 }
 
 /// Returns the first `len` bytes, or all.
-pub fn front_of(bytes: &[u8], len: usize) -> &[u8] {
+pub fn prefix_of(bytes: &[u8], len: usize) -> &[u8] {
     bytes.get(..len).unwrap_or(bytes)
 }
 

@@ -3,7 +3,7 @@
 use crate::cases::{Call, Case};
 use crate::parts::{Part, PartKind};
 use crate::row_runners::{RowRunner, Runner};
-use crate::scripts::{Script, front_of, has_piece};
+use crate::scripts::{Script, has_piece, prefix_of};
 
 impl<R: Runner> RowRunner<R> {
     /// Runs a part, perhaps in one way only, and gives the image that it saves, if it saves another: nothing if it ends
@@ -45,7 +45,7 @@ impl<R: Runner> RowRunner<R> {
         self.check_by_pieces(case);
         self.cut_session(case, script);
         let what = "among other bytes it answers or saves something else, or these are written";
-        self.notes
+        self.findings
             .holds(self.runner.runs_among(case), case.line, what);
         self.vary_ends(case, script);
         let mut case = *case;
@@ -55,10 +55,10 @@ impl<R: Runner> RowRunner<R> {
     }
 
     fn vary_ends<'x>(&self, case: &Case<'x>, script: &'x Script) {
-        let text = front_of(&script.text, script.text.len().saturating_sub(1));
+        let text = prefix_of(&script.text, script.text.len().saturating_sub(1));
         self.check(&case.with_text(text, &script.answers));
         if !has_piece(&script.text, b"\r\n") {
-            let text = script.with_returns(&self.notes);
+            let text = script.with_returns(&self.findings);
             let case = *case;
             self.check(&case.with_text(&text, &script.answers));
         }
@@ -87,9 +87,9 @@ impl<R: Runner> RowRunner<R> {
     /// where it is saved.
     fn check_image(&self, left: &Case<'_>) {
         let size = left.image.len();
-        let answer = format!(in self.notes.alloc; "{size}\n");
-        self.notes.has_memory(answer.is_ok());
-        let answer = answer.unwrap_or(String::new(self.notes.alloc));
+        let answer = format!(in self.findings.alloc; "{size}\n");
+        self.findings.has_memory(answer.is_ok());
+        let answer = answer.unwrap_or(String::new(self.findings.alloc));
         let case = left.saving(left.image);
         let case = case.with_text(b"size\n", answer.as_bytes());
         self.check_by_pieces(&case);

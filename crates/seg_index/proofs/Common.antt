@@ -16,8 +16,8 @@ pub use Rattle.raw_region.specs.Format.{current}
 pub use Rattle.seg_index.specs.Comparing.{IsKeyedEntry, comparisons_in, middle, order_at}
 pub use Rattle.seg_index.specs.Growth.{IsBlockFor, KeepsOutsideIndex, beside_table, without_index_block, without_link}
 pub use Rattle.seg_index.specs.declared.keys.Lookup.TheVariants.{Absent, Found}
-pub use Rattle.seg_index.specs.{declared.keys.Lookup.Lookup, Held.IsIndexOf, Held.capacity_at, Held.place_of}
-pub use Rattle.seg_index.specs.{Beginnings.front, Keys.name_at, Keys.name_len_at, declared.keys.Entry.Entry}
+pub use Rattle.seg_index.specs.{declared.keys.Lookup.Lookup, Held.IsIndexOf, Held.capacity_at, Held.index_at}
+pub use Rattle.seg_index.specs.{Beginnings.prefix, Keys.name_at, Keys.name_len_at, declared.keys.Entry.Entry}
 pub use Rattle.seg_index.specs.Index.{AreIndexEntries, AreLinksTo, grown_capacity}
 pub use Rattle.seg_index.specs.Lookups.{AreKeys, FindsPositionIn, order}
 pub use Rattle.std.proofs.Common.{Bool, IsTrue, List, [], ap, ap₂, arith, bit_and, false, get_or, inl, inr, length, min}

@@ -5,10 +5,10 @@ use Rattle.seg_index.specs.declared.keys.Entry.{Entry}
 use Rattle.seg_index.specs.declared.keys.Entry.TheVariants.{Name, Code}
 
 -- the first eight bytes of a name as one number, highest first, with zeros after a shorter name
-abbrev pub front : List ℕ → ℕ
-front name = big_number 8 name
+abbrev pub prefix : List ℕ → ℕ
+prefix name = big_number 8 name
 
 -- the front of the wanted key, if it is a name
-abbrev pub key_front : Entry → ℕ
-key_front (Name s) = front s.now
-key_front (Code n) = 0
+abbrev pub key_prefix : Entry → ℕ
+key_prefix (Name s) = prefix s.now
+key_prefix (Code n) = 0

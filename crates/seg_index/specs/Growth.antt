@@ -54,10 +54,10 @@ abbrev pub beside_table : BackingArray → List Extent → List Extent
 beside_table t xs = elim t.extent [ None ↦ xs | Some x ↦ others (handle x) xs ]
 
 -- a block in use with room for this capacity of an index
-pub record IsBlockFor (c : WindowState) (h places : ℕ) : Type 0 where
+pub record IsBlockFor (c : WindowState) (h slots : ℕ) : Type 0 where
   pub extent : Extent
   pub found : extent_at (live_of c.bytes) h ≡ Some extent
-  pub fits : IsTrue (serves extent IndexRole (8 * places))
+  pub fits : IsTrue (serves extent IndexRole (8 * slots))
 
 -- the live set without the block behind a link
 abbrev pub without_link : LiveSet → Option ℕ → LiveSet

@@ -9,9 +9,9 @@ use Rattle.seg_index.specs.{declared.index.Index.Index, Index.IsIndexAt}
 use Rattle.seg_index.specs.declared.index.Index.TheVariants.{Named, Unique}
 
 -- the offset of the three words of an index in the header
-abbrev pub place_of : Index → ℕ
-place_of Named = 32
-place_of Unique = 56
+abbrev pub index_at : Index → ℕ
+index_at Named = 32
+index_at Unique = 56
 
 -- the count in the words of an index
 abbrev pub entry_count : WindowState → ℕ → ℕ
@@ -26,7 +26,7 @@ capacity_at c at = word_at (bytes_of c.bytes) (at + 16)
 pub record IsIndexOf (c : WindowState) (at : ℕ) (t : BackingArray) (handles : List ℕ) : Type 0 where
   pub heap : IsHeap current c.bytes
   pub stands : IsIndexAt (bytes_of c.bytes) at t handles
-  pub places : IsTrue (has_backing IndexRole 8 t)
+  pub slots : IsTrue (has_backing IndexRole 8 t)
   pub few : length handles ≤ t.capacity
   pub held : IfSome t.extent (λ x. extent_at (live_of c.bytes) (handle x) ≡ Some x)
   pub whole : AllByRecursion (λ h. h % 16 ≡ 0) handles
@@ -39,5 +39,5 @@ pub record HasIndex (c : WindowState) (at : ℕ) : Type 0 where
 
 -- the index has this capacity, in a block that was in use before
 abbrev pub InstallsBlock : WindowState → WindowState → ℕ → ℕ → ℕ → List ℕ → Type 0
-InstallsBlock old new at block places handles =
-    IsIndexOf new at (record { capacity = places; extent = extent_at (live_of old.bytes) block }) handles
+InstallsBlock old new at block slots handles =
+    IsIndexOf new at (record { capacity = slots; extent = extent_at (live_of old.bytes) block }) handles

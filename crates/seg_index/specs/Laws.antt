@@ -8,7 +8,7 @@ use Rattle.offset_link.specs.Link.{link_at}
 use Rattle.best_fit.specs.Heap.{AllocatesOk, ChangesBytes, Deallocates, KeepsBlocks, EncodesLiveSet, has_room, live_of}
 use Rattle.best_fit.specs.Table.{BackingArray}
 use Rattle.seg_index.specs.{declared.index.Index.Index, Growth.CanGrow, Growth.PreparesOk, Held.IsIndexOf}
-use Rattle.seg_index.specs.{Held.place_of}
+use Rattle.seg_index.specs.{Held.index_at}
 use Rattle.seg_index.specs.{declared.keys.Entry.TheVariants.Code, declared.keys.Entry.Entry}
 use Rattle.seg_index.specs.{declared.keys.Lookup.Lookup, Lookups.FindsPosition, declared.keys.Lookup.TheVariants.Absent}
 use Rattle.seg_index.specs.Comparing.{comparisons, comparisons_among}
@@ -16,18 +16,18 @@ use Rattle.seg_index.specs.Sorted.{AreSortedHandles, BelongsAt, HasSortKey, IsKe
 
 -- the index has this block
 abbrev pub IsItsBlock : WindowState → Index → ℕ → Type 0
-IsItsBlock c i h = link_at (bytes_of c.bytes) (place_of i) ≡ Some h
+IsItsBlock c i h = link_at (bytes_of c.bytes) (index_at i) ≡ Some h
 
 -- the law: an index stays if a block is allocated, and if a block other than its own is freed or written
 pub record IndexesStay : Type 0 where
   pub taken : (i : Index) (a b : WindowState) (n : ℕ) (role : Role) (h : ℕ) (t : BackingArray) (handles : List ℕ)
-      → IsIndexOf a (place_of i) t handles → AllocatesOk current a b n role h → IsIndexOf b (place_of i) t handles
+      → IsIndexOf a (index_at i) t handles → AllocatesOk current a b n role h → IsIndexOf b (index_at i) t handles
   pub released : (i : Index) (a b : WindowState) (h : ℕ) (t : BackingArray) (handles : List ℕ)
-      → IsIndexOf a (place_of i) t handles
-      → Deallocates current a b h → (IsItsBlock a i h → ⊥) → IsIndexOf b (place_of i) t handles
+      → IsIndexOf a (index_at i) t handles
+      → Deallocates current a b h → (IsItsBlock a i h → ⊥) → IsIndexOf b (index_at i) t handles
   pub written : (i : Index) (a b : WindowState) (h at n : ℕ) (t : BackingArray) (handles : List ℕ)
-      → IsIndexOf a (place_of i) t handles → ChangesBytes current a b (h + at) n
-      → IsTrue (has_room (live_of a.bytes) h (at + n)) → (IsItsBlock a i h → ⊥) → IsIndexOf b (place_of i) t handles
+      → IsIndexOf a (index_at i) t handles → ChangesBytes current a b (h + at) n
+      → IsTrue (has_room (live_of a.bytes) h (at + n)) → (IsItsBlock a i h → ⊥) → IsIndexOf b (index_at i) t handles
 
 -- the law: entries stay sorted if a block is allocated, if a block of none of their objects is freed or written, and if
 -- the same blocks are in use again with their bytes
@@ -58,13 +58,13 @@ KeysHaveOnePlace =
 -- block is freed, or a block is written
 pub record GrowthsStay : Type 0 where
   pub prepared : (i : Index) (a b : WindowState) (g : Option ℕ) (t : BackingArray) (handles : List ℕ)
-      → IsIndexOf a (place_of i) t handles → PreparesOk a b (place_of i) g → CanGrow b (place_of i) g
-  pub taken : (i : Index) (a b : WindowState) (g : Option ℕ) (n : ℕ) (role : Role) (h : ℕ) → CanGrow a (place_of i) g
-      → AllocatesOk current a b n role h → CanGrow b (place_of i) g
+      → IsIndexOf a (index_at i) t handles → PreparesOk a b (index_at i) g → CanGrow b (index_at i) g
+  pub taken : (i : Index) (a b : WindowState) (g : Option ℕ) (n : ℕ) (role : Role) (h : ℕ) → CanGrow a (index_at i) g
+      → AllocatesOk current a b n role h → CanGrow b (index_at i) g
   pub released : (i : Index) (a b : WindowState) (g : Option ℕ) (h : ℕ)
-      → CanGrow a (place_of i) g → Deallocates current a b h → (g ≡ Some h → ⊥) → CanGrow b (place_of i) g
-  pub written : (i : Index) (a b : WindowState) (g : Option ℕ) (h at n : ℕ) → CanGrow a (place_of i) g
-      → ChangesBytes current a b (h + at) n → IsTrue (has_room (live_of a.bytes) h (at + n)) → CanGrow b (place_of i) g
+      → CanGrow a (index_at i) g → Deallocates current a b h → (g ≡ Some h → ⊥) → CanGrow b (index_at i) g
+  pub written : (i : Index) (a b : WindowState) (g : Option ℕ) (h at n : ℕ) → CanGrow a (index_at i) g
+      → ChangesBytes current a b (h + at) n → IsTrue (has_room (live_of a.bytes) h (at + n)) → CanGrow b (index_at i) g
 
 -- objects at the multiples of 16, each with its offset as the code of its kind
 abbrev pub own_codes : Memory

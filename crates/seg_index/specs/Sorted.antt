@@ -7,7 +7,7 @@ use Rattle.std.specs.declared.cmp.Ordering.TheVariants.{Less, Greater}
 use Rattle.raw_region.specs.Memory.{WindowState, Memory, bytes_of}
 use Rattle.block_tags.specs.declared.tile.Role.TheVariants.{Object as ObjectRole}
 use Rattle.best_fit.specs.{Extents.Extent, Heap.extent_at, Heap.live_of, Table.BackingArray, Table.serves}
-use Rattle.seg_index.specs.{declared.index.Index.Index, declared.keys.Entry.Entry, Held.IsIndexOf, Held.place_of}
+use Rattle.seg_index.specs.{declared.index.Index.Index, declared.keys.Entry.Entry, Held.IsIndexOf, Held.index_at}
 use Rattle.seg_index.specs.declared.index.Index.TheVariants.{Named, Unique}
 use Rattle.seg_index.specs.declared.keys.Entry.TheVariants.{Name, Code}
 use Rattle.seg_index.specs.Keys.{code_at, name_at, name_len_at}
@@ -45,7 +45,7 @@ pub record AreSortedHandles (c : WindowState) (i : Index) (handles : List ℕ) :
 
 -- the index leads to these handles, and their sort keys rise
 pub record IsSortedIndex (c : WindowState) (i : Index) (t : BackingArray) (handles : List ℕ) : Type 0 where
-  pub index : IsIndexOf c (place_of i) t handles
+  pub index : IsIndexOf c (index_at i) t handles
   pub sorted : AreSortedHandles c i handles
 
 -- the header has a sorted index

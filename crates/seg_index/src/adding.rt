@@ -6,7 +6,7 @@ ghost use Rattle.offset_link.specs.{Link.link_at, Relinked.AllLinksLead, Relinke
 ghost use Rattle.best_fit.specs.Heap.{ChangesBytes, IsHeap, KeepsGaps, EncodesLiveSet, has_room, heap_touches, live_of};
 ghost use Rattle.best_fit.specs.Table.{BackingArray as ATable};
 ghost use Rattle.seg_index.specs.Growth.{AddKeeps, AddsEntry, CanGrow, KeepsOutsideIndex, beside_table, grown_live};
-ghost use Rattle.seg_index.specs.Held.{HasIndex, IsIndexOf, entry_count, place_of};
+ghost use Rattle.seg_index.specs.Held.{HasIndex, IsIndexOf, entry_count, index_at};
 ghost use Rattle.seg_index.specs.Sorted.{AreSortedHandles, CanAdd, IsSortedIndex, KeepsSorted};
 
 use crate::index::Index;
@@ -19,20 +19,20 @@ impl Index {
     /// entries from that place on move up by one.
     pub fn add(self, heap: &mut Heap, place: u64, handle: u64, growth: Growth, steps: &mut Steps)
         requires entry { CanAdd heap.old self place handle }
-        requires growth { CanGrow heap.old (place_of self) growth.block }
-        ensures index { (t : ATable) (handles : List ℕ) → IsIndexOf heap.old (place_of self) t handles
-            → AddsEntry heap.old heap.new (place_of self) t (insert handles place handle) growth.block }
-        ensures sorted { (t : ATable) (handles : List ℕ) → IsIndexOf heap.old (place_of self) t handles
+        requires growth { CanGrow heap.old (index_at self) growth.block }
+        ensures index { (t : ATable) (handles : List ℕ) → IsIndexOf heap.old (index_at self) t handles
+            → AddsEntry heap.old heap.new (index_at self) t (insert handles place handle) growth.block }
+        ensures sorted { (t : ATable) (handles : List ℕ) → IsIndexOf heap.old (index_at self) t handles
             → AreSortedHandles heap.new self (insert handles place handle) }
         ensures order { KeepsSorted heap.old heap.new }
-        ensures live { EncodesLiveSet current heap.new.bytes (grown_live heap.old (place_of self) growth.block) }
-        ensures frame { (t : ATable) (handles : List ℕ) → IsIndexOf heap.old (place_of self) t handles
-            → AddKeeps heap.old heap.new (place_of self) t growth.block }
+        ensures live { EncodesLiveSet current heap.new.bytes (grown_live heap.old (index_at self) growth.block) }
+        ensures frame { (t : ATable) (handles : List ℕ) → IsIndexOf heap.old (index_at self) t handles
+            → AddKeeps heap.old heap.new (index_at self) t growth.block }
         ensures gaps { growth.block ≡ None → KeepsGaps heap.old heap.new }
         ensures steps_lower { steps.old ≤ steps.new }
-        ensures noop { (growth.block ≡ None) ⊎ (link_at (bytes_of heap.old.bytes) (place_of self) ≡ None)
+        ensures noop { (growth.block ≡ None) ⊎ (link_at (bytes_of heap.old.bytes) (index_at self) ≡ None)
             → steps.new ≡ steps.old }
-        ensures progress { IfSome growth.block (λ block. IfSome (link_at (bytes_of heap.old.bytes) (place_of self))
+        ensures progress { IfSome growth.block (λ block. IfSome (link_at (bytes_of heap.old.bytes) (index_at self))
             (λ old. steps.old < steps.new)) }
         ensures steps { steps.new ≤ steps.old + heap_touches (live_of heap.old.bytes) }
     {
@@ -56,16 +56,16 @@ impl Index {
 
     /// Removes the entry at a place. The entries after it move down by one; the block stays.
     pub fn remove(self, heap: &mut Heap, place: u64)
-        requires index { HasIndex heap.old (place_of self) }
-        requires in_range { place < entry_count heap.old (place_of self) }
-        ensures index { (t : ATable) (handles : List ℕ) → IsIndexOf heap.old (place_of self) t handles
-            → IsIndexOf heap.new (place_of self) t (remove handles place) }
+        requires index { HasIndex heap.old (index_at self) }
+        requires in_range { place < entry_count heap.old (index_at self) }
+        ensures index { (t : ATable) (handles : List ℕ) → IsIndexOf heap.old (index_at self) t handles
+            → IsIndexOf heap.new (index_at self) t (remove handles place) }
         ensures sorted { (t : ATable) (handles : List ℕ) → IsSortedIndex heap.old self t handles
             → AreSortedHandles heap.new self (remove handles place) }
         ensures order { KeepsSorted heap.old heap.new }
         ensures live { EncodesLiveSet current heap.new.bytes (live_of heap.old.bytes) }
-        ensures frame { (t : ATable) (handles : List ℕ) → IsIndexOf heap.old (place_of self) t handles
-            → KeepsOutsideIndex heap.old heap.new (place_of self) (beside_table t (live_of heap.old.bytes).extents) }
+        ensures frame { (t : ATable) (handles : List ℕ) → IsIndexOf heap.old (index_at self) t handles
+            → KeepsOutsideIndex heap.old heap.new (index_at self) (beside_table t (live_of heap.old.bytes).extents) }
         ensures gaps { KeepsGaps heap.old heap.new }
     {
         let count = self.len(heap);

@@ -4,7 +4,7 @@ ghost use Rattle.raw_region.specs.{Memory.bytes_of, Format.current};
 ghost use Rattle.link_tree.specs.Tree.{bits};
 ghost use Rattle.best_fit.specs.{Heap.ChangesBytes, Table.BackingArray as ATable, Table.no_backing};
 ghost use Rattle.seg_index.specs.{Comparing.comparisons, Lookups.FindsPosition};
-ghost use Rattle.seg_index.specs.Held.{HasIndex, IsIndexOf, capacity_at, entry_count, place_of};
+ghost use Rattle.seg_index.specs.Held.{HasIndex, IsIndexOf, capacity_at, entry_count, index_at};
 ghost use Rattle.seg_index.specs.Sorted.{HasSortedIndex, IsSortedIndex, index_of};
 
 use crate::comparing::ComparisonCounter;
@@ -27,7 +27,7 @@ impl Index {
     /// Returns the offset of the index's three words: the link to its block, the number of its entries, and its
     /// capacity.
     pub(crate) fn header_offset(self) -> u64
-        ensures { result ≡ place_of self }
+        ensures { result ≡ index_at self }
     {
         match self {
             Index::Named => 32,
@@ -39,7 +39,7 @@ impl Index {
     /// block.
     pub fn init(self, heap: &mut Heap)
         ensures index { IsSortedIndex heap.new self no_backing [] }
-        ensures changes { ChangesBytes current heap.old heap.new (place_of self) 24 }
+        ensures changes { ChangesBytes current heap.old heap.new (index_at self) 24 }
     {
         let place = self.header_offset();
         heap.set_header_link(place, None);
@@ -49,8 +49,8 @@ impl Index {
 
     /// Returns the number of its entries.
     pub fn len(self, heap: &Heap) -> u64
-        ensures word { result ≡ entry_count heap.now (place_of self) }
-        ensures len { (t : ATable) (handles : List ℕ) → IsIndexOf heap.now (place_of self) t handles
+        ensures word { result ≡ entry_count heap.now (index_at self) }
+        ensures len { (t : ATable) (handles : List ℕ) → IsIndexOf heap.now (index_at self) t handles
             → result ≡ length handles }
     {
         heap.header_word(self.header_offset() + 8)
@@ -58,8 +58,8 @@ impl Index {
 
     /// Returns the capacity, in entries. It is 0 without a block.
     pub fn capacity(self, heap: &Heap) -> u64
-        ensures word { result ≡ capacity_at heap.now (place_of self) }
-        ensures capacity { (t : ATable) (handles : List ℕ) → IsIndexOf heap.now (place_of self) t handles
+        ensures word { result ≡ capacity_at heap.now (index_at self) }
+        ensures capacity { (t : ATable) (handles : List ℕ) → IsIndexOf heap.now (index_at self) t handles
             → result ≡ t.capacity }
     {
         heap.header_word(self.header_offset() + 16)
@@ -67,9 +67,9 @@ impl Index {
 
     /// Returns the handle of the entry at `i`.
     pub fn at(self, heap: &Heap, i: u64) -> u64
-        requires index { HasIndex heap.now (place_of self) }
-        requires in_range { i < entry_count heap.now (place_of self) }
-        ensures { (t : ATable) (handles : List ℕ) → IsIndexOf heap.now (place_of self) t handles
+        requires index { HasIndex heap.now (index_at self) }
+        requires in_range { i < entry_count heap.now (index_at self) }
+        ensures { (t : ATable) (handles : List ℕ) → IsIndexOf heap.now (index_at self) t handles
             → slice_get handles i ≡ Some result }
     {
         let block = heap.header_link(self.header_offset()).unwrap_or(0);
@@ -81,11 +81,11 @@ impl Index {
     pub fn lookup(self, heap: &Heap, key: Entry<'_>, steps: &mut Steps) -> Lookup
         requires index { HasSortedIndex heap.now self }
         requires key { index_of key ≡ self }
-        ensures place { (t : ATable) (handles : List ℕ) → IsIndexOf heap.now (place_of self) t handles
+        ensures place { (t : ATable) (handles : List ℕ) → IsIndexOf heap.now (index_at self) t handles
             → FindsPosition (bytes_of heap.now.bytes) key.entry handles result }
         ensures steps_lower { steps.old ≤ steps.new }
-        ensures steps { steps.new ≤ steps.old + bits (entry_count heap.now (place_of self)) }
-        ensures steps_exact { (t : ATable) (handles : List ℕ) → IsIndexOf heap.now (place_of self) t handles
+        ensures steps { steps.new ≤ steps.old + bits (entry_count heap.now (index_at self)) }
+        ensures steps_exact { (t : ATable) (handles : List ℕ) → IsIndexOf heap.now (index_at self) t handles
             → steps.new ≡ steps.old + comparisons (bytes_of heap.now.bytes) key.entry handles }
     {
         let Some(block) = heap.header_link(self.header_offset()) else {

@@ -8,7 +8,7 @@ ghost use Rattle.best_fit.specs.Table.{BackingArray as ATable};
 ghost use Rattle.seg_index.specs.Capacities.{ShrinksIndex, ReservesIndex, reserve_steps};
 ghost use Rattle.seg_index.specs.Growth.{FreesGrowth, IsBlockFor, IsLiveGrowth, KeepsOutsideIndex, Prepares, Restores};
 ghost use Rattle.seg_index.specs.Growth.{without_index_block};
-ghost use Rattle.seg_index.specs.Held.{HasIndex, InstallsBlock, IsIndexOf, capacity_at, entry_count, place_of};
+ghost use Rattle.seg_index.specs.Held.{HasIndex, InstallsBlock, IsIndexOf, capacity_at, entry_count, index_at};
 ghost use Rattle.seg_index.specs.{Index.AreLinksTo, Index.grown_capacity, Sorted.KeepsSorted};
 
 use crate::index::Index;
@@ -31,11 +31,11 @@ impl Index {
     ///
     /// `NoSpace` if the index is full and no gap is long enough. Nothing changes.
     pub fn prepare(self, heap: &mut Heap, steps: &mut Steps) -> Result<Growth, NoSpace>
-        requires index { HasIndex heap.old (place_of self) }
-        ensures growth { Prepares heap.old heap.new (place_of self) result }
+        requires index { HasIndex heap.old (index_at self) }
+        ensures growth { Prepares heap.old heap.new (index_at self) result }
         ensures order { KeepsSorted heap.old heap.new }
         ensures steps_lower { steps.old ≤ steps.new }
-        ensures noop { entry_count heap.old (place_of self) < capacity_at heap.old (place_of self)
+        ensures noop { entry_count heap.old (index_at self) < capacity_at heap.old (index_at self)
             → steps.new ≡ steps.old }
         ensures progress { heap.new ≢ heap.old → steps.old < steps.new }
         ensures steps { steps.new ≤ steps.old + heap_touches (live_of heap.old.bytes) }
@@ -70,10 +70,10 @@ impl Index {
     ///
     /// `NoSpace` if no gap is long enough, as for each `n` above 134217728. Nothing changes.
     pub fn reserve(self, heap: &mut Heap, n: u64, steps: &mut Steps) -> Result<(), NoSpace>
-        requires index { HasIndex heap.old (place_of self) }
-        ensures capacity { ReservesIndex heap.old heap.new (place_of self) n result }
+        requires index { HasIndex heap.old (index_at self) }
+        ensures capacity { ReservesIndex heap.old heap.new (index_at self) n result }
         ensures steps_lower { steps.old ≤ steps.new }
-        ensures noop { n ≤ capacity_at heap.old (place_of self) → steps.new ≡ steps.old }
+        ensures noop { n ≤ capacity_at heap.old (index_at self) → steps.new ≡ steps.old }
         ensures progress { heap.new ≢ heap.old → steps.old < steps.new }
         ensures steps { steps.new ≤ steps.old + reserve_steps (live_of heap.old.bytes) n }
     {
@@ -92,11 +92,11 @@ impl Index {
     /// Shrinks the capacity to the number of entries, as far as the block can be shortened, even if the capacity stays.
     /// The block of an empty index is freed.
     pub fn shrink(self, heap: &mut Heap, steps: &mut Steps)
-        requires index { HasIndex heap.old (place_of self) }
-        ensures shrinking { (t : ATable) (handles : List ℕ) → IsIndexOf heap.old (place_of self) t handles
-            → ShrinksIndex heap.old heap.new (place_of self) t handles }
+        requires index { HasIndex heap.old (index_at self) }
+        ensures shrinking { (t : ATable) (handles : List ℕ) → IsIndexOf heap.old (index_at self) t handles
+            → ShrinksIndex heap.old heap.new (index_at self) t handles }
         ensures steps_lower { steps.old ≤ steps.new }
-        ensures noop { link_at (bytes_of heap.old.bytes) (place_of self) ≡ None → steps.new ≡ steps.old }
+        ensures noop { link_at (bytes_of heap.old.bytes) (index_at self) ≡ None → steps.new ≡ steps.old }
         ensures progress { live_of heap.new.bytes ≢ live_of heap.old.bytes → steps.old < steps.new }
         ensures steps { steps.new ≤ steps.old + heap_touches (live_of heap.old.bytes) }
     {
@@ -126,19 +126,19 @@ impl Index {
     )
         requires heap { IsHeap current heap.old.bytes }
         requires block { IsBlockFor heap.old block n }
-        requires released { IfSome (link_at (bytes_of heap.old.bytes) (place_of self))
+        requires released { IfSome (link_at (bytes_of heap.old.bytes) (index_at self))
             (λ h. IsTrue (is_live_in (live_of heap.old.bytes) h) × (h ≢ block)) }
         requires non_empty { 0 < n }
         requires in_bounds { count ≤ n }
         ensures index { (handles : List ℕ) → AreLinksTo (bytes_of heap.old.bytes) block handles → count ≡ length handles
             → AllByRecursion (λ h. h % 16 ≡ 0) handles
-            → InstallsBlock heap.old heap.new (place_of self) block n handles }
-        ensures live { EncodesLiveSet current heap.new.bytes (without_index_block heap.old (place_of self)) }
-        ensures frame { KeepsOutsideIndex heap.old heap.new (place_of self)
-            (without_index_block heap.old (place_of self)).extents }
+            → InstallsBlock heap.old heap.new (index_at self) block n handles }
+        ensures live { EncodesLiveSet current heap.new.bytes (without_index_block heap.old (index_at self)) }
+        ensures frame { KeepsOutsideIndex heap.old heap.new (index_at self)
+            (without_index_block heap.old (index_at self)).extents }
         ensures steps_lower { steps.old ≤ steps.new }
-        ensures noop { link_at (bytes_of heap.old.bytes) (place_of self) ≡ None → steps.new ≡ steps.old }
-        ensures progress { IfSome (link_at (bytes_of heap.old.bytes) (place_of self)) (λ h. steps.old < steps.new) }
+        ensures noop { link_at (bytes_of heap.old.bytes) (index_at self) ≡ None → steps.new ≡ steps.old }
+        ensures progress { IfSome (link_at (bytes_of heap.old.bytes) (index_at self)) (λ h. steps.old < steps.new) }
         ensures steps { steps.new ≤ steps.old + heap_touches (live_of heap.old.bytes) }
     {
         let place = self.header_offset();

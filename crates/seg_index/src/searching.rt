@@ -3,7 +3,7 @@
 ghost use Rattle.std.specs.Prelude.{◌≡◌, ◌^◌, ◌<◌, ◌≤◌};
 ghost use Rattle.raw_region.specs.Memory.{bytes_of};
 ghost use Rattle.link_tree.specs.Tree.{bits};
-ghost use Rattle.seg_index.specs.{Beginnings.key_front, Comparing.comparisons_in, Lookups.AreKeys};
+ghost use Rattle.seg_index.specs.{Beginnings.key_prefix, Comparing.comparisons_in, Lookups.AreKeys};
 ghost use Rattle.seg_index.specs.{Lookups.FindsPositionIn};
 
 use crate::comparing::ComparisonCounter;
@@ -14,7 +14,7 @@ use std::cmp::Ordering;
 pub fn search(comparisons: &mut ComparisonCounter<'_>, count: u64) -> Lookup
     requires keys { AreKeys comparisons.old.heap.now comparisons.old.block count comparisons.old.key }
     requires max_count { count < 2 ^ 40 }
-    requires front { comparisons.old.front ≡ key_front comparisons.old.key }
+    requires prefix { comparisons.old.prefix ≡ key_prefix comparisons.old.key }
     requires fresh { comparisons.old.count ≡ 0 }
     ensures place { FindsPositionIn (bytes_of comparisons.old.heap.now.bytes) comparisons.old.key comparisons.old.block
         count result }

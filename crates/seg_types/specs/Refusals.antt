@@ -15,10 +15,10 @@ line_error_number LineTooLong = 2
 line_error_number BadSyntax = 3
 
 -- the text of a line's error
-abbrev pub line_error_words : LineError → List ℕ
-line_error_words UnknownCommand = codes "unknown command"
-line_error_words LineTooLong = codes "line too long"
-line_error_words BadSyntax = codes "bad syntax"
+abbrev pub line_error_message : LineError → List ℕ
+line_error_message UnknownCommand = codes "unknown command"
+line_error_message LineTooLong = codes "line too long"
+line_error_message BadSyntax = codes "bad syntax"
 
 -- ---- 4 to 9: a command is refused
 
@@ -32,10 +32,10 @@ refusal_number OutOfRange = 8
 refusal_number NoSpace = 9
 
 -- the text of a refusal
-abbrev pub refusal_words : Refusal → List ℕ
-refusal_words ReadOnly = codes "read only"
-refusal_words Exists = codes "already exists"
-refusal_words NotFound = codes "not found"
-refusal_words WrongKind = codes "wrong kind"
-refusal_words OutOfRange = codes "out of range"
-refusal_words NoSpace = codes "no space"
+abbrev pub refusal_message : Refusal → List ℕ
+refusal_message ReadOnly = codes "read only"
+refusal_message Exists = codes "already exists"
+refusal_message NotFound = codes "not found"
+refusal_message WrongKind = codes "wrong kind"
+refusal_message OutOfRange = codes "out of range"
+refusal_message NoSpace = codes "no space"

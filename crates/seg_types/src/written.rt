@@ -12,7 +12,7 @@ use crate::values::ScalarValue;
 /// A value as a caller writes it, before its kind is known: a truth value, a whole number or a text.
 pub trait WrittenValue {
     /// A buffer for the text.
-    type Room;
+    type Scratch;
 
     // The literal of the value.
     ghost literal: { Self → Literal };
@@ -28,15 +28,15 @@ pub trait WrittenValue {
     fn value_of(&self, kind: ScalarKind) -> Result<ScalarValue, Refusal>
         ensures { IsValueOf kind (value_of_literal kind (literal self.now)) result };
 
-    /// Returns the text, or `None` if the value is no text. It can use `room` as a buffer.
-    fn text<'r>(&'r self, room: &'r mut Self::Room) -> Option<&'r [u8]>
+    /// Returns the text, or `None` if the value is no text. It can use `scratch` as a buffer.
+    fn text<'r>(&'r self, scratch: &'r mut Self::Scratch) -> Option<&'r [u8]>
         requires { fits self.now }
         ensures { MatchOption result (NoText (literal self.now)) (λ text. literal self.now ≡ Quoted text.now) };
 }
 
 /// A value of one kind, written for another kind.
 impl WrittenValue for ScalarValue {
-    type Room = ();
+    type Scratch = ();
 
     ghost literal = { literal_seen };
 
@@ -55,7 +55,7 @@ impl WrittenValue for ScalarValue {
         }
     }
 
-    fn text<'r>(&'r self, _room: &'r mut ()) -> Option<&'r [u8]> {
+    fn text<'r>(&'r self, _scratch: &'r mut ()) -> Option<&'r [u8]> {
         None
     }
 }

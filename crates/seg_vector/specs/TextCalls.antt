@@ -37,8 +37,8 @@ abbrev pub CountsBytes : List ℕ → Place → ℕ → Type 0
 CountsBytes b p n = (bytes : List ℕ) (t : BackingArray) → IsText b p bytes t → n ≡ length bytes
 
 -- the number is the capacity of the string
-abbrev pub CountsBytePlaces : List ℕ → Place → ℕ → Type 0
-CountsBytePlaces b p n = (bytes : List ℕ) (t : BackingArray) → IsText b p bytes t → n ≡ t.capacity
+abbrev pub CountsByteCapacity : List ℕ → Place → ℕ → Type 0
+CountsByteCapacity b p n = (bytes : List ℕ) (t : BackingArray) → IsText b p bytes t → n ≡ t.capacity
 
 -- the slice has the bytes of the string
 abbrev pub ReadsText : List ℕ → Place → List ℕ → Type 0

@@ -52,8 +52,8 @@ ReadsVectorLen {T} size is_value spelling b p n = (xs : List T) (t : BackingArra
     → IsVector size is_value spelling b p xs t → n ≡ length xs
 
 -- the number is the capacity of the vector
-abbrev pub CountsPlaces : {T : Type 0} → ℕ → (T → Bool) → (T → List ℕ) → List ℕ → Place → ℕ → Type 0
-CountsPlaces {T} size is_value spelling b p n = (xs : List T) (t : BackingArray)
+abbrev pub CountsCapacity : {T : Type 0} → ℕ → (T → Bool) → (T → List ℕ) → List ℕ → Place → ℕ → Type 0
+CountsCapacity {T} size is_value spelling b p n = (xs : List T) (t : BackingArray)
     → IsVector size is_value spelling b p xs t → n ≡ t.capacity
 
 -- the element at an index, or an error if the index is out of range

@@ -3,8 +3,8 @@ ghost use Rattle.std.specs.Prelude.{◌≡◌, ℕ, ◌+◌, ◌*◌, ◌%◌, �
 ghost use Rattle.raw_region.specs.Format.{current};
 ghost use Rattle.best_fit.specs.{Heap.ChangesBytes, Heap.IsHeap, Heap.has_room, Heap.live_of, Table.no_backing};
 ghost use Rattle.seg_vector.specs.{Elements.ShrinksStorage, Elements.FreesStorage};
-ghost use Rattle.seg_vector.specs.{Vector.capacity_for_more as places_for_more};
-ghost use Rattle.seg_vector.specs.{Vector.capacity_for_one as places_for_one};
+ghost use Rattle.seg_vector.specs.{Vector.capacity_for_more as more_capacity};
+ghost use Rattle.seg_vector.specs.{Vector.capacity_for_one as one_capacity};
 ghost use Rattle.seg_vector.specs.Containers.{ReservesStorage, GrowsForOne, IsStanding, IsContainer, len_at, place_at};
 ghost use Rattle.seg_vector.specs.TextParts.{SetsStorage, SetsWords};
 
@@ -114,7 +114,7 @@ pub fn reserve(heap: &mut Heap, place: Place, each: u64, n: u64) -> Result<(), R
 /// Returns the capacity of a container after one element is appended.
 pub fn capacity_for_one(len: u64, capacity: u64) -> u64
     requires { 2 * capacity < 18446744073709551616 }
-    ensures { result ≡ places_for_one len capacity }
+    ensures { result ≡ one_capacity len capacity }
 {
     if len < capacity {
         capacity
@@ -127,7 +127,7 @@ pub fn capacity_for_one(len: u64, capacity: u64) -> u64
 pub fn capacity_for_more(len: u64, more: u64, capacity: u64) -> u64
     requires no_overflow { len + more < 18446744073709551616 }
     requires max_value { 2 * capacity < 18446744073709551616 }
-    ensures { result ≡ places_for_more len more capacity }
+    ensures { result ≡ more_capacity len more capacity }
 {
     if len + more <= capacity {
         capacity

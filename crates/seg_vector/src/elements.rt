@@ -146,24 +146,24 @@ fn put_by<T: Plain, const N: usize>(heap: &mut Heap, place: Place, spot: WritePo
     put_at(heap, place, T::SIZE, spot, bytes);
 }
 
-/// Encodes a value into `row`, at the byte `from`.
-fn put_spelling<T: Plain>(row: &mut [u8], from: usize, value: T)
-    requires { from + T.SIZE ≤ length row.old }
+/// Encodes a value into `slice`, at the byte `from`.
+fn put_spelling<T: Plain>(slice: &mut [u8], from: usize, value: T)
+    requires { from + T.SIZE ≤ length slice.old }
     ensures value { T.is_value value ≡ true }
-    ensures row { row.new ≡ patched row.old from (T.spelling value) }
+    ensures slice { slice.new ≡ patched slice.old from (T.spelling value) }
 {
-    value.write(&mut row[from..from + T::SIZE as usize]);
+    value.write(&mut slice[from..from + T::SIZE as usize]);
 }
 
-/// Encodes values into `row` one after another, from the byte `from` on.
-fn put_spellings<T: Plain>(row: &mut [u8], from: usize, values: &[T])
-    requires { from + T.SIZE * length values.now ≤ length row.old }
+/// Encodes values into `slice` one after another, from the byte `from` on.
+fn put_spellings<T: Plain>(slice: &mut [u8], from: usize, values: &[T])
+    requires { from + T.SIZE * length values.now ≤ length slice.old }
     ensures values { IsTrue (list_all T.is_value values.now) }
-    ensures row { row.new ≡ patched row.old from (flat_map T.spelling values.now) }
+    ensures slice { slice.new ≡ patched slice.old from (flat_map T.spelling values.now) }
 {
     let each = T::SIZE as usize;
     'values: for i in 0..values.len() {
-        put_spelling(row, from + each * i, values[i]);
+        put_spelling(slice, from + each * i, values[i]);
     }
 }
 

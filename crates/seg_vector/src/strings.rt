@@ -2,8 +2,8 @@
 ghost use Rattle.std.specs.Prelude.{◌≡◌, ◌+◌, ◌*◌, ◌%◌, ◌<◌, ◌≤◌, IsTrue};
 ghost use Rattle.raw_region.specs.Format.{current};
 ghost use Rattle.best_fit.specs.Heap.{ChangesBytes, IsHeap, has_room, live_of};
-ghost use Rattle.seg_vector.specs.{Containers.place_at, Vector.capacity_for_text as places_for_text};
-ghost use Rattle.seg_vector.specs.TextCalls.{AppendsText, AssignsText, ClearsText, CountsBytePlaces, CountsBytes};
+ghost use Rattle.seg_vector.specs.{Containers.place_at, Vector.capacity_for_text as text_capacity};
+ghost use Rattle.seg_vector.specs.TextCalls.{AppendsText, AssignsText, ClearsText, CountsByteCapacity, CountsBytes};
 ghost use Rattle.seg_vector.specs.TextCalls.{GetsByte, IsSomeText, ReadsText, ReleasesText, ReservesBytes};
 ghost use Rattle.seg_vector.specs.TextCalls.{MakesText, ReservesNoBytes, SetsByte, ShrinksText, StartsText};
 
@@ -26,7 +26,7 @@ pub struct SegString {
 /// Returns the capacity of a text that must hold `len` bytes.
 fn capacity_for_text(len: u64, capacity: u64) -> u64
     requires { 2 * capacity < 18446744073709551616 }
-    ensures { result ≡ places_for_text len capacity }
+    ensures { result ≡ text_capacity len capacity }
 {
     if len <= capacity {
         capacity
@@ -77,7 +77,7 @@ impl SegString {
     /// Returns the capacity in bytes.
     pub fn capacity(self, heap: &Heap) -> u64
         requires { IsSomeText heap.now.bytes self.place }
-        ensures { CountsBytePlaces heap.now.bytes self.place result }
+        ensures { CountsByteCapacity heap.now.bytes self.place result }
     {
         capacity_of(heap, self.place)
     }

@@ -3,7 +3,7 @@ ghost use Rattle.std.specs.Prelude.{◌≡◌, ◌+◌, ◌%◌, IsTrue, length}
 ghost use Rattle.raw_region.specs.Format.{current};
 ghost use Rattle.best_fit.specs.{Heap.ChangesBytes, Heap.IsHeap, Heap.has_room, Heap.live_of};
 ghost use Rattle.seg_vector.specs.Containers.{place_at};
-ghost use Rattle.seg_vector.specs.VectorCalls.{Assigns, Clears, ReadsVectorLen, CountsPlaces, ErasesFrom, ExtendsBy};
+ghost use Rattle.seg_vector.specs.VectorCalls.{Assigns, Clears, ReadsVectorLen, CountsCapacity, ErasesFrom, ExtendsBy};
 ghost use Rattle.seg_vector.specs.VectorCalls.{Gets};
 ghost use Rattle.seg_vector.specs.VectorCalls.{InsertsInto, IsSomeVector, IsVector, Pops, Pushes};
 ghost use Rattle.seg_vector.specs.VectorCalls.{ReleasesVector};
@@ -66,7 +66,7 @@ impl<T: Plain> SegVec<T> {
     /// Returns the capacity: the number of values that the storage can hold.
     pub fn capacity(self, heap: &Heap) -> u64
         requires { IsSomeVector T.SIZE T.is_value T.spelling heap.now.bytes self.place }
-        ensures { CountsPlaces T.SIZE T.is_value T.spelling heap.now.bytes self.place result }
+        ensures { CountsCapacity T.SIZE T.is_value T.spelling heap.now.bytes self.place result }
     {
         capacity_of(heap, self.place)
     }

@@ -8,7 +8,7 @@ mod requests;
 
 use raw_region::std_io::{ReadOnce, StdSink, StdSource};
 use raw_region::{DeviceFault, Source};
-use requests::{NoAnswerMemory, as_strs, buffered_writer, command_words, read_request};
+use requests::{NoAnswerMemory, as_strs, buffered_writer, command_arguments, read_request};
 use segment_answers::{LineOutput, NumberedOutput};
 use segment_cli::SessionFault;
 use segment_commands::{
@@ -51,7 +51,7 @@ fn tell(rt: &HostRuntime, fault: CommandFault) -> u8 {
 /// Does what the program's own command line asks for, and returns the status. Words that are no UTF-8 are a wrong
 /// command line, unless they are paths.
 fn obey(rt: &HostRuntime) -> Result<u8, NoAnswerMemory> {
-    let Some(owned) = command_words(rt)? else {
+    let Some(owned) = command_arguments(rt)? else {
         return Ok(tell_no_text(rt));
     };
     let words = as_strs(rt.alloc(), owned.as_slice())?;
@@ -74,7 +74,10 @@ fn tell_no_text(rt: &HostRuntime) -> u8 {
 
 /// Returns how many words stand for words that are no UTF-8.
 fn count_stand_ins(words: &[&str]) -> usize {
-    words.iter().filter(|word| is_stand_in(word)).count()
+    words
+        .iter()
+        .filter(|argument| is_stand_in(argument))
+        .count()
 }
 
 /// Counts the stand-ins of paths that are no UTF-8, among the files of a command and its script.
@@ -415,7 +418,7 @@ fn is_plea(line: &[u8]) -> bool {
         b"quit\n".as_slice(),
         b"exit\n".as_slice(),
     ];
-    words.iter().any(|word| *word == line)
+    words.iter().any(|argument| *argument == line)
 }
 
 /// The script of standard input. If a person types it, and reads standard error, they are prompted for each line.

@@ -11,7 +11,7 @@ use std::io::{BufWriter, ErrorKind, Write};
 const PIECE: usize = 65536;
 
 /// The most bytes that a word may have in a command line that is not all UTF-8: as many as Linux lets it have.
-const LONGEST_WORD: usize = 131072;
+const LONGEST_ARGUMENT: usize = 131072;
 
 /// The allocator refused memory for the command line or the answers. Its field is private: this module alone makes it,
 /// where it asked.
@@ -25,30 +25,30 @@ const REFUSED: NoAnswerMemory = NoAnswerMemory { _made: () };
 
 /// Returns the words of the command line, the program's name first. A stand-in replaces each word that is no UTF-8.
 /// Returns none if such a word begins with a hyphen, or if any word is too long to be read.
-pub fn command_words(rt: &HostRuntime) -> Result<Option<Vec<String>>, NoAnswerMemory> {
+pub fn command_arguments(rt: &HostRuntime) -> Result<Option<Vec<String>>, NoAnswerMemory> {
     match std::env::args(rt) {
         Ok(words) => match words.collect(rt.alloc()) {
             Ok(words) => Ok(Some(words)),
             Err(_) => Err(REFUSED),
         },
         Err(error) if error.kind() == ErrorKind::OutOfMemory => Err(REFUSED),
-        Err(_) => raw_words(rt),
+        Err(_) => raw_arguments(rt),
     }
 }
 
 /// Returns the words of a command line that is not all UTF-8.
-fn raw_words(rt: &HostRuntime) -> Result<Option<Vec<String>>, NoAnswerMemory> {
-    let mut room = Vec::new(rt.alloc());
-    room.resize(LONGEST_WORD, 0u8).map_err(|_| REFUSED)?;
+fn raw_arguments(rt: &HostRuntime) -> Result<Option<Vec<String>>, NoAnswerMemory> {
+    let mut storage = Vec::new(rt.alloc());
+    storage.resize(LONGEST_ARGUMENT, 0u8).map_err(|_| REFUSED)?;
     let mut words = Vec::new(rt.alloc());
     for index in 0..usize::MAX {
-        let word = match rt.arg(index, room.as_mut_slice()) {
-            Ok(len) => word_of(rt.alloc(), room.get(..len).unwrap_or(&[])),
+        let argument = match rt.arg(index, storage.as_mut_slice()) {
+            Ok(len) => argument_of(rt.alloc(), storage.get(..len).unwrap_or(&[])),
             Err(FillError::NotPresent) => break,
             Err(FillError::TooLong) => return Ok(None),
         };
-        match word {
-            Ok(Some(word)) => words.push(word).map_err(|_| REFUSED)?,
+        match argument {
+            Ok(Some(argument)) => words.push(argument).map_err(|_| REFUSED)?,
             Ok(None) => return Ok(None),
             Err(_) => return Err(REFUSED),
         }
@@ -57,12 +57,12 @@ fn raw_words(rt: &HostRuntime) -> Result<Option<Vec<String>>, NoAnswerMemory> {
 }
 
 /// Returns a word as text, or its stand-in, but none for an option that is no UTF-8.
-fn word_of(alloc: Global, bytes: &[u8]) -> Result<Option<String>, AllocError> {
+fn argument_of(alloc: Global, bytes: &[u8]) -> Result<Option<String>, AllocError> {
     match std::str::from_utf8(bytes) {
         Ok(text) => {
-            let mut word = String::new(alloc);
-            word.push_str(text)?;
-            Ok(Some(word))
+            let mut argument = String::new(alloc);
+            argument.push_str(text)?;
+            Ok(Some(argument))
         }
         Err(_) if bytes.starts_with(b"-") => Ok(None),
         Err(_) => Ok(Some(stand_in(alloc, bytes)?)),
@@ -73,7 +73,7 @@ fn word_of(alloc: Global, bytes: &[u8]) -> Result<Option<String>, AllocError> {
 pub fn as_strs<'a>(alloc: Global, words: &'a [String]) -> Result<Vec<&'a str>, NoAnswerMemory> {
     words
         .iter()
-        .map(|word| word.as_str())
+        .map(|argument| argument.as_str())
         .collect(alloc)
         .map_err(|_| REFUSED)
 }

@@ -4,7 +4,7 @@ ghost use Rattle.std.specs.Prelude.{min, take, IfOk, OnOk, OnErr};
 ghost use Rattle.raw_region.specs.Answers.{failures_in, write_failures_in};
 ghost use Rattle.segment_disk.specs.Events.{nothing_taken};
 ghost use Rattle.segment_answers.specs.Numbers.{has_number, next_in_text, is_in_text, number_at, text_part};
-ghost use Rattle.segment_answers.specs.declared.numbered_output.LineSpot.TheVariants.{Front, Broken as IsBroken};
+ghost use Rattle.segment_answers.specs.declared.numbered_output.LineSpot.TheVariants.{LineStart, Broken as IsBroken};
 
 use crate::line_output::LineOutput;
 use raw_region::std_io::StdSink;
@@ -16,7 +16,7 @@ use segment_lang::{Piece, put_pieces};
 #[derive(Clone, Copy, Debug, PartialEq, Eq)]
 pub enum LineSpot {
     /// The byte begins a line, whose number must be written first.
-    Front,
+    LineStart,
     /// The byte begins a line, whose number is written.
     Ahead,
     /// The byte is within a line.
@@ -46,7 +46,7 @@ fn spot_behind(byte: u8) -> LineSpot
     ensures contents { result ≢ IsBroken }
 {
     if byte == b'\n' {
-        LineSpot::Front
+        LineSpot::LineStart
     } else {
         LineSpot::Inside
     }
@@ -80,7 +80,7 @@ impl<O: Output> NumberedOutput<O> {
         NumberedOutput {
             inner,
             number: 0,
-            spot: LineSpot::Front,
+            spot: LineSpot::LineStart,
             failures: 0,
             plain: StdSink::new(PassThrough),
         }
@@ -103,14 +103,14 @@ impl<O: Output> NumberedOutput<O> {
                 self.failures += 1;
                 Err(DeviceFault)
             }
-            LineSpot::Front => self.put_number(),
+            LineSpot::LineStart => self.put_number(),
         }
     }
 
     /// Writes the number of the line that begins here.
     fn put_number(&mut self) -> Result<(), DeviceFault>
-        requires front { self.old.spot ≡ Front }
-        requires room { self.old.failures < 2 ^ 64 - 1 }
+        requires line_start { self.old.spot ≡ LineStart }
+        requires no_overflow { self.old.failures < 2 ^ 64 - 1 }
         ensures on_ok { OnOk result (has_number self.new.spot ≡ true) }
         ensures on_error { OnErr result (self.new.spot ≡ IsBroken) }
         ensures output { OnOk result ((O.history self.new.inner).bytes
@@ -135,7 +135,7 @@ impl<O: Output> NumberedOutput<O> {
 
     /// Writes bytes of one line, whose number is already written, and returns the number of bytes that were taken.
     fn take(&mut self, line: &[u8]) -> Result<usize, DeviceFault>
-        requires room { self.old.failures < 2 ^ 64 - 1 }
+        requires no_overflow { self.old.failures < 2 ^ 64 - 1 }
         requires start { has_number self.old.spot ≡ true }
         requires non_empty { 0 < length line.now }
         requires line { (k : ℕ) → k < length line.now → is_in_text true (take k line.now) ≡ true }

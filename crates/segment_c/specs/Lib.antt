@@ -17,4 +17,4 @@ pub mod Reads
 pub mod Resizing
 pub mod Transactions
 pub mod Views
-pub mod Words
+pub mod Messages

@@ -8,7 +8,7 @@ use Rattle.segment_manager.specs.Answers.{Answer, Done, Element}
 use Rattle.seg_types.specs.Kinds.{code_of, is_value, kind_of_code, scalar_of_code, truth_number}
 use Rattle.seg_types.specs.Names.{Key, ByName, ByKind, ByHandle, NoKey, is_text_name}
 use Rattle.segment_c.specs.declared.keys.ObjectKey.{ObjectKey}
-use Rattle.segment_c.specs.{declared.values.CScalar.CScalar, declared.rows.CScalars.CScalars}
+use Rattle.segment_c.specs.{declared.values.CScalar.CScalar, declared.slices.CScalars.CScalars}
 
 -- ---- the first code of some that is not 0
 
@@ -112,12 +112,12 @@ count_wrong n = if nat_le 1 n && nat_le n 1048576 then 0 else 21
 
 -- ---- rows of values
 
-abbrev pub row_kind_wrong : ℕ → ℕ
-row_kind_wrong code = if code == 0 then 25 else scalar_kind_wrong code
+abbrev pub slice_kind_wrong : ℕ → ℕ
+slice_kind_wrong code = if code == 0 then 25 else scalar_kind_wrong code
 
 -- the code of a wrong row
-abbrev pub row_wrong : CScalars → ℕ
-row_wrong v = row_kind_wrong v.kind
+abbrev pub slice_wrong : CScalars → ℕ
+slice_wrong v = slice_kind_wrong v.kind
 
 -- the kind of scalars that a code says, if it says one
 abbrev pub scalar_kind_in : ℕ → ScalarKind
@@ -132,8 +132,8 @@ numbers_of v I64 = map (λ x. x) v.i64s.now
 numbers_of v U64 = map pos v.u64s.now
 
 -- the numbers of a row
-abbrev pub row_of : CScalars → List ℤ
-row_of v = numbers_of v (scalar_kind_in v.kind)
+abbrev pub slice_of : CScalars → List ℤ
+slice_of v = numbers_of v (scalar_kind_in v.kind)
 
 -- how many they are
 abbrev pub many_of : CScalars → ScalarKind → ℕ
@@ -144,8 +144,8 @@ many_of v I64 = length v.i64s.now
 many_of v U64 = length v.u64s.now
 
 -- how many numbers a row has
-abbrev pub row_count : CScalars → ℕ
-row_count v = many_of v (scalar_kind_in v.kind)
+abbrev pub slice_count : CScalars → ℕ
+slice_count v = many_of v (scalar_kind_in v.kind)
 
 -- the kind of objects that a code says, if it says one
 unfoldable pub object_kind_in : ℕ → Kind

@@ -21,7 +21,7 @@ IsCoded P code (Err why) = code ≡ refusal_number why
 
 -- how many elements, and how many places
 abbrev pub AreSizes : ℕ → ℕ → ℕ × ℕ → Type 0
-AreSizes len places sizes = (len ≡ sizes.0) × (places ≡ sizes.1)
+AreSizes len slots sizes = (len ≡ sizes.0) × (slots ≡ sizes.1)
 
 -- bytes stand at the front of a buffer, if it has room for them, and how many they are goes out in any case
 pub record CopiesBytes (bytes old new : List ℕ) (len code : ℕ) : Type 0 where

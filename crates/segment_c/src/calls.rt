@@ -5,13 +5,13 @@ ghost use Rattle.seg_types.specs.Keys.{index_key_seen, key_seen, new_key_seen};
 ghost use Rattle.seg_types.specs.Names.{NoKey};
 ghost use Rattle.segment_c.specs.Calls.{RefusesCall};
 ghost use Rattle.segment_c.specs.Passed.{entry_of, entry_wrong, key_of, key_wrong, literal_in, new_of, new_wrong};
-ghost use Rattle.segment_c.specs.Passed.{or_else, row_wrong, scalar_kind_in, value_wrong};
+ghost use Rattle.segment_c.specs.Passed.{or_else, slice_wrong, scalar_kind_in, value_wrong};
 ghost use Rattle.segment_manager.specs.objects.NewObjects.{IsOfKind};
 ghost use Rattle.seg_types.specs.Written.{literal_seen};
 
 use crate::keys::ObjectKey;
-use crate::rows::CScalars;
 use crate::segment_slot::{SegmentSlot, take};
+use crate::slices::CScalars;
 use crate::values::CScalar;
 use seg_types::{Handle, IndexKey, Key, Kind, NewKey, ScalarKind, ScalarValue};
 use segment_manager::Segment;
@@ -121,16 +121,16 @@ pub fn enter_pair<'a>(
 }
 
 /// Returns the key, the kind of a row of values, and the segment.
-pub fn enter_row<'a>(
+pub fn enter_slice<'a>(
     alloc: Global,
     h: &mut SegmentSlot,
     key: &ObjectKey<'a>,
     values: &CScalars<'_>,
 ) -> Result<(Key<'a>, ScalarKind, Box<Segment>), u32>
-    ensures entry { MatchResult result (λ it. (or_else (key_wrong key.now) (row_wrong values.now) ≡ 0)
+    ensures entry { MatchResult result (λ it. (or_else (key_wrong key.now) (slice_wrong values.now) ≡ 0)
         × (key_seen it.0 ≡ key_of key.now) × (it.1 ≡ scalar_kind_in values.now.kind)
         × (h.old.segment.value ≡ Some it.2.value) × (h.new.segment.value ≡ None))
-        (λ code. RefusesCall (or_else (key_wrong key.now) (row_wrong values.now)) code h.old.segment.value
+        (λ code. RefusesCall (or_else (key_wrong key.now) (slice_wrong values.now)) code h.old.segment.value
         h.new.segment.value) }
     ensures marks { h.new.marks ≡ h.old.marks }
 {

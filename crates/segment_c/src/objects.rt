@@ -20,8 +20,8 @@ ghost use Rattle.segment_manager.specs.State.{AnswersQuery, TakesStep, truth_ans
 use crate::calls::{enter, enter_entry, enter_new, passed};
 use crate::codes::{BAD_COUNT, BAD_KIND, found, found_or_absent, made, truth};
 use crate::keys::ObjectKey;
-use crate::rows::CScalars;
 use crate::segment_slot::{SegmentSlot, take};
+use crate::slices::CScalars;
 use crate::values::CScalar;
 use seg_types::{IndexKey, Key, Kind, MAX_ARRAY_LEN, Refusal, ScalarKind, ScalarValue};
 use segment_manager::Segment;

@@ -6,30 +6,30 @@ ghost use Rattle.seg_types.specs.Keys.{key_seen};
 ghost use Rattle.seg_types.specs.Kinds.{truth_number};
 ghost use Rattle.segment_c.specs.Handles.{ChangesHandle};
 ghost use Rattle.segment_c.specs.Codes.{answer_for};
-ghost use Rattle.segment_c.specs.Passed.{key_of, key_wrong, numbers_of, or_else, row_of, row_wrong, scalar_kind_in};
+ghost use Rattle.segment_c.specs.Passed.{key_of, key_wrong, numbers_of, or_else, slice_of, slice_wrong, scalar_kind_in};
 ghost use Rattle.segment_c.specs.Reads.{IsCoded, ReadsRange};
 ghost use Rattle.segment_manager.specs.Answers.{Done};
 ghost use Rattle.segment_manager.specs.Directory.{Directory};
 ghost use Rattle.segment_manager.specs.State.{DenotesCurrent, done_answer};
 ghost use Rattle.segment_manager.specs.containers.Ranges.{WritesRange, range_at};
 
-use crate::calls::{enter, enter_row, passed};
+use crate::calls::{enter, enter_slice, passed};
 use crate::codes::{DONE, code_of, done};
 use crate::keys::ObjectKey;
-use crate::rows::{CScalars, on_slice};
 use crate::segment_slot::{SegmentSlot, put};
+use crate::slices::{CScalars, on_slice};
 use seg_types::{Key, Refusal, Scalar, ScalarKind};
 use segment_manager::Segment;
 use std::alloc::Global;
 
 /// Copies elements of the object of a key into a row, of a type.
-fn read_row<T: Scalar>(segment: &Segment, key: &Key, first: u64, row: &mut [T]) -> u32
+fn read_slice<T: Scalar>(segment: &Segment, key: &Key, first: u64, series: &mut [T]) -> u32
     ensures read { (d : Directory) → DenotesCurrent segment.now.cut.bytes d
-        → IsCoded (λ zs. map T.whole row.new
-        ≡ zs) result (range_at d (key_seen key.now) T.kind first (length row.old)) }
-    ensures unchanged_on_error { 1 ≤ result → row.new ≡ row.old }
+        → IsCoded (λ zs. map T.whole series.new
+        ≡ zs) result (range_at d (key_seen key.now) T.kind first (length series.old)) }
+    ensures unchanged_on_error { 1 ≤ result → series.new ≡ series.old }
 {
-    match segment_values::read_elements(segment, key, first, row) {
+    match segment_values::read_elements(segment, key, first, series) {
         Ok(()) => DONE,
         Err(why) => code_of(why),
     }
@@ -41,12 +41,12 @@ fn read_range<T: Scalar>(
     h: &mut SegmentSlot,
     key: &ObjectKey<'_>,
     first: u64,
-    row: &mut [T],
+    series: &mut [T],
 ) -> u32
-    ensures { ReadsRange T.whole T.kind key.now first row.old row.new result h.old h.new }
+    ensures { ReadsRange T.whole T.kind key.now first series.old series.new result h.old h.new }
 {
     let (which, segment) = passed!(enter(alloc, h, key));
-    put(read_row(&segment, &which, first, row), h, segment)
+    put(read_slice(&segment, &which, first, series), h, segment)
 }
 
 /// Copies elements of the array or vector of a key into a row of truths: as many as the row has, from `first` on.
@@ -56,11 +56,11 @@ pub extern "C" fn zx_read_bools(
     h: &mut SegmentSlot,
     key: &ObjectKey<'_>,
     first: u64,
-    row: &mut [bool],
+    series: &mut [bool],
 ) -> u32
-    ensures { ReadsRange truth_number BoolKind key.now first row.old row.new result h.old h.new }
+    ensures { ReadsRange truth_number BoolKind key.now first series.old series.new result h.old h.new }
 {
-    read_range::<bool>(alloc, h, key, first, row)
+    read_range::<bool>(alloc, h, key, first, series)
 }
 
 /// Copies elements of the array or vector of a key into a row of bytes: as many as the row has, from `first` on.
@@ -70,11 +70,11 @@ pub extern "C" fn zx_read_u8s(
     h: &mut SegmentSlot,
     key: &ObjectKey<'_>,
     first: u64,
-    row: &mut [u8],
+    series: &mut [u8],
 ) -> u32
-    ensures { ReadsRange pos U8Kind key.now first row.old row.new result h.old h.new }
+    ensures { ReadsRange pos U8Kind key.now first series.old series.new result h.old h.new }
 {
-    read_range::<u8>(alloc, h, key, first, row)
+    read_range::<u8>(alloc, h, key, first, series)
 }
 
 /// Copies elements of the array or vector of a key into a row of numbers of 32 bits: as many as the row has, from
@@ -85,11 +85,11 @@ pub extern "C" fn zx_read_i32s(
     h: &mut SegmentSlot,
     key: &ObjectKey<'_>,
     first: u64,
-    row: &mut [i32],
+    series: &mut [i32],
 ) -> u32
-    ensures { ReadsRange (λ x. x) I32Kind key.now first row.old row.new result h.old h.new }
+    ensures { ReadsRange (λ x. x) I32Kind key.now first series.old series.new result h.old h.new }
 {
-    read_range::<i32>(alloc, h, key, first, row)
+    read_range::<i32>(alloc, h, key, first, series)
 }
 
 /// Copies elements of the array or vector of a key into a row of signed numbers of 64 bits: as many as the row has,
@@ -100,11 +100,11 @@ pub extern "C" fn zx_read_i64s(
     h: &mut SegmentSlot,
     key: &ObjectKey<'_>,
     first: u64,
-    row: &mut [i64],
+    series: &mut [i64],
 ) -> u32
-    ensures { ReadsRange (λ x. x) I64Kind key.now first row.old row.new result h.old h.new }
+    ensures { ReadsRange (λ x. x) I64Kind key.now first series.old series.new result h.old h.new }
 {
-    read_range::<i64>(alloc, h, key, first, row)
+    read_range::<i64>(alloc, h, key, first, series)
 }
 
 /// Copies elements of the array or vector of a key into a row of numbers of 64 bits without a sign: as many as the row
@@ -115,26 +115,26 @@ pub extern "C" fn zx_read_u64s(
     h: &mut SegmentSlot,
     key: &ObjectKey<'_>,
     first: u64,
-    row: &mut [u64],
+    series: &mut [u64],
 ) -> u32
-    ensures { ReadsRange pos U64Kind key.now first row.old row.new result h.old h.new }
+    ensures { ReadsRange pos U64Kind key.now first series.old series.new result h.old h.new }
 {
-    read_range::<u64>(alloc, h, key, first, row)
+    read_range::<u64>(alloc, h, key, first, series)
 }
 
 /// Makes the values of a row, of which the slice of a kind is meant, elements of the object of a key, from `first` on.
-fn write_row(
+fn write_slice(
     segment: &mut Segment,
     key: &Key,
     first: u64,
     kind: ScalarKind,
-    row: &CScalars<'_>,
+    series: &CScalars<'_>,
 ) -> Result<(), Refusal>
-    ensures step { WritesRange segment.old segment.new (key_seen key.now) kind first (numbers_of row.now kind)
+    ensures step { WritesRange segment.old segment.new (key_seen key.now) kind first (numbers_of series.now kind)
         (done_answer result) }
     ensures refused { OnErr result (segment.new ≡ segment.old) }
 {
-    on_slice!(row, kind, slice => segment.write_range(key, first, slice))
+    on_slice!(series, kind, slice => segment.write_range(key, first, slice))
 }
 
 /// Makes the values elements of the array or vector of a key, of their kind, from `first` on: all of them or none.
@@ -146,11 +146,11 @@ pub extern "C" fn zx_write_elements(
     first: u64,
     values: &CScalars<'_>,
 ) -> u32
-    ensures call { ChangesHandle (or_else (key_wrong key.now) (row_wrong values.now)) result h.old h.new
-        (λ s t. WritesRange s t (key_of key.now) (scalar_kind_in values.now.kind) first (row_of values.now)
+    ensures call { ChangesHandle (or_else (key_wrong key.now) (slice_wrong values.now)) result h.old h.new
+        (λ s t. WritesRange s t (key_of key.now) (scalar_kind_in values.now.kind) first (slice_of values.now)
         (answer_for result Done)) }
 {
-    let (which, kind, mut segment) = passed!(enter_row(alloc, h, key, values));
-    let answer = write_row(&mut segment, &which, first, kind, values);
+    let (which, kind, mut segment) = passed!(enter_slice(alloc, h, key, values));
+    let answer = write_slice(&mut segment, &which, first, kind, values);
     done(answer, h, segment)
 }

@@ -20,35 +20,35 @@ use seg_types::Key;
 use segment_manager::Segment;
 use std::alloc::Global;
 
-/// Counts the elements (`len`) and the places (`places`) of the vector or string of a key. For the map of a key, `len`
-/// is the number of pairs and `places` is 0.
+/// Counts the elements (`len`) and the places (`slots`) of the vector or string of a key. For the map of a key, `len`
+/// is the number of pairs and `slots` is 0.
 #[unsafe(no_mangle)]
 pub extern "C" fn zx_measure(
     alloc: Global,
     h: &mut SegmentSlot,
     key: &ObjectKey<'_>,
     len: &mut u64,
-    places: &mut u64,
+    slots: &mut u64,
 ) -> u32
     ensures read { ReadsHandle (key_wrong key.now) result h.old h.new
         (λ s. (d : Directory) → DenotesCurrent s.cut.bytes d
-        → IsCoded (AreSizes len.new places.new) result (sizes_at d (key_of key.now))) }
-    ensures outputs_on_error { 1 ≤ result → (len.new ≡ len.old) × (places.new ≡ places.old) }
+        → IsCoded (AreSizes len.new slots.new) result (sizes_at d (key_of key.now))) }
+    ensures outputs_on_error { 1 ≤ result → (len.new ≡ len.old) × (slots.new ≡ slots.old) }
 {
     let (which, segment) = passed!(enter(alloc, h, key));
-    put(measure(&segment, &which, len, places), h, segment)
+    put(measure(&segment, &which, len, slots), h, segment)
 }
 
 /// Counts the elements and the places of the vector or string of a key in a segment, or the pairs of the key's map.
-fn measure(segment: &Segment, key: &Key, len: &mut u64, places: &mut u64) -> u32
+fn measure(segment: &Segment, key: &Key, len: &mut u64, slots: &mut u64) -> u32
     ensures read { (d : Directory) → DenotesCurrent segment.now.cut.bytes d
-        → IsCoded (AreSizes len.new places.new) result (sizes_at d (key_seen key.now)) }
-    ensures unchanged_on_error { 1 ≤ result → (len.new ≡ len.old) × (places.new ≡ places.old) }
+        → IsCoded (AreSizes len.new slots.new) result (sizes_at d (key_seen key.now)) }
+    ensures unchanged_on_error { 1 ≤ result → (len.new ≡ len.old) × (slots.new ≡ slots.old) }
 {
     match segment.measure(key) {
         Ok((elements, capacity)) => {
             *len = elements;
-            *places = capacity;
+            *slots = capacity;
             DONE
         }
         Err(why) => code_of(why),

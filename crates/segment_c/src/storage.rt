@@ -8,7 +8,7 @@ ghost use Rattle.segment_c.specs.Codes.{answer_for};
 ghost use Rattle.segment_c.specs.Passed.{key_of, key_wrong};
 ghost use Rattle.segment_manager.specs.Answers.{Done, Boolean};
 ghost use Rattle.segment_manager.specs.Calls.{HasZeroGaps};
-ghost use Rattle.segment_manager.specs.Keeping.{HasPlaces, UnchangedWhere};
+ghost use Rattle.segment_manager.specs.Keeping.{HasCapacity, UnchangedWhere};
 ghost use Rattle.segment_manager.specs.State.{AnswersQuery, TakesStep};
 
 use crate::calls::{enter, passed};
@@ -18,21 +18,21 @@ use crate::keys::ObjectKey;
 use crate::segment_slot::{SegmentSlot, put, take};
 use std::alloc::Global;
 
-/// Gives the vector or string of a key `places` places, if it has fewer.
+/// Gives the vector or string of a key `slots` places, if it has fewer.
 #[unsafe(no_mangle)]
 pub extern "C" fn zx_reserve(
     alloc: Global,
     h: &mut SegmentSlot,
     key: &ObjectKey<'_>,
-    places: u64,
+    slots: u64,
 ) -> u32
     ensures call { ChangesHandle (key_wrong key.now) result h.old h.new
-        (λ s t. TakesStep s t (Reserve (key_of key.now) places) (answer_for result Done)) }
+        (λ s t. TakesStep s t (Reserve (key_of key.now) slots) (answer_for result Done)) }
     ensures noop { ReachesSegment (key_wrong key.now) result h.old.segment.value h.new.segment.value (λ s t.
-        UnchangedWhere s t (HasPlaces (key_of key.now) places)) }
+        UnchangedWhere s t (HasCapacity (key_of key.now) slots)) }
 {
     let (which, mut segment) = passed!(enter(alloc, h, key));
-    done(segment.reserve(&which, places), h, segment)
+    done(segment.reserve(&which, slots), h, segment)
 }
 
 /// Gives back the places of the vector or string of a key that have no element.
@@ -55,26 +55,26 @@ pub extern "C" fn zx_clear(alloc: Global, h: &mut SegmentSlot, key: &ObjectKey<'
 
 /// Makes room in the index of names.
 #[unsafe(no_mangle)]
-pub extern "C" fn zx_reserve_named(alloc: Global, h: &mut SegmentSlot, places: u64) -> u32
+pub extern "C" fn zx_reserve_named(alloc: Global, h: &mut SegmentSlot, slots: u64) -> u32
     ensures call { MakesInHandle 0 result h.old h.new
-        (λ s t. TakesStep s t (ReserveNamed places) (answer_for result Done)) }
+        (λ s t. TakesStep s t (ReserveNamed slots) (answer_for result Done)) }
     ensures noop { ReachesSegment 0 result h.old.segment.value h.new.segment.value (λ s t.
-        UnchangedWhere s t (λ d. places ≤ d.named.capacity)) }
+        UnchangedWhere s t (λ d. slots ≤ d.named.capacity)) }
 {
     let mut segment = passed!(take(alloc, h));
-    done(segment.reserve_named(places), h, segment)
+    done(segment.reserve_named(slots), h, segment)
 }
 
 /// Makes room in the index of unique kinds.
 #[unsafe(no_mangle)]
-pub extern "C" fn zx_reserve_unique(alloc: Global, h: &mut SegmentSlot, places: u64) -> u32
+pub extern "C" fn zx_reserve_unique(alloc: Global, h: &mut SegmentSlot, slots: u64) -> u32
     ensures call { MakesInHandle 0 result h.old h.new
-        (λ s t. TakesStep s t (ReserveUnique places) (answer_for result Done)) }
+        (λ s t. TakesStep s t (ReserveUnique slots) (answer_for result Done)) }
     ensures noop { ReachesSegment 0 result h.old.segment.value h.new.segment.value (λ s t.
-        UnchangedWhere s t (λ d. places ≤ d.unique.capacity)) }
+        UnchangedWhere s t (λ d. slots ≤ d.unique.capacity)) }
 {
     let mut segment = passed!(take(alloc, h));
-    done(segment.reserve_unique(places), h, segment)
+    done(segment.reserve_unique(slots), h, segment)
 }
 
 /// Gives back the room of the indexes that no entry uses.

@@ -6,7 +6,8 @@ ghost use Rattle.seg_types.specs.declared.kinds.Kind.TheVariants.{Scalar as Scal
 ghost use Rattle.segment_c.specs.Handles.{ChangesHandle, MakesInHandle};
 ghost use Rattle.segment_c.specs.{Codes.answer_for, Making.FindsOrMakesObject};
 ghost use Rattle.segment_c.specs.Passed.{count_wrong, entry_of, entry_wrong, key_of, key_wrong, many_of, new_of};
-ghost use Rattle.segment_c.specs.Passed.{new_wrong, numbers_of, or_else, row_count, row_of, row_wrong, scalar_kind_in};
+ghost use Rattle.segment_c.specs.Passed.{new_wrong, numbers_of, or_else, slice_count, slice_of, slice_wrong};
+ghost use Rattle.segment_c.specs.Passed.{scalar_kind_in};
 ghost use Rattle.segment_manager.specs.Answers.{Done, Found, Made};
 ghost use Rattle.segment_manager.specs.containers.Ranges.{ExtendsVector};
 ghost use Rattle.segment_manager.specs.objects.Found.{found_object_answer};
@@ -15,74 +16,74 @@ ghost use Rattle.segment_manager.specs.objects.NewObjects.{IsOfKind};
 ghost use Rattle.segment_manager.specs.State.{TakesStep, TakesStepOfKind, UnchangedIfRefused as KeepsOld, done_answer};
 ghost use Rattle.segment_manager.specs.State.{handle_answer};
 
-use crate::calls::{enter_entry, enter_new, enter_row, passed};
+use crate::calls::{enter_entry, enter_new, enter_slice, passed};
 use crate::codes::{BAD_COUNT, done, found, made};
 use crate::keys::ObjectKey;
 use crate::objects::MOST;
-use crate::rows::{CScalars, on_slice};
 use crate::segment_slot::SegmentSlot;
+use crate::slices::{CScalars, on_slice};
 use seg_types::{IndexKey, Key, Kind, NewKey, Refusal, ScalarKind};
 use segment_manager::Segment;
 use std::alloc::Global;
 
 /// Makes a vector of the values of a row, of which the slice of a kind is meant.
-fn construct_row(
+fn construct_slice(
     segment: &mut Segment,
     key: &NewKey,
     kind: ScalarKind,
-    row: &CScalars<'_>,
+    series: &CScalars<'_>,
 ) -> Result<u64, Refusal>
     requires { IsOfKind (new_key_seen key.now) (VectorOf kind) }
     ensures step { TakesStep segment.old segment.new
-        (Construct (new_key_seen key.now) (Elements kind (numbers_of row.now kind))) (handle_answer result) }
+        (Construct (new_key_seen key.now) (Elements kind (numbers_of series.now kind))) (handle_answer result) }
     ensures refused { KeepsOld segment.old segment.new result }
 {
-    on_slice!(row, kind, slice => segment.construct_vec(key, slice))
+    on_slice!(series, kind, slice => segment.construct_vec(key, slice))
 }
 
 /// Returns the vector of a key, or a new one of the values of a row, of which the slice of a kind is meant.
-fn find_or_construct_row(
+fn find_or_construct_slice(
     segment: &mut Segment,
     key: &IndexKey,
     kind: ScalarKind,
-    row: &CScalars<'_>,
+    series: &CScalars<'_>,
 ) -> Result<(u64, u32), Refusal>
     requires { IsOfKind (index_key_seen key.now) (VectorOf kind) }
     ensures step { TakesStep segment.old segment.new
-        (FindOrConstruct (index_key_seen key.now) (Elements kind (numbers_of row.now kind)))
+        (FindOrConstruct (index_key_seen key.now) (Elements kind (numbers_of series.now kind)))
         (found_object_answer result) }
     ensures refused { KeepsOld segment.old segment.new result }
     ensures search { UnchangedWhere segment.old segment.new (IsBoundKey (index_key_seen key.now)) }
 {
-    on_slice!(row, kind, slice => segment.find_or_construct_vec(key, slice))
+    on_slice!(series, kind, slice => segment.find_or_construct_vec(key, slice))
 }
 
 /// Makes the values of a row those of a vector, of which the slice of a kind is meant.
-fn assign_row(
+fn assign_slice(
     segment: &mut Segment,
     key: &Key,
     kind: ScalarKind,
-    row: &CScalars<'_>,
+    series: &CScalars<'_>,
 ) -> Result<(), Refusal>
     ensures step { TakesStepOfKind segment.old segment.new (key_seen key.now) (VectorOf kind)
-        (Assign (key_seen key.now) (map (literal_of kind) (numbers_of row.now kind))) (done_answer result) }
+        (Assign (key_seen key.now) (map (literal_of kind) (numbers_of series.now kind))) (done_answer result) }
     ensures refused { OnErr result (segment.new ≡ segment.old) }
 {
-    on_slice!(row, kind, slice => segment.vec_assign(key, slice))
+    on_slice!(series, kind, slice => segment.vec_assign(key, slice))
 }
 
 /// Puts the values of a row, of which the slice of a kind is meant, after the last element of a vector.
-fn extend_row(
+fn extend_slice(
     segment: &mut Segment,
     key: &Key,
     kind: ScalarKind,
-    row: &CScalars<'_>,
+    series: &CScalars<'_>,
 ) -> Result<(), Refusal>
-    ensures step { ExtendsVector segment.old segment.new (key_seen key.now) kind (numbers_of row.now kind)
+    ensures step { ExtendsVector segment.old segment.new (key_seen key.now) kind (numbers_of series.now kind)
         (done_answer result) }
     ensures refused { OnErr result (segment.new ≡ segment.old) }
 {
-    on_slice!(row, kind, slice => segment.vec_extend(key, slice))
+    on_slice!(series, kind, slice => segment.vec_extend(key, slice))
 }
 
 /// Makes a vector of the values.
@@ -94,15 +95,15 @@ pub extern "C" fn zx_construct_vector(
     values: &CScalars<'_>,
     handle: &mut u64,
 ) -> u32
-    ensures call { MakesInHandle (or_else (row_wrong values.now)
+    ensures call { MakesInHandle (or_else (slice_wrong values.now)
         (new_wrong key.now (VectorOf (scalar_kind_in values.now.kind)))) result h.old h.new
         (λ s t. TakesStep s t (Construct (new_of key.now (VectorOf (scalar_kind_in values.now.kind)))
-        (Elements (scalar_kind_in values.now.kind) (row_of values.now))) (answer_for result (Made handle.new))) }
+        (Elements (scalar_kind_in values.now.kind) (slice_of values.now))) (answer_for result (Made handle.new))) }
     ensures outputs_on_error { 1 ≤ result → handle.new ≡ handle.old }
 {
     let kind = passed!(values.scalar_kind());
     let (which, mut segment) = passed!(enter_new(alloc, h, key, Kind::Vector(kind)));
-    let answer = construct_row(&mut segment, &which, kind, values);
+    let answer = construct_slice(&mut segment, &which, kind, values);
     made(answer, handle, h, segment)
 }
 
@@ -116,16 +117,16 @@ pub extern "C" fn zx_find_or_construct_vector(
     handle: &mut u64,
     count_found: &mut u32,
 ) -> u32
-    ensures call { MakesInHandle (or_else (row_wrong values.now)
+    ensures call { MakesInHandle (or_else (slice_wrong values.now)
         (entry_wrong key.now (VectorOf (scalar_kind_in values.now.kind)))) result h.old h.new
         (λ s t. FindsOrMakesObject s t (entry_of key.now (VectorOf (scalar_kind_in values.now.kind)))
-        (Elements (scalar_kind_in values.now.kind) (row_of values.now))
+        (Elements (scalar_kind_in values.now.kind) (slice_of values.now))
         (answer_for result (Found handle.new count_found.new))) }
     ensures outputs_on_error { 1 ≤ result → (handle.new ≡ handle.old) × (count_found.new ≡ count_found.old) }
 {
     let kind = passed!(values.scalar_kind());
     let (which, mut segment) = passed!(enter_entry(alloc, h, key, Kind::Vector(kind)));
-    let answer = find_or_construct_row(&mut segment, &which, kind, values);
+    let answer = find_or_construct_slice(&mut segment, &which, kind, values);
     found(answer, handle, count_found, h, segment)
 }
 
@@ -137,13 +138,13 @@ pub extern "C" fn zx_assign(
     key: &ObjectKey<'_>,
     values: &CScalars<'_>,
 ) -> u32
-    ensures call { ChangesHandle (or_else (key_wrong key.now) (row_wrong values.now)) result h.old h.new
+    ensures call { ChangesHandle (or_else (key_wrong key.now) (slice_wrong values.now)) result h.old h.new
         (λ s t. TakesStepOfKind s t (key_of key.now) (VectorOf (scalar_kind_in values.now.kind))
-        (Assign (key_of key.now) (map (literal_of (scalar_kind_in values.now.kind)) (row_of values.now)))
+        (Assign (key_of key.now) (map (literal_of (scalar_kind_in values.now.kind)) (slice_of values.now)))
         (answer_for result Done)) }
 {
-    let (which, kind, mut segment) = passed!(enter_row(alloc, h, key, values));
-    done(assign_row(&mut segment, &which, kind, values), h, segment)
+    let (which, kind, mut segment) = passed!(enter_slice(alloc, h, key, values));
+    done(assign_slice(&mut segment, &which, kind, values), h, segment)
 }
 
 /// Puts the values after the last element of the vector of a key, a vector of their kind: all of them or none.
@@ -154,39 +155,39 @@ pub extern "C" fn zx_extend(
     key: &ObjectKey<'_>,
     values: &CScalars<'_>,
 ) -> u32
-    ensures call { ChangesHandle (or_else (key_wrong key.now) (row_wrong values.now)) result h.old h.new
-        (λ s t. ExtendsVector s t (key_of key.now) (scalar_kind_in values.now.kind) (row_of values.now)
+    ensures call { ChangesHandle (or_else (key_wrong key.now) (slice_wrong values.now)) result h.old h.new
+        (λ s t. ExtendsVector s t (key_of key.now) (scalar_kind_in values.now.kind) (slice_of values.now)
         (answer_for result Done)) }
 {
-    let (which, kind, mut segment) = passed!(enter_row(alloc, h, key, values));
-    done(extend_row(&mut segment, &which, kind, values), h, segment)
+    let (which, kind, mut segment) = passed!(enter_slice(alloc, h, key, values));
+    done(extend_slice(&mut segment, &which, kind, values), h, segment)
 }
 
 /// Makes an array of the values of a row, of which the slice of a kind is meant.
-fn construct_array_row(
+fn construct_array_slice(
     segment: &mut Segment,
     key: &NewKey,
     kind: ScalarKind,
-    row: &CScalars<'_>,
+    series: &CScalars<'_>,
 ) -> Result<u64, Refusal>
     requires kind { IsOfKind (new_key_seen key.now) (ScalarOf kind) }
-    requires non_empty { 1 ≤ many_of row.now kind }
-    requires max_count { many_of row.now kind ≤ 1048576 }
+    requires non_empty { 1 ≤ many_of series.now kind }
+    requires max_count { many_of series.now kind ≤ 1048576 }
     ensures step { TakesStep segment.old segment.new
-        (ConstructIt (new_key_seen key.now) kind (many_of row.now kind) (numbers_of row.now kind))
+        (ConstructIt (new_key_seen key.now) kind (many_of series.now kind) (numbers_of series.now kind))
         (handle_answer result) }
     ensures refused { KeepsOld segment.old segment.new result }
 {
-    on_slice!(row, kind, slice => segment_values::construct_array(segment, key, slice))
+    on_slice!(series, kind, slice => segment_values::construct_array(segment, key, slice))
 }
 
 /// Returns the kind of a row of which an array is made.
 fn array_kind(values: &CScalars<'_>) -> Result<ScalarKind, u32>
-    ensures { MatchResult result (λ kind. (row_wrong values.now ≡ 0) × (kind ≡ scalar_kind_in values.now.kind)
-        × (count_wrong (row_count values.now) ≡ 0) × (1 ≤ many_of values.now kind)
+    ensures { MatchResult result (λ kind. (slice_wrong values.now ≡ 0) × (kind ≡ scalar_kind_in values.now.kind)
+        × (count_wrong (slice_count values.now) ≡ 0) × (1 ≤ many_of values.now kind)
         × (many_of values.now kind ≤ 1048576))
         (λ code. (1 ≤ code) × ((next : ℕ)
-        → code ≡ or_else (row_wrong values.now) (or_else (count_wrong (row_count values.now)) next))) }
+        → code ≡ or_else (slice_wrong values.now) (or_else (count_wrong (slice_count values.now)) next))) }
 {
     let kind = values.scalar_kind()?;
     let count = values.count(kind);
@@ -205,16 +206,16 @@ pub extern "C" fn zx_construct_array(
     values: &CScalars<'_>,
     handle: &mut u64,
 ) -> u32
-    ensures call { MakesInHandle (or_else (row_wrong values.now)
-        (or_else (count_wrong (row_count values.now))
+    ensures call { MakesInHandle (or_else (slice_wrong values.now)
+        (or_else (count_wrong (slice_count values.now))
         (new_wrong key.now (ScalarOf (scalar_kind_in values.now.kind))))) result h.old h.new
         (λ s t. TakesStep s t (ConstructIt (new_of key.now (ScalarOf (scalar_kind_in values.now.kind)))
-        (scalar_kind_in values.now.kind) (row_count values.now) (row_of values.now))
+        (scalar_kind_in values.now.kind) (slice_count values.now) (slice_of values.now))
         (answer_for result (Made handle.new))) }
     ensures outputs_on_error { 1 ≤ result → handle.new ≡ handle.old }
 {
     let kind = passed!(array_kind(values));
     let (which, mut segment) = passed!(enter_new(alloc, h, key, Kind::Scalar(kind)));
-    let answer = construct_array_row(&mut segment, &which, kind, values);
+    let answer = construct_array_slice(&mut segment, &which, kind, values);
     made(answer, handle, h, segment)
 }

@@ -14,19 +14,19 @@ use Rattle.segment_cli.specs.declared.faults.ProgramFault.TheVariants.{Usage, Ex
 -- ---- the line of a fault
 
 -- a class by its number and its name
-abbrev pub class_words : ImageClass → List ℕ
-class_words class.Truncated = codes "1 Truncated"
-class_words class.BadMagic = codes "2 BadMagic"
-class_words class.UnsupportedVersion = codes "3 UnsupportedVersion"
-class_words class.BadSize = codes "4 BadSize"
-class_words class.BadReserved = codes "5 BadReserved"
-class_words class.BadTag = codes "6 BadTag"
-class_words class.BadFreeTree = codes "7 BadFreeTree"
-class_words class.BadIndex = codes "8 BadIndex"
-class_words class.BadObject = codes "9 BadObject"
-class_words class.SharedBlock = codes "10 SharedBlock"
-class_words class.BadContainer = codes "11 BadContainer"
-class_words class.OrphanBlock = codes "12 OrphanBlock"
+abbrev pub class_message : ImageClass → List ℕ
+class_message class.Truncated = codes "1 Truncated"
+class_message class.BadMagic = codes "2 BadMagic"
+class_message class.UnsupportedVersion = codes "3 UnsupportedVersion"
+class_message class.BadSize = codes "4 BadSize"
+class_message class.BadReserved = codes "5 BadReserved"
+class_message class.BadTag = codes "6 BadTag"
+class_message class.BadFreeTree = codes "7 BadFreeTree"
+class_message class.BadIndex = codes "8 BadIndex"
+class_message class.BadObject = codes "9 BadObject"
+class_message class.SharedBlock = codes "10 SharedBlock"
+class_message class.BadContainer = codes "11 BadContainer"
+class_message class.OrphanBlock = codes "12 OrphanBlock"
 
 -- the name of a growth error
 abbrev pub growth_name : GrowError → List ℕ
@@ -36,25 +36,25 @@ growth_name growth.TooLarge = codes "TooLarge"
 growth_name growth.RegionTooSmall = codes "RegionTooSmall"
 
 -- what stands after `segment: `
-abbrev pub session_words : SessionFault → List ℕ
-session_words (session.Image c) = codes "image refused: " ++ class_words c
-session_words session.BadSize = codes "size refused"
-session_words session.RegionTooSmall = codes "size refused"
-session_words (session.OutOfMemory refusal) = codes "out of memory"
-session_words session.ReadFault = codes "read fault"
-session_words session.WriteFault = codes "write fault"
-session_words session.ScriptTooLong = codes "script too long"
+abbrev pub session_message : SessionFault → List ℕ
+session_message (session.Image c) = codes "image refused: " ++ class_message c
+session_message session.BadSize = codes "size refused"
+session_message session.RegionTooSmall = codes "size refused"
+session_message (session.OutOfMemory refusal) = codes "out of memory"
+session_message session.ReadFault = codes "read fault"
+session_message session.WriteFault = codes "write fault"
+session_message session.ScriptTooLong = codes "script too long"
 
 -- a line of the program, which ends with a line end
 abbrev pub line : List ℕ → List ℕ
-line words = codes "segment: " ++ words ++ 0x0A ∷ []
+line message = codes "segment: " ++ message ++ 0x0A ∷ []
 
 -- a wrong command line has been told of by whoever read it
 abbrev pub fault_text : ProgramFault → List ℕ
 fault_text Usage = []
 fault_text Exists = line (codes "file exists")
 fault_text (Growth e) = line (codes "growth refused: " ++ growth_name e)
-fault_text (Session f) = line (session_words f)
+fault_text (Session f) = line (session_message f)
 
 -- ---- its status
 

@@ -122,9 +122,9 @@ pub record IsCutInAnswer (start : Start) (mode : Mode) (t : SessionIo) : Type 0 
   pub next : List ℕ
   pub rest : List (List ℕ)
   pub script : executable t.script ≡ answered ++ next ∷ rest
-  pub front : List ℕ
-  pub prints : t.out.bytes ≡ (run_lines (whole_language current) mode from answered).0 ++ front
-  pub part : IsProperPrefix front
+  pub prefix : List ℕ
+  pub prints : t.out.bytes ≡ (run_lines (whole_language current) mode from answered).0 ++ prefix
+  pub part : IsProperPrefix prefix
       (respond mode (run_lines (whole_language current) mode from answered).1 (reading (whole_language current) next)).0
   pub saves : t.saved.bytes ≡ []
 

@@ -1,6 +1,6 @@
 //! What the program says of a fault, and the status that it ends with.
 ghost use Rattle.std.specs.Prelude.{◌≡◌, ◌++◌, ◌-◌, ◌^◌, ◌<◌, codes};
-ghost use Rattle.segment_cli.specs.Reports.{WritesText, fault_text, growth_name, line, session_status, session_words};
+ghost use Rattle.segment_cli.specs.Reports.{WritesText, fault_text, growth_name, line, session_status, session_message};
 ghost use Rattle.segment_cli.specs.{Reports.status_of, declared.faults.SessionFault.TheVariants.Image};
 
 use crate::faults::{ProgramFault, SessionFault};
@@ -10,7 +10,7 @@ use raw_region::{Sink, write_all};
 
 /// Returns the line of an image that is refused.
 fn class_line(class: ImageClass) -> &'static [u8]
-    ensures { result.now ≡ line (session_words (Image class)) }
+    ensures { result.now ≡ line (session_message (Image class)) }
 {
     match class {
         ImageClass::Truncated => b"segment: image refused: 1 Truncated\n",
@@ -42,7 +42,7 @@ fn growth_line(error: GrowError) -> &'static [u8]
 
 /// Returns the line of a session that fails.
 pub fn session_line(fault: SessionFault) -> &'static [u8]
-    ensures { result.now ≡ line (session_words fault) }
+    ensures { result.now ≡ line (session_message fault) }
 {
     match fault {
         SessionFault::Image(class) => class_line(class),

@@ -4,7 +4,7 @@ use Rattle.std.specs.Prelude.{codes, flat_map, fold, map}
 use Rattle.std.specs.List.{FoldsTo}
 use Rattle.std.specs.Ordering.{nat_cmp, ord_max}
 use Rattle.raw_region.specs.Device.{WriterHistory, Writes}
-use Rattle.segment_cli.specs.Reports.{WritesText, line, session_status, session_words}
+use Rattle.segment_cli.specs.Reports.{WritesText, line, session_status, session_message}
 use Rattle.segment_cli.specs.declared.faults.SessionFault.{SessionFault}
 use Rattle.segment_cli.specs.declared.faults.SessionFault.TheVariants.{WriteFault}
 use Rattle.segment_commands.specs.declared.command_faults.CommandFault.{CommandFault}
@@ -33,7 +33,7 @@ fit_line false path (Err fault) = []
 -- the lines of a refused file on standard error
 abbrev pub reason_lines : List ℕ → SessionFault → Option FileProblem → List ℕ
 reason_lines path fault trouble =
-    (path_text path ++ (codes ": " ++ (line (session_words fault) ++ []))) ++ trouble_line path trouble
+    (path_text path ++ (codes ": " ++ (line (session_message fault) ++ []))) ++ trouble_line path trouble
 
 -- the lines of a refused file on standard error
 abbrev pub unfit_lines : List ℕ → Result (Unit {0}) SessionFault → Option FileProblem → List ℕ

@@ -10,8 +10,8 @@ use Rattle.seg_types.specs.declared.refusals.Refusal.{Refusal}
 use Rattle.segment_lang.specs.Language.{whole_language}
 use Rattle.segment_lang.specs.Reading.{key_of}
 use Rattle.segment_lang.specs.Texts.{value_text}
-use Rattle.segment_lang.specs.Tokens.{only_word}
-use Rattle.segment_lang.specs.Words.{literal_of_word, number_of}
+use Rattle.segment_lang.specs.Tokens.{only_token}
+use Rattle.segment_lang.specs.Lexing.{literal_of_token, number_of}
 use Rattle.segment_manager.specs.Answers.{Answer, Element, TextElement}
 use Rattle.segment_manager.specs.Calls.{scalar_reply}
 use Rattle.segment_manager.specs.containers.Contents.{bytes_at}
@@ -56,11 +56,11 @@ looked_up mode d key (Some at) = raw_of (step mode d (Lookup key at)).0
 
 -- the value that bytes spell
 abbrev pub literal_in : List ℕ → Option Literal
-literal_in bytes = option_and_then literal_of_word (only_word bytes)
+literal_in bytes = option_and_then literal_of_token (only_token bytes)
 
 -- the key that bytes spell
 abbrev pub key_in : List ℕ → Option Key
-key_in bytes = option_and_then (key_of (whole_language current)) (only_word bytes)
+key_in bytes = option_and_then (key_of (whole_language current)) (only_token bytes)
 
 -- the value at an index, or at a key of a map
 abbrev pub value_at : Mode → Directory → Key → List ℕ → Option (List ℕ)

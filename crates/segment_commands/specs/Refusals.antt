@@ -1,6 +1,6 @@
 -- Whether answers that went out have an error: a line that begins with `error `, and a digit after it.
 use Rattle.std.specs.Prelude.{ℕ, ◌+◌, ◌==◌, ◌&&◌, ◌||◌, Bool, false, List, fold, if◌then◌else◌, nat_lt}
-use Rattle.segment_lang.specs.Words.{is_digit}
+use Rattle.segment_lang.specs.Lexing.{is_digit}
 use Rattle.segment_commands.specs.declared.refusal_watch.Seen.{Seen}
 
 -- the byte of `error ` at a place

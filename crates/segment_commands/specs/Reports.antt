@@ -16,23 +16,23 @@ use Rattle.segment_disk.specs.declared.presence.FileProblem.TheVariants.{Unwritt
 -- ---- the line of a fault
 
 -- what is wrong with a dump, and its line
-abbrev pub dump_words : DumpFault → List ℕ
-dump_words dump.Cut = codes "the dump ends too early"
-dump_words dump.More = codes "more behind the end"
-dump_words dump.BadSyntax = codes "bad syntax"
-dump_words dump.LongLine = codes "line too long"
-dump_words dump.UnknownKind = codes "unknown kind"
-dump_words dump.BadName = codes "bad name"
-dump_words dump.BadCount = codes "bad count"
-dump_words dump.BadValue = codes "no value of the kind"
-dump_words dump.Exists = codes "already exists"
-dump_words dump.Unlike = codes "not as a dump has it"
+abbrev pub dump_message : DumpFault → List ℕ
+dump_message dump.Cut = codes "the dump ends too early"
+dump_message dump.More = codes "more behind the end"
+dump_message dump.BadSyntax = codes "bad syntax"
+dump_message dump.LongLine = codes "line too long"
+dump_message dump.UnknownKind = codes "unknown kind"
+dump_message dump.BadName = codes "bad name"
+dump_message dump.BadCount = codes "bad count"
+dump_message dump.BadValue = codes "no value of the kind"
+dump_message dump.Exists = codes "already exists"
+dump_message dump.Unlike = codes "not as a dump has it"
 
 -- the line of a bad dump
 abbrev pub bad_dump_line : Bad → List ℕ
 bad_dump_line bad = codes "segment: dump refused: line "
     ++ (decimal bad.line ++ (codes ", column "
-    ++ (decimal bad.column ++ (codes ": " ++ (dump_words bad.cause ++ (codes "\n" ++ []))))))
+    ++ (decimal bad.column ++ (codes ": " ++ (dump_message bad.cause ++ (codes "\n" ++ []))))))
 
 -- the line of a lack of space
 abbrev pub no_space_line : ℕ → List ℕ
@@ -52,21 +52,21 @@ command_text (fault.NoSpace needed) = no_space_line needed
 command_text fault.NoValue = line (codes "no such value")
 
 -- what a second line says of the file of a path, which stands there as a text of the language
-abbrev pub trouble_words : FileProblem → List ℕ
-trouble_words Missing = codes ": no such file\n"
-trouble_words NoParentFolder = codes ": no such folder\n"
-trouble_words Unnamed = codes ": is no name of a file\n"
-trouble_words Folder = codes ": is a folder\n"
-trouble_words Denied = codes ": permission denied\n"
-trouble_words Exists = codes ": another file is there\n"
-trouble_words Owner = codes ": had another owner, who could not be kept\n"
-trouble_words Writer = codes ": a writer holds it\n"
-trouble_words Log = codes ": was read with the commits of its log\n"
-trouble_words ForeignLog = codes ": its log is of another file\n"
-trouble_words Unwritten = codes ": could not be written whole\n"
+abbrev pub trouble_message : FileProblem → List ℕ
+trouble_message Missing = codes ": no such file\n"
+trouble_message NoParentFolder = codes ": no such folder\n"
+trouble_message Unnamed = codes ": is no name of a file\n"
+trouble_message Folder = codes ": is a folder\n"
+trouble_message Denied = codes ": permission denied\n"
+trouble_message Exists = codes ": another file is there\n"
+trouble_message Owner = codes ": had another owner, who could not be kept\n"
+trouble_message Writer = codes ": a writer holds it\n"
+trouble_message Log = codes ": was read with the commits of its log\n"
+trouble_message ForeignLog = codes ": its log is of another file\n"
+trouble_message Unwritten = codes ": could not be written whole\n"
 
 abbrev pub trouble_text : List ℕ → FileProblem → List ℕ
-trouble_text path trouble = codes "segment: " ++ (path_text path ++ (trouble_words trouble ++ []))
+trouble_text path trouble = codes "segment: " ++ (path_text path ++ (trouble_message trouble ++ []))
 
 -- the line of a trouble that may be none
 abbrev pub trouble_line : List ℕ → Option FileProblem → List ℕ

@@ -95,21 +95,21 @@ pub record IsAnsweredAct (act : Act) : Type 0 where
   pub written : act.out.failed ≡ false
 
 -- where a run begins that begins with this directory; nothing need be known of its gaps
-abbrev pub first_place : Act → Directory → MachineState
-first_place act from = record { mode = act.mode; directory = from; zeros = false }
+abbrev pub first_state : Act → Directory → MachineState
+first_state act from = record { mode = act.mode; directory = from; zeros = false }
 
 -- the run was to end after none of the lines, from a directory that it begins with
 pub record IsUnrefusedAct (act : Act) : Type 0 where
   pub from : Directory
   pub begins : StartsFrom act.start act.image from
-  pub on : goes_on answer_line (stops_at act.until refuses_line) (first_place act from) (lines act.script.bytes) ≡ true
+  pub on : goes_on answer_line (stops_at act.until refuses_line) (first_state act from) (lines act.script.bytes) ≡ true
 
 -- the run ended after the first line that was refused, and the output took its answer and all before
 pub record IsRefusedAct (act : Act) : Type 0 where
   pub from : Directory
   pub begins : StartsFrom act.start act.image from
   pub last : SegmentState
-  pub stopped : IsStoppedAt answer_line (stops_at act.until refuses_line) (first_place act from) act.script act.out
+  pub stopped : IsStoppedAt answer_line (stops_at act.until refuses_line) (first_state act from) act.script act.out
       (IsMachineAt last)
 
 -- the output took all answers up to this end

@@ -1,7 +1,7 @@
 //! The command that tells why an image is refused, and where.
 ghost use Rattle.std.specs.Prelude.{◌≡◌, ◌^◌, ◌-◌, ◌<◌};
 ghost use Rattle.raw_region.specs.Device.{Writes};
-ghost use Rattle.segment_commands.specs.Explaining.{RunsExplain, verdict_text, words_of as words_for};
+ghost use Rattle.segment_commands.specs.Explaining.{RunsExplain, verdict_text, message_of as message_for};
 ghost use Rattle.segment_commands.specs.Telling.{WritesAndFlushes};
 
 use crate::command_faults::CommandFault;
@@ -16,8 +16,8 @@ use segment_lang::{Piece, put_pieces};
 use std::alloc::Global;
 
 /// Returns why an image of a class is refused.
-fn words_of(class: ImageClass) -> &'static str
-    ensures { result.now ≡ words_for class }
+fn message_of(class: ImageClass) -> &'static str
+    ensures { result.now ≡ message_for class }
 {
     match class {
         ImageClass::Truncated => "the file ends before the image does",
@@ -42,14 +42,14 @@ fn put_verdict<W: Sink>(out: &mut W, verdict: Verdict) -> Result<(), DeviceFault
     requires { (W.history out.old).failures < 2 ^ 64 - 1 }
     ensures { Writes (W.history out.old) (W.history out.new) result (verdict_text verdict) }
 {
-    let words = words_of(verdict.class);
+    let message = message_of(verdict.class);
     put_pieces(
         out,
         &[
             Piece::Bytes(b"at "),
             Piece::Number(verdict.place),
             Piece::Bytes(b": "),
-            Piece::Bytes(words.as_bytes()),
+            Piece::Bytes(message.as_bytes()),
             Piece::Bytes(b"\n"),
         ],
     )

@@ -19,7 +19,7 @@ use raw_region::{DeviceFault, Sink};
 use seg_types::{Key, Refusal, ScalarValue};
 use segment_disk::{Disk, Output};
 use segment_lang::{
-    LineBuffer, Literal, Piece, literal_of, number_of, only_key, only_word, put_pieces,
+    LineBuffer, Literal, Piece, literal_of, number_of, only_key, only_token, put_pieces,
     put_value_line,
 };
 use segment_manager::{Mode, Segment};
@@ -91,7 +91,7 @@ fn element_at<'a>(segment: &'a Segment, key: &Key<'_>, index: u64) -> Option<Raw
 fn literal_in(bytes: &[u8]) -> Option<Literal<'_>>
     ensures { option_map literal_seen result ≡ literal_in bytes.now }
 {
-    literal_of(only_word(bytes)?)
+    literal_of(only_token(bytes)?)
 }
 
 /// Returns the value of a map at a key that bytes spell, if there is one.

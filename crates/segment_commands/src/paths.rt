@@ -25,29 +25,29 @@ pub(crate) fn path_piece(path: &str) -> Piece<'_>
 
 /// Returns true for a word that stands for a path that is no UTF-8 ([`stand_in`]).
 #[tactic(auto, using(crate::proofs::paths::Told::none_in, crate::proofs::paths::Told::first_in))]
-pub fn is_stand_in(word: &str) -> bool
-    ensures { result ≡ stands_in word.now }
+pub fn is_stand_in(token: &str) -> bool
+    ensures { result ≡ stands_in token.now }
 {
-    match word.as_bytes().split_first() {
+    match token.as_bytes().split_first() {
         Some((first, _)) => *first == 0,
         None => false,
     }
 }
 
 /// Appends a byte of a path as a text of the language spells it.
-fn push_item(word: &mut String, byte: u8) -> Result<(), AllocError>
-    ensures { OnOk result (string_bytes word.new ≡ string_bytes word.old ++ item_text byte) }
+fn push_item(token: &mut String, byte: u8) -> Result<(), AllocError>
+    ensures { OnOk result (string_bytes token.new ≡ string_bytes token.old ++ item_text byte) }
 {
     if byte == b'"' || byte == b'\\' {
-        word.push('\\')?;
-        return word.push(char::from(byte));
+        token.push('\\')?;
+        return token.push(char::from(byte));
     }
     if byte >= b' ' && byte <= b'~' {
-        return word.push(char::from(byte));
+        return token.push(char::from(byte));
     }
-    word.push_str("\\x")?;
-    word.push(char::from(digit_text(byte / 16)))?;
-    word.push(char::from(digit_text(byte % 16)))
+    token.push_str("\\x")?;
+    token.push(char::from(digit_text(byte / 16)))?;
+    token.push(char::from(digit_text(byte % 16)))
 }
 
 /// Returns the word that stands for a path that is no UTF-8: a byte 0, which no path has, and then the path as a text
@@ -57,14 +57,14 @@ fn push_item(word: &mut String, byte: u8) -> Result<(), AllocError>
 ///
 /// Memory for it was refused.
 pub fn stand_in(alloc: Global, path: &[u8]) -> Result<String, AllocError>
-    ensures text { IfOk result (λ word. path_text (string_bytes word) ≡ quoted_text path.now) }
-    ensures mark { IfOk result (λ word. stands_in (string_bytes word) ≡ true) }
+    ensures text { IfOk result (λ token. path_text (string_bytes token) ≡ quoted_text path.now) }
+    ensures mark { IfOk result (λ token. stands_in (string_bytes token) ≡ true) }
 {
-    let mut word = String::new(alloc);
-    word.push_str("\0\"")?;
+    let mut token = String::new(alloc);
+    token.push_str("\0\"")?;
     'bytes: for byte in path {
-        push_item(&mut word, *byte)?;
+        push_item(&mut token, *byte)?;
     }
-    word.push_str("\"")?;
-    Ok(word)
+    token.push_str("\"")?;
+    Ok(token)
 }

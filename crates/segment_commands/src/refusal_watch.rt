@@ -9,7 +9,7 @@ use segment_answers::LineOutput;
 use segment_disk::Output;
 
 /// How many bytes stand in front of the number of an error: `error` and a blank.
-const FRONT: u8 = 6;
+const LABEL_LEN: u8 = 6;
 
 /// A place of a line that does not begin as an error does.
 const ELSEWHERE: u8 = 7;
@@ -41,7 +41,7 @@ fn next_spot(spot: u8, byte: u8) -> u8
 {
     if byte == b'\n' {
         0
-    } else if spot < FRONT && byte == awaited(spot) {
+    } else if spot < LABEL_LEN && byte == awaited(spot) {
         spot + 1
     } else {
         ELSEWHERE
@@ -52,7 +52,7 @@ fn next_spot(spot: u8, byte: u8) -> u8
 fn after_byte(seen: Seen, byte: u8) -> Seen
     ensures { result ≡ after_byte seen byte }
 {
-    let is_number = seen.spot == FRONT && byte >= b'0' && byte <= b'9';
+    let is_number = seen.spot == LABEL_LEN && byte >= b'0' && byte <= b'9';
     Seen {
         spot: next_spot(seen.spot, byte),
         refusal: seen.refusal || is_number,

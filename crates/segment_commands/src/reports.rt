@@ -2,8 +2,8 @@
 ghost use Rattle.std.specs.Prelude.{◌≡◌, ◌-◌, ◌^◌, ◌<◌, codes};
 ghost use Rattle.raw_region.specs.Device.{Writes};
 ghost use Rattle.segment_cli.specs.Reports.{WritesText, line};
-ghost use Rattle.segment_commands.specs.Reports.{bad_dump_line, command_status, command_text, dump_words};
-ghost use Rattle.segment_commands.specs.Reports.{no_space_line, trouble_line, trouble_words};
+ghost use Rattle.segment_commands.specs.Reports.{bad_dump_line, command_status, command_text, dump_message};
+ghost use Rattle.segment_commands.specs.Reports.{no_space_line, trouble_line, trouble_message};
 
 use crate::command_faults::CommandFault;
 use crate::paths::path_piece;
@@ -14,8 +14,8 @@ use segment_dump::{BadDump, DumpFault};
 use segment_lang::{Piece, put_pieces};
 
 /// Returns what is wrong with a dump.
-fn dump_words(cause: DumpFault) -> &'static [u8]
-    ensures { result.now ≡ dump_words cause }
+fn dump_message(cause: DumpFault) -> &'static [u8]
+    ensures { result.now ≡ dump_message cause }
 {
     match cause {
         DumpFault::Cut => b"the dump ends too early",
@@ -44,7 +44,7 @@ fn put_bad_dump<S: Sink>(bad: BadDump, err: &mut S) -> Result<(), DeviceFault>
             Piece::Bytes(b", column "),
             Piece::Number(bad.column),
             Piece::Bytes(b": "),
-            Piece::Bytes(dump_words(bad.cause)),
+            Piece::Bytes(dump_message(bad.cause)),
             Piece::Bytes(b"\n"),
         ],
     )
@@ -120,8 +120,8 @@ pub fn report_no_memory<S: Sink>(err: &mut S) -> u8
 }
 
 /// Returns the end of the message about a file, after its path.
-fn trouble_words(trouble: FileProblem) -> &'static [u8]
-    ensures { result.now ≡ trouble_words trouble }
+fn trouble_message(trouble: FileProblem) -> &'static [u8]
+    ensures { result.now ≡ trouble_message trouble }
 {
     match trouble {
         FileProblem::Missing => b": no such file\n",
@@ -161,7 +161,7 @@ pub fn put_trouble<S: Sink>(
         &[
             Piece::Bytes(b"segment: "),
             path_piece(path),
-            Piece::Bytes(trouble_words(trouble)),
+            Piece::Bytes(trouble_message(trouble)),
         ],
     )
 }

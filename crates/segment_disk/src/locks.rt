@@ -118,10 +118,10 @@ pub(crate) fn has_bytes<R: Files<File = File>>(
     if held.is_some() && Identity::of(&file) != held {
         return Ok(false);
     }
-    let mut room = [0; PIECE];
+    let mut buffer = [0; PIECE];
     'pieces: for piece in bytes.chunks(PIECE) {
-        let len = piece.len().min(room.len());
-        let read = &mut room[..len];
+        let len = piece.len().min(buffer.len());
+        let read = &mut buffer[..len];
         file.read_exact(read)?;
         if &*read != piece {
             return Ok(false);

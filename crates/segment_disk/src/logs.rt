@@ -47,14 +47,14 @@ fn is_marked<R: Files<File = File>>(files: &R, log: &str) -> io::Result<bool> {
 
 /// Tells whether a log with a record stands beside a file, which is no link. Asks for no memory.
 fn is_beside<R: Files<File = File>>(files: &R, file: &str) -> io::Result<bool> {
-    let mut room = [0; MAX_PATH_LEN];
+    let mut buffer = [0; MAX_PATH_LEN];
     let len = file.len();
     if len > MAX_PATH_LEN - SUFFIX.len() {
         return Ok(false);
     }
-    room[..len].copy_from_slice(file.as_bytes());
-    room[len..len + SUFFIX.len()].copy_from_slice(&SUFFIX);
-    let Ok(log) = str::from_utf8(&room[..len + SUFFIX.len()]) else {
+    buffer[..len].copy_from_slice(file.as_bytes());
+    buffer[len..len + SUFFIX.len()].copy_from_slice(&SUFFIX);
+    let Ok(log) = str::from_utf8(&buffer[..len + SUFFIX.len()]) else {
         return Err(io::Error::from(ErrorKind::InvalidInput));
     };
     is_marked(files, log)

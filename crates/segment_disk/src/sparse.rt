@@ -55,9 +55,9 @@ impl SparseFile {
 }
 
 /// Returns the first piece of some bytes, or all of them.
-fn front_piece(bytes: &[u8]) -> &[u8]
+fn first_piece(bytes: &[u8]) -> &[u8]
     ensures in_bounds { length result.now ≤ length bytes.now }
-    ensures front { result.now ≡ take (length result.now) bytes.now }
+    ensures prefix { result.now ≡ take (length result.now) bytes.now }
     ensures non_empty { 0 < length bytes.now → 0 < length result.now }
 {
     &bytes[..bytes.len().min(PIECE)]
@@ -77,15 +77,15 @@ pub(crate) fn are_zeros(bytes: &[u8]) -> bool
 
 impl Write for SparseFile {
     fn write(&mut self, bytes: &[u8]) -> io::Result<usize> {
-        let front = front_piece(bytes);
-        let Some(left) = self.left.checked_sub(front.len() as u64) else {
+        let prefix = first_piece(bytes);
+        let Some(left) = self.left.checked_sub(prefix.len() as u64) else {
             return Err(io::Error::from(ErrorKind::FileTooLarge));
         };
-        let taken = if self.has_holes && are_zeros(front) {
-            self.file.seek(SeekFrom::Current(front.len() as i64))?;
-            front.len()
+        let taken = if self.has_holes && are_zeros(prefix) {
+            self.file.seek(SeekFrom::Current(prefix.len() as i64))?;
+            prefix.len()
         } else {
-            self.file.write(front)?
+            self.file.write(prefix)?
         };
         self.left = left;
         Ok(taken)

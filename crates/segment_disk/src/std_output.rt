@@ -73,7 +73,7 @@ impl<W> StdOutput<W> {
 
     /// Notes why an answer failed. An error is long: what looks at one is kept out of the way of lines that go out.
     #[inline(never)]
-    fn note_failure<T>(&mut self, answer: &io::Result<T>)
+    fn keep_failure<T>(&mut self, answer: &io::Result<T>)
         ensures { self.new ≡ self.old }
     {
         if let Err(error) = answer {
@@ -88,7 +88,7 @@ impl<W: Write> Sink for StdOutput<W> {
     fn write(&mut self, bytes: &[u8]) -> Result<usize, DeviceFault> {
         let answer = self.inner.write(bytes);
         let Ok(count) = answer else {
-            self.note_failure(&answer);
+            self.keep_failure(&answer);
             self.failures += 1;
             return Err(DeviceFault);
         };
@@ -106,7 +106,7 @@ impl<W: Write> Output for StdOutput<W> {
         let answer = self.inner.flush();
         let outcome = outcome_of(&answer);
         if outcome.is_err() {
-            self.note_failure(&answer);
+            self.keep_failure(&answer);
         }
         outcome
     }

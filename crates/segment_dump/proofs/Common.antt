@@ -36,10 +36,10 @@ pub use Rattle.seg_types.specs.declared.kinds.ScalarKind.TheVariants.{I32, I64, 
 pub use Rattle.seg_types.specs.declared.refusals.Refusal.TheVariants.{NotFound, OutOfRange, WrongKind}
 pub use Rattle.seg_types.specs.declared.values.ScalarValue.{ScalarValue}
 pub use Rattle.seg_vector.specs.Vector.{OwnedText}
-pub use Rattle.segment_lang.specs.{Language.whole_language, Seen.bytes_said, Seen.word_of, Texts.number_text}
+pub use Rattle.segment_lang.specs.{Language.whole_language, Seen.bytes_said, Seen.token_of, Texts.number_text}
 pub use Rattle.segment_lang.specs.Laws.{NumbersAreDecimals, TextsAreSpelled, WholesAreDecimals}
-pub use Rattle.segment_lang.specs.Reading.{kind_of_word, number}
-pub use Rattle.segment_lang.specs.Words.{Bare, Text, Word, is_bare, number_of}
+pub use Rattle.segment_lang.specs.Reading.{kind_of_token, number}
+pub use Rattle.segment_lang.specs.Lexing.{Bare, Text, Token, is_bare, number_of}
 pub use Rattle.segment_manager.proofs.Laws.{AllByRecursion-behind, AllByRecursion-front, IsStrict, all-ordered}
 pub use Rattle.segment_manager.proofs.Laws.{all-sorted, by_kind-strict, by_name-strict, index-parts, live-extents}
 pub use Rattle.segment_manager.proofs.Laws.{live-size, said-at}
@@ -66,39 +66,42 @@ pub use Rattle.segment_dump.specs.Builders.{ReadsElement, ReadsLength, ReadsPair
 pub use Rattle.segment_dump.specs.Builders.{StartsNext}
 pub use Rattle.segment_dump.specs.Builders.{StartsUnder, content_need, first_content}
 pub use Rattle.segment_dump.specs.Building.{AreSortedItems, EndBy, HasExactRoom, Head, HasBuiltItems, IsFilling, Site}
-pub use Rattle.segment_dump.specs.Building.{all_extents, class_words, count_class, has_item_key, item_key, key_in}
-pub use Rattle.segment_dump.specs.Building.{kind_less, measure_words, name_less, of_class}
+pub use Rattle.segment_dump.specs.Building.{all_extents, class_tokens, count_class, has_item_key, item_key, key_in}
+pub use Rattle.segment_dump.specs.Building.{kind_less, measure_tokens, name_less, of_class}
 pub use Rattle.segment_dump.specs.Capacities.{Capacity, Holds, Kinds, Names, all_notes, capacities, capacities_text}
-pub use Rattle.segment_dump.specs.Capacities.{capacity_note, index_notes, measured_places, places_at}
+pub use Rattle.segment_dump.specs.Capacities.{capacity_note, index_notes, measured_slots, slots_at}
 pub use Rattle.segment_dump.specs.{Comparing.compared, Counting.IsNameless, Counting.fronted, Items.kind_of_content}
 pub use Rattle.segment_dump.specs.{Items.portable, Leads.IsSmall, Leads.closed_text, Leads.entries_text}
-pub use Rattle.segment_dump.specs.{Lines.bare_word, Lines.quoted_word, Lines.text, Lines.value_word, Loading.asked_of}
+pub use Rattle.segment_dump.specs.{Lines.bare_token, Lines.quoted_token, Lines.text, Lines.value_token}
+pub use Rattle.segment_dump.specs.{Loading.asked_of}
 pub use Rattle.segment_dump.specs.{Loading.cause_in, Loading.refusal_for, Need.only_room, Need.text_needs}
-pub use Rattle.segment_dump.specs.{Need.texts_needs, Order.all_items, Places.place_behind, Reads.lines_text, Reads.seen}
+pub use Rattle.segment_dump.specs.{Need.texts_needs, Order.all_items, Places.line_column_behind, Reads.lines_text}
+pub use Rattle.segment_dump.specs.{Reads.seen}
 pub use Rattle.segment_dump.specs.{Reads.seen_rest, Succeeding.AreOf, Succeeding.Succeeds, Succeeding.Takes}
 pub use Rattle.segment_dump.specs.{declared.building.ObjectLine.ObjectLine, declared.counting.Count.Count}
-pub use Rattle.segment_dump.specs.{declared.counting.Front.Front, declared.faults.LoadError.LoadError}
+pub use Rattle.segment_dump.specs.{declared.counting.DumpPrefix.DumpPrefix, declared.faults.LoadError.LoadError}
 pub use Rattle.segment_dump.specs.{declared.faults.LoadRefused.LoadRefused, declared.needs.Needs.Needs}
-pub use Rattle.segment_dump.specs.Counting.{AreCountable, AreTexts, CountsDump, HasContentShape, IsCountable, IsFront}
+pub use Rattle.segment_dump.specs.Counting.{AreCountable, AreTexts, CountsDump, HasContentShape, IsCountable}
+pub use Rattle.segment_dump.specs.Counting.{IsDumpPrefix}
 pub use Rattle.segment_dump.specs.Filling.{IsByteList, AreRising, AreValues, FillState, FillsAt, IsBuildableContent}
 pub use Rattle.segment_dump.specs.Filling.{IsNameIn, IsTypedPair, IsPartialValue, StandsBuilt, StandsFilling, head_of}
 pub use Rattle.segment_dump.specs.Items.{ValueContent, DumpItem, Items, Map, Scalars, String, Strings, Vector}
 pub use Rattle.segment_dump.specs.Items.{anonymous_objects, bytes_in, content_of, count_of_content, item_of_object}
 pub use Rattle.segment_dump.specs.Layouts.{Spelling, in_lines, laid_at, laid_from, laid_object, laid_out}
-pub use Rattle.segment_dump.specs.Lines.{IsShortLine, IsWordOf, ReadsEnd, ReadsLine, ReadsThis, ReadsWord, any_word}
+pub use Rattle.segment_dump.specs.Lines.{IsShortLine, IsTokenOf, ReadsEnd, ReadsLine, ReadsThis, ReadsToken, any_token}
 pub use Rattle.segment_dump.specs.Loading.{IsRequestedSize, IsExact, IsLoaded, IsNotLoaded, IsRefusalOf, IsWrong}
 pub use Rattle.segment_dump.specs.Need.{all_needs, body_len, both, elements_room, item_needs, items_needs, nothing}
 pub use Rattle.segment_dump.specs.Notes.{are_notes, before_notes, ends_line, is_line, without_notes}
 pub use Rattle.segment_dump.specs.DumpWrites.{WritesOf, all_text, where_anonymous}
 pub use Rattle.segment_values.specs.{Asked.length_in, Layouts.count_at, Layouts.object_count}
-pub use Rattle.segment_dump.specs.Reads.{Any, AreLines, Breaks, HasNoEnd, IsWord, ParsesPrefix, Skips, ended, itself}
-pub use Rattle.segment_dump.specs.Texts.{content_text, dump_text, element_line, end_text, front_text, head_line}
+pub use Rattle.segment_dump.specs.Reads.{Any, AreLines, Breaks, HasNoEnd, IsToken, ParsesPrefix, Skips, ended, itself}
+pub use Rattle.segment_dump.specs.Texts.{content_text, dump_text, element_line, end_text, prefix_text, head_line}
 pub use Rattle.segment_dump.specs.Texts.{item_text, items_text, length_text, kind_and_count_text, pair_line, piece_lead}
 pub use Rattle.segment_dump.specs.Texts.{piece_line, piece_of, pieces_in, pieces_text, text_lines}
 pub use Rattle.segment_dump.specs.declared.faults.LoadError.TheVariants.{BadSize, LongText, NoSpace, RegionTooSmall}
 unfoldable pub use Rattle.std.specs.Fmt.{digits}
 unfoldable pub use Rattle.best_fit.specs.{Extents.free_bytes, Extents.is_proper, Fit.place}
 unfoldable pub use Rattle.raw_region.specs.{Format.current, Memory.word_at}
-unfoldable pub use Rattle.segment_lang.specs.{Reading.kind_named, Tokens.next_word}
+unfoldable pub use Rattle.segment_lang.specs.{Reading.kind_named, Tokens.next_token}
 unfoldable pub use Rattle.segment_manager.specs.Step.{step, step_of_kind}
-unfoldable pub use Rattle.segment_dump.specs.{Building.total, Need.block_room, Need.front_room, Need.object_room}
+unfoldable pub use Rattle.segment_dump.specs.{Building.total, Need.block_room, Need.prefix_room, Need.object_room}

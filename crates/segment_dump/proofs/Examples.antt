@@ -3,8 +3,8 @@ use Rattle.segment_manager.specs.Directory as directory
 use Rattle.segment_dump.proofs.Common.{◌≡◌, [], ◌∷◌, ◌++◌, List, ℕ, map, None, refl, digits, pos, negsuc, codes}
 use Rattle.segment_dump.proofs.Common.{replicate, BackingArray, no_backing, I32, I64, Anonymous, Named, Unique}
 use Rattle.segment_dump.proofs.Common.{Directory, Object, Value, Class, capacities, capacities_text, Items, Scalars}
-use Rattle.segment_dump.proofs.Common.{Vector, Map, Strings, block_room, front_room, items_needs, object_room}
-use Rattle.segment_dump.proofs.Common.{without_notes, place_behind, content_text, pieces_text}
+use Rattle.segment_dump.proofs.Common.{Vector, Map, Strings, block_room, prefix_room, items_needs, object_room}
+use Rattle.segment_dump.proofs.Common.{without_notes, line_column_behind, content_text, pieces_text}
 use Rattle.segment_dump.specs.Json.{base64_text, json_dump, json_string}
 use Rattle.block_tags.specs.declared.tile.Role.TheVariants.{Object as ObjectRole}
 use Rattle.seg_types.specs.declared.kinds.ScalarKind.TheVariants.{Bool}
@@ -32,7 +32,7 @@ two-pieces : pieces_text (replicate 1001 0x61) ≡ line (codes " \"" ++ replicat
 two-pieces = refl
 
 -- after a line end and two bytes
-second-line : place_behind (0x61 ∷ 0x0A ∷ 0x62 ∷ 0x63 ∷ []) ≡ (2, 3)
+second-line : line_column_behind (0x61 ∷ 0x0A ∷ 0x62 ∷ 0x63 ∷ []) ≡ (2, 3)
 second-line = refl
 
 -- ---- what is needed: blocks of whole 16 bytes with their tags, and 32 at least
@@ -55,7 +55,7 @@ some_items = record {
 }
 
 needed : items_needs some_items ≡ record { room = 576; longest = 20 }
-unfolding block_room object_room front_room
+unfolding block_room object_room prefix_room
 needed = refl
 
 -- ---- notes at the end of a text are left out, and no others
@@ -75,8 +75,8 @@ unended = refl
 
 -- ---- capacities: an array and a map have none
 
-abbrev places : ℕ → BackingArray
-places n = record { capacity = n; extent = None }
+abbrev slots : ℕ → BackingArray
+slots n = record { capacity = n; extent = None }
 
 abbrev some_object : Class → List ℕ → ℕ → Value → Object
 some_object class name at value =
@@ -85,13 +85,13 @@ some_object class name at value =
 abbrev some_directory : Directory
 some_directory = record {
   size = 1024;
-  objects = some_object Anonymous [] 192 (directory.Bytes (codes "four") (places 16))
-      ∷ some_object Named (codes "b") 256 (directory.Elements I64 (pos 5 ∷ []) (places 10))
+  objects = some_object Anonymous [] 192 (directory.Bytes (codes "four") (slots 16))
+      ∷ some_object Named (codes "b") 256 (directory.Elements I64 (pos 5 ∷ []) (slots 10))
       ∷ some_object Unique [] 320 (directory.Pairs I32 Bool [])
       ∷ some_object Named (codes "a b") 384 (directory.Texts [] no_backing)
       ∷ some_object Named (codes "c") 448 (directory.Numbers I64 (pos 1 ∷ [])) ∷ [];
-  named = places 4;
-  unique = places 3;
+  named = slots 4;
+  unique = slots 3;
 }
 
 told : capacities_text (capacities some_directory)

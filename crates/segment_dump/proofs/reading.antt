@@ -1,12 +1,13 @@
--- Reading a dump part by part: its front (`FrontLines.front-some`), objects, elements, pieces, and the notes after it.
-pub mod FrontLines
-pub mod FrontSteps
-pub mod FrontFaults
+-- Reading a dump part by part: its front (`PrefixLines.prefix-some`), objects, elements, pieces, and the notes after
+-- it.
+pub mod PrefixLines
+pub mod PrefixSteps
+pub mod PrefixFaults
 pub mod ObjectHeads
 pub mod Lines
 pub mod Elements
 pub mod Pieces
-pub mod NextWords
+pub mod NextTokens
 pub mod Prefixes
 pub mod Sizes
 pub mod DumpSize

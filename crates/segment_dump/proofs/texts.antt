@@ -1,8 +1,8 @@
 -- The texts of a dump: each is read in one way (`OneReading`), so a dump tells its objects (`Dumps.dumps-read`).
 pub mod OneReading
-pub mod Words
+pub mod LineTokens
 pub mod QuotedTexts
-pub mod KindWords
+pub mod KindTokens
 pub mod Pieces
 pub mod Parts
 pub mod Objects

@@ -29,13 +29,13 @@ CanName bytes len = len ≤ length bytes
 
 -- the word names the kind
 abbrev pub NamesKind : List ℕ → Kind → Type 0
-NamesKind word kind = kind_named (whole_language current) word ≡ Some kind
+NamesKind token kind = kind_named (whole_language current) token ≡ Some kind
 
 -- a kind and a count, to the end of the line
 pub record IsMeasured (bytes : List ℕ) (measure : Kind × ℕ) : Type 0 where
-  pub word : List ℕ
-  pub kind_is : NamesKind word measure.0
-  pub is : bytes ≡ word ++ (0x20 ∷ (number_text measure.1 ++ 0x0A ∷ []))
+  pub token : List ℕ
+  pub kind_is : NamesKind token measure.0
+  pub is : bytes ≡ token ++ (0x20 ∷ (number_text measure.1 ++ 0x0A ∷ []))
 
 -- a text has this many lines
 pub record IsLined (bytes : List ℕ) (count : ℕ) : Type 0 where

@@ -12,9 +12,9 @@ use Rattle.segment_manager.specs.{Directory.Bytes, Plan.bare, objects.Found.is_o
 use Rattle.segment_manager.specs.{State.AnswersWith, State.IsSegment, State.SegmentState, Parts.parts_until}
 use Rattle.segment_manager.specs.declared.objects.object_ref.Object.{Object as Located}
 use Rattle.seg_types.specs.Texts.{class_text, name_text, quoted_text}
-use Rattle.segment_lang.specs.{Tokens.next_word, Words.Bare}
-use Rattle.segment_dump.specs.{declared.building.ObjectLine.ObjectLine, Building.measure_words}
-use Rattle.segment_dump.specs.Building.{AreNew, IsRest, Site, count_class, has_item_key, head_words, item_key}
+use Rattle.segment_lang.specs.{Tokens.next_token, LineTokens.Bare}
+use Rattle.segment_dump.specs.{declared.building.ObjectLine.ObjectLine, Building.measure_tokens}
+use Rattle.segment_dump.specs.Building.{AreNew, IsRest, Site, count_class, has_item_key, head_tokens, item_key}
 use Rattle.segment_dump.specs.Filling.{IsByteList, FillState, FillsAt, IsBuildable, IsBuildableContent, IsCounted}
 use Rattle.segment_dump.specs.Filling.{IsTypedPair, StandsBuilt, StandsFilling, filled_item, head_of}
 use Rattle.segment_dump.specs.Items.{ValueContent, DumpItem, count_of_content, kind_of_content}
@@ -148,11 +148,11 @@ IsVectorKind kinds.Strings = Unit {0}
 
 -- a class comes next
 pub record ReadsClass {E : Type 0} (text rest : List ℕ) (result : Result Class E) : Type 0 where
-  pub reads : (c : Class) (a : List ℕ) → next_word text ≡ Some (Bare (class_text c), a) → (result ≡ Ok c) × (rest ≡ a)
+  pub reads : (c : Class) (a : List ℕ) → next_token text ≡ Some (Bare (class_text c), a) → (result ≡ Ok c) × (rest ≡ a)
 
 -- a kind and a count come next, and no more
 pub record ReadsKindAndCount {E : Type 0} (text : List ℕ) (result : Result ObjectLine E) : Type 0 where
-  pub reads : (kind : Kind) (n : ℕ) → IsCounted n → text ≡ 0x20 ∷ measure_words kind n
+  pub reads : (kind : Kind) (n : ℕ) → IsCounted n → text ≡ 0x20 ∷ measure_tokens kind n
       → (at : ℕ) × (result ≡ Ok (record { kind = kind; count = n; at = at }))
 
 -- nothing is left
@@ -161,30 +161,30 @@ pub record AcceptsEnd {E : Type 0} (text : List ℕ) (result : Result (Unit {0})
 
 -- after the words in front of its kind
 pub record StartsUnder {E : Type 0} (old new : SegmentState) (key : Kind
-    → Key) (words : List ℕ) (result : Result (ℕ × ObjectLine) E) : Type 0 where
+    → Key) (tokens : List ℕ) (result : Result (ℕ × ObjectLine) E) : Type 0 where
   pub starts : (site : Site) (done : List DumpItem) (i : DumpItem) (more room : ℕ)
-      → CanBuildItem old site done i more room → key (kind_of_content i.content) ≡ item_key i → words ≡ 0x20
-      ∷ measure_words (kind_of_content i.content) (count_of_content i.content) → IsStarted new site done i more result
+      → CanBuildItem old site done i more room → key (kind_of_content i.content) ≡ item_key i → tokens ≡ 0x20
+      ∷ measure_tokens (kind_of_content i.content) (count_of_content i.content) → IsStarted new site done i more result
 
 -- after the word of its class
-pub record StartsNamed {E : Type 0} (old new : SegmentState) (words : List ℕ) (result : Result (ℕ × ObjectLine) E) :
+pub record StartsNamed {E : Type 0} (old new : SegmentState) (tokens : List ℕ) (result : Result (ℕ × ObjectLine) E) :
     Type 0 where
   pub starts : (site : Site) (done : List DumpItem) (i : DumpItem) (more room : ℕ)
-      → CanBuildItem old site done i more room → i.class ≡ Named → words
-      ≡ 0x20 ∷ (name_text i.name ++ 0x20 ∷ measure_words (kind_of_content i.content) (count_of_content i.content))
+      → CanBuildItem old site done i more room → i.class ≡ Named → tokens
+      ≡ 0x20 ∷ (name_text i.name ++ 0x20 ∷ measure_tokens (kind_of_content i.content) (count_of_content i.content))
       → IsStarted new site done i more result
 
 -- by all words of its line
-pub record StartsNext {E : Type 0} (old new : SegmentState) (words : List ℕ) (result : Result (ℕ × ObjectLine) E) :
+pub record StartsNext {E : Type 0} (old new : SegmentState) (tokens : List ℕ) (result : Result (ℕ × ObjectLine) E) :
     Type 0 where
   pub starts : (site : Site) (done : List DumpItem) (i : DumpItem) (more room : ℕ)
-      → CanBuildItem old site done i more room → words ≡ head_words i → IsStarted new site done i more result
+      → CanBuildItem old site done i more room → tokens ≡ head_tokens i → IsStarted new site done i more result
 
 -- an object is made of its lines
-pub record BuildsObject {E : Type 0} (old new : SegmentState) (words text rest : List ℕ) (room : ℕ)
+pub record BuildsObject {E : Type 0} (old new : SegmentState) (tokens text rest : List ℕ) (room : ℕ)
     (result : Result (Unit {0}) E) : Type 0 where
   pub builds : (site : Site) (done : List DumpItem) (i : DumpItem) (more : ℕ) (a : List ℕ)
-      → CanBuildItem old site done i more room → words ≡ head_words i → text ≡ content_text i.content ++ a
+      → CanBuildItem old site done i more room → tokens ≡ head_tokens i → text ≡ content_text i.content ++ a
       → (result ≡ Ok tt) × StandsBuilt new site (done ++ i ∷ []) more × (rest ≡ a)
 
 -- ---- all objects
@@ -215,8 +215,8 @@ abbrev pub PiecesLeft : List ℕ → List ℕ → ℕ → List ℕ → Type 0
 PiecesLeft bs a n rest = parts_until (piece_line bs) n ++ rest ≡ pieces_text bs ++ a
 
 -- the piece that is alone in a line, after what leads it
-pub record ReadsPiece {E : Type 0} (words : List ℕ) (result : Result (List ℕ) E) : Type 0 where
-  pub reads : (i : ℕ) (bs : List ℕ) → IsByteList bs → words ≡ piece_lead i ++ quoted_text bs → result ≡ Ok bs
+pub record ReadsPiece {E : Type 0} (tokens : List ℕ) (result : Result (List ℕ) E) : Type 0 where
+  pub reads : (i : ℕ) (bs : List ℕ) → IsByteList bs → tokens ≡ piece_lead i ++ quoted_text bs → result ≡ Ok bs
 
 -- the length of a text; its first piece follows
 pub record ReadsLength {E : Type 0} (text rest : List ℕ) (result : Result (List ℕ × ℕ) E) : Type 0 where
@@ -224,8 +224,8 @@ pub record ReadsLength {E : Type 0} (text rest : List ℕ) (result : Result (Lis
       → (result ≡ Ok (piece_lead 0 ++ quoted_text (piece_of bs 0), length bs)) × PiecesLeft bs a 1 rest
 
 -- a piece goes after this many bytes of the room
-pub record CopiesPiece {E : Type 0} (words old new : List ℕ) (from : ℕ) (result : Result ℕ E) : Type 0 where
-  pub copies : (i : ℕ) (bs : List ℕ) → IsByteList bs → words ≡ piece_lead i ++ quoted_text bs → from
+pub record CopiesPiece {E : Type 0} (tokens old new : List ℕ) (from : ℕ) (result : Result ℕ E) : Type 0 where
+  pub copies : (i : ℕ) (bs : List ℕ) → IsByteList bs → tokens ≡ piece_lead i ++ quoted_text bs → from
       + length bs ≤ length old → (result ≡ Ok (from + length bs)) × (take (from + length bs) new ≡ take from old ++ bs)
 
 -- a text is collected in the front of the room
@@ -234,10 +234,11 @@ pub record Collects {E : Type 0} (text rest old new : List ℕ) (result : Result
       → text ≡ text_lines bs ++ a → (result ≡ Ok (length bs)) × (take (length bs) new ≡ bs) × (rest ≡ a)
 
 -- a piece goes after the bytes of a string, which has places for it
-pub record AppendsPiece {E : Type 0} (old new : SegmentState) (h : ℕ) (words : List ℕ)
+pub record AppendsPiece {E : Type 0} (old new : SegmentState) (h : ℕ) (tokens : List ℕ)
     (result : Result (Unit {0}) E) : Type 0 where
-  pub appends : (site : Site) (done : List DumpItem) (class : Class) (name front : List ℕ) (t : BackingArray)
+  pub appends : (site : Site) (done : List DumpItem) (class : Class) (name prefix : List ℕ) (t : BackingArray)
       (rest i : ℕ) (bs : List ℕ) → StandsFilling old site done (record { class = class; name = name; handle = h })
-      (Bytes front t) rest → IsByteList bs → words ≡ piece_lead i ++ quoted_text bs → length (front ++ bs) ≤ t.capacity
+      (Bytes prefix t) rest → IsByteList bs → tokens ≡ piece_lead i ++ quoted_text bs → length (prefix ++ bs) ≤
+      t.capacity
       → (result ≡ Ok tt) × StandsFilling new site done (record { class = class; name = name; handle = h })
-      (Bytes (front ++ bs) t) rest
+      (Bytes (prefix ++ bs) t) rest

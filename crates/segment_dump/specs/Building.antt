@@ -119,14 +119,14 @@ AreSortedItems lt (i ∷ is) = AllByRecursion (λ j. lt i j ≡ true) is × AreS
 
 -- ---- the words of an object's line
 
-abbrev pub measure_words : Kind → ℕ → List ℕ
-measure_words kind n = kind_text kind ++ 0x20 ∷ number_text n
+abbrev pub measure_tokens : Kind → ℕ → List ℕ
+measure_tokens kind n = kind_text kind ++ 0x20 ∷ number_text n
 
 -- the class of an object, and its name if it has one
-abbrev pub class_words : Class → List ℕ → List ℕ
-class_words Named name = codes "named " ++ name_text name ++ 0x20 ∷ []
-class_words Unique name = codes "unique "
-class_words Anonymous name = codes "anonymous "
+abbrev pub class_tokens : Class → List ℕ → List ℕ
+class_tokens Named name = codes "named " ++ name_text name ++ 0x20 ∷ []
+class_tokens Unique name = codes "unique "
+class_tokens Anonymous name = codes "anonymous "
 
-abbrev pub head_words : DumpItem → List ℕ
-head_words i = class_words i.class i.name ++ measure_words (kind_of_content i.content) (count_of_content i.content)
+abbrev pub head_tokens : DumpItem → List ℕ
+head_tokens i = class_tokens i.class i.name ++ measure_tokens (kind_of_content i.content) (count_of_content i.content)

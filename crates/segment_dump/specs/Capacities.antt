@@ -6,7 +6,7 @@ use Rattle.seg_types.specs.declared.refusals.Refusal.{Refusal}
 use Rattle.segment_lang.specs.Texts.{kind_text, number_text}
 use Rattle.segment_manager.specs.Directory.{Value, Numbers, Elements, Bytes, Pairs, Texts, Directory, Object, kind_of}
 use Rattle.segment_manager.specs.{Directory.named_objects, Directory.object_at, Directory.unique_objects, Parts.part_of}
-use Rattle.segment_dump.specs.{Building.class_words, Items.anonymous_objects}
+use Rattle.segment_dump.specs.{Building.class_tokens, Items.anonymous_objects}
 
 -- ---- which there are
 
@@ -19,27 +19,27 @@ pub data CapacityHolder : Type 0 where
 -- a capacity, in entries, elements or bytes
 pub record Capacity : Type 0 where
   pub holder : CapacityHolder
-  pub places : ℕ
+  pub slots : ℕ
 
 -- the capacity of a vector, of a string or of a vector of strings
-abbrev pub places_of : Value → Option ℕ
-places_of (Numbers k zs) = None
-places_of (Elements k zs t) = Some t.capacity
-places_of (Bytes bs t) = Some t.capacity
-places_of (Pairs k v ps) = None
-places_of (Texts ps t) = Some t.capacity
+abbrev pub slots_of : Value → Option ℕ
+slots_of (Numbers k zs) = None
+slots_of (Elements k zs t) = Some t.capacity
+slots_of (Bytes bs t) = Some t.capacity
+slots_of (Pairs k v ps) = None
+slots_of (Texts ps t) = Some t.capacity
 
 abbrev pub holder_of : Object → CapacityHolder
 holder_of o = Holds o.class o.name (kind_of o.value)
 
 -- the capacity of an object, if it has one
 abbrev pub object_capacities : Object → List Capacity
-object_capacities o = map (λ n. record { holder = holder_of o; places = n }) (option_to_list (places_of o.value))
+object_capacities o = map (λ n. record { holder = holder_of o; slots = n }) (option_to_list (slots_of o.value))
 
 -- the capacities of the indexes, and then of the objects in the order of the dump
 abbrev pub capacities : Directory → List Capacity
 capacities d =
-    record { holder = Names; places = d.named.capacity } ∷ record { holder = Kinds; places = d.unique.capacity }
+    record { holder = Names; slots = d.named.capacity } ∷ record { holder = Kinds; slots = d.unique.capacity }
     ∷ (flat_map object_capacities (named_objects d)
     ++ (flat_map object_capacities (unique_objects d) ++ flat_map object_capacities (anonymous_objects d)))
 
@@ -49,14 +49,14 @@ capacities d =
 abbrev pub holder_text : CapacityHolder → List ℕ
 holder_text Names = codes "names"
 holder_text Kinds = codes "kinds"
-holder_text (Holds class name kind) = class_words class name ++ kind_text kind
+holder_text (Holds class name kind) = class_tokens class name ++ kind_text kind
 
-abbrev pub capacity_words : Capacity → List ℕ
-capacity_words c = codes "# capacity of " ++ (holder_text c.holder ++ (codes ": " ++ number_text c.places))
+abbrev pub capacity_tokens : Capacity → List ℕ
+capacity_tokens c = codes "# capacity of " ++ (holder_text c.holder ++ (codes ": " ++ number_text c.slots))
 
 -- the note of a capacity
 abbrev pub capacity_note : Capacity → List ℕ
-capacity_note c = capacity_words c ++ 0x0A ∷ []
+capacity_note c = capacity_tokens c ++ 0x0A ∷ []
 
 -- a note for each capacity
 abbrev pub capacities_text : List Capacity → List ℕ
@@ -73,18 +73,18 @@ abbrev pub notes_at : Directory → Key → List ℕ
 notes_at d key = part_of object_notes (object_at d key)
 
 -- the places of the object of a key, if it has a capacity
-abbrev pub places_in : Option Object → Option ℕ
-places_in None = None
-places_in (Some o) = places_of o.value
+abbrev pub slots_in : Option Object → Option ℕ
+slots_in None = None
+slots_in (Some o) = slots_of o.value
 
 -- the places of a key's object
-abbrev pub places_at : Directory → Key → Option ℕ
-places_at d key = places_in (object_at d key)
+abbrev pub slots_at : Directory → Key → Option ℕ
+slots_at d key = slots_in (object_at d key)
 
 -- the capacity in an object's measures
-abbrev pub measured_places : Result (ℕ × ℕ) Refusal → Option ℕ
-measured_places (Ok (len, places)) = Some places
-measured_places (Err r) = None
+abbrev pub measured_slots : Result (ℕ × ℕ) Refusal → Option ℕ
+measured_slots (Ok (len, slots)) = Some slots
+measured_slots (Err r) = None
 
 -- the notes of some objects
 abbrev pub notes_of : List Object → List ℕ
@@ -95,5 +95,5 @@ all_notes d = notes_of (named_objects d) ++ (notes_of (unique_objects d) ++ note
 
 -- the notes of the capacities of the indexes
 abbrev pub index_notes : ℕ → ℕ → List ℕ
-index_notes named unique = capacity_note (record { holder = Names; places = named })
-    ++ capacity_note (record { holder = Kinds; places = unique })
+index_notes named unique = capacity_note (record { holder = Names; slots = named })
+    ++ capacity_note (record { holder = Kinds; slots = unique })

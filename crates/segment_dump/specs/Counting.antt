@@ -2,11 +2,12 @@
 use Rattle.std.specs.Prelude.{◌≡◌, ◌≢◌, ◌<◌, ◌^◌, ◌++◌, ℕ, List, [], Option, Some, Result, Ok, length}
 use Rattle.std.specs.List.{AllByRecursion}
 use Rattle.seg_types.specs.{declared.kinds.Class.TheVariants.Named, declared.kinds.Kind.Kind}
-use Rattle.segment_dump.specs.{declared.counting.Count.Count, declared.counting.Front.Front, declared.needs.Needs.Needs}
+use Rattle.segment_dump.specs.{declared.counting.Count.Count, declared.counting.DumpPrefix.DumpPrefix}
+use Rattle.segment_dump.specs.{declared.needs.Needs.Needs}
 use Rattle.segment_dump.specs.{Leads.IsSmall, Asked.AreAtMost, Asked.HasObjects, Need.texts_needs}
 use Rattle.segment_dump.specs.Items.{ValueContent, DumpItem, Items, kind_of_content, count_of_content}
-use Rattle.segment_dump.specs.Need.{all_needs, both, front_room, item_needs, items_needs, only_room, text_needs}
-use Rattle.segment_dump.specs.Texts.{dump_text, end_text, front_text, items_text}
+use Rattle.segment_dump.specs.Need.{all_needs, both, prefix_room, item_needs, items_needs, only_room, text_needs}
+use Rattle.segment_dump.specs.Texts.{dump_text, end_text, prefix_text, items_text}
 
 -- ---- counts of a segment
 
@@ -33,11 +34,11 @@ pub record IsCountable (i : DumpItem) : Type 0 where
 -- ---- the whole text
 
 -- the first three lines
-abbrev pub fronted : Front → List ℕ
-fronted f = front_text f.size f.named f.unique
+abbrev pub fronted : DumpPrefix → List ℕ
+fronted f = prefix_text f.size f.named f.unique
 
 -- the numbers in the first lines of a dump are possible
-pub record IsFront (f : Front) : Type 0 where
+pub record IsDumpPrefix (f : DumpPrefix) : Type 0 where
   pub size : f.size < 2 ^ 64
   pub named : IsSmall f.named
   pub unique : IsSmall f.unique
@@ -62,13 +63,13 @@ pub record CountsDump (text : List ℕ) (result : Result Count ℕ) : Type 0 whe
 -- for any text: it begins with the three first lines of a dump, with this size, and with objects before the line `end`,
 -- whose needs are at least the counts
 pub record IsCounted (text : List ℕ) (count : Count) : Type 0 where
-  pub front : Front
+  pub prefix : DumpPrefix
   pub behind : List ℕ
-  pub is : text ≡ fronted front ++ behind
-  pub size : count.size ≡ front.size
+  pub is : text ≡ fronted prefix ++ behind
+  pub size : count.size ≡ prefix.size
   pub asked : Needs
   pub objects : HasObjects behind asked
-  pub most : AreAtMost count.needs (both (only_room (front_room front.named front.unique)) asked)
+  pub most : AreAtMost count.needs (both (only_room (prefix_room prefix.named prefix.unique)) asked)
 
 -- the size that it says, of whatever objects the text is the dump
 pub record SaysSize (text : List ℕ) (result : Option ℕ) : Type 0 where

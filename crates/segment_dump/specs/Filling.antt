@@ -88,19 +88,19 @@ pub record FillCourse (X Y : Type 0) : Type 0 where
 -- the value has the first n elements, and the lines of the others and the bytes that they need are left
 pub record HasFirstElements {X Y : Type 0} (way : FillCourse X Y) (all : List Y) (n : ℕ) (v : Value) (text : List ℕ)
     (need : ℕ) : Type 0 where
-  pub front : List X
+  pub prefix : List X
   pub back : List Y
-  pub all_are : all ≡ way.items front ++ back
-  pub many : n ≡ length front
-  pub value_is : v ≡ way.value front back
+  pub all_are : all ≡ way.items prefix ++ back
+  pub many : n ≡ length prefix
+  pub value_is : v ≡ way.value prefix back
   pub text_is : text ≡ flat_map way.line back
   pub need_is : need ≡ way.need back
 
 -- an array, whose other elements are zeros
 abbrev pub array_course : ScalarKind → FillCourse ℤ ℤ
 array_course k = record {
-  items = λ front. front;
-  value = λ front back. Numbers k (front ++ replicate (length back) (pos 0));
+  items = λ prefix. prefix;
+  value = λ prefix back. Numbers k (prefix ++ replicate (length back) (pos 0));
   line = element_line k;
   need = λ back. 0;
 }
@@ -108,8 +108,8 @@ array_course k = record {
 -- a vector, with its places
 abbrev pub vector_course : ScalarKind → BackingArray → FillCourse ℤ ℤ
 vector_course k t = record {
-  items = λ front. front;
-  value = λ front back. Elements k front t;
+  items = λ prefix. prefix;
+  value = λ prefix back. Elements k prefix t;
   line = element_line k;
   need = λ back. 0;
 }
@@ -117,7 +117,7 @@ vector_course k t = record {
 abbrev pub map_course : ScalarKind → ScalarKind → FillCourse NumberPair (ℤ × ℤ)
 map_course k w = record {
   items = map item_of;
-  value = λ front back. Pairs k w front;
+  value = λ prefix back. Pairs k w prefix;
   line = pair_line k w;
   need = λ back. length back * block_room (node_len (size_of k) (size_of w));
 }
@@ -125,25 +125,25 @@ map_course k w = record {
 abbrev pub strings_course : BackingArray → FillCourse OwnedText (List ℕ)
 strings_course t = record {
   items = map bytes_in;
-  value = λ front back. Texts front t;
+  value = λ prefix back. Texts prefix t;
   line = text_lines;
   need = λ back. (all_needs text_needs back).room;
 }
 
 -- the value has capacity for all elements that are still to come
-pub record HasReservedPlaces {X Y : Type 0} (way : BackingArray → FillCourse X Y) (all : List Y) (n : ℕ) (v : Value)
+pub record HasReservedSlots {X Y : Type 0} (way : BackingArray → FillCourse X Y) (all : List Y) (n : ℕ) (v : Value)
     (text : List ℕ) (need : ℕ) : Type 0 where
   pub table : BackingArray
-  pub places : length all ≤ table.capacity
+  pub slots : length all ≤ table.capacity
   pub part : HasFirstElements (way table) all n v text need
 
 -- a value has the first elements of a content, and these lines are left
 abbrev pub IsPartialValue : ValueContent → ℕ → Value → List ℕ → ℕ → Type 0
 IsPartialValue (Scalars k zs) = HasFirstElements (array_course k) zs
-IsPartialValue (Vector k zs) = HasReservedPlaces (vector_course k) zs
+IsPartialValue (Vector k zs) = HasReservedSlots (vector_course k) zs
 IsPartialValue (String bs) = λ n v text need. ⊥
 IsPartialValue (Map k w ps) = HasFirstElements (map_course k w) ps
-IsPartialValue (Strings ts) = HasReservedPlaces strings_course ts
+IsPartialValue (Strings ts) = HasReservedSlots strings_course ts
 
 -- the contents to fill, the needs of the objects after it, and the text after it
 pub record FillState : Type 0 where

@@ -25,9 +25,9 @@ SegmentsHaveRoom = (b : List ℕ) (d : Directory) → DenotesCurrent b d → (it
 
 -- a line that begins with '#'
 pub record IsNote (line : List ℕ) : Type 0 where
-  pub words : List ℕ
-  pub begins : line ≡ 0x23 ∷ words
-  pub one : HasNoEnd words
+  pub tokens : List ℕ
+  pub begins : line ≡ 0x23 ∷ tokens
+  pub one : HasNoEnd tokens
 
 -- for all notes after a dump, the text without notes is the dump
 abbrev pub NotesAreLeftOut : Type 0

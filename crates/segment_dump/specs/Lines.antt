@@ -3,8 +3,9 @@ use Rattle.std.specs.Prelude.{◌≡◌, ◌≤◌, ℕ, List, [], ◌++◌, Opt
 use Rattle.std.specs.Borrow.{Bor}
 use Rattle.seg_types.specs.{declared.kinds.ScalarKind.ScalarKind, Values.scalar_of}
 use Rattle.seg_types.specs.declared.values.ScalarValue.{ScalarValue}
-use Rattle.segment_lang.specs.{Reading.value_for, Seen.word_of, Tokens.next_word, Words.Word, Words.Bare, Words.Text}
-use Rattle.segment_lang.specs.declared.words.Word.{Word as Held}
+use Rattle.segment_lang.specs.{Reading.value_for, Seen.token_of, Tokens.next_token, LineTokens.Token, LineTokens.Bare}
+use Rattle.segment_lang.specs.{LineTokens.Text}
+use Rattle.segment_lang.specs.declared.tokens.Token.{Token as Held}
 use Rattle.segment_dump.specs.Reads.{HasNoEnd, ended}
 
 -- no line of a dump is longer
@@ -17,34 +18,35 @@ pub record ReadsLine {E : Type 0} (text rest : List ℕ) (result : Result (List 
       → (result ≡ Ok line) × (rest ≡ a)
 
 -- the value of the next word is read, and the rest after the word is left
-pub record ReadsWord {X E : Type 0} (value : Word → Option X) (text rest : List ℕ) (result : Result X E) : Type 0 where
-  pub reads : (w : Word) (a : List ℕ) (x : X) → next_word text ≡ Some (w, a) → value w ≡ Some x
+pub record ReadsToken {X E : Type 0} (value : Token → Option X) (text rest : List ℕ) (result : Result X E) : Type
+    0 where
+  pub reads : (w : Token) (a : List ℕ) (x : X) → next_token text ≡ Some (w, a) → value w ≡ Some x
       → (result ≡ Ok x) × (rest ≡ a)
 
 -- ---- values of words
 
 -- a word as itself
-abbrev pub any_word : Word → Option Word
-any_word w = Some w
+abbrev pub any_token : Token → Option Token
+any_token w = Some w
 
 -- a word as a bare word
-abbrev pub bare_word : Word → Option (List ℕ)
-bare_word (Bare bytes) = Some bytes
-bare_word (Text bytes) = None
+abbrev pub bare_token : Token → Option (List ℕ)
+bare_token (Bare bytes) = Some bytes
+bare_token (Text bytes) = None
 
 -- a word as a text
-abbrev pub quoted_word : Word → Option (List ℕ)
-quoted_word (Bare bytes) = None
-quoted_word (Text bytes) = Some bytes
+abbrev pub quoted_token : Token → Option (List ℕ)
+quoted_token (Bare bytes) = None
+quoted_token (Text bytes) = Some bytes
 
 -- the value of a kind that a word is
-abbrev pub value_word : ScalarKind → Word → Option ScalarValue
-value_word kind w = option_map (scalar_of kind) (value_for kind w)
+abbrev pub value_token : ScalarKind → Token → Option ScalarValue
+value_token kind w = option_map (scalar_of kind) (value_for kind w)
 
 -- a word, and bytes, as the code has them
-abbrev pub seen_word : {E : Type 0} → Result Held E → Result Word E
-seen_word (Ok w) = Ok (word_of w)
-seen_word (Err e) = Err e
+abbrev pub seen_token : {E : Type 0} → Result Held E → Result Token E
+seen_token (Ok w) = Ok (token_of w)
+seen_token (Err e) = Err e
 
 -- the bytes of a word of the code
 abbrev pub seen_bytes : {E : Type 0} → Result (Bor (List ℕ)) E → Result (List ℕ) E
@@ -52,14 +54,14 @@ seen_bytes (Ok bytes) = Ok bytes.now
 seen_bytes (Err e) = Err e
 
 -- the reader finds this word next
-pub record ReadsThis {E : Type 0} (word text rest : List ℕ) (result : Result (Unit {0}) E) : Type 0 where
-  pub reads : (a : List ℕ) → next_word text ≡ Some (Bare word, a) → (result ≡ Ok tt) × (rest ≡ a)
+pub record ReadsThis {E : Type 0} (token text rest : List ℕ) (result : Result (Unit {0}) E) : Type 0 where
+  pub reads : (a : List ℕ) → next_token text ≡ Some (Bare token, a) → (result ≡ Ok tt) × (rest ≡ a)
 
 -- nothing is left
 pub record ReadsEnd {E : Type 0} (text : List ℕ) (result : Result (Unit {0}) E) : Type 0 where
   pub reads : text ≡ [] → result ≡ Ok tt
 
 -- a word that stands for the bytes
-pub data IsWordOf (bytes : List ℕ) : Word → Type 0 where
-  bare : IsWordOf bytes (Bare bytes)
-  text : IsWordOf bytes (Text bytes)
+pub data IsTokenOf (bytes : List ℕ) : Token → Type 0 where
+  bare : IsTokenOf bytes (Bare bytes)
+  text : IsTokenOf bytes (Text bytes)

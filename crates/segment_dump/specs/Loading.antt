@@ -7,7 +7,7 @@ use Rattle.raw_region.specs.Memory.{cut_at}
 use Rattle.segment_manager.specs.declared.modes.Mode.TheVariants.{Write}
 use Rattle.segment_manager.specs.{Directory.Directory, Directory.live, State.SegmentState, State.DenotesCurrent}
 use Rattle.segment_dump.specs.{Items.portable, Texts.dump_text, Need.items_needs, Comparing.IsDumpOf}
-use Rattle.segment_dump.specs.{Places.place_behind, declared.counting.Count.Count, Counting.CountsDump}
+use Rattle.segment_dump.specs.{Places.line_column_behind, declared.counting.Count.Count, Counting.CountsDump}
 use Rattle.segment_dump.specs.{Counting.IsCounted, declared.faults.BadDump.BadDump, declared.faults.LoadError.LoadError}
 use Rattle.segment_dump.specs.{declared.faults.LoadRefused.LoadRefused, declared.faults.LoadError.TheVariants.LongText}
 use Rattle.segment_dump.specs.declared.faults.LoadError.TheVariants.{BadDump as Bad, BadSize, RegionTooSmall, NoSpace}
@@ -64,7 +64,7 @@ pub record HasExactIndexes (text : List ℕ) (s : SegmentState) : Type 0 where
 pub record IsTextPosition (text : List ℕ) (bad : BadDump) : Type 0 where
   pub at : ℕ
   pub inside : at ≤ length text
-  pub place : (bad.line, bad.column) ≡ place_behind (take at text)
+  pub place : (bad.line, bad.column) ≡ line_column_behind (take at text)
 
 -- the size that was asked for, or otherwise that of the text
 abbrev pub IsRequestedSize : Option ℕ → ℕ → Type 0

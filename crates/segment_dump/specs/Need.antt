@@ -72,11 +72,11 @@ item_needs i =
     (texts_needs i.content)
 
 -- the header and the end tag, and the blocks of the two indexes, of this many entries
-unfoldable pub front_room : ℕ → ℕ → ℕ
-front_room named unique = 144 + block_room (8 * named) + block_room (8 * unique)
+unfoldable pub prefix_room : ℕ → ℕ → ℕ
+prefix_room named unique = 144 + block_room (8 * named) + block_room (8 * unique)
 
 -- all objects, in a segment of their own
 abbrev pub items_needs : Items → Needs
 items_needs items =
-    both (only_room (front_room (length items.named) (length items.unique))) (both (all_needs item_needs items.named)
+    both (only_room (prefix_room (length items.named) (length items.unique))) (both (all_needs item_needs items.named)
     (both (all_needs item_needs items.unique) (all_needs item_needs items.anonymous)))

@@ -6,5 +6,5 @@ abbrev pub behind_byte : ℕ × ℕ → ℕ → ℕ × ℕ
 behind_byte (line, column) byte = if byte == 0x0A then (line + 1, 1) else (line, column + 1)
 
 -- the line and the column of the byte that stands after these
-abbrev pub place_behind : List ℕ → ℕ × ℕ
-place_behind bytes = fold behind_byte (1, 1) bytes
+abbrev pub line_column_behind : List ℕ → ℕ × ℕ
+line_column_behind bytes = fold behind_byte (1, 1) bytes

@@ -3,8 +3,8 @@ use Rattle.std.specs.Prelude.{◌≡◌, ◌≢◌, ◌<◌, ◌≤◌, ⊤, ℕ
 use Rattle.std.specs.{Borrow.Bor, List.AllByRecursion, List.flat_map}
 
 -- bytes after the blank
-abbrev pub IsWord : List ℕ → Type 0
-IsWord = AllByRecursion (λ c. 0x20 < c)
+abbrev pub IsToken : List ℕ → Type 0
+IsToken = AllByRecursion (λ c. 0x20 < c)
 
 -- no word goes on here
 pub record Breaks (a : List ℕ) : Type 0 where

@@ -6,23 +6,23 @@ use Rattle.best_fit.specs.{Ends.EndsAt, Extents.free_bytes}
 use Rattle.raw_region.specs.Memory.{cut_at}
 use Rattle.seg_types.specs.declared.kinds.Class.{Class}
 use Rattle.seg_types.specs.declared.kinds.Class.TheVariants.{Anonymous, Named, Unique}
-use Rattle.segment_lang.specs.{Tokens.next_word, Words.Bare}
+use Rattle.segment_lang.specs.{Tokens.next_token, LineTokens.Bare}
 use Rattle.segment_manager.specs.{declared.modes.Mode.TheVariants.Write, Directory.Directory, Directory.empty}
 use Rattle.segment_manager.specs.{Directory.live, blocks.Resized.shrunk, State.SegmentState, State.DenotesCurrent}
-use Rattle.segment_dump.specs.{declared.counting.Count.Count, declared.counting.Front.Front}
+use Rattle.segment_dump.specs.{declared.counting.Count.Count, declared.counting.DumpPrefix.DumpPrefix}
 use Rattle.segment_dump.specs.{declared.faults.LoadRefused.LoadRefused, Builders.AreLeft, Filling.StandsBuilt}
 use Rattle.segment_dump.specs.{Items.DumpItem, Items.Items, Items.portable, Lines.IsShortLine, Loading.IsRequestedSize}
 use Rattle.segment_dump.specs.{Loading.HasIndexes, Loading.asked_of, Loading.refusal_for, Order.all_items}
 use Rattle.segment_dump.specs.{Reads.HasNoEnd, Reads.ended}
 use Rattle.segment_dump.specs.{Texts.dump_text, Texts.end_text, Texts.items_text}
 use Rattle.segment_dump.specs.Building.{AreSortedItems, Site, kind_less, name_less}
-use Rattle.segment_dump.specs.Need.{all_needs, front_room, item_needs, items_needs}
+use Rattle.segment_dump.specs.Need.{all_needs, prefix_room, item_needs, items_needs}
 
 -- ---- the first lines
 
 -- a line that begins with the word is read up to after it
-pub record ReadsLead {E : Type 0} (word text rest : List ℕ) (result : Result (List ℕ) E) : Type 0 where
-  pub reads : (line tail a : List ℕ) → HasNoEnd line → IsShortLine line → next_word line ≡ Some (Bare word, tail)
+pub record ReadsLead {E : Type 0} (token text rest : List ℕ) (result : Result (List ℕ) E) : Type 0 where
+  pub reads : (line tail a : List ℕ) → HasNoEnd line → IsShortLine line → next_token line ≡ Some (Bare token, tail)
       → text ≡ ended line ++ a → (result ≡ Ok tail) × (rest ≡ a)
 
 -- whatever is said of this in front is read, and what follows is left
@@ -67,16 +67,16 @@ AreNumbers p = IsNumber p.0 × IsNumber p.1
 
 -- ---- the objects
 
-abbrev pub site_of : Front → ℕ → Site
-site_of front size = record { named = front.named; unique = front.unique; size = size }
+abbrev pub site_of : DumpPrefix → ℕ → Site
+site_of prefix size = record { named = prefix.named; unique = prefix.unique; size = size }
 
 -- all of them, in a segment with nothing in it that is long enough
-pub record MakesObjects {E : Type 0} (old new : SegmentState) (front : Front) (text : List ℕ) (most room : ℕ)
+pub record MakesObjects {E : Type 0} (old new : SegmentState) (prefix : DumpPrefix) (text : List ℕ) (most room : ℕ)
     (result : Result (Unit {0}) E) : Type 0 where
   pub makes : (size : ℕ) (items : List DumpItem) → DenotesCurrent old.cut.bytes (empty size)
-      → old.mode ≡ Write → front_room front.named front.unique + (all_needs item_needs items).room ≤ size
-      → AreLeft (site_of front size) room [] items → text ≡ items_text items ++ end_text
-      → length text ≤ most → (result ≡ Ok tt) × StandsBuilt new (site_of front size) items 0
+      → old.mode ≡ Write → prefix_room prefix.named prefix.unique + (all_needs item_needs items).room ≤ size
+      → AreLeft (site_of prefix size) room [] items → text ≡ items_text items ++ end_text
+      → length text ≤ most → (result ≡ Ok tt) × StandsBuilt new (site_of prefix size) items 0
 
 -- ---- the test of the built segment
 

@@ -83,8 +83,8 @@ item_text i = head_line i.class i.name (kind_of_content i.content) (count_of_con
 -- ---- all of it
 
 -- the version of the form, the size in bytes, and the numbers of entries of both indexes
-abbrev pub front_text : ℕ → ℕ → ℕ → List ℕ
-front_text size named unique =
+abbrev pub prefix_text : ℕ → ℕ → ℕ → List ℕ
+prefix_text size named unique =
     codes "segment dump 1" ++ 0x0A ∷ codes "size " ++ number_text size ++ 0x0A ∷ codes "indexes "
     ++ number_text named ++ 0x20 ∷ number_text unique ++ 0x0A ∷ []
 
@@ -98,5 +98,5 @@ items_text = flat_map item_text
 -- the dump of some objects, for a segment of a size
 abbrev pub dump_text : ℕ → Items → List ℕ
 dump_text size items =
-    front_text size (length items.named) (length items.unique)
+    prefix_text size (length items.named) (length items.unique)
     ++ (items_text items.named ++ (items_text items.unique ++ (items_text items.anonymous ++ end_text)))

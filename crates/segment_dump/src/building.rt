@@ -15,9 +15,9 @@ ghost use Rattle.segment_dump.specs.Builders.{ReadsKindAndCount, StartsNamed, St
 
 use crate::faults::{DumpFault, SyntaxError};
 use crate::filling::fill;
-use crate::tokens::{Lines, Words, is_same};
+use crate::tokens::{LineTokens, Lines, is_same};
 use seg_types::{Class, Handle, Kind, MAX_ARRAY_LEN, Name, Refusal, ScalarKind, by_kind};
-use segment_lang::{LineBuffer, Word, numbers_are_decimals, texts_are_spelled};
+use segment_lang::{LineBuffer, Token, numbers_are_decimals, texts_are_spelled};
 use segment_manager::unchecked::object_here;
 use segment_manager::{AnonymousInstance, ConstructKey, Segment, UniqueInstance};
 
@@ -63,11 +63,11 @@ pub fn build(
 {
     let mut scratch = LineBuffer::new();
     'objects: for _ in 0..most {
-        let mut words = lines.next_line()?;
-        if words.are(b"end") {
+        let mut tokens = lines.next_line()?;
+        if tokens.are(b"end") {
             return finish(lines);
         }
-        build_object(segment, &mut words, lines, room, &mut scratch)?;
+        build_object(segment, &mut tokens, lines, room, &mut scratch)?;
     }
     Err(syntax_error(lines.at(), DumpFault::Cut))
 }
@@ -85,15 +85,15 @@ fn finish(lines: &Lines<'_>) -> Result<(), BuildError>
 /// Builds the object of a line, and fills it from the lines that follow.
 fn build_object(
     segment: &mut Segment,
-    words: &mut Words<'_>,
+    tokens: &mut LineTokens<'_>,
     lines: &mut Lines<'_>,
     room: &mut [u8],
     scratch: &mut LineBuffer,
 ) -> Result<(), BuildError>
-    ensures object { BuildsObject segment.old segment.new words.old lines.old lines.new (length room.old) result }
+    ensures object { BuildsObject segment.old segment.new tokens.old lines.old lines.new (length room.old) result }
     ensures place { SameSurroundings segment.old.cut segment.new.cut }
 {
-    let (handle, shape) = start_next(segment, words, scratch)?;
+    let (handle, shape) = start_next(segment, tokens, scratch)?;
     let object = object_here(segment, handle);
     fill(segment, object, shape, lines, room, scratch)
 }
@@ -101,31 +101,31 @@ fn build_object(
 /// Constructs the object of a line: zeros if its kind is scalar, and otherwise empty.
 fn start_next(
     segment: &mut Segment,
-    words: &mut Words<'_>,
+    tokens: &mut LineTokens<'_>,
     scratch: &mut LineBuffer,
 ) -> Result<(Handle, ObjectLine), BuildError>
-    ensures start { StartsNext segment.old segment.new words.old result }
+    ensures start { StartsNext segment.old segment.new tokens.old result }
     ensures place { SameSurroundings segment.old.cut segment.new.cut }
     ensures in_place { IfOk result (λ made. HasObjectAt segment.new made.0) }
 {
-    match next_class(words)? {
-        Class::Named => start_named(segment, words, scratch),
-        Class::Unique => start_under(segment, words, &UniqueInstance),
-        Class::Anonymous => start_under(segment, words, &AnonymousInstance),
+    match next_class(tokens)? {
+        Class::Named => start_named(segment, tokens, scratch),
+        Class::Unique => start_under(segment, tokens, &UniqueInstance),
+        Class::Anonymous => start_under(segment, tokens, &AnonymousInstance),
     }
 }
 
 /// Returns the class that comes next.
-fn next_class(words: &mut Words<'_>) -> Result<Class, SyntaxError>
-    ensures { ReadsClass words.old words.new result }
+fn next_class(tokens: &mut LineTokens<'_>) -> Result<Class, SyntaxError>
+    ensures { ReadsClass tokens.old tokens.new result }
 {
-    let at = words.at();
-    let word = words.next_bare()?;
-    if is_same(word, b"named") {
+    let at = tokens.at();
+    let token = tokens.next_bare()?;
+    if is_same(token, b"named") {
         Ok(Class::Named)
-    } else if is_same(word, b"unique") {
+    } else if is_same(token, b"unique") {
         Ok(Class::Unique)
-    } else if is_same(word, b"anonymous") {
+    } else if is_same(token, b"anonymous") {
         Ok(Class::Anonymous)
     } else {
         Err(SyntaxError {
@@ -143,30 +143,30 @@ pub fn syntax_error(at: usize, cause: DumpFault) -> BuildError {
 /// Makes an object under the name that comes next.
 fn start_named(
     segment: &mut Segment,
-    words: &mut Words<'_>,
+    tokens: &mut LineTokens<'_>,
     scratch: &mut LineBuffer,
 ) -> Result<(Handle, ObjectLine), BuildError>
-    ensures start { StartsNamed segment.old segment.new words.old result }
+    ensures start { StartsNamed segment.old segment.new tokens.old result }
     ensures place { SameSurroundings segment.old.cut segment.new.cut }
     ensures in_place { IfOk result (λ made. HasObjectAt segment.new made.0) }
 {
     texts_are_spelled();
-    let at = words.at();
-    let word = words.next_word()?;
-    match name_of(word, scratch) {
-        Some(name) => start_under(segment, words, &name),
+    let at = tokens.at();
+    let token = tokens.next_token()?;
+    match name_of(token, scratch) {
+        Some(name) => start_under(segment, tokens, &name),
         None => Err(syntax_error(at, DumpFault::BadName)),
     }
 }
 
 /// Returns the name that a word stands for, or `None` if it stands for none.
-fn name_of<'a>(word: Word<'a>, scratch: &'a mut LineBuffer) -> Option<Name<'a>>
+fn name_of<'a>(token: Token<'a>, scratch: &'a mut LineBuffer) -> Option<Name<'a>>
     ensures { option_map name_seen result
-        ≡ (if is_name current (bytes_said word.entry) then Some (bytes_said word.entry) else None) }
+        ≡ (if is_name current (bytes_said token.entry) then Some (bytes_said token.entry) else None) }
 {
-    match word {
-        Word::Bare(bytes) => Name::new(bytes),
-        Word::Text(text) => text.to_name(scratch),
+    match token {
+        Token::Bare(bytes) => Name::new(bytes),
+        Token::Text(text) => text.to_name(scratch),
     }
 }
 
@@ -174,15 +174,15 @@ fn name_of<'a>(word: Word<'a>, scratch: &'a mut LineBuffer) -> Option<Name<'a>>
 /// empty.
 fn start_under<D: ConstructKey>(
     segment: &mut Segment,
-    words: &mut Words<'_>,
+    tokens: &mut LineTokens<'_>,
     under: &D,
 ) -> Result<(Handle, ObjectLine), BuildError>
     requires { (kind : AnyKind) → D.suits under.now kind }
-    ensures start { StartsUnder segment.old segment.new (D.key under.now) words.old result }
+    ensures start { StartsUnder segment.old segment.new (D.key under.now) tokens.old result }
     ensures place { SameSurroundings segment.old.cut segment.new.cut }
     ensures in_place { IfOk result (λ made. HasObjectAt segment.new made.0) }
 {
-    let shape = next_shape(words)?;
+    let shape = next_shape(tokens)?;
     // The contract of `as_bytes` says that these are a segment's bytes, which `construct` requires.
     let _ = segment.as_bytes();
     match construct(segment, under, shape) {
@@ -192,14 +192,14 @@ fn start_under<D: ConstructKey>(
 }
 
 /// Returns the kind and the count that come next, if nothing follows them in the line.
-fn next_shape(words: &mut Words<'_>) -> Result<ObjectLine, SyntaxError>
-    ensures { ReadsKindAndCount words.old result }
+fn next_shape(tokens: &mut LineTokens<'_>) -> Result<ObjectLine, SyntaxError>
+    ensures { ReadsKindAndCount tokens.old result }
 {
     numbers_are_decimals();
-    let at = words.at();
-    let kind = words.next_kind()?;
-    let count = words.next_number()?;
-    words.finish()?;
+    let at = tokens.at();
+    let kind = tokens.next_kind()?;
+    let count = tokens.next_number()?;
+    tokens.finish()?;
     Ok(ObjectLine { kind, count, at })
 }
 

@@ -6,7 +6,7 @@ ghost use Rattle.segment_manager.specs.containers.Contents.{sizes_at};
 ghost use Rattle.segment_manager.specs.objects.Located.{IsLocated, IsObject};
 ghost use Rattle.segment_manager.specs.State.{AnswersWith};
 ghost use Rattle.segment_dump.specs.Capacities.{Holds, capacities, capacities_text, capacity_note, index_notes};
-ghost use Rattle.segment_dump.specs.Capacities.{measured_places, places_at};
+ghost use Rattle.segment_dump.specs.Capacities.{measured_slots, slots_at};
 ghost use Rattle.segment_dump.specs.Items.{portable};
 ghost use Rattle.segment_dump.specs.DumpWrites.{WritesOf};
 ghost use Rattle.segment_dump.specs.Texts.{dump_text};
@@ -55,8 +55,8 @@ impl ObjectWriter for Notes {
         out: &mut W,
     ) -> Result<(), DeviceFault> {
         let object = object_here(segment, said.handle);
-        match places_of(segment, object) {
-            Some(places) => put_note(said, places, out),
+        match slots_of(segment, object) {
+            Some(slots) => put_note(said, slots, out),
             None => Ok(()),
         }
     }
@@ -107,40 +107,40 @@ fn unique_capacity(segment: &Segment) -> u64
 }
 
 /// Returns the capacity of an object, if its kind has one.
-fn places_of(segment: &Segment, object: Object) -> Option<u64>
+fn slots_of(segment: &Segment, object: Object) -> Option<u64>
     requires { IsLocated segment.now (ByHandle object.handle) object }
-    ensures { AnswersWith segment.now (λ d. places_at d (ByHandle object.handle)) result }
+    ensures { AnswersWith segment.now (λ d. slots_at d (ByHandle object.handle)) result }
 {
     match object.kind {
         Kind::Scalar(_) => None,
         Kind::Map(_, _) => None,
-        _ => count_places(segment, object),
+        _ => count_slots(segment, object),
     }
 }
 
 /// Returns the capacity of a vector, a string or a vector of strings.
-fn count_places(segment: &Segment, object: Object) -> Option<u64>
+fn count_slots(segment: &Segment, object: Object) -> Option<u64>
     requires { IsObject object segment.now }
-    ensures { AnswersWith segment.now (λ d. measured_places (sizes_at d (ByHandle object.handle))) result }
+    ensures { AnswersWith segment.now (λ d. measured_slots (sizes_at d (ByHandle object.handle))) result }
 {
     match segment.measure(&object) {
-        Ok((_, places)) => Some(places),
+        Ok((_, slots)) => Some(slots),
         Err(_) => None,
     }
 }
 
-/// Writes the note of an object that said this of itself, and has `places` places.
-fn put_note<W: Sink>(said: Instance<'_>, places: u64, out: &mut W) -> Result<(), DeviceFault>
+/// Writes the note of an object that said this of itself, and has `slots` places.
+fn put_note<W: Sink>(said: Instance<'_>, slots: u64, out: &mut W) -> Result<(), DeviceFault>
     requires { (W.history out.old).failures < 2 ^ 64 - 1 }
     ensures { Writes (W.history out.old) (W.history out.new) result
         (capacity_note (record {
           holder = Holds said.entry.class said.entry.name.now said.entry.kind;
-          places = places;
+          slots = slots;
         })) }
 {
     match said.class {
-        Class::Named => put_line(b"# capacity of named ", said, b": ", places, out),
-        Class::Unique => put_line(b"# capacity of unique ", said, b": ", places, out),
-        Class::Anonymous => put_line(b"# capacity of anonymous ", said, b": ", places, out),
+        Class::Named => put_line(b"# capacity of named ", said, b": ", slots, out),
+        Class::Unique => put_line(b"# capacity of unique ", said, b": ", slots, out),
+        Class::Anonymous => put_line(b"# capacity of anonymous ", said, b": ", slots, out),
     }
 }

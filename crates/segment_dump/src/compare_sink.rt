@@ -111,15 +111,15 @@ fn goes_on(text: &[u8], at: usize, bytes: &[u8]) -> bool
     if behind.len() < bytes.len() {
         return false;
     }
-    let (front, _) = behind.split_at(bytes.len());
-    is_same(front, bytes)
+    let (prefix, _) = behind.split_at(bytes.len());
+    is_same(prefix, bytes)
 }
 
 /// Returns the length of the common prefix.
 fn common(some: &[u8], other: &[u8]) -> usize
     ensures first_in_bounds { result ≤ length some.now }
     ensures second_in_bounds { result ≤ length other.now }
-    ensures front { take result some.now ≡ take result other.now }
+    ensures prefix { take result some.now ≡ take result other.now }
     ensures difference { IsOther (drop result some.now) (slice_get other.now result) }
 {
     'bytes: for index in 0..some.len() {

@@ -4,7 +4,7 @@ ghost use Rattle.std.specs.Bool.{OnTrue};
 ghost use Rattle.segment_dump.specs.Asked.{AskTogether, AsksContent, AsksNothing, AsksObject, AsksString, AsksText};
 ghost use Rattle.segment_dump.specs.Asked.{Begins, HasObjects, IsDumpText};
 ghost use Rattle.segment_dump.specs.Counting.{AreTexts, CountsDump, CountsObjects, HasContentShape, IsCountable};
-ghost use Rattle.segment_dump.specs.Counting.{IsCounted, IsFront, fronted};
+ghost use Rattle.segment_dump.specs.Counting.{IsCounted, IsDumpPrefix, fronted};
 ghost use Rattle.segment_dump.specs.Leads.{IsSmall};
 ghost use Rattle.segment_dump.specs.Need.{all_needs, block_room, item_needs, nothing, only_room, text_needs};
 ghost use Rattle.segment_dump.specs.Need.{texts_needs};
@@ -12,10 +12,10 @@ ghost use Rattle.segment_dump.specs.Reads.{Any, AreLines, ParsesPrefix, Skips, i
 ghost use Rattle.segment_dump.specs.Succeeding.{IsNumber, LeavesThird, size_said};
 ghost use Rattle.segment_dump.specs.Texts.{content_text, end_text, item_text, text_lines};
 
-use crate::front_reading::{
+use crate::needs::{Needs, block_room, object_room, only_room, prefix_room};
+use crate::prefix_reading::{
     behind, behind_lead, behind_lines, next_count, next_entries, next_measure, next_number,
 };
-use crate::needs::{Needs, block_room, front_room, object_room, only_room};
 use crate::texts::pieces_in;
 use seg_types::Kind;
 
@@ -30,7 +30,7 @@ pub struct Count {
 
 /// The contents of the first lines.
 #[derive(Clone, Copy)]
-pub struct Front {
+pub struct DumpPrefix {
     /// The bytes of the segment that was dumped.
     pub size: u64,
     /// The number of entries of the index of names.
@@ -150,8 +150,8 @@ fn count_objects(text: &[u8]) -> Result<Needs, usize>
 }
 
 /// Returns the contents of the first lines, and the rest.
-fn read_front(text: &[u8]) -> Option<(Front, &[u8])>
-    ensures value { ParsesPrefix fronted IsFront Any itself text.now (seen result) }
+fn read_prefix(text: &[u8]) -> Option<(DumpPrefix, &[u8])>
+    ensures value { ParsesPrefix fronted IsDumpPrefix Any itself text.now (seen result) }
     ensures spelled { IfSome result (λ r. text.now ≡ fronted r.0 ++ r.1.now) }
     ensures named { IfSome result (λ r. IsSmall r.0.named) }
     ensures unique { IfSome result (λ r. IsSmall r.0.unique) }
@@ -159,7 +159,7 @@ fn read_front(text: &[u8]) -> Option<(Front, &[u8])>
     let (size, rest) = next_number(behind(text, b"segment dump 1\nsize ")?)?;
     let ((named, unique), rest) = next_entries(behind(rest, b"\nindexes ")?)?;
     Some((
-        Front {
+        DumpPrefix {
             size,
             named,
             unique,
@@ -169,7 +169,7 @@ fn read_front(text: &[u8]) -> Option<(Front, &[u8])>
 }
 
 /// Returns the number of bytes from the first unreadable line of the three on.
-fn front_left(text: &[u8]) -> usize
+fn prefix_left(text: &[u8]) -> usize
     ensures { LeavesThird text.now result }
 {
     let Some(sized) = behind(text, b"segment dump 1\n") else {
@@ -199,13 +199,13 @@ pub fn count_dump(text: &[u8]) -> Result<Count, usize>
     ensures count { CountsDump text.now result }
     ensures steps_lower { IfOk result (IsCounted text.now) }
 {
-    let Some((front, rest)) = read_front(text) else {
-        return Err(front_left(text));
+    let Some((prefix, rest)) = read_prefix(text) else {
+        return Err(prefix_left(text));
     };
-    let indexes = only_room(front_room(front.named, front.unique));
+    let indexes = only_room(prefix_room(prefix.named, prefix.unique));
     let objects = count_objects(rest)?;
     Ok(Count {
-        size: front.size,
+        size: prefix.size,
         needs: indexes.and(objects),
     })
 }

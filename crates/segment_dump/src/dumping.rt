@@ -4,7 +4,7 @@ ghost use Rattle.raw_region.specs.Device.{Writes};
 ghost use Rattle.segment_manager.specs.Directory.{named_objects, unique_objects};
 ghost use Rattle.segment_dump.specs.Items.{portable};
 ghost use Rattle.segment_dump.specs.DumpWrites.{WritesOf, all_text};
-ghost use Rattle.segment_dump.specs.Texts.{dump_text, front_text};
+ghost use Rattle.segment_dump.specs.Texts.{dump_text, prefix_text};
 
 use crate::entries::Entries;
 use crate::objects::{put_anonymous, put_named, put_unique};
@@ -31,15 +31,15 @@ pub fn dump_as<W: Sink>(segment: &Segment, size: u64, out: &mut W) -> Result<(),
     requires { (W.history out.old).failures < 2 ^ 64 - 1 }
     ensures { WritesOf segment.now (W.history out.old) (W.history out.new) result (λ d. dump_text size (portable d)) }
 {
-    put_front(segment, size, out)?;
+    put_prefix(segment, size, out)?;
     put_objects(segment, out)
 }
 
 /// Writes the version, the size, and the number of entries of both indexes.
-fn put_front<W: Sink>(segment: &Segment, size: u64, out: &mut W) -> Result<(), DeviceFault>
+fn put_prefix<W: Sink>(segment: &Segment, size: u64, out: &mut W) -> Result<(), DeviceFault>
     requires { (W.history out.old).failures < 2 ^ 64 - 1 }
     ensures { WritesOf segment.now (W.history out.old) (W.history out.new) result (λ d.
-        front_text size (length (named_objects d)) (length (unique_objects d))) }
+        prefix_text size (length (named_objects d)) (length (unique_objects d))) }
 {
     put_numbers(size, segment.num_named(), segment.num_unique(), out)
 }
@@ -47,7 +47,7 @@ fn put_front<W: Sink>(segment: &Segment, size: u64, out: &mut W) -> Result<(), D
 /// Writes the version, and these numbers for the size and the entries of the indexes.
 fn put_numbers<W: Sink>(size: u64, named: u64, unique: u64, out: &mut W) -> Result<(), DeviceFault>
     requires { (W.history out.old).failures < 2 ^ 64 - 1 }
-    ensures { Writes (W.history out.old) (W.history out.new) result (front_text size named unique) }
+    ensures { Writes (W.history out.old) (W.history out.new) result (prefix_text size named unique) }
 {
     put_pieces(
         out,

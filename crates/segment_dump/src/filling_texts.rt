@@ -9,7 +9,7 @@ use crate::building::{BuildError, build_error_of};
 use crate::faults::SyntaxError;
 use crate::filling::ended;
 use crate::texts::PIECE;
-use crate::tokens::{Lines, Words};
+use crate::tokens::{LineTokens, Lines};
 use segment_lang::{LineBuffer, Quoted, numbers_are_decimals, texts_are_spelled};
 use segment_manager::{Object, Segment};
 
@@ -26,14 +26,14 @@ pub fn fill_string(
     ensures place { SameSurroundings segment.old.cut segment.new.cut }
 {
     let at = lines.at();
-    let (mut words, len) = first_line(lines)?;
+    let (mut tokens, len) = first_line(lines)?;
     if let Err(why) = segment.reserve(&object, len) {
         return Err(build_error_of(why, at));
     }
-    append_piece(segment, object, &mut words, scratch)?;
+    append_piece(segment, object, &mut tokens, scratch)?;
     'pieces: for _ in 0..pieces_behind(len) {
-        let mut words = lines.next_line()?;
-        append_piece(segment, object, &mut words, scratch)?;
+        let mut tokens = lines.next_line()?;
+        append_piece(segment, object, &mut tokens, scratch)?;
     }
     Ok(())
 }
@@ -46,23 +46,23 @@ fn pieces_behind(len: u64) -> u64
 }
 
 /// Returns the line that a text begins with, from its first piece on, and the length of the text.
-fn first_line<'a>(lines: &mut Lines<'a>) -> Result<(Words<'a>, u64), SyntaxError>
+fn first_line<'a>(lines: &mut Lines<'a>) -> Result<(LineTokens<'a>, u64), SyntaxError>
     ensures { ReadsLength lines.old lines.new result }
 {
     numbers_are_decimals();
-    let mut words = lines.next_line()?;
-    let len = words.next_number()?;
-    Ok((words, len))
+    let mut tokens = lines.next_line()?;
+    let len = tokens.next_number()?;
+    Ok((tokens, len))
 }
 
 /// Returns the piece of a text that is alone in a line.
-fn last_text<'a>(words: &mut Words<'a>) -> Result<Quoted<'a>, SyntaxError>
+fn last_text<'a>(tokens: &mut LineTokens<'a>) -> Result<Quoted<'a>, SyntaxError>
     ensures max_len { IfOk result (λ text. length text ≤ 4096) }
-    ensures piece { ReadsPiece words.old result }
+    ensures piece { ReadsPiece tokens.old result }
 {
     texts_are_spelled();
-    let piece = words.next_text()?;
-    words.finish()?;
+    let piece = tokens.next_text()?;
+    tokens.finish()?;
     Ok(piece)
 }
 
@@ -70,16 +70,16 @@ fn last_text<'a>(words: &mut Words<'a>) -> Result<Quoted<'a>, SyntaxError>
 fn append_piece(
     segment: &mut Segment,
     object: Object,
-    words: &mut Words<'_>,
+    tokens: &mut LineTokens<'_>,
     scratch: &mut LineBuffer,
 ) -> Result<(), BuildError>
     requires { HasLocatedObject segment.old object }
-    ensures append { AppendsPiece segment.old segment.new object.handle words.old result }
+    ensures append { AppendsPiece segment.old segment.new object.handle tokens.old result }
     ensures place { SameSurroundings segment.old.cut segment.new.cut }
     ensures in_place { HasLocatedObject segment.new object }
 {
-    let at = words.at();
-    let piece = last_text(words)?;
+    let at = tokens.at();
+    let piece = last_text(tokens)?;
     ended(segment.string_append(&object, piece.bytes(scratch)), at)
 }
 
@@ -111,28 +111,28 @@ fn collect(
     ensures in_bounds { IfOk result (λ n. n ≤ length room.new) }
     ensures text { Collects lines.old lines.new room.old room.new result }
 {
-    let (mut words, len) = first_line(lines)?;
-    let mut filled = copy_piece(&mut words, room, 0, scratch)?;
+    let (mut tokens, len) = first_line(lines)?;
+    let mut filled = copy_piece(&mut tokens, room, 0, scratch)?;
     'pieces: for _ in 0..pieces_behind(len) {
-        let mut words = lines.next_line()?;
-        filled = copy_piece(&mut words, room, filled, scratch)?;
+        let mut tokens = lines.next_line()?;
+        filled = copy_piece(&mut tokens, room, filled, scratch)?;
     }
     Ok(filled)
 }
 
 /// Copies the piece of a text that is alone in a line into the room, and returns if it ends there.
 fn copy_piece(
-    words: &mut Words<'_>,
+    tokens: &mut LineTokens<'_>,
     room: &mut [u8],
     from: usize,
     scratch: &mut LineBuffer,
 ) -> Result<usize, BuildError>
     requires { from ≤ length room.old }
     ensures in_bounds { IfOk result (λ n. n ≤ length room.new) }
-    ensures piece { CopiesPiece words.old room.old room.new from result }
+    ensures piece { CopiesPiece tokens.old room.old room.new from result }
 {
-    let at = words.at();
-    let piece = last_text(words)?;
+    let at = tokens.at();
+    let piece = last_text(tokens)?;
     let bytes = piece.bytes(scratch);
     if room.len() - from < bytes.len() {
         return Err(BuildError::LongText(at));

@@ -5,7 +5,7 @@ ghost use Rattle.std.specs.Bool.{OnTrue};
 ghost use Rattle.best_fit.specs.Ends.{EndsAt};
 ghost use Rattle.raw_region.specs.Memory.{SameSurroundings};
 ghost use Rattle.segment_manager.specs.declared.modes.Mode.TheVariants.{Write};
-ghost use Rattle.segment_dump.specs.Counting.{IsFront, fronted};
+ghost use Rattle.segment_dump.specs.Counting.{IsDumpPrefix, fronted};
 ghost use Rattle.segment_dump.specs.Notes.{without_notes};
 ghost use Rattle.segment_dump.specs.Reads.{Any};
 ghost use Rattle.segment_dump.specs.Succeeding.{AreNumbers, IsNumber, JudgesDump, LiesOf, MakesObjects, ReadsLead};
@@ -20,11 +20,11 @@ ghost use Rattle.segment_dump.specs.Loading.{refusal_for};
 
 use crate::building::{BuildError, build, build_error_of};
 use crate::comparing::compare;
-use crate::counting::{Count, Front, count_dump};
+use crate::counting::{Count, DumpPrefix, count_dump};
 use crate::faults::{BadDump, DumpFault, LoadError, LoadRefused, SyntaxError};
+use crate::line_columns::line_column_at;
 use crate::notes::without_notes;
-use crate::places::place_at;
-use crate::tokens::{Lines, Words};
+use crate::tokens::{LineTokens, Lines};
 use block_tags::is_legal_size;
 use raw_region::RawRegion;
 use segment_lang::numbers_are_decimals;
@@ -108,8 +108,8 @@ fn make(
     ensures indexes { IndexesOf text.now (length region) base size (length room.old) counted result }
 {
     let mut lines = Lines::new(text);
-    let front = match read_front(&mut lines) {
-        Ok(front) => front,
+    let prefix = match read_prefix(&mut lines) {
+        Ok(prefix) => prefix,
         Err(misfit) => {
             return Err(LoadRefused {
                 region: Some(region),
@@ -117,15 +117,15 @@ fn make(
             });
         }
     };
-    let asked = asked_size(size, declared_size(counted, front.size));
+    let asked = asked_size(size, declared_size(counted, prefix.size));
     let mut segment = match Segment::create(region, base, asked, Mode::Write) {
         Ok(segment) => segment,
         Err(refused) => return Err(not_created(text, refused, counted)),
     };
-    if let Err(stop) = make_objects(&mut segment, front, &mut lines, room, text.len()) {
+    if let Err(stop) = make_objects(&mut segment, prefix, &mut lines, room, text.len()) {
         return Err(let_go(cause_of(text, stop, counted)));
     }
-    judge(segment, text, front.size, size)
+    judge(segment, text, prefix.size, size)
 }
 
 /// Returns the size in `counted`, or `said` if the lines could not be counted.
@@ -139,36 +139,36 @@ fn declared_size(counted: Result<Count, usize>, said: u64) -> u64
 }
 
 /// Returns the contents of the first three lines.
-fn read_front(lines: &mut Lines<'_>) -> Result<Front, SyntaxError>
-    ensures { Takes fronted IsFront lines.old lines.new result }
+fn read_prefix(lines: &mut Lines<'_>) -> Result<DumpPrefix, SyntaxError>
+    ensures { Takes fronted IsDumpPrefix lines.old lines.new result }
 {
     read_version(lines)?;
     let size = read_size(lines)?;
     let (named, unique) = read_entries(lines)?;
-    Ok(Front {
+    Ok(DumpPrefix {
         size,
         named,
         unique,
     })
 }
 
-/// Returns the next line without its first word, which must be `word`.
-fn read_lead<'a>(lines: &mut Lines<'a>, word: &[u8]) -> Result<Words<'a>, SyntaxError>
-    ensures { ReadsLead word.now lines.old lines.new result }
+/// Returns the next line without its first word, which must be `token`.
+fn read_lead<'a>(lines: &mut Lines<'a>, token: &[u8]) -> Result<LineTokens<'a>, SyntaxError>
+    ensures { ReadsLead token.now lines.old lines.new result }
 {
-    let mut words = lines.next_line()?;
-    words.expect(word)?;
-    Ok(words)
+    let mut tokens = lines.next_line()?;
+    tokens.expect(token)?;
+    Ok(tokens)
 }
 
 /// Reads the first line.
 fn read_version(lines: &mut Lines<'_>) -> Result<(), SyntaxError>
     ensures { Takes version_said Any lines.old lines.new result }
 {
-    let mut words = read_lead(lines, b"segment")?;
-    words.expect(b"dump")?;
-    words.expect(b"1")?;
-    words.finish()
+    let mut tokens = read_lead(lines, b"segment")?;
+    tokens.expect(b"dump")?;
+    tokens.expect(b"1")?;
+    tokens.finish()
 }
 
 /// Returns the size.
@@ -176,9 +176,9 @@ fn read_size(lines: &mut Lines<'_>) -> Result<u64, SyntaxError>
     ensures { Takes size_said IsNumber lines.old lines.new result }
 {
     numbers_are_decimals();
-    let mut words = read_lead(lines, b"size")?;
-    let size = words.next_number()?;
-    words.finish()?;
+    let mut tokens = read_lead(lines, b"size")?;
+    let size = tokens.next_number()?;
+    tokens.finish()?;
     Ok(size)
 }
 
@@ -187,10 +187,10 @@ fn read_entries(lines: &mut Lines<'_>) -> Result<(u64, u64), SyntaxError>
     ensures { Takes entries_said AreNumbers lines.old lines.new result }
 {
     numbers_are_decimals();
-    let mut words = read_lead(lines, b"indexes")?;
-    let named = words.next_number()?;
-    let unique = words.next_number()?;
-    words.finish()?;
+    let mut tokens = read_lead(lines, b"indexes")?;
+    let named = tokens.next_number()?;
+    let unique = tokens.next_number()?;
+    tokens.finish()?;
     Ok((named, unique))
 }
 
@@ -274,7 +274,7 @@ fn bad_dump(text: &[u8], misfit: SyntaxError) -> LoadError
     ensures { IsWrong text.now result }
 {
     let at = misfit.at.min(text.len());
-    let (line, column) = place_at(text, at);
+    let (line, column) = line_column_at(text, at);
     LoadError::BadDump(BadDump {
         line,
         column,
@@ -310,19 +310,19 @@ fn uncounted(text: &[u8], at: usize, counted: Result<Count, usize>) -> SyntaxErr
 /// of the dump asks for.
 fn make_objects(
     segment: &mut Segment,
-    front: Front,
+    prefix: DumpPrefix,
     lines: &mut Lines<'_>,
     room: &mut [u8],
     most: usize,
 ) -> Result<(), BuildError>
-    ensures objects { MakesObjects segment.old segment.new front lines.old most (length room.old) result }
+    ensures objects { MakesObjects segment.old segment.new prefix lines.old most (length room.old) result }
     ensures place { SameSurroundings segment.old.cut segment.new.cut }
 {
     let at = lines.at();
-    if let Err(why) = segment.reserve_named(front.named) {
+    if let Err(why) = segment.reserve_named(prefix.named) {
         return Err(build_error_of(why, at));
     }
-    if let Err(why) = segment.reserve_unique(front.unique) {
+    if let Err(why) = segment.reserve_unique(prefix.unique) {
         return Err(build_error_of(why, at));
     }
     build(segment, lines, room, most)

@@ -3,7 +3,7 @@ ghost use Rattle.std.specs.Prelude.{◌≡◌, ◌+◌, ◌^◌, ◌<◌, ◌≤
 ghost use Rattle.seg_types.specs.Kinds.{size_of};
 ghost use Rattle.seg_map.specs.Map.{node_len};
 ghost use Rattle.segment_dump.specs.Asked.{AreAtMost};
-ghost use Rattle.segment_dump.specs.Need.{block_room, body_len, both, elements_room, front_room, object_room};
+ghost use Rattle.segment_dump.specs.Need.{block_room, body_len, both, elements_room, prefix_room, object_room};
 ghost use Rattle.segment_dump.specs.Need.{only_room};
 
 use seg_types::{Kind, ScalarKind};
@@ -101,11 +101,11 @@ pub fn object_room(name_len: u64, kind: Kind, count: u64) -> u64
 }
 
 /// Returns the bytes of header and end tag, and of the blocks of both indexes with these numbers of entries.
-#[tactic(auto, unfolding(crate::specs::Need::front_room))]
-pub fn front_room(named: u64, unique: u64) -> u64
+#[tactic(auto, unfolding(crate::specs::Need::prefix_room))]
+pub fn prefix_room(named: u64, unique: u64) -> u64
     requires named { named ≤ 1073741824 }
     requires unique { unique ≤ 1073741824 }
-    ensures { result ≡ front_room named unique }
+    ensures { result ≡ prefix_room named unique }
 {
     ENDS + block_room(8 * named) + block_room(8 * unique)
 }

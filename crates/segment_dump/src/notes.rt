@@ -8,11 +8,11 @@ pub fn without_notes(text: &[u8]) -> &[u8]
 {
     let mut left = text;
     'notes: loop {
-        let (front, last) = left.split_at(last_line_at(left));
+        let (prefix, last) = left.split_at(last_line_at(left));
         if !is_note(last) {
             return left;
         }
-        left = front;
+        left = prefix;
     }
 }
 

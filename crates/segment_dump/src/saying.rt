@@ -2,7 +2,7 @@
 ghost use Rattle.segment_dump.specs.Counting.{SaysSize};
 ghost use Rattle.segment_dump.specs.Notes.{without_notes};
 
-use crate::front_reading::{behind, next_number};
+use crate::prefix_reading::{behind, next_number};
 
 /// Returns the size of a dump's segment, in bytes, from the second line. Notes after the dump make no difference. For a
 /// dump the result is never `None`; for another text it can be any number.

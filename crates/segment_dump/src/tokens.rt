@@ -2,16 +2,17 @@
 ghost use Rattle.std.specs.Prelude.{◌≡◌, ◌≤◌, ◌<◌, ◌^◌, ◌↔◌, ◌==◌, ℕ, List, [], length, position, true, IfOk, IsTrue};
 ghost use Rattle.raw_region.specs.Format.{current};
 ghost use Rattle.segment_lang.specs.Language.{whole_language};
-ghost use Rattle.segment_lang.specs.Reading.{kind_of_word, number};
+ghost use Rattle.segment_lang.specs.Reading.{kind_of_token, number};
 ghost use Rattle.segment_lang.specs.Seen.{bytes_said};
 ghost use Rattle.segment_dump.specs.Builders.{ReadsElement, ReadsPair};
-ghost use Rattle.segment_dump.specs.Lines.{ReadsEnd, ReadsLine, ReadsThis, ReadsWord, any_word, bare_word, quoted_word};
-ghost use Rattle.segment_dump.specs.Lines.{seen_bytes, seen_word, value_word};
+ghost use Rattle.segment_dump.specs.Lines.{ReadsEnd, ReadsLine, ReadsThis, ReadsToken, any_token, bare_token};
+ghost use Rattle.segment_dump.specs.Lines.{quoted_token};
+ghost use Rattle.segment_dump.specs.Lines.{seen_bytes, seen_token, value_token};
 
 use crate::faults::{DumpFault, SyntaxError};
 use seg_types::{Kind, ScalarKind, ScalarValue};
 use segment_lang::{
-    Quoted, Word, kind_of_word, next_word, number_of, scalar_of, wholes_are_decimals,
+    Quoted, Token, kind_of_token, next_token, number_of, scalar_of, wholes_are_decimals,
 };
 use std::marker::Model;
 
@@ -27,7 +28,7 @@ pub struct Lines<'a> {
 
 /// The rest of a line.
 #[derive(Drop)]
-pub struct Words<'a> {
+pub struct LineTokens<'a> {
     rest: &'a [u8],
     end: usize,
 }
@@ -40,14 +41,14 @@ impl<'a> Model for Lines<'a> {
     ghost view = { λ lines. lines.rest.now };
 }
 
-impl<'a> Model for Words<'a> {
+impl<'a> Model for LineTokens<'a> {
     ghost use Rattle.std.specs.Prelude.{◌≤◌, ℕ, List, length};
 
     ghost Value = { List ℕ };
 
-    ghost view = { λ words. words.rest.now };
+    ghost view = { λ tokens. tokens.rest.now };
 
-    ghost invariant = { λ words. length words.rest.now ≤ 4096 };
+    ghost invariant = { λ tokens. length tokens.rest.now ≤ 4096 };
 }
 
 impl<'a> Lines<'a> {
@@ -74,7 +75,7 @@ impl<'a> Lines<'a> {
     }
 
     /// Returns the next line, without the byte that ends it.
-    pub fn next_line(&mut self) -> Result<Words<'a>, SyntaxError>
+    pub fn next_line(&mut self) -> Result<LineTokens<'a>, SyntaxError>
         ensures { ReadsLine self.old self.new result }
     {
         let at = self.at();
@@ -94,14 +95,14 @@ impl<'a> Lines<'a> {
         }
         let (_, behind) = behind.split_at(1);
         self.rest = behind;
-        Ok(Words {
+        Ok(LineTokens {
             rest: line,
             end: self.at().saturating_sub(1),
         })
     }
 }
 
-impl<'a> Words<'a> {
+impl<'a> LineTokens<'a> {
     /// Returns where the next word stands in the text, or the end of the line.
     pub fn at(&self) -> usize {
         let rest = self.rest;
@@ -139,49 +140,49 @@ impl<'a> Words<'a> {
     }
 
     /// Returns the next word.
-    pub fn next_word(&mut self) -> Result<Word<'a>, SyntaxError>
-        ensures max_len { IfOk result (λ word. length (bytes_said word) ≤ 4096) }
-        ensures word { ReadsWord any_word self.old self.new (seen_word result) }
+    pub fn next_token(&mut self) -> Result<Token<'a>, SyntaxError>
+        ensures max_len { IfOk result (λ token. length (bytes_said token) ≤ 4096) }
+        ensures token { ReadsToken any_token self.old self.new (seen_token result) }
     {
-        match next_word(self.rest) {
+        match next_token(self.rest) {
             None => Err(self.misfit(DumpFault::BadSyntax)),
-            Some((word, rest)) => {
+            Some((token, rest)) => {
                 self.rest = rest;
-                Ok(word)
+                Ok(token)
             }
         }
     }
 
     /// Returns the next word, a bare one.
     pub fn next_bare(&mut self) -> Result<&'a [u8], SyntaxError>
-        ensures { ReadsWord bare_word self.old self.new (seen_bytes result) }
+        ensures { ReadsToken bare_token self.old self.new (seen_bytes result) }
     {
         let misfit = self.misfit(DumpFault::BadSyntax);
-        match self.next_word()? {
-            Word::Bare(bytes) => Ok(bytes),
-            Word::Text(_) => Err(misfit),
+        match self.next_token()? {
+            Token::Bare(bytes) => Ok(bytes),
+            Token::Text(_) => Err(misfit),
         }
     }
 
     /// Returns the next word, a text in quotes.
     pub fn next_text(&mut self) -> Result<Quoted<'a>, SyntaxError>
         ensures max_len { IfOk result (λ text. length text ≤ 4096) }
-        ensures word { ReadsWord quoted_word self.old self.new result }
+        ensures token { ReadsToken quoted_token self.old self.new result }
     {
         let misfit = self.misfit(DumpFault::BadSyntax);
-        match self.next_word()? {
-            Word::Bare(_) => Err(misfit),
-            Word::Text(text) => Ok(text),
+        match self.next_token()? {
+            Token::Bare(_) => Err(misfit),
+            Token::Text(text) => Ok(text),
         }
     }
 
     /// Checks that the next word is this one.
-    pub fn expect(&mut self, word: &[u8]) -> Result<(), SyntaxError>
-        ensures { ReadsThis word.now self.old self.new result }
+    pub fn expect(&mut self, token: &[u8]) -> Result<(), SyntaxError>
+        ensures { ReadsThis token.now self.old self.new result }
     {
         let misfit = self.misfit(DumpFault::BadSyntax);
         let bytes = self.next_bare()?;
-        if is_same(bytes, word) {
+        if is_same(bytes, token) {
             Ok(())
         } else {
             Err(misfit)
@@ -190,7 +191,7 @@ impl<'a> Words<'a> {
 
     /// Returns the next word, a number.
     pub fn next_number(&mut self) -> Result<u64, SyntaxError>
-        ensures { ReadsWord number self.old self.new result }
+        ensures { ReadsToken number self.old self.new result }
     {
         let misfit = self.misfit(DumpFault::BadCount);
         number_of(self.next_bare()?).ok_or(misfit)
@@ -198,18 +199,18 @@ impl<'a> Words<'a> {
 
     /// Returns the next word, a kind.
     pub fn next_kind(&mut self) -> Result<Kind, SyntaxError>
-        ensures { ReadsWord (kind_of_word (whole_language current)) self.old self.new result }
+        ensures { ReadsToken (kind_of_token (whole_language current)) self.old self.new result }
     {
         let misfit = self.misfit(DumpFault::UnknownKind);
-        kind_of_word(self.next_word()?).ok_or(misfit)
+        kind_of_token(self.next_token()?).ok_or(misfit)
     }
 
     /// Returns the next word, a value of a kind.
     pub fn next_value(&mut self, kind: ScalarKind) -> Result<ScalarValue, SyntaxError>
-        ensures { ReadsWord (value_word kind) self.old self.new result }
+        ensures { ReadsToken (value_token kind) self.old self.new result }
     {
         let misfit = self.misfit(DumpFault::BadValue);
-        scalar_of(kind, self.next_word()?).ok_or(misfit)
+        scalar_of(kind, self.next_token()?).ok_or(misfit)
     }
 }
 
@@ -218,9 +219,9 @@ pub fn next_value(lines: &mut Lines<'_>, kind: ScalarKind) -> Result<ScalarValue
     ensures { ReadsElement kind lines.old lines.new result }
 {
     wholes_are_decimals();
-    let mut words = lines.next_line()?;
-    let value = words.next_value(kind)?;
-    words.finish()?;
+    let mut tokens = lines.next_line()?;
+    let value = tokens.next_value(kind)?;
+    tokens.finish()?;
     Ok(value)
 }
 
@@ -233,10 +234,10 @@ pub fn next_pair(
     ensures { ReadsPair keys values lines.old lines.new result }
 {
     wholes_are_decimals();
-    let mut words = lines.next_line()?;
-    let key = words.next_value(keys)?;
-    let value = words.next_value(values)?;
-    words.finish()?;
+    let mut tokens = lines.next_line()?;
+    let key = tokens.next_value(keys)?;
+    let value = tokens.next_value(values)?;
+    tokens.finish()?;
     Ok((key, value))
 }
 

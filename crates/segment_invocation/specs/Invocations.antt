@@ -13,7 +13,7 @@ use Rattle.clap.specs.Kinds.{IsAmong}
 use Rattle.clap.specs.Values.{kind_of}
 use Rattle.clap.specs.declared.error.kind.ErrorKind.TheVariants.{DisplayVersion}
 use Rattle.clap.specs.declared.builder.action.ArgAction.TheVariants.{Append, Set, SetTrue}
-use Rattle.segment_lang.specs.Words.{number_of}
+use Rattle.segment_lang.specs.Lexing.{number_of}
 use Rattle.segment_invocation.specs.declared.invocations.Invocation.{Invocation}
 use Rattle.segment_invocation.specs.declared.invocations.Invocation.TheVariants.{Create, Run, Check, Grow, Shrink}
 use Rattle.segment_invocation.specs.declared.invocations.Invocation.TheVariants.{Migrate, Tell, Names, Get, Load, Lint}
@@ -33,7 +33,7 @@ use Rattle.segment_disk.specs.declared.presence.SaveMode.TheVariants.{InPlace, R
 use Rattle.segment_invocation.specs.declared.invocations.Script.{Script}
 use Rattle.segment_invocation.specs.declared.invocations.Script.TheVariants as script
 use Rattle.segment_invocation.specs.declared.usage.UsageError.{UsageError}
-use Rattle.segment_invocation.specs.declared.usage.UsageError.TheVariants.{Words, Command, File, Number, Mode}
+use Rattle.segment_invocation.specs.declared.usage.UsageError.TheVariants.{Arguments, Command, File, Number, Mode}
 use Rattle.segment_invocation.specs.declared.usage.UsageError.TheVariants.{Modes, Key}
 use Rattle.segment_invocation.specs.declared.usage.UsageError.TheVariants.{Size, Script as TwoScripts, Files}
 use Rattle.segment_invocation.specs.declared.usage.UsageError.TheVariants.{Capacities as JsonCapacities}
@@ -257,21 +257,21 @@ options_by how = record {
 abbrev pub request_by : Request → RequestValue
 request_by asked = record { command = asked_by asked.command; options = options_by asked.options }
 
-abbrev pub mode_word : ModeName → Text
-mode_word CreateOnly = codes "create_only"
-mode_word OpenOnly = codes "open_only"
-mode_word OpenOrCreate = codes "open_or_create"
-mode_word OpenReadOnly = codes "open_read_only"
-mode_word OpenCopyOnWrite = codes "open_copy_on_write"
+abbrev pub mode_argument : ModeName → Text
+mode_argument CreateOnly = codes "create_only"
+mode_argument OpenOnly = codes "open_only"
+mode_argument OpenOrCreate = codes "open_or_create"
+mode_argument OpenReadOnly = codes "open_read_only"
+mode_argument OpenCopyOnWrite = codes "open_copy_on_write"
 
 -- the mode of a word
 abbrev pub mode_called : Text → Option ModeName
-mode_called word =
-    if bytes_eq word (mode_word CreateOnly) then Some CreateOnly
-    else if bytes_eq word (mode_word OpenOnly) then Some OpenOnly
-    else if bytes_eq word (mode_word OpenOrCreate) then Some OpenOrCreate
-    else if bytes_eq word (mode_word OpenReadOnly) then Some OpenReadOnly
-    else if bytes_eq word (mode_word OpenCopyOnWrite) then Some OpenCopyOnWrite
+mode_called argument =
+    if bytes_eq argument (mode_argument CreateOnly) then Some CreateOnly
+    else if bytes_eq argument (mode_argument OpenOnly) then Some OpenOnly
+    else if bytes_eq argument (mode_argument OpenOrCreate) then Some OpenOrCreate
+    else if bytes_eq argument (mode_argument OpenReadOnly) then Some OpenReadOnly
+    else if bytes_eq argument (mode_argument OpenCopyOnWrite) then Some OpenCopyOnWrite
     else None
 
 -- whether a mode may make a segment, and so needs its size
@@ -283,27 +283,27 @@ wants_size _ = false
 -- the mode of a word, `open_only` if there is none; or the flag for `open_read_only` stands there, and no word
 abbrev pub mode_of : Bool → Option Text → Option ModeName
 mode_of true None = Some OpenReadOnly
-mode_of true (Some word) = None
+mode_of true (Some argument) = None
 mode_of false None = Some OpenOnly
-mode_of false (Some word) = mode_called word
+mode_of false (Some argument) = mode_called argument
 
 -- the number of a word that may be left out
 abbrev pub size_of : Option Text → Option (Option ℕ)
 size_of None = Some None
-size_of (Some word) = option_map Some (number_of word)
+size_of (Some argument) = option_map Some (number_of argument)
 
 -- whether a flag stands there, by what stands for it
 abbrev pub is_set : Option Text → Bool
 is_set None = false
-is_set (Some word) = bytes_eq word (codes "true")
+is_set (Some argument) = bytes_eq argument (codes "true")
 
 -- how a file is saved, by what stands for `--replace`
 abbrev pub saving_of : Option Text → SaveMode
-saving_of word = if is_set word then Replacing else InPlace
+saving_of argument = if is_set argument then Replacing else InPlace
 
 -- for how many seconds a file is waited for, by what stands for `--wait`
 abbrev pub seconds_of : Option Text → Option ℕ
-seconds_of word = option_map (λ n. unwrap_or n 0) (size_of word)
+seconds_of argument = option_map (λ n. unwrap_or n 0) (size_of argument)
 
 -- where a script comes from: a file or the lines of the command line, and not both
 abbrev pub origin_of : Option Text → List Text → Option Origin
@@ -370,19 +370,19 @@ asked_run file words = run_of file (mode_in words) (first_of (codes "size") word
 
 -- the command of a word that takes a file
 abbrev pub command_called : Text → Option FileCommand
-command_called word =
-    if bytes_eq word (codes "create") then Some on_file.Create
-    else if bytes_eq word (codes "run") then Some on_file.Run
-    else if bytes_eq word (codes "check") then Some on_file.Check
-    else if bytes_eq word (codes "grow") then Some on_file.Grow
-    else if bytes_eq word (codes "shrink") then Some on_file.Shrink
-    else if bytes_eq word (codes "migrate") then Some on_file.Migrate
-    else if bytes_eq word (codes "stat") then Some on_file.Stat
-    else if bytes_eq word (codes "draw") then Some on_file.Draw
-    else if bytes_eq word (codes "dump") then Some on_file.Dump
-    else if bytes_eq word (codes "names") then Some on_file.Names
-    else if bytes_eq word (codes "get") then Some on_file.Get
-    else if bytes_eq word (codes "load") then Some on_file.Load
+command_called argument =
+    if bytes_eq argument (codes "create") then Some on_file.Create
+    else if bytes_eq argument (codes "run") then Some on_file.Run
+    else if bytes_eq argument (codes "check") then Some on_file.Check
+    else if bytes_eq argument (codes "grow") then Some on_file.Grow
+    else if bytes_eq argument (codes "shrink") then Some on_file.Shrink
+    else if bytes_eq argument (codes "migrate") then Some on_file.Migrate
+    else if bytes_eq argument (codes "stat") then Some on_file.Stat
+    else if bytes_eq argument (codes "draw") then Some on_file.Draw
+    else if bytes_eq argument (codes "dump") then Some on_file.Dump
+    else if bytes_eq argument (codes "names") then Some on_file.Names
+    else if bytes_eq argument (codes "get") then Some on_file.Get
+    else if bytes_eq argument (codes "load") then Some on_file.Load
     else None
 
 -- what such a command asks for, of a file
@@ -483,7 +483,7 @@ pub data Wrong : Type 0 where
 
 -- what an error says of the words, unless it is one of clap's
 abbrev pub wrong_by : UsageError → Option Wrong
-wrong_by (Words misread) = None
+wrong_by (Arguments misread) = None
 wrong_by Command = Some no_command
 wrong_by File = Some no_file
 wrong_by Key = Some no_key
@@ -541,7 +541,7 @@ wrong_of (Some found) = wrong_in found.0 found.1
 -- an error tells what is wrong with the words, the program's name first: a fault that clap finds, or, if it finds
 -- none, why they ask for nothing
 abbrev pub IsWrongBy : List Text → UsageError → Type 0
-IsWrongBy words (Words misread) = IsAmong (kind_of misread) (fault_of command_line words)
+IsWrongBy words (Arguments misread) = IsAmong (kind_of misread) (fault_of command_line words)
 IsWrongBy words e = (fault_of command_line words ≡ []) × (requested_of (subcommand_of command_line words) ≡ None)
     × (wrong_by e ≡ Some (wrong_of (subcommand_of command_line words)))
 
@@ -554,7 +554,7 @@ is_path (c ∷ cs) = not (c == 45)
 
 -- `--mode M`, which may be left out for `open_only`
 abbrev pub IsModePart : List Text → ModeName → Type 0
-IsModePart words mode = (words ≡ codes "--mode" ∷ mode_word mode ∷ []) ⊎ ((words ≡ []) × (mode ≡ OpenOnly))
+IsModePart words mode = (words ≡ codes "--mode" ∷ mode_argument mode ∷ []) ⊎ ((words ≡ []) × (mode ≡ OpenOnly))
 
 -- `NAME N`, which may be left out
 abbrev pub IsNumberPart : Text → List Text → Option ℕ → Type 0
@@ -577,17 +577,17 @@ saving_part Replacing = codes "--replace" ∷ []
 
 -- a flag that may be left out
 abbrev pub flag_part : Text → Bool → List Text
-flag_part word true = word ∷ []
-flag_part word false = []
+flag_part argument true = argument ∷ []
+flag_part argument false = []
 
-abbrev pub flag_words : SaveMode → Bool → Bool → List Text
-flag_words saving strict numbered =
+abbrev pub flag_arguments : SaveMode → Bool → Bool → List Text
+flag_arguments saving strict numbered =
     saving_part saving ++ (flag_part (codes "--strict") strict ++ flag_part (codes "--numbered") numbered)
 
 -- the lines of a script, each after `-c`
-abbrev pub line_words : List Text → List Text
-line_words [] = []
-line_words (line ∷ rest) = codes "-c" ∷ line ∷ line_words rest
+abbrev pub line_arguments : List Text → List Text
+line_arguments [] = []
+line_arguments (line ∷ rest) = codes "-c" ∷ line ∷ line_arguments rest
 
 -- what stands for the script of a run, after the file
 abbrev pub IsOriginPart : List Text → Origin → Type 0
@@ -595,7 +595,7 @@ IsOriginPart words input = words ≡ []
 IsOriginPart words (from_file path) = IsTrue (is_path path) × (words ≡ path ∷ [])
 IsOriginPart words (from_lines []) = ⊥
 IsOriginPart words (from_lines (line ∷ rest)) = IsTrue (list_all is_path (line ∷ rest))
-    × (words ≡ line_words (line ∷ rest))
+    × (words ≡ line_arguments (line ∷ rest))
 
 -- `NAME TEXT`, which may be left out
 abbrev pub IsPart : Text → List Text → Text → Type 0
@@ -617,7 +617,7 @@ abbrev pub IsRunWritten : Text → ModeName → Option ℕ → Origin → SaveMo
 IsRunWritten file mode size input saving wait strict numbered words = (modes : List Text) × (sizes : List Text)
     × (waits : List Text)
     × IsModePart modes mode × IsSizePart sizes mode size × IsWaitPart waits wait
-    × (words ≡ codes "run" ∷ file ∷ modes ++ (sizes ++ (waits ++ flag_words saving strict numbered)))
+    × (words ≡ codes "run" ∷ file ∷ modes ++ (sizes ++ (waits ++ flag_arguments saving strict numbered)))
 IsRunWritten file mode size origin saving wait strict numbered words =
     (origins : List Text) × IsOriginPart origins origin
     × (mode ≡ OpenOnly) × (size ≡ None) × (saving ≡ InPlace) × (wait ≡ 0) × (strict ≡ false) × (numbered ≡ false)
@@ -627,8 +627,8 @@ IsRunWritten file mode size origin saving wait strict numbered words =
 abbrev pub check_options : Text → Bool → Bool → OptionValues
 check_options file explains quiet = record (plain_options (file ∷ [])) { explains = explains; quiet = quiet }
 
-abbrev pub check_words : Text → Bool → Bool → List Text
-check_words file explains quiet =
+abbrev pub check_arguments : Text → Bool → Bool → List Text
+check_arguments file explains quiet =
     codes "check" ∷ file ∷ flag_part (codes "--explain") explains ++ flag_part (codes "--quiet") quiet
 
 -- the options of a command that writes a file
@@ -645,18 +645,18 @@ abbrev pub is_index : Option Text → Bool
 is_index None = true
 is_index (Some index) = is_path index
 
-abbrev pub index_words : Option Text → List Text
-index_words None = []
-index_words (Some index) = index ∷ []
+abbrev pub index_arguments : Option Text → List Text
+index_arguments None = []
+index_arguments (Some index) = index ∷ []
 
 -- what is told of a file: the command, and its flag
-abbrev pub report_words : Report → Text → List Text
-report_words Figures file = codes "stat" ∷ file ∷ []
-report_words Picture file = codes "draw" ∷ file ∷ []
-report_words Page file = codes "draw" ∷ file ∷ codes "--html" ∷ []
-report_words Dump file = codes "dump" ∷ file ∷ []
-report_words Capacities file = codes "dump" ∷ file ∷ codes "--capacities" ∷ []
-report_words Json file = codes "dump" ∷ file ∷ codes "--json" ∷ []
+abbrev pub report_arguments : Report → Text → List Text
+report_arguments Figures file = codes "stat" ∷ file ∷ []
+report_arguments Picture file = codes "draw" ∷ file ∷ []
+report_arguments Page file = codes "draw" ∷ file ∷ codes "--html" ∷ []
+report_arguments Dump file = codes "dump" ∷ file ∷ []
+report_arguments Capacities file = codes "dump" ∷ file ∷ codes "--capacities" ∷ []
+report_arguments Json file = codes "dump" ∷ file ∷ codes "--json" ∷ []
 
 -- the words after the program's name say a command and these options
 abbrev pub IsWrittenWith : InvocationValue → OptionValues → List Text → Type 0
@@ -666,19 +666,19 @@ IsWrittenWith (run file mode size) how words = IsTrue (is_path file)
     × (how ≡ options_of_run file how.origin how.saving how.wait how.strict how.numbered)
     × IsRunWritten file mode size how.origin how.saving how.wait how.strict how.numbered words
 IsWrittenWith (check file) how words = IsTrue (is_path file) × (how ≡ check_options file how.explains how.quiet)
-    × (words ≡ check_words file how.explains how.quiet)
+    × (words ≡ check_arguments file how.explains how.quiet)
 IsWrittenWith (grow file bytes) how words = (digits : Text) × (number_of digits ≡ Some bytes)
     × IsKeptWritten (codes "grow" ∷ file ∷ digits ∷ []) file how words
 IsWrittenWith (shrink file) how words = IsKeptWritten (codes "shrink" ∷ file ∷ []) file how words
 IsWrittenWith (migrate file) how words = IsKeptWritten (codes "migrate" ∷ file ∷ []) file how words
 IsWrittenWith (tell file what) how words = IsTrue (is_path file) × (how ≡ plain_options (file ∷ []))
-    × (words ≡ report_words what file)
+    × (words ≡ report_arguments what file)
 IsWrittenWith (names file prefix most) how words = IsTrue (is_path file) × (how ≡ plain_options (file ∷ []))
     × (prefixes : List Text) × (mosts : List Text)
     × IsPart (codes "--prefix") prefixes prefix × IsNumberPart (codes "--most") mosts most
     × (words ≡ codes "names" ∷ file ∷ prefixes ++ mosts)
 IsWrittenWith (get file key index) how words = IsTrue (is_path file) × IsTrue (is_path key) × IsTrue (is_index index)
-    × (how ≡ plain_options (file ∷ [])) × (words ≡ codes "get" ∷ file ∷ key ∷ index_words index)
+    × (how ≡ plain_options (file ∷ [])) × (words ≡ codes "get" ∷ file ∷ key ∷ index_arguments index)
 IsWrittenWith (load file size) how words = (sizes : List Text) × IsNumberPart (codes "--size") sizes size
     × IsKeptWritten (codes "load" ∷ file ∷ sizes) file how words
 IsWrittenWith lint how words = (how ≡ no_options) × (words ≡ codes "lint" ∷ [])

@@ -3,7 +3,7 @@ ghost use Rattle.std.specs.Prelude.{◌≡◌, false, Some, None, Ok, Err, map, 
 ghost use Rattle.std.specs.Prelude.{option_map, option_and_then};
 ghost use Rattle.clap.specs.{Matches.found_of, Values.kind_of, Walk.first_of, Walk.rows_of};
 ghost use Rattle.clap.specs.declared.error.kind.ErrorKind.TheVariants.{DisplayVersion, OutOfMemory as NoMemory};
-ghost use Rattle.segment_lang.specs.Words.{number_of};
+ghost use Rattle.segment_lang.specs.Lexing.{number_of};
 ghost use Rattle.segment_invocation.specs.Invocations.{InvocationValue, IsAskedBy, IsRequestedBy, IsRequestWritten};
 ghost use Rattle.segment_invocation.specs.Invocations.{IsWritten, IsWrongBy, ParsesTo, RequestValue};
 ghost use Rattle.segment_invocation.specs.Invocations.{asked_as, asked_by, asked_in, asked_run, dumped_of, is_set};
@@ -13,7 +13,7 @@ ghost use Rattle.segment_invocation.specs.Invocations.{request_by, requested_in,
 ghost use Rattle.segment_invocation.specs.Invocations.{two_scripts, wrong_by, wrong_command, wrong_filed, wrong_in};
 ghost use Rattle.segment_invocation.specs.Invocations.{wrong_mode, wrong_options, wrong_run};
 ghost use Rattle.segment_invocation.specs.declared.usage.InvocationFault.TheVariants.{OutOfMemory, Usage};
-ghost use Rattle.segment_invocation.specs.declared.usage.UsageError.TheVariants.{Words};
+ghost use Rattle.segment_invocation.specs.declared.usage.UsageError.TheVariants.{Arguments};
 
 use crate::command_line::command_line;
 use crate::invocations::{
@@ -28,8 +28,8 @@ use segment_lang::number_of;
 use std::alloc::{AllocError, Global};
 
 /// Returns the word of an operand or an option, if there is one.
-fn word_of<'a>(words: &ArgMatches<'a>, id: &str) -> Option<&'a str>
-    ensures { option_map (λ word. word.now) result ≡ first_of id.now (rows_of (found_of words.now)) }
+fn argument_of<'a>(words: &ArgMatches<'a>, id: &str) -> Option<&'a str>
+    ensures { option_map (λ argument. argument.now) result ≡ first_of id.now (rows_of (found_of words.now)) }
 {
     words.get_str(id)
 }
@@ -52,7 +52,7 @@ fn mode_in(alloc: Global, words: &ArgMatches<'_>) -> Result<ModeName, UsageError
     ensures read { ParsesTo (mode_in (rows_of (found_of words.now))) result }
     ensures error { IfErr result (λ e. wrong_by e ≡ Some (wrong_mode (rows_of (found_of words.now)))) }
 {
-    let mode = word_of(words, "mode");
+    let mode = argument_of(words, "mode");
     if is_set(words, "read-only") {
         return match mode {
             Some(_) => Err(UsageError::Modes),
@@ -60,9 +60,9 @@ fn mode_in(alloc: Global, words: &ArgMatches<'_>) -> Result<ModeName, UsageError
         };
     }
     match mode {
-        Some(word) => match ModeName::from_word(word) {
+        Some(argument) => match ModeName::from_argument(argument) {
             Some(mode) => Ok(mode),
-            None => Err(UsageError::Mode(nearest_mode(alloc, word))),
+            None => Err(UsageError::Mode(nearest_mode(alloc, argument))),
         },
         None => Ok(ModeName::OpenOnly),
     }
@@ -73,8 +73,8 @@ fn count_in(words: &ArgMatches<'_>, id: &str) -> Result<Option<u64>, UsageError>
     ensures read { ParsesTo (size_of (first_of id.now (rows_of (found_of words.now)))) result }
     ensures error { IfErr result (λ e. wrong_by e ≡ Some no_number) }
 {
-    match word_of(words, id) {
-        Some(word) => match number_of(word.as_bytes()) {
+    match argument_of(words, id) {
+        Some(argument) => match number_of(argument.as_bytes()) {
             Some(count) => Ok(Some(count)),
             None => Err(UsageError::Number),
         },
@@ -99,7 +99,7 @@ fn number_in(words: &ArgMatches<'_>) -> Result<u64, UsageError>
 fn is_set(words: &ArgMatches<'_>, id: &str) -> bool
     ensures { result ≡ is_set (first_of id.now (rows_of (found_of words.now))) }
 {
-    matches!(word_of(words, id), Some("true"))
+    matches!(argument_of(words, id), Some("true"))
 }
 
 /// Returns how the file of a command is taken and saved.
@@ -128,7 +128,7 @@ fn script_in<'a>(words: &ArgMatches<'a>, lines: Vec<&'a str>) -> Result<Script<'
         (map (λ l. l.now) lines.entry.items) ≡ None) }
     ensures error { IfErr result (λ e. wrong_by e ≡ Some two_scripts) }
 {
-    match word_of(words, "script") {
+    match argument_of(words, "script") {
         Some(path) if lines.is_empty() => Ok(Script::File(path)),
         Some(_) => Err(UsageError::Script),
         None if lines.is_empty() => Ok(Script::Input),
@@ -193,10 +193,10 @@ fn read_filed<'a>(
         FileCommand::Dump => Ok(Invocation::Tell(file, dump_in(words)?)),
         FileCommand::Names => {
             let most = count_in(words, "most")?;
-            Ok(Invocation::Names(file, word_of(words, "prefix").unwrap_or(""), most))
+            Ok(Invocation::Names(file, argument_of(words, "prefix").unwrap_or(""), most))
         }
-        FileCommand::Get => match word_of(words, "key") {
-            Some(key) => Ok(Invocation::Get(file, key, word_of(words, "index"))),
+        FileCommand::Get => match argument_of(words, "key") {
+            Some(key) => Ok(Invocation::Get(file, key, argument_of(words, "index"))),
             None => Err(UsageError::Key),
         },
         FileCommand::Load => Ok(Invocation::Load(file, count_in(words, "size")?)),
@@ -219,10 +219,10 @@ fn read_command<'a>(
     if name == "language" {
         return Ok(Invocation::Language);
     }
-    let Some(file) = word_of(words, "file") else {
+    let Some(file) = argument_of(words, "file") else {
         return Err(UsageError::File);
     };
-    match FileCommand::from_word(name) {
+    match FileCommand::from_argument(name) {
         Some(command) => read_filed(alloc, command, file, words),
         None => Err(UsageError::Command),
     }
@@ -302,9 +302,10 @@ fn read_other<'a>(alloc: Global, other: Misread) -> Result<Request<'a>, Invocati
     ensures version { kind_of other ≡ DisplayVersion → MatchResult result (λ r. request_by r ≡ of_version) (λ e. ⊥) }
     ensures memory { kind_of other ≡ NoMemory → result ≡ Err OutOfMemory }
     ensures error { (kind_of other ≡ DisplayVersion → ⊥) → (kind_of other ≡ NoMemory → ⊥)
-        → result ≡ Err (Usage (Words other)) }
+        → result ≡ Err (Usage (Arguments other)) }
     ensures uniqueness { IfOk result (λ r. (request_by r ≡ of_version) × (kind_of other ≡ DisplayVersion)) }
-    ensures result { (w : UsageError) → result ≡ Err (Usage w) → (w ≡ Words other) × (kind_of other ≡ NoMemory → ⊥) }
+    ensures result { (w : UsageError) → result ≡ Err (Usage w) → (w ≡ Arguments other) × (kind_of other ≡
+        NoMemory → ⊥) }
 {
     if other.kind() == ErrorKind::DisplayVersion {
         return Ok(Request {

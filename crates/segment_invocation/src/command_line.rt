@@ -3,7 +3,7 @@ ghost use Rattle.std.specs.Prelude.{◌≡◌, false, fold, map, IfOk};
 ghost use Rattle.clap.specs.{Walk.rule_of, Simple.app_of, Simple.new_app, Simple.with_rule, Simple.with_subcommand};
 ghost use Rattle.clap.specs.declared.builder.command.Command.TheViews.{out-Command as fields_of};
 ghost use Rattle.segment_invocation.specs.Invocations.{command_line, flag, maybe, program};
-ghost use Rattle.segment_invocation.specs.Table.{row_shape, word_rule};
+ghost use Rattle.segment_invocation.specs.Table.{row_shape, argument_rule};
 
 use crate::version::VERSION;
 use clap::{Arg, ArgAction, Command};
@@ -48,7 +48,7 @@ const LINT: &str =
 const LANGUAGE: &str = "Prints the commands of a script, each with its answer and what it does";
 
 /// What the words of the commands of a script stand for.
-const WORDS: &str = "\
+const LEGEND: &str = "\
 Words of the commands:
   KIND     bool, u8, i32, i64, u64, string, vec<KIND>, vec<string> or map<KIND,KIND>, with a kind of the first five inside
   [k]      How many elements an array has, 1 where it is left out; behind a kind of the first five
@@ -100,7 +100,7 @@ Example:
 const SIZES: &str = "A number of bytes: 144, or a multiple of 16 from 176 to 1073741824";
 
 /// A word of a command, with its name and what help says of it.
-pub enum CommandWord {
+pub enum CommandArgument {
     /// A value in its place, which must be there; help calls it by the second text.
     Operand(&'static str, &'static str, &'static str),
     /// A value in its place, of which there may be more.
@@ -125,7 +125,7 @@ pub(crate) enum HelpEnd {
     /// What the modes are.
     Modes,
     /// What the words of the commands of a script stand for.
-    Words,
+    Legend,
 }
 
 /// Returns the text of an end.
@@ -133,7 +133,7 @@ fn end_text(end: HelpEnd) -> &'static str {
     match end {
         HelpEnd::Statuses => STATUSES,
         HelpEnd::Modes => MODES,
-        HelpEnd::Words => WORDS,
+        HelpEnd::Legend => LEGEND,
     }
 }
 
@@ -142,138 +142,150 @@ type Row = (
     &'static str,
     &'static str,
     Option<HelpEnd>,
-    &'static [CommandWord],
+    &'static [CommandArgument],
 );
 
 // The words of the commands, each with what help says of it.
-const FILE: CommandWord = CommandWord::Operand(
+const FILE: CommandArgument = CommandArgument::Operand(
     "file",
     "FILE",
     "The path of the file with the segment",
 );
 
-const FILES: CommandWord = CommandWord::Operands(
+const FILES: CommandArgument = CommandArgument::Operands(
     "file",
     "FILE",
     "The path of the file with the segment",
 );
 
-const SCRIPT: CommandWord = CommandWord::Optional(
+const SCRIPT: CommandArgument = CommandArgument::Optional(
     "script",
     "SCRIPT",
     "The path of a file with the script",
 );
 
-const LINE: CommandWord = CommandWord::Short(
+const LINE: CommandArgument = CommandArgument::Short(
     "line",
     'c',
     "LINE",
     "A line of the script; the next -c has the next one",
 );
 
-const SIZE: CommandWord = CommandWord::Operand("number", "SIZE", SIZES);
+const SIZE: CommandArgument = CommandArgument::Operand("number", "SIZE", SIZES);
 
-const BYTES: CommandWord = CommandWord::Operand("number", "BYTES", "A multiple of 16 from 32 on");
+const BYTES: CommandArgument = CommandArgument::Operand(
+    "number",
+    "BYTES",
+    "A multiple of 16 from 32 on",
+);
 
-const MODE: CommandWord = CommandWord::Option("mode", "MODE", "One of the five modes below");
+const MODE: CommandArgument = CommandArgument::Option(
+    "mode",
+    "MODE",
+    "One of the five modes below",
+);
 
-const READ_ONLY: CommandWord = CommandWord::Switch(
+const READ_ONLY: CommandArgument = CommandArgument::Switch(
     "read-only",
     'r',
     "The mode open_read_only, in the place of --mode",
 );
 
-const RUN_SIZE: CommandWord = CommandWord::Option("size", "SIZE", SIZES);
+const RUN_SIZE: CommandArgument = CommandArgument::Option("size", "SIZE", SIZES);
 
-const REPLACE: CommandWord = CommandWord::Flag(
+const REPLACE: CommandArgument = CommandArgument::Flag(
     "replace",
     "The image goes to a new file beside FILE, which then takes its place: one of the two is whole at each moment",
 );
 
-const WAIT: CommandWord = CommandWord::Option(
+const WAIT: CommandArgument = CommandArgument::Option(
     "wait",
     "SECONDS",
     "How long to wait for FILE where another program writes it; without it that is told at once",
 );
 
-const WHOLE: CommandWord = CommandWord::Flag(
+const WHOLE: CommandArgument = CommandArgument::Flag(
     "replace",
     "FILE gets its name when it is whole: what ends the program before leaves no FILE",
 );
 
-const WAIT_TO_READ: CommandWord = CommandWord::Option(
+const WAIT_TO_READ: CommandArgument = CommandArgument::Option(
     "wait",
     "SECONDS",
     "How long to wait for FILE where another program writes it; without it FILE is read as it is",
 );
 
-const STRICT: CommandWord = CommandWord::Flag(
+const STRICT: CommandArgument = CommandArgument::Flag(
     "strict",
     "The first answer that is an error ends the run, with status 1, and nothing is saved",
 );
 
-const FAIL: CommandWord = CommandWord::Flag(
+const FAIL: CommandArgument = CommandArgument::Flag(
     "fail",
     "The status is 5 where an answer is an error; the segment is saved all the same",
 );
 
-const NUMBERED: CommandWord = CommandWord::Flag(
+const NUMBERED: CommandArgument = CommandArgument::Flag(
     "numbered",
     "Each line of an answer stands behind the number of the line that it answers, as in '3: #192'",
 );
 
-const EXPLAIN: CommandWord = CommandWord::Flag(
+const EXPLAIN: CommandArgument = CommandArgument::Flag(
     "explain",
     "Where FILE holds no segment, tells in words why, and at which byte, from 0 on, that shows",
 );
 
-const QUIET: CommandWord = CommandWord::Flag(
+const QUIET: CommandArgument = CommandArgument::Flag(
     "quiet",
     "Prints nothing for a FILE that holds a segment",
 );
 
-const HTML: CommandWord = CommandWord::Flag(
+const HTML: CommandArgument = CommandArgument::Flag(
     "html",
     "Prints a page for a browser: the picture, the figures of stat, and the objects as a table",
 );
 
-const JSON: CommandWord = CommandWord::Flag(
+const JSON: CommandArgument = CommandArgument::Flag(
     "json",
     "Writes each object as a line of JSON: class, name, kind and value; not with --capacities",
 );
 
-const CAPACITIES: CommandWord = CommandWord::Flag(
+const CAPACITIES: CommandArgument = CommandArgument::Flag(
     "capacities",
     "Behind the objects, tells the capacities: of the indexes, vectors, strings and vectors of strings",
 );
 
-const PREFIX: CommandWord = CommandWord::Option(
+const PREFIX: CommandArgument = CommandArgument::Option(
     "prefix",
     "TEXT",
     "Prints only names that begin with TEXT",
 );
 
-const MOST: CommandWord = CommandWord::Option("most", "N", "Prints the first N of them at most");
+const MOST: CommandArgument = CommandArgument::Option(
+    "most",
+    "N",
+    "Prints the first N of them at most",
+);
 
-const KEY: CommandWord = CommandWord::Operand(
+const KEY: CommandArgument = CommandArgument::Operand(
     "key",
     "KEY",
     "The object: a name, @KIND, or #n, as in a script",
 );
 
-const INDEX: CommandWord = CommandWord::Optional(
+const INDEX: CommandArgument = CommandArgument::Optional(
     "index",
     "INDEX",
     "The place of the value, from 0, or its key in a map; without it the whole string, or the first value",
 );
 
-const LOADED: CommandWord = CommandWord::Option(
+const LOADED: CommandArgument = CommandArgument::Option(
     "size",
     "SIZE",
     "The bytes of the segment, as for create; without it the segment is made as long as the dump says, and then shrunk",
 );
 
-const VERBOSE: CommandWord = CommandWord::Flag(
+const VERBOSE: CommandArgument = CommandArgument::Flag(
     "verbose",
     "Behind a read fault or write fault of FILE, tells FILE and why, as far as the system says",
 );
@@ -316,7 +328,7 @@ static COMMANDS: [Row; 14] = [
     ("get", GET, None, &[FILE, KEY, INDEX, WAIT_TO_READ, VERBOSE]),
     ("load", LOAD, None, &[FILE, LOADED, REPLACE, WAIT, VERBOSE]),
     ("lint", LINT, None, &[VERBOSE]),
-    ("language", LANGUAGE, Some(HelpEnd::Words), &[VERBOSE]),
+    ("language", LANGUAGE, Some(HelpEnd::Legend), &[VERBOSE]),
 ];
 
 /// Returns a word of a command that has a value, for clap, without what else is so of it.
@@ -339,26 +351,26 @@ fn flag_arg<'a>(alloc: Global, name: &'a str, help: &'a str) -> Arg<'a>
 }
 
 /// Returns a word of a command, for clap.
-fn arg_of<'a>(alloc: Global, word: &CommandWord) -> Arg<'a>
-    ensures rule { rule_of result ≡ word_rule word.now }
+fn arg_of<'a>(alloc: Global, argument: &CommandArgument) -> Arg<'a>
+    ensures rule { rule_of result ≡ argument_rule argument.now }
     ensures local { result.global ≡ false }
 {
-    match *word {
-        CommandWord::Operand(name, shown, help) => {
+    match *argument {
+        CommandArgument::Operand(name, shown, help) => {
             valued_arg(alloc, name, shown, help).required(true)
         }
-        CommandWord::Operands(name, shown, help) => valued_arg(alloc, name, shown, help)
+        CommandArgument::Operands(name, shown, help) => valued_arg(alloc, name, shown, help)
             .required(true)
             .action(ArgAction::Append),
-        CommandWord::Optional(name, shown, help) => valued_arg(alloc, name, shown, help),
-        CommandWord::Short(name, letter, shown, help) => valued_arg(alloc, name, shown, help)
+        CommandArgument::Optional(name, shown, help) => valued_arg(alloc, name, shown, help),
+        CommandArgument::Short(name, letter, shown, help) => valued_arg(alloc, name, shown, help)
             .short(letter)
             .action(ArgAction::Append),
-        CommandWord::Option(name, shown, help) => valued_arg(alloc, name, shown, help)
+        CommandArgument::Option(name, shown, help) => valued_arg(alloc, name, shown, help)
             .long(name)
             .action(ArgAction::Set),
-        CommandWord::Flag(name, help) => flag_arg(alloc, name, help),
-        CommandWord::Switch(name, letter, help) => flag_arg(alloc, name, help).short(letter),
+        CommandArgument::Flag(name, help) => flag_arg(alloc, name, help),
+        CommandArgument::Switch(name, letter, help) => flag_arg(alloc, name, help).short(letter),
     }
 }
 
@@ -380,19 +392,19 @@ fn bare_command<'a>(
 }
 
 /// Returns a command with these words after those that it has.
-fn with_words<'a>(
+fn with_arguments<'a>(
     alloc: Global,
     begun: Command<'a>,
-    words: &[CommandWord],
+    words: &[CommandArgument],
 ) -> Result<Command<'a>, AllocError>
     requires { (fields_of begun).has_globals ≡ false }
-    ensures app { IfOk result (λ c. app_of c ≡ fold with_rule (app_of begun.entry) (map word_rule words.now)) }
+    ensures app { IfOk result (λ c. app_of c ≡ fold with_rule (app_of begun.entry) (map argument_rule words.now)) }
     ensures local { IfOk result (λ c. (fields_of c).has_globals ≡ false) }
 {
     let mut command = begun;
     let mut rest = words;
-    'words: while let [word, tail @ ..] = rest {
-        command = command.arg(arg_of(alloc, word))?;
+    'words: while let [argument, tail @ ..] = rest {
+        command = command.arg(arg_of(alloc, argument))?;
         rest = tail;
     }
     Ok(command)
@@ -413,7 +425,7 @@ fn command_of<'a>(alloc: Global, row: &Row) -> Result<Command<'a>, AllocError>
     ensures app { IfOk result (λ c. (app_of c).top ≡ row_shape row.now) }
     ensures local { IfOk result (λ c. (fields_of c).has_globals ≡ false) }
 {
-    with_words(alloc, bare_command(alloc, row.0, row.1, row.2), row.3)
+    with_arguments(alloc, bare_command(alloc, row.0, row.1, row.2), row.3)
 }
 
 /// Returns the program with these commands after those that it has.

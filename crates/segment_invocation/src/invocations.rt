@@ -38,10 +38,10 @@ pub(crate) enum FileCommand {
 
 impl FileCommand {
     /// Returns the command of a word. `None` is a word that is none of the twelve.
-    pub(crate) fn from_word(word: &str) -> Option<FileCommand>
-        ensures { result ≡ command_called word.now }
+    pub(crate) fn from_argument(argument: &str) -> Option<FileCommand>
+        ensures { result ≡ command_called argument.now }
     {
-        match word {
+        match argument {
             "create" => Some(FileCommand::Create),
             "run" => Some(FileCommand::Run),
             "check" => Some(FileCommand::Check),
@@ -76,10 +76,10 @@ pub enum ModeName {
 
 impl ModeName {
     /// Returns the mode of a word. `None` is a word that is none of the five.
-    pub(crate) fn from_word(word: &str) -> Option<ModeName>
-        ensures { result ≡ mode_called word.now }
+    pub(crate) fn from_argument(argument: &str) -> Option<ModeName>
+        ensures { result ≡ mode_called argument.now }
     {
-        match word {
+        match argument {
             "create_only" => Some(ModeName::CreateOnly),
             "open_only" => Some(ModeName::OpenOnly),
             "open_or_create" => Some(ModeName::OpenOrCreate),

@@ -32,11 +32,11 @@ impl fmt::Display for Tip {
 
 /// Returns the mode that is most like a word, the first of those that are equally like it. Returns none if no mode is
 /// near, or if memory for the comparison was refused.
-pub(crate) fn nearest_mode(alloc: Global, word: &str) -> Tip {
+pub(crate) fn nearest_mode(alloc: Global, argument: &str) -> Tip {
     let mut mode = None;
     let mut most = NEAR;
     for name in MODES {
-        let Ok(likeness) = jaro(alloc, word, name) else {
+        let Ok(likeness) = jaro(alloc, argument, name) else {
             return Tip { mode: None };
         };
         if likeness > most {

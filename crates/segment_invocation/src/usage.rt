@@ -2,7 +2,7 @@
 ghost use Rattle.std.specs.Prelude.{◌≡◌};
 ghost use Rattle.clap.specs.{Values.kind_of, declared.error.kind.ErrorKind.TheVariants.OutOfMemory as NoMemory};
 ghost use Rattle.segment_invocation.specs.declared.usage.InvocationFault.TheVariants.{OutOfMemory, Usage};
-ghost use Rattle.segment_invocation.specs.declared.usage.UsageError.TheVariants.{Words};
+ghost use Rattle.segment_invocation.specs.declared.usage.UsageError.TheVariants.{Arguments};
 
 use crate::nearest::Tip;
 use clap::Error as Misread;
@@ -15,7 +15,7 @@ use thiserror::Error;
 pub enum UsageError {
     /// The words do not fit, or ask for help.
     #[error("{0}")]
-    Words(Misread),
+    Arguments(Misread),
     /// No command stands after the program's name.
     #[error("error: a command is missing\n")]
     Command,
@@ -70,13 +70,13 @@ impl From<UsageError> for InvocationFault {
 impl From<Misread> for InvocationFault {
     ghost from_gives = { λ error fault.
         (kind_of error ≡ NoMemory → fault ≡ OutOfMemory)
-        × ((kind_of error ≡ NoMemory → ⊥) → fault ≡ Usage (Words error)) };
+        × ((kind_of error ≡ NoMemory → ⊥) → fault ≡ Usage (Arguments error)) };
 
     fn from(error: Misread) -> InvocationFault {
         if error.kind() == ErrorKind::OutOfMemory {
             return InvocationFault::OutOfMemory;
         }
-        InvocationFault::Usage(UsageError::Words(error))
+        InvocationFault::Usage(UsageError::Arguments(error))
     }
 }
 

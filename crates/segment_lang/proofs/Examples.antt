@@ -10,10 +10,10 @@ use Rattle.seg_types.specs.Commands.{Reading, Nothing, Asked, UnknownCommand, Li
 use Rattle.seg_types.specs.Commands.{ConstructIt, Find, FindOrConstruct, Append, Assign, Bytes, Elements, Get, Insert}
 use Rattle.seg_types.specs.Commands.{Lookup, NoPairs, Numbers, Push, Put, Quoted, Remove, ReserveNamed, Set, Show}
 use Rattle.seg_types.specs.Commands.{Strings, Boolean, Integer}
-use Rattle.segment_lang.specs.Words.{Bare, Text}
+use Rattle.segment_lang.specs.Lexing.{Bare, Text}
 use Rattle.segment_lang.specs.Language.{whole_language}
 use Rattle.segment_lang.specs.Reading.{reading}
-use Rattle.segment_lang.specs.Tokens.{next_word, word_at, text_at, bare_at, only_word}
+use Rattle.segment_lang.specs.Tokens.{next_token, token_at, text_at, bare_at, only_token}
 
 -- lines, each with what it means
 abbrev Means : List (List ℕ × Reading) → Type 0
@@ -96,14 +96,14 @@ too_long : reading (whole_language current) (replicate 4097 97) ≡ LineTooLong
 unfolding reading
 too_long = refl
 
-text_first : next_word (codes " \"a\\x0a\\\"\" b") ≡ Some (Text (97 ∷ 10 ∷ 34 ∷ []), codes " b")
-unfolding next_word word_at text_at
+text_first : next_token (codes " \"a\\x0a\\\"\" b") ≡ Some (Text (97 ∷ 10 ∷ 34 ∷ []), codes " b")
+unfolding next_token token_at text_at
 text_first = refl
 
-bare_first : next_word (codes "ab c") ≡ Some (Bare (codes "ab"), codes " c")
-unfolding next_word word_at bare_at
+bare_first : next_token (codes "ab c") ≡ Some (Bare (codes "ab"), codes " c")
+unfolding next_token token_at bare_at
 bare_first = refl
 
-last_word : only_word (codes " ab\t") ≡ Some (Bare (codes "ab"))
-unfolding next_word word_at bare_at only_word
-last_word = refl
+last_token : only_token (codes " ab\t") ≡ Some (Bare (codes "ab"))
+unfolding next_token token_at bare_at only_token
+last_token = refl

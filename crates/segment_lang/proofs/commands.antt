@@ -1,4 +1,4 @@
--- Command words and what stands after them (`Words`).
-pub mod Words
+-- Command words and what stands after them (`Lexing`).
+pub mod Lexing
 pub mod Forms
 pub mod KindTables

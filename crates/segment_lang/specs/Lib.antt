@@ -1,4 +1,4 @@
-pub mod Words
+pub mod Lexing
 pub mod Texts
 pub mod Language
 pub mod Reading

@@ -11,8 +11,9 @@ use Rattle.seg_types.specs.Names.{Key, ByName, ByKind, ByHandle, NoKey, is_name,
 use Rattle.seg_types.specs.Commands as asked
 use Rattle.seg_types.specs.Commands.{Command, Content, Literal, Reading, Nothing, Asked, UnknownCommand, LineTooLong}
 use Rattle.seg_types.specs.Commands.{BadSyntax, value_of_literal}
-use Rattle.segment_lang.specs.Words as word
-use Rattle.segment_lang.specs.Words.{Word, Bare, words, is_word, is_blank, is_bare_name, number_of, literal_of_word}
+use Rattle.segment_lang.specs.Lexing as token
+use Rattle.segment_lang.specs.Lexing.{Token, Bare, tokens, is_token, is_blank, is_bare_name, number_of}
+use Rattle.segment_lang.specs.Lexing.{literal_of_token}
 use Rattle.segment_lang.specs.Texts.{kind_text}
 use Rattle.segment_lang.specs.Language.{Language}
 
@@ -20,12 +21,12 @@ use Rattle.segment_lang.specs.Language.{Language}
 
 -- the kind that is printed so
 unfoldable pub kind_named : Language → List ℕ → Option Kind
-kind_named l w = find (λ k. is_word w (kind_text k)) l.kinds
+kind_named l w = find (λ k. is_token w (kind_text k)) l.kinds
 
 -- a word as a kind
-abbrev pub kind_of_word : Language → Word → Option Kind
-kind_of_word l (Bare w) = kind_named l w
-kind_of_word l (word.Text bs) = None
+abbrev pub kind_of_token : Language → Token → Option Kind
+kind_of_token l (Bare w) = kind_named l w
+kind_of_token l (token.Text bs) = None
 
 -- a kind and a count: a scalar kind can have `[k]` after it
 abbrev pub counted : Kind → Option ℕ → Option (Kind × ℕ)
@@ -37,32 +38,32 @@ abbrev pub bracketed : List ℕ → Option ℕ
 bracketed w = if slice_index w (length w - 1) == 0x5D then number_of (take (length w - 1) w) else None
 
 -- a kind and a count: 1, or the number in brackets
-abbrev pub counted_kind : Language → Word → Option (Kind × ℕ)
-counted_kind l (word.Text bs) = None
+abbrev pub counted_kind : Language → Token → Option (Kind × ℕ)
+counted_kind l (token.Text bs) = None
 counted_kind l (Bare w) = elim (kind_named l w) [
   | Some k ↦ Some (k, 1)
-  | None ↦ let front = take_while (λ c. not (c == 0x5B)) w in
-      option_and_then (λ k. counted k (bracketed (drop (length front + 1) w))) (kind_named l front)
+  | None ↦ let prefix = take_while (λ c. not (c == 0x5B)) w in
+      option_and_then (λ k. counted k (bracketed (drop (length prefix + 1) w))) (kind_named l prefix)
 ]
 
 -- a name or `@KIND`
-abbrev pub name_key : Language → Word → Option Key
-name_key l (word.Text bs) = if is_name l.format bs then Some (ByName bs) else None
+abbrev pub name_key : Language → Token → Option Key
+name_key l (token.Text bs) = if is_name l.format bs then Some (ByName bs) else None
 name_key l (Bare []) = None
 name_key l (Bare (c ∷ cs)) =
     if c == 0x40 then option_map ByKind (kind_named l cs)
     else if is_bare_name (c ∷ cs) && is_name l.format (c ∷ cs) then Some (ByName (c ∷ cs)) else None
 
 -- a name, `@KIND` or `#n`
-abbrev pub key_of : Language → Word → Option Key
-key_of l (word.Text bs) = name_key l (word.Text bs)
+abbrev pub key_of : Language → Token → Option Key
+key_of l (token.Text bs) = name_key l (token.Text bs)
 key_of l (Bare []) = None
 key_of l (Bare (c ∷ cs)) = if c == 0x23 then option_map ByHandle (number_of cs) else name_key l (Bare (c ∷ cs))
 
 -- a name, `@KIND` or `-`
-abbrev pub new_key : Language → Word → Option Key
-new_key l (word.Text bs) = name_key l (word.Text bs)
-new_key l (Bare w) = if is_word w (codes "-") then Some NoKey else name_key l (Bare w)
+abbrev pub new_key : Language → Token → Option Key
+new_key l (token.Text bs) = name_key l (token.Text bs)
+new_key l (Bare w) = if is_token w (codes "-") then Some NoKey else name_key l (Bare w)
 
 -- if a line has a kind and `@KIND`, they are the same
 abbrev pub agrees : Kind → Key → Bool
@@ -82,34 +83,34 @@ all f [] = Some []
 all f (x ∷ xs) = option_and_then (λ y. option_map (λ ys. y ∷ ys) (all f xs)) (f x)
 
 -- a word as a value of a kind
-abbrev pub value_for : ScalarKind → Word → Option ℤ
-value_for k w = option_and_then (λ l. result_ok (value_of_literal k l)) (literal_of_word w)
+abbrev pub value_for : ScalarKind → Token → Option ℤ
+value_for k w = option_and_then (λ l. result_ok (value_of_literal k l)) (literal_of_token w)
 
 -- a word as a number
-abbrev pub number : Word → Option ℕ
+abbrev pub number : Token → Option ℕ
 number (Bare w) = number_of w
-number (word.Text bs) = None
+number (token.Text bs) = None
 
 -- a word as a text
-abbrev pub quoted_of : Word → Option (List ℕ)
+abbrev pub quoted_of : Token → Option (List ℕ)
 quoted_of (Bare w) = None
-quoted_of (word.Text bs) = Some bs
+quoted_of (token.Text bs) = Some bs
 
 -- the content that words give an object of a kind
-abbrev pub content : Kind → ℕ → List Word → Option Content
+abbrev pub content : Kind → ℕ → List Token → Option Content
 content (Scalar k) n (v ∷ []) = option_map (λ z. asked.Numbers k (replicate n z)) (value_for k v)
 content (Vector k) n vs = option_map (asked.Elements k) (all (value_for k) vs)
-content String n (word.Text bs ∷ []) = Some (asked.Bytes bs)
+content String n (token.Text bs ∷ []) = Some (asked.Bytes bs)
 content (Map k v) n [] = Some (asked.NoPairs k v)
 content Strings n ws = option_map asked.Strings (all quoted_of ws)
 content k n ws = None
 
 -- reads the words after a command word as a command
 abbrev pub Reader : Type 0
-Reader = Language → List Word → Option Command
+Reader = Language → List Token → Option Command
 
 -- KIND[k], a key and arguments
-abbrev pub making : (Key → Content → Command) → (Language → Word → Option Key) → Reader
+abbrev pub making : (Key → Content → Command) → (Language → Token → Option Key) → Reader
 making make key_in l (kw ∷ key ∷ args) =
     option_and_then (λ (k, n). option_and_then (λ key. option_map (make key) (content k n args))
     (for_kind k (key_in l key))) (counted_kind l kw)
@@ -120,7 +121,7 @@ abbrev pub items : ℕ → ScalarKind → Key → List ℤ → Option Command
 items n k key zs = if length zs == n then Some (asked.ConstructIt key k n zs) else None
 
 -- values of a scalar kind
-abbrev pub each : List Word → Kind → ℕ → Key → Option Command
+abbrev pub each : List Token → Kind → ℕ → Key → Option Command
 each vs (Scalar k) n key = option_and_then (items n k key) (all (value_for k) vs)
 each vs k n key = None
 
@@ -136,7 +137,7 @@ alone c l [] = Some c
 alone c l ws = None
 
 -- a key
-abbrev pub with_key : (Key → Command) → (Language → Word → Option Key) → Reader
+abbrev pub with_key : (Key → Command) → (Language → Token → Option Key) → Reader
 with_key f key_in l (key ∷ []) = option_map f (key_in l key)
 with_key f key_in l ws = None
 
@@ -152,35 +153,36 @@ with_key_number f l ws = None
 
 -- a key and a value
 abbrev pub with_key_literal : (Key → Literal → Command) → Reader
-with_key_literal f l (key ∷ v ∷ []) = option_and_then (λ key. option_map (f key) (literal_of_word v)) (key_of l key)
+with_key_literal f l (key ∷ v ∷ []) = option_and_then (λ key. option_map (f key) (literal_of_token v)) (key_of l key)
 with_key_literal f l ws = None
 
 -- a key, a number and a value
 abbrev pub with_key_number_literal : (Key → ℕ → Literal → Command) → Reader
 with_key_number_literal f l (key ∷ n ∷ v ∷ []) =
-    option_and_then (λ key. option_and_then (λ n. option_map (f key n) (literal_of_word v)) (number n)) (key_of l key)
+    option_and_then (λ key. option_and_then (λ n. option_map (f key n) (literal_of_token v)) (number n)) (key_of l key)
 with_key_number_literal f l ws = None
 
 abbrev pub assigning : Reader
-assigning l (key ∷ vs) = option_and_then (λ key. option_map (asked.Assign key) (all literal_of_word vs)) (key_of l key)
+assigning l (key ∷ vs) = option_and_then (λ key. option_map (asked.Assign key) (all literal_of_token vs)) (key_of l key)
 assigning l ws = None
 
 -- a key and two values
 abbrev pub putting : Reader
 putting l (key ∷ k ∷ v ∷ []) =
-    option_and_then (λ key. option_and_then (λ k. option_map (asked.Put key k) (literal_of_word v)) (literal_of_word k))
+    option_and_then (λ key. option_and_then (λ k. option_map (asked.Put key k) (literal_of_token v))
+    (literal_of_token k))
     (key_of l key)
 putting l ws = None
 
 -- a key and a text
 abbrev pub appending : Reader
-appending l (key ∷ word.Text bs ∷ []) = option_map (λ key. asked.Append key bs) (key_of l key)
+appending l (key ∷ token.Text bs ∷ []) = option_map (λ key. asked.Append key bs) (key_of l key)
 appending l ws = None
 
 -- a kind and a key
 abbrev pub finding : Reader
 finding l (kw ∷ key ∷ []) = option_and_then (λ k. option_map (λ key. asked.Find key k) (for_kind k (name_key l key)))
-    (kind_of_word l kw)
+    (kind_of_token l kw)
 finding l ws = None
 
 abbrev pub destroying_ptr : Reader
@@ -235,17 +237,17 @@ forms =
 
 -- the form of a command word, if there is such a command
 abbrev pub form_of : List ℕ → Option Form
-form_of w = find (λ (f : Form). is_word w f.0) forms
+form_of w = find (λ (f : Form). is_token w f.0) forms
 
 abbrev pub as_reading : Option Command → Reading
 as_reading None = BadSyntax
 as_reading (Some c) = Asked c
 
 -- the first word, up to a blank, decides which form the others must have
-abbrev pub reading_of_words : Language → List ℕ → List ℕ → Reading
-reading_of_words l first rest = elim (form_of first) [
+abbrev pub reading_of_tokens : Language → List ℕ → List ℕ → Reading
+reading_of_tokens l first rest = elim (form_of first) [
   | None ↦ UnknownCommand
-  | Some form ↦ as_reading (option_and_then (form.1 l) (words rest))
+  | Some form ↦ as_reading (option_and_then (form.1 l) (tokens rest))
 ]
 
 -- the line without its blanks in front
@@ -258,7 +260,7 @@ abbrev pub command_line : Language → List ℕ → Reading
 command_line l [] = Nothing
 command_line l (c ∷ cs) =
     let first = take_while (λ c. not (is_blank c)) (c ∷ cs) in
-    reading_of_words l first (drop (length first) (c ∷ cs))
+    reading_of_tokens l first (drop (length first) (c ∷ cs))
 
 -- one carriage return at the end is dropped
 abbrev pub without_return : List ℕ → List ℕ

@@ -5,15 +5,15 @@ use Rattle.raw_region.specs.Format.{current}
 use Rattle.seg_types.specs.Commands as asked
 use Rattle.seg_types.specs.Keys.{index_key_seen, key_seen, new_key_seen}
 use Rattle.seg_types.specs.Values.{kind_of_scalar, value_of_scalar}
-use Rattle.segment_lang.specs.Words as said
-use Rattle.segment_lang.specs.Words.{is_word, words}
+use Rattle.segment_lang.specs.Lexing as said
+use Rattle.segment_lang.specs.Lexing.{is_token, tokens}
 use Rattle.segment_lang.specs.Language.{whole_language}
-use Rattle.segment_lang.specs.Tokens.{behind_word}
+use Rattle.segment_lang.specs.Tokens.{behind_token}
 use Rattle.segment_lang.specs.Reading.{Reader, making, making_each, finding, with_key, with_key_number}
 use Rattle.segment_lang.specs.Reading.{with_key_literal, with_key_number_literal, with_number, alone, appending}
 use Rattle.segment_lang.specs.Reading.{as_reading, assigning, destroying_ptr, putting, new_key, key_of, name_key}
-use Rattle.segment_lang.specs.declared.words.Word.{Word}
-use Rattle.segment_lang.specs.declared.words.Word.TheVariants.{Bare, Text}
+use Rattle.segment_lang.specs.declared.tokens.Token.{Token}
+use Rattle.segment_lang.specs.declared.tokens.Token.TheVariants.{Bare, Text}
 use Rattle.segment_lang.specs.declared.literals.Literal.{Literal}
 use Rattle.segment_lang.specs.declared.literals.Literal.TheVariants.{Integer, Boolean, Quoted}
 use Rattle.segment_lang.specs.declared.commands.Content.{Content}
@@ -40,12 +40,12 @@ use Rattle.segment_lang.specs.declared.forms.OperationForm.{OperationForm}
 use Rattle.segment_lang.specs.declared.forms.OperationForm.TheVariants as operation
 
 -- which word a value of the code stands for
-abbrev pub word_of : Word → said.Word
-word_of (Bare w) = said.Bare w.now
-word_of (Text t) = said.Text t
+abbrev pub token_of : Token → said.Token
+token_of (Bare w) = said.Bare w.now
+token_of (Text t) = said.Text t
 
 -- the bytes that a word stands for
-abbrev pub bytes_said : Word → List ℕ
+abbrev pub bytes_said : Token → List ℕ
 bytes_said (Bare w) = w.now
 bytes_said (Text t) = t
 
@@ -56,9 +56,9 @@ literal_of (Boolean b) = asked.Boolean b
 literal_of (Quoted t) = asked.Quoted t
 
 -- a text of it has room if a line keeps one
-abbrev pub HasLineRoom : asked.Literal → Type 0
-HasLineRoom (asked.Quoted bs) = length bs ≤ 4096
-HasLineRoom l = ⊤
+abbrev pub HasLineBuffer : asked.Literal → Type 0
+HasLineBuffer (asked.Quoted bs) = length bs ≤ 4096
+HasLineBuffer l = ⊤
 
 -- a value as the code has it
 abbrev pub literal_held : asked.Literal → Literal
@@ -166,7 +166,7 @@ reader_of (form.Operation d) = operation_reader_of d
 
 -- the meaning of a command word's form with these arguments
 abbrev pub reading_by : CommandForm → List ℕ → asked.Reading
-reading_by form rest = as_reading (option_and_then (reader_of form (whole_language current)) (words rest))
+reading_by form rest = as_reading (option_and_then (reader_of form (whole_language current)) (tokens rest))
 
 -- the meaning of a line by its start
 abbrev pub reading_led : LineStart → asked.Reading
@@ -178,24 +178,24 @@ reading_led (lead.Wrong e) = wrong_reading e
 abbrev pub reading_of : Reading → Option asked.Reading
 reading_of read.Nothing = Some asked.Nothing
 reading_of (read.Command form rest) =
-    option_map asked.Asked (option_and_then (reader_of form (whole_language current)) (words rest.now))
+    option_map asked.Asked (option_and_then (reader_of form (whole_language current)) (tokens rest.now))
 reading_of (read.Wrong e) = Some (wrong_reading e)
 
 -- the value of a line's first word, and the rest of the line
 abbrev pub with_rest : {A : Type 0} → List ℕ → Option A → Option (A × List ℕ)
-with_rest {A} line x = option_map (λ (a : A). (a, behind_word line)) x
+with_rest {A} line x = option_map (λ (a : A). (a, behind_token line)) x
 
 -- a word, and its value
 abbrev pub KeywordRow : Type 0 → Type 0
 KeywordRow A = List ℕ × A
 
 -- the place of a word in the table of command words: its first byte and its third decide
-abbrev pub place_of : List ℕ → ℕ
-place_of [] = 0
-place_of (a ∷ []) = 0
-place_of (a ∷ b ∷ []) = 0
-place_of (a ∷ b ∷ c ∷ w) = (a + 6 * c) % 32
+abbrev pub slot_of : List ℕ → ℕ
+slot_of [] = 0
+slot_of (a ∷ []) = 0
+slot_of (a ∷ b ∷ []) = 0
+slot_of (a ∷ b ∷ c ∷ w) = (a + 6 * c) % 32
 
 -- the value in the first row with the word
 abbrev pub found_in : {A : Type 0} → List (KeywordRow A) → List ℕ → Option A
-found_in {A} rows w = option_map (λ (row : KeywordRow A). row.1) (find (λ (row : KeywordRow A). is_word w row.0) rows)
+found_in {A} rows w = option_map (λ (row : KeywordRow A). row.1) (find (λ (row : KeywordRow A). is_token w row.0) rows)

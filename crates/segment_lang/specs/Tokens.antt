@@ -2,7 +2,7 @@
 use Rattle.std.specs.Prelude.{ℕ, Bool, true, not, ◌||◌, Option, Some, None, List, [], ◌∷◌, length, option_map}
 use Rattle.std.specs.Prelude.{option_and_then, ◌==◌, if◌then◌else◌, take_while, drop, unwrap_or}
 use Rattle.std.specs.List.{list_all}
-use Rattle.segment_lang.specs.Words.{Word, Bare, Text, is_blank, is_bare, is_plain, byte_of_digits}
+use Rattle.segment_lang.specs.Lexing.{Token, Bare, Text, is_blank, is_bare, is_plain, byte_of_digits}
 use Rattle.segment_lang.specs.Reading.{skip_blanks}
 
 infixl 10 ◌>>=◌
@@ -18,8 +18,8 @@ abbrev pub up_to_blank : List ℕ → List ℕ
 up_to_blank bytes = take_while (λ c. not (is_blank c)) bytes
 
 -- the bytes after the first word
-abbrev pub behind_word : List ℕ → List ℕ
-behind_word bytes = drop (length (up_to_blank bytes)) bytes
+abbrev pub behind_token : List ℕ → List ℕ
+behind_token bytes = drop (length (up_to_blank bytes)) bytes
 
 -- no blank parts these bytes
 abbrev pub is_unbroken : List ℕ → Bool
@@ -27,7 +27,7 @@ is_unbroken bytes = list_all (λ c. not (is_blank c)) bytes
 
 -- a bare word: all bytes up to a blank fit it
 unfoldable pub bare_at : List ℕ → Option (List ℕ × List ℕ)
-bare_at bytes = if list_all is_bare (up_to_blank bytes) then Some (up_to_blank bytes, behind_word bytes) else None
+bare_at bytes = if list_all is_bare (up_to_blank bytes) then Some (up_to_blank bytes, behind_token bytes) else None
 
 -- ---- texts
 
@@ -48,12 +48,12 @@ item_at [] = None
 item_at (c ∷ cs) = if c == 0x5C then escape_at cs else if is_plain c then Some (c, cs) else None
 
 -- a word ends at a blank or at the end of the line
-abbrev pub ends_word : List ℕ → Bool
-ends_word [] = true
-ends_word (c ∷ cs) = is_blank c
+abbrev pub ends_token : List ℕ → Bool
+ends_token [] = true
+ends_token (c ∷ cs) = is_blank c
 
 abbrev pub closed_at : List ℕ → Option (List ℕ × List ℕ)
-closed_at cs = if ends_word cs then Some ([], cs) else None
+closed_at cs = if ends_token cs then Some ([], cs) else None
 
 -- the quote that closes a text
 abbrev pub quote_at : List ℕ → Option (List ℕ × List ℕ)
@@ -63,7 +63,7 @@ quote_at (c ∷ cs) = if c == 0x22 then closed_at cs else None
 -- the bytes after the quote that closes a text
 abbrev pub behind_quote : List ℕ → Option (List ℕ)
 behind_quote [] = None
-behind_quote (c ∷ cs) = if c == 0x22 then (if ends_word cs then Some cs else None) else None
+behind_quote (c ∷ cs) = if c == 0x22 then (if ends_token cs then Some cs else None) else None
 
 -- one byte more in front of a text
 abbrev pub longer : ℕ → Option (List ℕ × List ℕ) → Option (List ℕ × List ℕ)
@@ -107,39 +107,39 @@ spelled_bytes bytes = unwrap_or (option_map text_in (behind_opening bytes)) byte
 -- ---- words
 
 -- a word with no blank in front
-unfoldable pub word_at : List ℕ → Option (Word × List ℕ)
-word_at [] = None
-word_at (c ∷ cs) =
+unfoldable pub token_at : List ℕ → Option (Token × List ℕ)
+token_at [] = None
+token_at (c ∷ cs) =
     if c == 0x22 then option_map (λ (bs, rest). (Text bs, rest)) (text_at cs)
     else option_map (λ (bs, rest). (Bare bs, rest)) (bare_at (c ∷ cs))
 
 -- the next word, after the blanks in front of it
-unfoldable pub next_word : List ℕ → Option (Word × List ℕ)
-next_word bytes = word_at (skip_blanks bytes)
+unfoldable pub next_token : List ℕ → Option (Token × List ℕ)
+next_token bytes = token_at (skip_blanks bytes)
 
 -- the only word
-unfoldable pub only_word : List ℕ → Option Word
-only_word bytes = do
-  x ← next_word bytes
+unfoldable pub only_token : List ℕ → Option Token
+only_token bytes = do
+  x ← next_token bytes
   if at_end x.1 then Some x.0 else None
 
 -- the only two words
-unfoldable pub two_words : List ℕ → Option (Word × Word)
-two_words bytes = do
-  x ← next_word bytes
-  y ← only_word x.1
+unfoldable pub two_tokens : List ℕ → Option (Token × Token)
+two_tokens bytes = do
+  x ← next_token bytes
+  y ← only_token x.1
   Some (x.0, y)
 
 -- the only three words
-unfoldable pub three_words : List ℕ → Option (Word × Word × Word)
-three_words bytes = do
-  x ← next_word bytes
-  y ← two_words x.1
+unfoldable pub three_tokens : List ℕ → Option (Token × Token × Token)
+three_tokens bytes = do
+  x ← next_token bytes
+  y ← two_tokens x.1
   Some (x.0, y.0, y.1)
 
 -- the next two words, and the rest
-unfoldable pub next_two : List ℕ → Option (Word × Word × List ℕ)
+unfoldable pub next_two : List ℕ → Option (Token × Token × List ℕ)
 next_two bytes = do
-  x ← next_word bytes
-  y ← next_word x.1
+  x ← next_token bytes
+  y ← next_token x.1
   Some (x.0, y.0, y.1)

@@ -1,7 +1,7 @@
 //! Where words begin and end: the blanks of a line.
 
 ghost use Rattle.std.specs.Prelude.{◌≡◌, ◌≤◌, length};
-ghost use Rattle.segment_lang.specs.Words.{is_blank};
+ghost use Rattle.segment_lang.specs.Lexing.{is_blank};
 ghost use Rattle.segment_lang.specs.Reading.{skip_blanks};
 ghost use Rattle.segment_lang.specs.Tokens.{at_end};
 

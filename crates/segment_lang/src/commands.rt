@@ -3,8 +3,8 @@
 use crate::forms::CommandForm;
 use crate::lists::{Literals, TextLiterals};
 use crate::literals::Literal;
+use crate::tokens::Quoted;
 use crate::values::LiteralValues;
-use crate::words::Quoted;
 use seg_types::{Handle, IndexKey, Key, Kind, LineError, NewKey, ScalarKind, ScalarValue};
 
 /// The initial contents of an object.

@@ -2,8 +2,8 @@
 
 ghost use Rattle.std.specs.Prelude.{◌≡◌, Some, None, option_and_then, option_map, if◌then◌else◌};
 ghost use Rattle.seg_types.specs.Commands.{Bytes, Elements, NoPairs, Strings};
-ghost use Rattle.segment_lang.specs.Words.{words};
-ghost use Rattle.segment_lang.specs.Tokens.{at_end, only_word};
+ghost use Rattle.segment_lang.specs.Lexing.{tokens};
+ghost use Rattle.segment_lang.specs.Tokens.{at_end, only_token};
 ghost use Rattle.segment_lang.specs.Reading.{content, quoted_of};
 ghost use Rattle.segment_lang.specs.Arguments.{numbers_at, scalar_at, texts_at};
 ghost use Rattle.segment_lang.specs.Seen.{content_of};
@@ -12,8 +12,8 @@ use crate::blanks::at_end;
 use crate::commands::Content;
 use crate::lists::read_texts;
 use crate::literals::{quoted_of, scalar_of};
+use crate::tokens::only_token;
 use crate::values::read_elements;
-use crate::words::only_word;
 use seg_types::{Kind, ScalarKind};
 
 /// Returns one value of the kind, which all elements get.
@@ -21,8 +21,8 @@ use seg_types::{Kind, ScalarKind};
 fn read_scalar(kind: ScalarKind, count: u32, bytes: &[u8]) -> Option<Content<'_>>
     ensures { option_map content_of result ≡ scalar_at kind count bytes.now }
 {
-    let word = only_word(bytes)?;
-    let value = scalar_of(kind, word)?;
+    let token = only_token(bytes)?;
+    let value = scalar_of(kind, token)?;
     Some(Content::Scalars { value, count })
 }
 
@@ -36,10 +36,10 @@ fn read_vector(kind: ScalarKind, bytes: &[u8]) -> Option<Content<'_>>
 
 /// Returns one text.
 fn read_string(bytes: &[u8]) -> Option<Content<'_>>
-    ensures { option_map content_of result ≡ option_map Bytes (option_and_then quoted_of (only_word bytes.now)) }
+    ensures { option_map content_of result ≡ option_map Bytes (option_and_then quoted_of (only_token bytes.now)) }
 {
-    let word = only_word(bytes)?;
-    let text = quoted_of(word)?;
+    let token = only_token(bytes)?;
+    let text = quoted_of(token)?;
     Some(Content::String(text))
 }
 
@@ -63,7 +63,7 @@ fn read_no_pairs(key: ScalarKind, value: ScalarKind, bytes: &[u8]) -> Option<Con
 
 /// Reads the initial contents of an object of the kind.
 pub fn read_content(kind: Kind, count: u32, bytes: &[u8]) -> Option<Content<'_>>
-    ensures { option_map content_of result ≡ option_and_then (content kind count) (words bytes.now) }
+    ensures { option_map content_of result ≡ option_and_then (content kind count) (tokens bytes.now) }
 {
     match kind {
         Kind::Scalar(kind) => read_scalar(kind, count, bytes),

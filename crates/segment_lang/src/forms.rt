@@ -4,13 +4,13 @@ ghost use Rattle.std.specs.Prelude.{◌≡◌, ◌<◌, [], IsTrue, Some, None, 
 ghost use Rattle.std.specs.Prelude.{is_some, option_map, map, slice_index_or};
 ghost use Rattle.std.specs.List.{list_all};
 ghost use Rattle.raw_region.specs.Format.{current};
-ghost use Rattle.segment_lang.specs.Words.{is_word, words};
+ghost use Rattle.segment_lang.specs.Lexing.{is_token, tokens};
 ghost use Rattle.seg_types.specs.Commands as asked;
 ghost use Rattle.segment_lang.specs.Arguments.{command_of_three, command_of_two};
 ghost use Rattle.segment_lang.specs.Language.{whole_language};
 ghost use Rattle.segment_lang.specs.Reading.{form_of, with_key_literal, with_key_number, with_key_number_literal};
-ghost use Rattle.segment_lang.specs.Seen.{operation_of, operation_reader_of, found_in, place_of, reader_of, with_rest};
-ghost use Rattle.segment_lang.specs.Tokens.{behind_word, is_unbroken, up_to_blank};
+ghost use Rattle.segment_lang.specs.Seen.{operation_of, operation_reader_of, found_in, slot_of, reader_of, with_rest};
+ghost use Rattle.segment_lang.specs.Tokens.{behind_token, is_unbroken, up_to_blank};
 
 use crate::blanks::at_end;
 use crate::buffer::LineBuffer;
@@ -20,7 +20,7 @@ use crate::readers::{
     read_alone, read_append, read_assign, read_construct, read_construct_it, read_destroy,
     read_destroy_ptr, read_find, read_find_or_construct,
 };
-use crate::words::ends_word;
+use crate::tokens::ends_token;
 
 /// The form of a command's arguments.
 #[derive(Clone, Copy, Debug, PartialEq, Eq)]
@@ -111,7 +111,7 @@ macro_rules! operation {
     };
 }
 
-/// The command words, each with its form, by the place that `place_of` gives them.
+/// The command words, each with its form, by the place that `slot_of` gives them.
 static FORMS: [&[(&[u8], CommandForm)]; 32] = [
     &[(b"remove", operation!(Remove))],
     &[
@@ -180,13 +180,13 @@ static FORMS: [&[(&[u8], CommandForm)]; 32] = [
 ];
 
 /// Returns the rest of a line that begins with the word, if the word ends there.
-fn behind<'a>(line: &'a [u8], word: &[u8]) -> Option<&'a [u8]>
-    requires { IsTrue (is_unbroken word.now) }
+fn behind<'a>(line: &'a [u8], token: &[u8]) -> Option<&'a [u8]>
+    requires { IsTrue (is_unbroken token.now) }
     ensures { option_map (λ rest. rest.now) result
-        ≡ (if is_word (up_to_blank line.now) word.now then Some (behind_word line.now) else None) }
+        ≡ (if is_token (up_to_blank line.now) token.now then Some (behind_token line.now) else None) }
 {
-    let rest = line.strip_prefix(word)?;
-    if !ends_word(rest) {
+    let rest = line.strip_prefix(token)?;
+    if !ends_token(rest) {
         return None;
     }
     Some(rest)
@@ -209,8 +209,8 @@ fn find_row<'a>(rows: &[(&[u8], CommandForm)], line: &'a [u8]) -> Option<(Comman
 }
 
 /// Returns the place in the table of the word that a line begins with: few command words share one.
-fn place_of(line: &[u8]) -> usize
-    ensures value { result ≡ place_of line.now }
+fn slot_of(line: &[u8]) -> usize
+    ensures value { result ≡ slot_of line.now }
     ensures max_size { result < 32 }
 {
     match line {
@@ -229,10 +229,10 @@ fn find_form<'a>(
     requires unbroken { IsTrue (list_all (λ rows. list_all (λ row. is_unbroken row.0.now) rows.now) table.now) }
     ensures { option_map (λ x. (x.0, x.1.now)) result
         ≡ with_rest line.now (found_in
-        (slice_index_or (map (λ rows. map (λ row. (row.0.now, row.1)) rows.now) table.now) (place_of line.now) [])
+        (slice_index_or (map (λ rows. map (λ row. (row.0.now, row.1)) rows.now) table.now) (slot_of line.now) [])
         (up_to_blank line.now)) }
 {
-    find_row(table[place_of(line)], line)
+    find_row(table[slot_of(line)], line)
 }
 
 /// Returns the form of the line's command word, and the arguments; `None` if the first word is no command word. Only
@@ -305,7 +305,7 @@ pub fn read_operation<'a>(
     scratch: &'a mut LineBuffer,
 ) -> Option<Operation<'a>>
     ensures { option_map operation_of result
-        ≡ option_and_then (operation_reader_of form (whole_language current)) (words bytes.now) }
+        ≡ option_and_then (operation_reader_of form (whole_language current)) (tokens bytes.now) }
 {
     match form {
         OperationForm::Construct => read_construct(bytes, scratch),
@@ -343,7 +343,7 @@ pub fn read_operation<'a>(
 
 /// Returns true if the arguments have the form.
 pub fn is_command(form: CommandForm, bytes: &[u8], scratch: &mut LineBuffer) -> bool
-    ensures { result ≡ is_some (option_and_then (reader_of form (whole_language current)) (words bytes.now)) }
+    ensures { result ≡ is_some (option_and_then (reader_of form (whole_language current)) (tokens bytes.now)) }
 {
     match form {
         CommandForm::Size => at_end(bytes),

@@ -3,14 +3,14 @@
 ghost use Rattle.std.specs.Prelude.{◌≡◌, ◌==◌, ◌+◌, not, length, map, drop, take, take_while, option_map, Some, None};
 ghost use Rattle.std.specs.Prelude.{slice_index};
 ghost use Rattle.raw_region.specs.Format.{current};
-ghost use Rattle.segment_lang.specs.Words.{Bare};
+ghost use Rattle.segment_lang.specs.Lexing.{Bare};
 ghost use Rattle.segment_lang.specs.Language.{whole_language};
-ghost use Rattle.segment_lang.specs.Reading.{bracketed, counted, counted_kind, kind_named, kind_of_word};
-ghost use Rattle.segment_lang.specs.Seen.{found_in, word_of};
+ghost use Rattle.segment_lang.specs.Reading.{bracketed, counted, counted_kind, kind_named, kind_of_token};
+ghost use Rattle.segment_lang.specs.Seen.{found_in, token_of};
 
-use crate::literals::is_word;
+use crate::literals::is_token;
 use crate::numbers::number_of;
-use crate::words::Word;
+use crate::tokens::Token;
 use seg_types::{Kind, MAX_ARRAY_LEN, ScalarKind};
 
 /// A kind of maps.
@@ -62,63 +62,63 @@ static KINDS: [(&[u8], Kind); 37] = [
 ];
 
 /// Returns the kind of the first row of a word.
-fn find_kind(rows: &[(&[u8], Kind)], word: &[u8]) -> Option<Kind>
-    ensures { result ≡ found_in (map (λ row. (row.0.now, row.1)) rows.now) word.now }
+fn find_kind(rows: &[(&[u8], Kind)], token: &[u8]) -> Option<Kind>
+    ensures { result ≡ found_in (map (λ row. (row.0.now, row.1)) rows.now) token.now }
 {
     rows.iter()
-        .find(|row| is_word(word, row.0))
+        .find(|row| is_token(token, row.0))
         .map(|row| row.1)
 }
 
 /// Returns the kind that is printed so.
-pub fn kind_named(word: &[u8]) -> Option<Kind>
-    ensures { result ≡ kind_named (whole_language current) word.now }
+pub fn kind_named(token: &[u8]) -> Option<Kind>
+    ensures { result ≡ kind_named (whole_language current) token.now }
 {
-    find_kind(&KINDS, word)
+    find_kind(&KINDS, token)
 }
 
 /// Returns the kind that a word is.
-pub fn kind_of_word(word: Word<'_>) -> Option<Kind>
-    ensures { result ≡ kind_of_word (whole_language current) (word_of word.entry) }
+pub fn kind_of_token(token: Token<'_>) -> Option<Kind>
+    ensures { result ≡ kind_of_token (whole_language current) (token_of token.entry) }
 {
-    match word {
-        Word::Bare(word) => kind_named(word),
-        Word::Text(_) => None,
+    match token {
+        Token::Bare(token) => kind_named(token),
+        Token::Text(_) => None,
     }
 }
 
 /// Splits the word before its first `[`.
-fn split_front(word: &[u8]) -> (&[u8], &[u8])
-    ensures front { result.0.now ≡ take_while (λ c. not (c == 0x5B)) word.now }
-    ensures rest { result.1.now ≡ drop (length result.0.now) word.now }
+fn split_prefix(token: &[u8]) -> (&[u8], &[u8])
+    ensures prefix { result.0.now ≡ take_while (λ c. not (c == 0x5B)) token.now }
+    ensures rest { result.1.now ≡ drop (length result.0.now) token.now }
 {
-    let mut rest = word;
-    'front: while let [first, tail @ ..] = rest {
+    let mut rest = token;
+    'prefix: while let [first, tail @ ..] = rest {
         if *first == b'[' {
             break;
         }
         rest = tail;
     }
-    word.split_at(word.len() - rest.len())
+    token.split_at(token.len() - rest.len())
 }
 
 /// Splits the word at its first `[`, which neither part holds.
-fn split_bracket(word: &[u8]) -> (&[u8], &[u8])
-    ensures front { result.0.now ≡ take_while (λ c. not (c == 0x5B)) word.now }
-    ensures after { result.1.now ≡ drop (length result.0.now + 1) word.now }
+fn split_bracket(token: &[u8]) -> (&[u8], &[u8])
+    ensures prefix { result.0.now ≡ take_while (λ c. not (c == 0x5B)) token.now }
+    ensures after { result.1.now ≡ drop (length result.0.now + 1) token.now }
 {
-    let (front, rest) = split_front(word);
+    let (prefix, rest) = split_prefix(token);
     match rest {
-        [_, behind @ ..] => (front, behind),
-        [] => (front, rest),
+        [_, behind @ ..] => (prefix, behind),
+        [] => (prefix, rest),
     }
 }
 
 /// Returns the number in front of `]`.
-fn bracketed(word: &[u8]) -> Option<u64>
-    ensures { result ≡ bracketed word.now }
+fn bracketed(token: &[u8]) -> Option<u64>
+    ensures { result ≡ bracketed token.now }
 {
-    match word {
+    match token {
         [digits @ .., b']'] => number_of(digits),
         _ => None,
     }
@@ -139,23 +139,23 @@ fn counted(kind: Kind, count: Option<u64>) -> Option<(Kind, u32)>
 }
 
 /// Reads a bare word as a kind, and the number in brackets after it; without brackets the number is 1.
-fn counted_name(word: &[u8]) -> Option<(Kind, u32)>
-    ensures { result ≡ counted_kind (whole_language current) (Bare word.now) }
+fn counted_name(token: &[u8]) -> Option<(Kind, u32)>
+    ensures { result ≡ counted_kind (whole_language current) (Bare token.now) }
 {
-    if let Some(kind) = kind_named(word) {
+    if let Some(kind) = kind_named(token) {
         return Some((kind, 1));
     }
-    let (front, behind) = split_bracket(word);
-    let kind = kind_named(front)?;
+    let (prefix, behind) = split_bracket(token);
+    let kind = kind_named(prefix)?;
     counted(kind, bracketed(behind))
 }
 
 /// Reads a word as the kind of a new object, and its number of values.
-pub fn counted_kind(word: Word<'_>) -> Option<(Kind, u32)>
-    ensures { result ≡ counted_kind (whole_language current) (word_of word.entry) }
+pub fn counted_kind(token: Token<'_>) -> Option<(Kind, u32)>
+    ensures { result ≡ counted_kind (whole_language current) (token_of token.entry) }
 {
-    match word {
-        Word::Bare(word) => counted_name(word),
-        Word::Text(_) => None,
+    match token {
+        Token::Bare(token) => counted_name(token),
+        Token::Text(_) => None,
     }
 }

@@ -6,7 +6,7 @@ mod blanks;
 mod buffer;
 mod literals;
 mod numbers;
-mod words;
+mod tokens;
 
 // The arguments of a command.
 mod contents;
@@ -34,7 +34,7 @@ pub use buffer::{Buffer, LineBuffer};
 pub use commands::{Content, LineStart, Operation, Reading};
 pub use errors::{put_line_error, put_refusal};
 pub use forms::{CommandForm, OperationForm, read_operation};
-pub use kinds::kind_of_word;
+pub use kinds::kind_of_token;
 pub use line::{MAX_LINE_LEN, line_error, line_start, parse_line, without_return};
 pub use lists::{Literals, TextLiterals};
 pub use literals::{Literal, literal_of, scalar_of};
@@ -48,7 +48,7 @@ pub use texts::{
 };
 pub use theorems::{
     long_lines_are_cut, numbers_are_decimals, printed_kinds_are_read, printed_names_are_read,
-    printed_texts_are_read, texts_are_spelled, wholes_are_decimals, words_follow, words_have_room,
+    printed_texts_are_read, texts_are_spelled, tokens_fit_line, tokens_follow, wholes_are_decimals,
 };
+pub use tokens::{Quoted, Token, next_token, only_token};
 pub use values::LiteralValues;
-pub use words::{Quoted, Word, next_word, only_word};

@@ -7,7 +7,7 @@ ghost use Rattle.segment_lang.specs.Seen.{literals_held};
 
 use crate::blanks::at_end;
 use crate::literals::{Literal, literal_of, quoted_of};
-use crate::words::{Quoted, next_word};
+use crate::tokens::{Quoted, next_token};
 use std::marker::Model;
 
 /// Values of any form. The iterator reads them from the line, in order.
@@ -37,9 +37,9 @@ impl<'a> Iterator for Literals<'a> {
     ghost remaining = { item_count literals_held };
 
     fn next(&mut self) -> Option<Literal<'a>> {
-        let (word, rest) = next_word(self.behind)?;
+        let (token, rest) = next_token(self.behind)?;
         self.behind = rest;
-        literal_of(word)
+        literal_of(token)
     }
 }
 
@@ -69,9 +69,9 @@ impl<'a> Iterator for TextLiterals<'a> {
     ghost remaining = { item_count texts_held };
 
     fn next(&mut self) -> Option<Quoted<'a>> {
-        let (word, rest) = next_word(self.behind)?;
+        let (token, rest) = next_token(self.behind)?;
         self.behind = rest;
-        quoted_of(word)
+        quoted_of(token)
     }
 }
 
@@ -80,8 +80,8 @@ fn are_literals(bytes: &[u8]) -> bool
     ensures { result ≡ is_some (literals_at bytes.now) }
 {
     let mut rest = bytes;
-    'literals: while let Some((word, tail)) = next_word(rest) {
-        if literal_of(word).is_none() {
+    'literals: while let Some((token, tail)) = next_token(rest) {
+        if literal_of(token).is_none() {
             return false;
         }
         rest = tail;
@@ -104,8 +104,8 @@ fn are_texts(bytes: &[u8]) -> bool
     ensures { result ≡ is_some (texts_at bytes.now) }
 {
     let mut rest = bytes;
-    'texts: while let Some((word, tail)) = next_word(rest) {
-        if quoted_of(word).is_none() {
+    'texts: while let Some((token, tail)) = next_token(rest) {
+        if quoted_of(token).is_none() {
             return false;
         }
         rest = tail;

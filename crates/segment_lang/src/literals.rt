@@ -2,13 +2,13 @@
 
 ghost use Rattle.std.specs.Prelude.{◌≡◌, option_map};
 ghost use Rattle.seg_types.specs.Values.{scalar_of as scalar_in};
-ghost use Rattle.segment_lang.specs.Words.{Bare, is_word, literal_of_word};
+ghost use Rattle.segment_lang.specs.Lexing.{Bare, is_token, literal_of_token};
 ghost use Rattle.segment_lang.specs.Reading.{quoted_of, value_for};
-ghost use Rattle.segment_lang.specs.Seen.{HasLineRoom, literal_of, word_of};
+ghost use Rattle.segment_lang.specs.Seen.{HasLineBuffer, literal_of, token_of};
 
 use crate::buffer::LineBuffer;
 use crate::numbers::{WholeNumber, whole_of};
-use crate::words::{Quoted, Word};
+use crate::tokens::{Quoted, Token};
 use seg_types::{Refusal, ScalarKind, ScalarValue, WrittenValue, truth_as, whole_as};
 
 /// A value as a line writes it.
@@ -23,51 +23,51 @@ pub enum Literal<'a> {
 }
 
 /// Tells whether a word is this text, byte for byte.
-pub fn is_word(word: &[u8], text: &[u8]) -> bool
-    ensures { result ≡ is_word word.now text.now }
+pub fn is_token(token: &[u8], text: &[u8]) -> bool
+    ensures { result ≡ is_token token.now text.now }
 {
-    word == text
+    token == text
 }
 
 /// Returns the value that a bare word spells: `true`, `false` or a whole number.
-fn bare_literal(word: &[u8]) -> Option<Literal<'_>>
-    ensures { option_map literal_of result ≡ literal_of_word (Bare word.now) }
+fn bare_literal(token: &[u8]) -> Option<Literal<'_>>
+    ensures { option_map literal_of result ≡ literal_of_token (Bare token.now) }
 {
-    if is_word(word, b"true") {
+    if is_token(token, b"true") {
         return Some(Literal::Boolean(true));
     }
-    if is_word(word, b"false") {
+    if is_token(token, b"false") {
         return Some(Literal::Boolean(false));
     }
-    Some(Literal::Integer(whole_of(word)?))
+    Some(Literal::Integer(whole_of(token)?))
 }
 
 /// Returns the value that a word spells.
-pub fn literal_of(word: Word<'_>) -> Option<Literal<'_>>
-    ensures { option_map literal_of result ≡ literal_of_word (word_of word.entry) }
+pub fn literal_of(token: Token<'_>) -> Option<Literal<'_>>
+    ensures { option_map literal_of result ≡ literal_of_token (token_of token.entry) }
 {
-    match word {
-        Word::Bare(word) => bare_literal(word),
-        Word::Text(text) => Some(Literal::Quoted(text)),
+    match token {
+        Token::Bare(token) => bare_literal(token),
+        Token::Text(text) => Some(Literal::Quoted(text)),
     }
 }
 
 /// Returns the bytes that a word stands for that is a text.
-pub fn quoted_of(word: Word<'_>) -> Option<Quoted<'_>>
-    ensures { result ≡ quoted_of (word_of word.entry) }
+pub fn quoted_of(token: Token<'_>) -> Option<Quoted<'_>>
+    ensures { result ≡ quoted_of (token_of token.entry) }
 {
-    match word {
-        Word::Bare(_) => None,
-        Word::Text(text) => Some(text),
+    match token {
+        Token::Bare(_) => None,
+        Token::Text(text) => Some(text),
     }
 }
 
 impl WrittenValue for Literal<'_> {
-    type Room = LineBuffer;
+    type Scratch = LineBuffer;
 
     ghost literal = { literal_of };
 
-    ghost fits = { λ l. HasLineRoom (literal_of l) };
+    ghost fits = { λ l. HasLineBuffer (literal_of l) };
 
     fn value_of(&self, kind: ScalarKind) -> Result<ScalarValue, Refusal> {
         match self {
@@ -77,9 +77,9 @@ impl WrittenValue for Literal<'_> {
         }
     }
 
-    fn text<'r>(&'r self, room: &'r mut LineBuffer) -> Option<&'r [u8]> {
+    fn text<'r>(&'r self, scratch: &'r mut LineBuffer) -> Option<&'r [u8]> {
         match self {
-            Literal::Quoted(text) => Some(text.bytes(room)),
+            Literal::Quoted(text) => Some(text.bytes(scratch)),
             _ => None,
         }
     }
@@ -87,8 +87,8 @@ impl WrittenValue for Literal<'_> {
 
 /// Returns the value of the kind that a word spells.
 #[tactic(auto, using(crate::proofs::values::Literals::ok_value))]
-pub fn scalar_of(kind: ScalarKind, word: Word<'_>) -> Option<ScalarValue>
-    ensures { result ≡ option_map (scalar_in kind) (value_for kind (word_of word.entry)) }
+pub fn scalar_of(kind: ScalarKind, token: Token<'_>) -> Option<ScalarValue>
+    ensures { result ≡ option_map (scalar_in kind) (value_for kind (token_of token.entry)) }
 {
-    literal_of(word)?.value_of(kind).ok()
+    literal_of(token)?.value_of(kind).ok()
 }

@@ -2,11 +2,11 @@
 
 ghost use Rattle.std.specs.Prelude.{◌≡◌, ◌≤◌, ◌&&◌, IsTrue, Some, None, if◌then◌else◌, nat_le};
 ghost use Rattle.std.specs.List.{list_all};
-ghost use Rattle.segment_lang.specs.Words.{is_digit, is_numeral, number_after, number_of, negative_of, whole_of};
+ghost use Rattle.segment_lang.specs.Lexing.{is_digit, is_numeral, number_after, number_of, negative_of, whole_of};
 ghost use Rattle.segment_lang.specs.Reading.{number};
-ghost use Rattle.segment_lang.specs.Seen.{word_of};
+ghost use Rattle.segment_lang.specs.Seen.{token_of};
 
-use crate::words::Word;
+use crate::tokens::Token;
 use std::marker::Model;
 
 /// Tells whether a byte is one of `0` to `9`.
@@ -25,10 +25,10 @@ fn are_digits(bytes: &[u8]) -> bool
 
 /// Tells whether a word is `0`, or digits without a leading zero.
 #[tactic(auto, using(crate::proofs::values::Decimals::long_numeral))]
-fn is_numeral(word: &[u8]) -> bool
-    ensures { result ≡ is_numeral word.now }
+fn is_numeral(token: &[u8]) -> bool
+    ensures { result ≡ is_numeral token.now }
 {
-    match word {
+    match token {
         [] => false,
         [digit] => is_digit(*digit),
         [first, rest @ ..] => *first != b'0' && is_digit(*first) && are_digits(rest),
@@ -57,13 +57,13 @@ fn value_of_digits(digits: &[u8]) -> Option<u64>
 
 /// Returns the number that a word spells: `0`, or digits without a leading zero, at most 18446744073709551615. `None`
 /// is any other word.
-pub fn number_of(word: &[u8]) -> Option<u64>
-    ensures { result ≡ number_of word.now }
+pub fn number_of(token: &[u8]) -> Option<u64>
+    ensures { result ≡ number_of token.now }
 {
-    if !is_numeral(word) {
+    if !is_numeral(token) {
         return None;
     }
-    value_of_digits(word)
+    value_of_digits(token)
 }
 
 /// A whole number from -9223372036854775808 to 18446744073709551615, in as much room as a slice.
@@ -111,13 +111,13 @@ fn negative_of(digits: &[u8]) -> Option<WholeNumber>
 
 /// Returns the whole number that a word spells, from -9223372036854775808 to 18446744073709551615: a number, or `-` and
 /// a number that is not 0.
-pub fn whole_of(word: &[u8]) -> Option<WholeNumber>
-    ensures { result ≡ whole_of word.now }
+pub fn whole_of(token: &[u8]) -> Option<WholeNumber>
+    ensures { result ≡ whole_of token.now }
 {
-    match word {
+    match token {
         [b'-', digits @ ..] => negative_of(digits),
         _ => {
-            let magnitude = number_of(word)?;
+            let magnitude = number_of(token)?;
             Some(WholeNumber {
                 magnitude,
                 is_negative: false,
@@ -127,11 +127,11 @@ pub fn whole_of(word: &[u8]) -> Option<WholeNumber>
 }
 
 /// Returns the number that a word is.
-pub fn number(word: Word<'_>) -> Option<u64>
-    ensures { result ≡ number (word_of word.entry) }
+pub fn number(token: Token<'_>) -> Option<u64>
+    ensures { result ≡ number (token_of token.entry) }
 {
-    match word {
-        Word::Bare(word) => number_of(word),
-        Word::Text(_) => None,
+    match token {
+        Token::Bare(token) => number_of(token),
+        Token::Text(_) => None,
     }
 }

@@ -6,7 +6,7 @@ ghost use Rattle.seg_types.specs.Keys.{key_seen};
 ghost use Rattle.seg_types.specs.Names.{Key as AskedKey};
 ghost use Rattle.segment_lang.specs.Reading.{appending, finding, key_of, name_key, new_key, putting, with_key};
 ghost use Rattle.segment_lang.specs.Reading.{with_key_literal, with_key_number, with_key_number_literal, with_number};
-ghost use Rattle.segment_lang.specs.Tokens.{at_end, only_word};
+ghost use Rattle.segment_lang.specs.Tokens.{at_end, only_token};
 ghost use Rattle.segment_lang.specs.Arguments.{assigning_at, command_of_one, command_of_three, command_of_two};
 ghost use Rattle.segment_lang.specs.Arguments.{handle_of, making_at, making_each_at};
 ghost use Rattle.segment_lang.specs.Seen.{operation_of, literal_of};
@@ -16,12 +16,12 @@ use crate::buffer::LineBuffer;
 use crate::commands::Operation;
 use crate::contents::read_content;
 use crate::keys::{handle_of, index_key, index_key_for, key_of, new_key_for};
-use crate::kinds::{counted_kind, kind_of_word};
+use crate::kinds::{counted_kind, kind_of_token};
 use crate::lists::read_literals;
 use crate::literals::{Literal, literal_of, quoted_of};
 use crate::numbers::number;
+use crate::tokens::{next_token, next_two, only_token, three_tokens, two_tokens};
 use crate::values::read_values;
-use crate::words::{next_two, next_word, only_word, three_words, two_words};
 use seg_types::{Key, Kind};
 
 /// Reads a kind with a count, a key and the initial contents: one value, any number of values, or none.
@@ -74,8 +74,8 @@ pub fn read_construct_it<'a>(bytes: &'a [u8], scratch: &'a mut LineBuffer) -> Op
 pub fn read_find<'a>(bytes: &'a [u8], scratch: &'a mut LineBuffer) -> Option<Operation<'a>>
     ensures { option_map operation_of result ≡ command_of_two finding bytes.now }
 {
-    let (kind, key) = two_words(bytes)?;
-    let kind = kind_of_word(kind)?;
+    let (kind, key) = two_tokens(bytes)?;
+    let kind = kind_of_token(kind)?;
     let key = index_key_for(kind, key, scratch)?;
     Some(Operation::Find { kind, key })
 }
@@ -85,18 +85,18 @@ pub fn read_find<'a>(bytes: &'a [u8], scratch: &'a mut LineBuffer) -> Option<Ope
 pub fn read_destroy<'a>(bytes: &'a [u8], scratch: &'a mut LineBuffer) -> Option<Operation<'a>>
     ensures { option_map operation_of result ≡ command_of_one (with_key asked.Destroy name_key) bytes.now }
 {
-    let word = only_word(bytes)?;
-    Some(Operation::Destroy(index_key(word, scratch)?))
+    let token = only_token(bytes)?;
+    Some(Operation::Destroy(index_key(token, scratch)?))
 }
 
 /// Returns a handle.
 #[inline(never)]
 pub fn read_destroy_ptr(bytes: &[u8]) -> Option<Operation<'_>>
     ensures { option_map operation_of result
-        ≡ option_map asked.DestroyPtr (option_and_then handle_of (only_word bytes.now)) }
+        ≡ option_map asked.DestroyPtr (option_and_then handle_of (only_token bytes.now)) }
 {
-    let word = only_word(bytes)?;
-    let handle = handle_of(word)?;
+    let token = only_token(bytes)?;
+    let handle = handle_of(token)?;
     Some(Operation::DestroyPtr(handle))
 }
 
@@ -106,8 +106,8 @@ pub fn only_key<'a>(bytes: &'a [u8], scratch: &'a mut LineBuffer) -> Option<Key<
     ensures { (f : AskedKey → asked.Command) → option_map (λ key. f (key_seen key)) result
         ≡ command_of_one (with_key f key_of) bytes.now }
 {
-    let word = only_word(bytes)?;
-    key_of(word, scratch)
+    let token = only_token(bytes)?;
+    key_of(token, scratch)
 }
 
 /// Returns a key and a number, whatever they are read for.
@@ -116,9 +116,9 @@ pub fn key_and_number<'a>(bytes: &'a [u8], scratch: &'a mut LineBuffer) -> Optio
     ensures { (f : AskedKey → ℕ → asked.Command) → option_map (λ x. f (key_seen x.0) x.1) result
         ≡ command_of_two (with_key_number f) bytes.now }
 {
-    let (key, number_word) = two_words(bytes)?;
+    let (key, number_token) = two_tokens(bytes)?;
     let key = key_of(key, scratch)?;
-    let index = number(number_word)?;
+    let index = number(number_token)?;
     Some((key, index))
 }
 
@@ -131,7 +131,7 @@ pub fn key_and_literal<'a>(
     ensures { (f : AskedKey → asked.Literal → asked.Command) → option_map (λ x. f (key_seen x.0) (literal_of x.1))
         result ≡ command_of_two (with_key_literal f) bytes.now }
 {
-    let (key, value) = two_words(bytes)?;
+    let (key, value) = two_tokens(bytes)?;
     let key = key_of(key, scratch)?;
     let value = literal_of(value)?;
     Some((key, value))
@@ -147,7 +147,7 @@ pub fn key_number_literal<'a>(
         → option_map (λ x. f (key_seen x.0) x.1 (literal_of x.2)) result
         ≡ command_of_three (with_key_number_literal f) bytes.now }
 {
-    let (key, index, value) = three_words(bytes)?;
+    let (key, index, value) = three_tokens(bytes)?;
     let key = key_of(key, scratch)?;
     let index = number(index)?;
     let value = literal_of(value)?;
@@ -163,7 +163,7 @@ pub fn key_and_pair<'a>(
     ensures { option_map (λ x. asked.Put (key_seen x.0) (literal_of x.1) (literal_of x.2)) result
         ≡ command_of_three putting bytes.now }
 {
-    let (key, at, value) = three_words(bytes)?;
+    let (key, at, value) = three_tokens(bytes)?;
     let key = key_of(key, scratch)?;
     let at = literal_of(at)?;
     let value = literal_of(value)?;
@@ -176,7 +176,7 @@ pub fn key_and_pair<'a>(
 pub fn read_assign<'a>(bytes: &'a [u8], scratch: &'a mut LineBuffer) -> Option<Operation<'a>>
     ensures { option_map operation_of result ≡ assigning_at bytes.now }
 {
-    let (key, rest) = next_word(bytes)?;
+    let (key, rest) = next_token(bytes)?;
     let key = key_of(key, scratch)?;
     let values = read_literals(rest)?;
     Some(Operation::Assign { key, values })
@@ -187,7 +187,7 @@ pub fn read_assign<'a>(bytes: &'a [u8], scratch: &'a mut LineBuffer) -> Option<O
 pub fn read_append<'a>(bytes: &'a [u8], scratch: &'a mut LineBuffer) -> Option<Operation<'a>>
     ensures { option_map operation_of result ≡ command_of_two appending bytes.now }
 {
-    let (key, text) = two_words(bytes)?;
+    let (key, text) = two_tokens(bytes)?;
     let key = key_of(key, scratch)?;
     let text = quoted_of(text)?;
     Some(Operation::Append { key, text })
@@ -197,8 +197,8 @@ pub fn read_append<'a>(bytes: &'a [u8], scratch: &'a mut LineBuffer) -> Option<O
 pub fn only_number(bytes: &[u8]) -> Option<u64>
     ensures { (f : ℕ → asked.Command) → option_map f result ≡ command_of_one (with_number f) bytes.now }
 {
-    let word = only_word(bytes)?;
-    number(word)
+    let token = only_token(bytes)?;
+    number(token)
 }
 
 /// Returns the operation, if nothing stands after its word.

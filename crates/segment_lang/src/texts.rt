@@ -6,7 +6,7 @@ ghost use Rattle.std.specs.Fmt.{signed_decimal};
 ghost use Rattle.std.specs.List.{list_all};
 ghost use Rattle.raw_region.specs.Device.{Writes};
 ghost use Rattle.seg_types.specs.Values.{kind_of_scalar, value_of_scalar};
-ghost use Rattle.segment_lang.specs.Words.{is_bare_name, is_digit, is_letter};
+ghost use Rattle.segment_lang.specs.Lexing.{is_bare_name, is_digit, is_letter};
 ghost use Rattle.segment_lang.specs.Texts.{digit_text, item_text, kind_text, name_text, quoted_text, scalar_text};
 ghost use Rattle.segment_lang.specs.Texts.{value_text};
 ghost use Rattle.segment_lang.specs.Pieces.{part_text};
@@ -52,27 +52,27 @@ pub fn put_value<S: Sink>(out: &mut S, value: ScalarValue) -> Result<(), DeviceF
 }
 
 /// The most bytes of the text in front of a number that is written with it at once.
-const LONGEST_FRONT: usize = 3;
+const LONGEST_PREFIX: usize = 3;
 
 /// Where the digits of a number end in a line that is written at once: they are 20 at most.
-const DIGITS_END: usize = LONGEST_FRONT + 20;
+const DIGITS_END: usize = LONGEST_PREFIX + 20;
 
 /// Writes a number after a text, and the end of the line: at once if the text is short.
 #[inline(always)]
-pub fn put_number_line<S: Sink>(out: &mut S, front: &[u8], number: u64) -> Result<(), DeviceFault>
+pub fn put_number_line<S: Sink>(out: &mut S, prefix: &[u8], number: u64) -> Result<(), DeviceFault>
     requires { (S.history out.old).failures < 2 ^ 64 - 1 }
-    ensures { Writes (S.history out.old) (S.history out.new) result (front.now ++ decimal number ++ 0x0A ∷ []) }
+    ensures { Writes (S.history out.old) (S.history out.new) result (prefix.now ++ decimal number ++ 0x0A ∷ []) }
 {
-    if front.len() > LONGEST_FRONT {
+    if prefix.len() > LONGEST_PREFIX {
         return put_parts(
             out,
-            &[front, Buffer::new().format(number).as_bytes(), b"\n"],
+            &[prefix, Buffer::new().format(number).as_bytes(), b"\n"],
         );
     }
     let mut line = [b'\n'; DIGITS_END + 1];
     let digits = write_digits(number, &mut line, DIGITS_END);
-    let start = digits - front.len();
-    line[start..digits].copy_from_slice(front);
+    let start = digits - prefix.len();
+    line[start..digits].copy_from_slice(prefix);
     write_all(out, &line[start..])
 }
 

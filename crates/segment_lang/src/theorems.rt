@@ -2,7 +2,7 @@
 
 ghost use Rattle.segment_lang.specs.Laws.{LongLinesAreCut, NumbersAreDecimals, PrintedKindsAreRead};
 ghost use Rattle.segment_lang.specs.Laws.{PrintedNamesAreRead, PrintedTextsAreRead, TextsAreSpelled, WholesAreDecimals};
-ghost use Rattle.segment_lang.specs.Laws.{WordsFollow, WordsHaveRoom};
+ghost use Rattle.segment_lang.specs.Laws.{TokensFollow, TokensFitLine};
 
 /// States that a word has a number exactly if it is the number's decimal text, and the number is below 2 ^ 64.
 pub fn numbers_are_decimals()
@@ -36,13 +36,13 @@ pub fn printed_names_are_read()
 {}
 
 /// States that the words of a line are the words that repeated reading of the next word finds.
-pub fn words_follow()
-    ensures { WordsFollow }
+pub fn tokens_follow()
+    ensures { TokensFollow }
 {}
 
 /// States that words stand for no more bytes than they are spelled by, one byte after each counted.
-pub fn words_have_room()
-    ensures { WordsHaveRoom }
+pub fn tokens_fit_line()
+    ensures { TokensFitLine }
 {}
 
 /// States that the first 4098 bytes of a line that is too long show that it is: the other bytes can be dropped.

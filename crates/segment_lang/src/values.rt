@@ -8,7 +8,7 @@ ghost use Rattle.segment_lang.specs.Arguments.{counted_values, numbers_at, scala
 
 use crate::blanks::at_end;
 use crate::literals::scalar_of;
-use crate::words::next_word;
+use crate::tokens::next_token;
 use seg_types::{ScalarKind, ScalarValue};
 use std::marker::Model;
 
@@ -49,9 +49,9 @@ impl Iterator for LiteralValues<'_> {
     ghost remaining = { item_count scalars_in };
 
     fn next(&mut self) -> Option<ScalarValue> {
-        let (word, rest) = next_word(self.behind)?;
+        let (token, rest) = next_token(self.behind)?;
         self.behind = rest;
-        scalar_of(self.kind, word)
+        scalar_of(self.kind, token)
     }
 }
 
@@ -61,8 +61,8 @@ fn count_values(kind: ScalarKind, bytes: &[u8]) -> Option<usize>
 {
     let mut rest = bytes;
     let mut count = 0;
-    'values: while let Some((word, tail)) = next_word(rest) {
-        scalar_of(kind, word)?;
+    'values: while let Some((token, tail)) = next_token(rest) {
+        scalar_of(kind, token)?;
         rest = tail;
         count += 1;
     }

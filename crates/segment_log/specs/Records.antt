@@ -51,20 +51,20 @@ abbrev pub body_at : ℕ → List ℕ → List ℕ
 body_at gate payload = number_bytes (length payload) ++ payload ++ zeros gate
 
 -- whatever stands behind these bytes, they stand for these payloads and nothing in front of it
-abbrev pub IsLogFront : ℕ → List ℕ → List (List ℕ) → Type 0
-IsLogFront gate front payloads = (tail : List ℕ)
-    → recovered_at gate (front ++ tail) ≡ payloads ++ recovered_at gate tail
+abbrev pub IsLogPrefix : ℕ → List ℕ → List (List ℕ) → Type 0
+IsLogPrefix gate prefix payloads = (tail : List ℕ)
+    → recovered_at gate (prefix ++ tail) ≡ payloads ++ recovered_at gate tail
 
 -- the log is records up to this offset, and a shut gate stands there
 pub record EndsShut (gate : ℕ) (log : List ℕ) (end : ℕ) : Type 0 where
-  pub front : IsLogFront gate (take end log) (recovered_at gate log)
+  pub prefix : IsLogPrefix gate (take end log) (recovered_at gate log)
   pub room : end + gate ≤ length log
   pub shut : get_or log end 0 ≢ 1
   pub marked : 0 < end → get_or log 0 0 ≡ 1
 
 -- the records of a log end at this offset, and no other stands there
 pub record IsEndOfLog (gate : ℕ) (log : List ℕ) (end : ℕ) : Type 0 where
-  pub front : IsLogFront gate (take end log) (recovered_at gate log)
+  pub prefix : IsLogPrefix gate (take end log) (recovered_at gate log)
   pub within : end ≤ length log
   pub none : next_at gate (drop end log) ≡ None
   pub marked : 0 < end → get_or log 0 0 ≡ 1
@@ -75,10 +75,10 @@ IsAjar gate log end = (length log - end < gate) ⊎ (get_or log end 0 ≡ 1)
 
 -- a log is read as far as these payloads, and this is left of it
 pub record IsReadTo (gate : ℕ) (log rest : List ℕ) (payloads : List (List ℕ)) : Type 0 where
-  pub front : List ℕ
-  pub split : log ≡ front ++ rest
-  pub fronts : IsLogFront gate front payloads
-  pub marked : 0 < length front → get_or log 0 0 ≡ 1
+  pub prefix : List ℕ
+  pub split : log ≡ prefix ++ rest
+  pub prefixes : IsLogPrefix gate prefix payloads
+  pub marked : 0 < length prefix → get_or log 0 0 ≡ 1
 
 -- the file is the same, and the log has the same payloads, with one more or without it
 pub record KeepsOrAddsRecord (before : LoggedFile) (payload : List ℕ) (c : LoggedFile) : Type 0 where

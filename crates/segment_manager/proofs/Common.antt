@@ -33,7 +33,7 @@ pub use Rattle.best_fit.proofs.Laws.{middle-first, placed_is_proper, room_block,
 pub use Rattle.best_fit.specs.Exchange.{ExchangesBlocks, SameBlockExcept, exchanged}
 pub use Rattle.best_fit.specs.Extents.{Extent, LiveSet, end_of, handle, holds, proper_from, spans}
 pub use Rattle.best_fit.specs.Fit.{added, others, place, released, resized}
-pub use Rattle.best_fit.specs.{FreeTree.IsTreeOf, FreeTree.cells_of, FreeTree.gap_front, declared.places.Place.Place}
+pub use Rattle.best_fit.specs.{FreeTree.IsTreeOf, FreeTree.cells_of, FreeTree.gap_head, declared.places.Place.Place}
 pub use Rattle.best_fit.specs.Heap.{AllocatesOk, ChangesBytes, IsHeap, AllocatesNoSpace, Deallocates, ZeroesFree}
 pub use Rattle.best_fit.specs.Heap.{KeepsBlocks, EncodesLiveSet, SameBlock, extent_at, has_room, is_live_in, live_of}
 pub use Rattle.best_fit.specs.Table.{BackingArray, has_backing, no_backing, same_role, serves}
@@ -72,7 +72,7 @@ pub use Rattle.seg_map.specs.Places.{IsSomeMap, first_pair, item_of, nodes_of_pa
 pub use Rattle.seg_index.proofs.Laws.{prepared}
 pub use Rattle.seg_index.specs.Growth.{AddKeeps, AddsEntry, CanGrow, FreesGrowth, PreparesOk, KeepsOutsideIndex}
 pub use Rattle.seg_index.specs.Growth.{beside_table, without_link, grown_bytes, without_index_block}
-pub use Rattle.seg_index.specs.Held.{HasIndex, IsIndexOf, capacity_at, entry_count, place_of}
+pub use Rattle.seg_index.specs.Held.{HasIndex, IsIndexOf, capacity_at, entry_count, index_at}
 pub use Rattle.seg_index.specs.declared.index.Index.TheVariants.{Named, Unique}
 pub use Rattle.seg_index.specs.declared.keys.Lookup.TheVariants.{Absent, Found}
 pub use Rattle.seg_index.specs.Capacities.{ReservesIndexOk, KeepsRoomyIndex, ShrinksIndex}
@@ -87,7 +87,7 @@ pub use Rattle.segment_manager.specs.{objects.Items.ConstructsFromItems, contain
 pub use Rattle.segment_manager.specs.{containers.TextLists.LeadsOnOfKind, objects.Standing.repeated}
 pub use Rattle.segment_manager.specs.{objects.Standing.room_for, objects.NewObjects.RequestsBlocksErr}
 pub use Rattle.segment_manager.specs.{blocks.Resized.Resizes, blocks.Resized.grown, blocks.Resized.shrunk}
-pub use Rattle.segment_manager.specs.{indexes.Iterating.is_own_span, indexes.Iterating.own_spans, Plan.with_place}
+pub use Rattle.segment_manager.specs.{indexes.Iterating.is_own_span, indexes.Iterating.own_spans, Plan.with_spare_entry}
 pub use Rattle.segment_manager.specs.{Plan.with_storage, Plan.with_value, declared.containers.storages.Change.Change}
 pub use Rattle.segment_manager.specs.objects.PendingObjects.{BeginsObject, IsAbsentAt, BeginsObjectOk, BeginsAnonymous}
 pub use Rattle.segment_manager.specs.objects.PendingObjects.{BeginsEntryOk, WritesObjectHeader, WritesUnindexedObject}
@@ -118,7 +118,7 @@ pub use Rattle.segment_manager.specs.indexes.Indexed.{Seeks, class_of_index, ent
 pub use Rattle.segment_manager.specs.indexes.Indexed.{reserve_of, table_of, with_table_of}
 pub use Rattle.segment_manager.specs.objects.Instances.{IsInstance, IsMissing, SaysAt, SaysOf}
 pub use Rattle.segment_manager.specs.indexes.Iterating.{YieldsInstance, GoesOnNames, NameWalk, Walk, is_own}
-pub use Rattle.segment_manager.specs.Keeping.{HasPlaces, UnchangedWhere, LacksKey}
+pub use Rattle.segment_manager.specs.Keeping.{HasCapacity, UnchangedWhere, LacksKey}
 pub use Rattle.segment_manager.specs.indexes.Listed.{HasEntries, HasIndexEntry, IsAnonymousAt, IsListed}
 pub use Rattle.segment_manager.specs.containers.Maps.{HasPairs, ReleasesPairs, numbers_in, numbers_of, pair_above}
 pub use Rattle.segment_manager.specs.containers.Maps.{pair_at_end, pair_below, pair_from, pair_up_to, told_of}

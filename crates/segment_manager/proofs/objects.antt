@@ -22,7 +22,7 @@ pub mod Loose
 pub mod MadeValues
 pub mod NewNumbers
 pub mod Heads
-pub mod Rows
+pub mod Slices
 pub mod Standings
 pub mod Rewritten
 pub mod Exchanged

@@ -6,7 +6,7 @@ use Rattle.raw_region.specs.Format.{current}
 use Rattle.raw_region.specs.Memory.{AreZero, SameSurroundings, bytes_of, cut_at, word_at}
 use Rattle.block_tags.specs.{declared.tile.Tile.Tile, Format.is_legal_size, Tiles.tiles_of}
 use Rattle.best_fit.specs.Extents.{Gap, Span as LiveSpan, gaps, spans}
-use Rattle.best_fit.specs.FreeTree.{gap_front, span as span_of}
+use Rattle.best_fit.specs.FreeTree.{gap_head, span as span_of}
 use Rattle.seg_types.specs.{declared.kinds.ScalarKind.ScalarKind, declared.kinds.ScalarKind.TheVariants.U8}
 use Rattle.seg_types.specs.{declared.kinds.Kind.Kind, declared.refusals.Refusal.Refusal, Names.Key, Commands.Command}
 use Rattle.seg_types.specs.declared.kinds.Kind.TheVariants.{Scalar, String, Vector, Map, Strings}
@@ -27,9 +27,9 @@ pub record CreatesOk (region : List ℕ) (base size : ℕ) (how : Mode) (s : Seg
   pub place : SameSurroundings (cut_at region base size) s.cut
   pub stands : DenotesCurrent s.cut.bytes (empty size)
   -- the words before the gap's free bytes are null links
-  pub links : (at : ℕ) → at % 8 ≡ 0 → 144 ≤ at → at < header_len + gap_front current → at < size - 16
+  pub links : (at : ℕ) → at % 8 ≡ 0 → 144 ≤ at → at < header_len + gap_head current → at < size - 16
       → word_at (bytes_of s.cut.bytes) at ≡ 1
-  pub zeros : AreZero (bytes_of s.cut.bytes) (header_len + gap_front current) (size - 16)
+  pub zeros : AreZero (bytes_of s.cut.bytes) (header_len + gap_head current) (size - 16)
 
 -- the reason why no segment of the size can be created
 abbrev pub IsWhy : List ℕ → ℕ → ℕ → CreateError → Type 0
@@ -82,5 +82,5 @@ pub record IsTileOfIndex (s : SegmentState) (index : ℕ) (result : Option Tile)
 -- the free bytes of all gaps are 0
 pub record HasZeroGaps (s : SegmentState) : Type 0 where
   pub zeros : (d : Directory) → DenotesCurrent s.cut.bytes d
-      → AllByRecursion (λ (g : Gap). AreZero (bytes_of s.cut.bytes) (g.offset + gap_front current) (g.offset + g.len))
+      → AllByRecursion (λ (g : Gap). AreZero (bytes_of s.cut.bytes) (g.offset + gap_head current) (g.offset + g.len))
       (gaps (live d))

@@ -25,7 +25,7 @@ abbrev pub LacksKey : Key → Directory → Type 0
 LacksKey key d = object_at d key ≡ None
 
 -- the vector or string of the key has at least this capacity
-pub record HasPlaces (key : Key) (n : ℕ) (d : Directory) : Type 0 where
+pub record HasCapacity (key : Key) (n : ℕ) (d : Directory) : Type 0 where
   pub len : ℕ
   pub capacity : ℕ
   pub says : sizes_at d key ≡ Ok (len, capacity)

@@ -52,14 +52,15 @@ with_new_index capacity next = Request (New Index (8 * capacity))
     (λ x. next (record { capacity = capacity; extent = Some x }))
 
 -- an index with this many entries whose capacity allows one more
-abbrev pub with_place : BackingArray → ℕ → (BackingArray → Plan) → Plan
-with_place t count next = if nat_lt count t.capacity then next t else with_new_index (grown_capacity t.capacity) next
+abbrev pub with_spare_entry : BackingArray → ℕ → (BackingArray → Plan) → Plan
+with_spare_entry t count next = if nat_lt count t.capacity then next t else with_new_index (grown_capacity
+    t.capacity) next
 
 -- the directory whose index of the class has capacity for one more entry
 abbrev pub with_entry : Directory → Class → (Directory → Plan) → Plan
 with_entry d Anonymous next = next d
-with_entry d Named next = with_place d.named (length (named_objects d)) (λ t. next (record d { named = t }))
-with_entry d Unique next = with_place d.unique (length (unique_objects d)) (λ t. next (record d { unique = t }))
+with_entry d Named next = with_spare_entry d.named (length (named_objects d)) (λ t. next (record d { named = t }))
+with_entry d Unique next = with_spare_entry d.unique (length (unique_objects d)) (λ t. next (record d { unique = t }))
 
 -- storage for n elements, if n is not 0
 abbrev pub with_storage : ℕ → ℕ → (BackingArray → Plan) → Plan

@@ -33,33 +33,33 @@ object_tally_of d = objects_tally d.objects
 -- ---- one after another
 
 -- the place of a kind among all
-abbrev pub scalar_place : ScalarKind → ℕ
-scalar_place BoolKind = 0
-scalar_place U8 = 1
-scalar_place I32 = 2
-scalar_place I64 = 3
-scalar_place U64 = 4
+abbrev pub scalar_index : ScalarKind → ℕ
+scalar_index BoolKind = 0
+scalar_index U8 = 1
+scalar_index I32 = 2
+scalar_index I64 = 3
+scalar_index U64 = 4
 
 -- the place of a kind in the tally
-abbrev pub kind_place : Kind → ℕ
-kind_place (Scalar k) = scalar_place k
-kind_place String = 5
-kind_place Strings = 6
-kind_place (Vector k) = 7 + scalar_place k
-kind_place (Map k v) = 12 + 5 * scalar_place k + scalar_place v
+abbrev pub kind_index : Kind → ℕ
+kind_index (Scalar k) = scalar_index k
+kind_index String = 5
+kind_index Strings = 6
+kind_index (Vector k) = 7 + scalar_index k
+kind_index (Map k v) = 12 + 5 * scalar_index k + scalar_index v
 
 abbrev pub one_more_at : List ℕ → ℕ → List ℕ
 one_more_at counts i = slice_set counts i (slice_index counts i + 1)
 
 -- one object more
 abbrev pub object_counted : ObjectTally → Class → Kind → ObjectTally
-object_counted t Named k = record t { named = t.named + 1; kinds = one_more_at t.kinds (kind_place k) }
-object_counted t Unique k = record t { unique = t.unique + 1; kinds = one_more_at t.kinds (kind_place k) }
-object_counted t Anonymous k = record t { anonymous = t.anonymous + 1; kinds = one_more_at t.kinds (kind_place k) }
+object_counted t Named k = record t { named = t.named + 1; kinds = one_more_at t.kinds (kind_index k) }
+object_counted t Unique k = record t { unique = t.unique + 1; kinds = one_more_at t.kinds (kind_index k) }
+object_counted t Anonymous k = record t { anonymous = t.anonymous + 1; kinds = one_more_at t.kinds (kind_index k) }
 
 -- there is room to count one more
 pub record CanTally (t : ObjectTally) (i : ℕ) : Type 0 where
   pub named : t.named ≤ i
   pub unique : t.unique ≤ i
   pub anonymous : t.anonymous ≤ i
-  pub kinds : (k : Kind) → slice_index t.kinds (kind_place k) ≤ i
+  pub kinds : (k : Kind) → slice_index t.kinds (kind_index k) ≤ i

@@ -147,8 +147,8 @@ head_text size free = begin_text
     ++ (decimal size ++ (codes " bytes, " ++ (decimal free ++ (codes " free" ++ legend_text))))
 
 -- these, and the header
-abbrev pub front_text : Directory → List ℕ
-front_text d = head_text d.size (free_bytes (live d)) ++ shape_text (bytes_in_row d.size) 0 128 (codes "header")
+abbrev pub prefix_text : Directory → List ℕ
+prefix_text d = head_text d.size (free_bytes (live d)) ++ shape_text (bytes_in_row d.size) 0 128 (codes "header")
 
 -- the shapes of the blocks and gaps
 abbrev pub spans_text : Directory → List ℕ
@@ -163,7 +163,7 @@ end_text d = shape_text (bytes_in_row d.size) (d.size - 16) 16 (codes "end") ++ 
 
 -- an SVG of 16 rows, with each block and gap to scale
 abbrev pub picture_of : Directory → List ℕ
-picture_of d = front_text d ++ (spans_text d ++ end_text d)
+picture_of d = prefix_text d ++ (spans_text d ++ end_text d)
 
 -- the scale of a segment's picture
 pub record HasScale (s : SegmentState) (per : ℕ) : Type 0 where

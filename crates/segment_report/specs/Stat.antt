@@ -7,7 +7,7 @@ use Rattle.segment_manager.specs.Directory.{Directory}
 use Rattle.segment_report.specs.declared.objects.ObjectTally.{ObjectTally}
 use Rattle.segment_report.specs.declared.tallies.Tally.{Tally}
 use Rattle.segment_report.specs.Entries.{entry_line}
-use Rattle.segment_report.specs.Objects.{count_of_kind, kind_place, object_tally_of}
+use Rattle.segment_report.specs.Objects.{count_of_kind, kind_index, object_tally_of}
 use Rattle.segment_report.specs.Usages.{tally_of}
 
 -- the figures: the size, the bytes of all gaps, the number of gaps, the longest gap; the number and the bytes of the
@@ -33,7 +33,7 @@ kind_line k n = if n == 0 then [] else entry_line (kind_text k) n
 
 -- the line of a kind whose number stands at its place among these
 abbrev pub counted_line : List ℕ → Kind → List ℕ
-counted_line counts k = kind_line k (slice_index counts (kind_place k))
+counted_line counts k = kind_line k (slice_index counts (kind_index k))
 
 -- the lines of the kinds, in their order, from the number of objects of each
 abbrev pub kinds_text : (Kind → ℕ) → List ℕ

@@ -1,8 +1,8 @@
 //! The objects of a segment, counted by class and by kind in one walk over them.
 ghost use Rattle.std.specs.Prelude.{◌≡◌, ◌^◌, ◌<◌, slice_index, [], ℕ};
 ghost use Rattle.segment_manager.specs.State.{AnswersWith};
-ghost use Rattle.segment_report.specs.Objects.{CanTally, kind_place, object_counted, object_tally_of, objects_tally};
-ghost use Rattle.segment_report.specs.Objects.{scalar_place};
+ghost use Rattle.segment_report.specs.Objects.{CanTally, kind_index, object_counted, object_tally_of, objects_tally};
+ghost use Rattle.segment_report.specs.Objects.{scalar_index};
 
 use seg_types::{Class, Kind, ScalarKind};
 use segment_manager::Segment;
@@ -24,22 +24,22 @@ pub struct ObjectTally {
 }
 
 /// Returns the place of a kind among all.
-fn place_of(kind: Kind) -> usize
-    ensures place { result ≡ kind_place kind }
+fn index_of(kind: Kind) -> usize
+    ensures index { result ≡ kind_index kind }
     ensures in_bounds { result < 37 }
 {
     match kind {
-        Kind::Scalar(scalar) => scalar_place(scalar),
+        Kind::Scalar(scalar) => scalar_index(scalar),
         Kind::String => 5,
         Kind::Strings => 6,
-        Kind::Vector(element) => 7 + scalar_place(element),
-        Kind::Map(key, value) => 12 + 5 * scalar_place(key) + scalar_place(value),
+        Kind::Vector(element) => 7 + scalar_index(element),
+        Kind::Map(key, value) => 12 + 5 * scalar_index(key) + scalar_index(value),
     }
 }
 
 /// Returns the place of a kind among the scalar ones.
-fn scalar_place(kind: ScalarKind) -> usize
-    ensures place { result ≡ scalar_place kind }
+fn scalar_index(kind: ScalarKind) -> usize
+    ensures index { result ≡ scalar_index kind }
     ensures in_bounds { result < 5 }
 {
     match kind {
@@ -66,9 +66,9 @@ impl ObjectTally {
 
     /// Returns the number of objects of a kind.
     pub fn of_kind(&self, kind: Kind) -> u64
-        ensures { result ≡ slice_index self.now.kinds (kind_place kind) }
+        ensures { result ≡ slice_index self.now.kinds (kind_index kind) }
     {
-        self.kinds[place_of(kind)]
+        self.kinds[index_of(kind)]
     }
 
     /// Counts one object more.
@@ -81,7 +81,7 @@ impl ObjectTally {
             Class::Unique => self.unique += 1,
             Class::Anonymous => self.anonymous += 1,
         }
-        self.kinds[place_of(kind)] += 1;
+        self.kinds[index_of(kind)] += 1;
     }
 }
 

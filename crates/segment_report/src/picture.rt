@@ -3,7 +3,7 @@ ghost use Rattle.std.specs.Prelude.{◌≡◌, ◌+◌, ◌-◌, ◌^◌, ◌<�
 ghost use Rattle.raw_region.specs.Device.{Writes};
 ghost use Rattle.seg_types.specs.Names.{ByHandle};
 ghost use Rattle.segment_manager.specs.{Directory.object_at, objects.Found.is_object_at, State.AnswersWith};
-ghost use Rattle.segment_report.specs.Picture.{HasOwner, HasScale, end_text, front_text, head_text, object_in};
+ghost use Rattle.segment_report.specs.Picture.{HasOwner, HasScale, end_text, prefix_text, head_text, object_in};
 ghost use Rattle.segment_report.specs.Picture.{object_label, picture_of, shape_text, sort_of, spans_text};
 ghost use Rattle.segment_report.specs.Telling.{WritesReport};
 
@@ -26,7 +26,7 @@ pub fn draw<W: Sink>(segment: &Segment, out: &mut W) -> Result<(), DeviceFault>
     ensures { WritesReport segment.now (W.history out.old) (W.history out.new) result picture_of }
 {
     let scale = scale_of(segment);
-    put_front(segment, scale, out)?;
+    put_prefix(segment, scale, out)?;
     put_spans(segment, scale, out)?;
     put_end(segment, scale, out)
 }
@@ -39,10 +39,10 @@ fn scale_of(segment: &Segment) -> Scale
 }
 
 /// Writes how a picture begins, and the header.
-fn put_front<W: Sink>(segment: &Segment, scale: Scale, out: &mut W) -> Result<(), DeviceFault>
+fn put_prefix<W: Sink>(segment: &Segment, scale: Scale, out: &mut W) -> Result<(), DeviceFault>
     requires writer { (W.history out.old).failures < 2 ^ 64 - 1 }
     requires scale { HasScale segment.now scale.row }
-    ensures { WritesReport segment.now (W.history out.old) (W.history out.new) result front_text }
+    ensures { WritesReport segment.now (W.history out.old) (W.history out.new) result prefix_text }
 {
     put_head(out, size_of(segment), segment.free())?;
     put_shape(out, scale, 0, HEADER, b"header")

@@ -78,10 +78,10 @@ fn rebuild_array<T: Scalar>(
     let Some(bytes) = part(image, head.value, T::SIZE * count) else {
         return Err(BAD_VALUE);
     };
-    let Some(row) = scalars_in::<T>(alloc, bytes, count)? else {
+    let Some(scalars) = scalars_in::<T>(alloc, bytes, count)? else {
         return Err(BAD_VALUE);
     };
-    construct_array(segment, &head.key, &row)?;
+    construct_array(segment, &head.key, &scalars)?;
     Ok(())
 }
 
@@ -104,10 +104,10 @@ fn rebuild_vector<T: Scalar>(
     let Some(stored) = stored_at(image, head.value, T::SIZE) else {
         return Err(BAD_VALUE);
     };
-    let Some(row) = scalars_in::<T>(alloc, stored.bytes, stored.len)? else {
+    let Some(scalars) = scalars_in::<T>(alloc, stored.bytes, stored.len)? else {
         return Err(BAD_VALUE);
     };
-    segment.construct_vec(&head.key, &row)?;
+    segment.construct_vec(&head.key, &scalars)?;
     Ok(())
 }
 

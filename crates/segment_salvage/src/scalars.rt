@@ -13,21 +13,21 @@ pub(crate) fn scalars_in<T: Scalar>(
     bytes: &[u8],
     count: u64,
 ) -> Result<Option<Vec<T>>, AllocError>
-    ensures bytes { IfOk result (λ found. IfSome found (λ row.
-        bytes.now ≡ spelled T.kind (map T.whole row.items))) }
-    ensures count { IfOk result (λ found. IfSome found (λ row. length row.items ≡ count)) }
+    ensures bytes { IfOk result (λ found. IfSome found (λ scalars.
+        bytes.now ≡ spelled T.kind (map T.whole scalars.items))) }
+    ensures count { IfOk result (λ found. IfSome found (λ scalars. length scalars.items ≡ count)) }
 {
-    let mut row = Vec::new(alloc);
+    let mut scalars = Vec::new(alloc);
     let mut left = bytes;
     'values: for _ in 0..count {
         let Some((value, rest)) = next_scalar::<T>(left) else {
             return Ok(None);
         };
-        row.push(value)?;
+        scalars.push(value)?;
         left = rest;
     }
     if left.is_empty() {
-        Ok(Some(row))
+        Ok(Some(scalars))
     } else {
         Ok(None)
     }

@@ -15,8 +15,9 @@ pub use Rattle.segment_manager.proofs.CommandLaws.{IsChangeable, IsChangeableObj
 
 -- the values that literals are for a vector of a kind, as a type has them in a row, or why they are none
 abbrev pub ReadsInto : {T : Type 0} → ScalarKind → (T → ℤ) → List Literal → List T → Result (Unit {0}) Refusal → Type 0
-ReadsInto k whole ls row (Ok u) = (values_of k ls ≡ Ok (map whole row)) × IsTrue (list_all (is_value k) (map whole row))
-ReadsInto k whole ls row (Err why) = values_of k ls ≡ Err why
+ReadsInto k whole ls buffer (Ok u) = (values_of k ls ≡ Ok (map whole buffer)) × IsTrue (list_all (is_value k)
+    (map whole buffer))
+ReadsInto k whole ls buffer (Err why) = values_of k ls ≡ Err why
 
 -- The command is executed: the directory is the one after its step, and nothing changes if it is refused before it
 -- asks for a block.

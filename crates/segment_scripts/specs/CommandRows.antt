@@ -16,8 +16,8 @@ row_text row = row.usage.now ++ (codes " -> "
 
 -- the words of the command that begins with this word, if there is one
 abbrev pub usage_of : List CommandRow → List ℕ → List ℕ
-usage_of [] word = []
-usage_of (row ∷ rows) word = if bytes_eq row.word.now word then row.usage.now else usage_of rows word
+usage_of [] token = []
+usage_of (row ∷ rows) token = if bytes_eq row.token.now token then row.usage.now else usage_of rows token
 
 -- the arguments of an operation's command word, as its usage words them
 abbrev pub operation_arguments : OperationForm → List ℕ

@@ -16,4 +16,4 @@ pub mod LintLaws
 pub mod Parts
 pub mod Shown
 pub mod Changes
-pub mod TextRows
+pub mod TextBuffers

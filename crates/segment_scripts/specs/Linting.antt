@@ -9,7 +9,7 @@ use Rattle.segment_lang.specs.Language.{whole_language}
 use Rattle.segment_lang.specs.Reading.{reading, without_return}
 use Rattle.segment_lang.specs.Seen.{is_wrong}
 use Rattle.segment_lang.specs.Texts.{line_error_text}
-use Rattle.segment_lang.specs.Words.{is_blank}
+use Rattle.segment_lang.specs.Lexing.{is_blank}
 use Rattle.segment_scripts.specs.CommandRows.{usage_of}
 use Rattle.segment_scripts.specs.declared.language.CommandRow.{CommandRow}
 
@@ -25,8 +25,8 @@ behind blanks [] = []
 behind blanks (c ∷ cs) = if same blanks (is_blank c) then behind blanks cs else c ∷ cs
 
 -- the first word of a line
-abbrev pub first_word : List ℕ → List ℕ
-first_word line = let rest = behind true line in take (length rest - length (behind false rest)) rest
+abbrev pub first_token : List ℕ → List ℕ
+first_token line = let rest = behind true line in take (length rest - length (behind false rest)) rest
 
 -- the bytes of a line from its second word on
 abbrev pub arguments : List ℕ → List ℕ
@@ -43,7 +43,7 @@ column_of wrong.BadSyntax line = length line - length (arguments line) + 1
 abbrev pub expected : List CommandRow → LineError → List ℕ → List ℕ
 expected rows wrong.UnknownCommand line = codes "a command"
 expected rows wrong.LineTooLong line = codes "at most 4096 bytes"
-expected rows wrong.BadSyntax line = usage_of rows (first_word line)
+expected rows wrong.BadSyntax line = usage_of rows (first_token line)
 
 -- the report about a wrong line of the script: where it is wrong, why, and what was expected
 abbrev pub finding_text : List CommandRow → ℕ → LineError → List ℕ → List ℕ

@@ -10,7 +10,7 @@ use Rattle.segment_lang.specs.Language.{Language, whole_language}
 use Rattle.segment_lang.specs.Reading.{reading, without_return}
 use Rattle.segment_scripts.specs.Refusing.{refuses}
 use Rattle.segment_scripts.specs.Run.{respond}
-use Rattle.segment_scripts.specs.Segments.{MachineState, place_after, answer_line, refuses_line}
+use Rattle.segment_scripts.specs.Segments.{MachineState, state_after, answer_line, refuses_line}
 
 returned-long : (line : List ℕ) (b : Bool) → 4097 < length line
     → 4096 < length (cond b (take (length line - 1) line) line)
@@ -33,7 +33,7 @@ reading-long language line h =
 pub answer_line-long : (at : MachineState) (line : List ℕ) → 4097 < length line
     → answer_line at line ≡ answer_line at (take 4098 line)
 answer_line-long at line h = ap (λ (r : Reading).
-    ((respond at.mode at.directory r).0, place_after at r)) (reading-long (whole_language current) line h)
+    ((respond at.mode at.directory r).0, state_after at r)) (reading-long (whole_language current) line h)
 
 pub refuses_line-long : (at : MachineState) (line : List ℕ) → 4097 < length line
     → refuses_line at line ≡ refuses_line at (take 4098 line)

@@ -7,5 +7,5 @@ use Rattle.segment_scripts.specs.Answer.{handle_text}
 pub use Rattle.segment_manager.proofs.PartLaws.{part_of, parts_until}
 
 -- kind, count and handle, as an object says them of itself
-abbrev pub said_words : Instance → List (List ℕ)
-said_words said = kind_text said.kind ∷ number_text said.count ∷ handle_text said.handle ∷ []
+abbrev pub said_tokens : Instance → List (List ℕ)
+said_tokens said = kind_text said.kind ∷ number_text said.count ∷ handle_text said.handle ∷ []

@@ -41,5 +41,5 @@ refuses mode d BadSyntax = true
 -- the answer that is due where a machine stands goes out, and the call tells whether it is a refusal
 pub record AnswersFor {P E : Type 0} (old new : WriterHistory) (result : Result Answered E) (Stands : P
     → Type 0) (due : P → Answer) : Type 0 where
-  pub writes : WritesFor old new result Stands (λ place. answer_text (due place))
-  pub tells : (place : P) → Stands place → Tells result (is_refusal (due place))
+  pub writes : WritesFor old new result Stands (λ state. answer_text (due state))
+  pub tells : (state : P) → Stands state → Tells result (is_refusal (due state))

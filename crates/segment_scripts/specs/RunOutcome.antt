@@ -1,4 +1,4 @@
--- The outcome of a run, for any machine that answers lines: `respond place line` is the output for the line in a state
+-- The outcome of a run, for any machine that answers lines: `respond state line` is the output for the line in a state
 -- of the machine, and the next state.
 use Rattle.std.specs.Prelude.{◌≡◌, ◌<◌, ◌≤◌, ℕ, ◌+◌, true, false, List, [], ◌∷◌, ◌++◌, length, take, Result, Ok, Err}
 use Rattle.std.specs.Prelude.{if◌then◌else◌}
@@ -11,9 +11,9 @@ use Rattle.segment_scripts.specs.Lines.{ended_lines, script_limit, executable}
 
 -- what lines print from a place, and where they lead
 abbrev pub answer_all : {P : Type 0} → (P → List ℕ → List ℕ × P) → P → List (List ℕ) → List ℕ × P
-answer_all respond place [] = ([], place)
-answer_all respond place (l ∷ ls) =
-    let first = respond place l in
+answer_all respond state [] = ([], state)
+answer_all respond state (l ∷ ls) =
+    let first = respond state l in
     let rest = answer_all respond first.1 ls in
     (first.0 ++ rest.0, rest.1)
 
@@ -30,9 +30,9 @@ pub record AnswersPart {P : Type 0} (respond : P → List ℕ
   pub next : List ℕ
   pub rest : List (List ℕ)
   pub parts : all ≡ answered ++ next ∷ rest
-  pub front : List ℕ
-  pub prints : printed ≡ (answer_all respond start answered).0 ++ front
-  pub part : IsProperPrefix front (respond (answer_all respond start answered).1 next).0
+  pub prefix : List ℕ
+  pub prints : printed ≡ (answer_all respond start answered).0 ++ prefix
+  pub part : IsProperPrefix prefix (respond (answer_all respond start answered).1 next).0
   pub stands : Stands (respond (answer_all respond start answered).1 next).1
 
 -- the script ended within its limit, and all its lines were answered

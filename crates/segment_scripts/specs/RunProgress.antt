@@ -65,18 +65,19 @@ module _ {P : Type 0} (respond : P → List ℕ → List ℕ × P) (stops : P �
 
   -- the run ended at a line end of the piece
   pub record EndsIn (read piece : List ℕ) (Stands : P → Type 0) (taken : List ℕ) : Type 0 where
-    pub front : List ℕ
+    pub prefix : List ℕ
     pub more : List ℕ
-    pub parts : piece ≡ front ++ 0x0A ∷ more
-    pub ends : EndsBehind (ended_lines (read ++ front)) (open_line (read ++ front)) Stands taken
+    pub parts : piece ≡ prefix ++ 0x0A ∷ more
+    pub ends : EndsBehind (ended_lines (read ++ prefix)) (open_line (read ++ prefix)) Stands taken
 
   -- the writer failed at a line end of the piece
   pub record FailsIn (read piece : List ℕ) (Stands : P → Type 0) (taken : List ℕ) : Type 0 where
-    pub front : List ℕ
+    pub prefix : List ℕ
     pub more : List ℕ
-    pub parts : piece ≡ front ++ 0x0A ∷ more
-    pub on : goes_on respond stops start (ended_lines (read ++ front)) ≡ true
-    pub stopped : HasStopped respond start before (ended_lines (read ++ front)) (open_line (read ++ front)) Stands taken
+    pub parts : piece ≡ prefix ++ 0x0A ∷ more
+    pub on : goes_on respond stops start (ended_lines (read ++ prefix)) ≡ true
+    pub stopped : HasStopped respond start before (ended_lines (read ++ prefix)) (open_line (read ++ prefix))
+        Stands taken
 
   -- the outcome of a piece: it was read to its end, or the run ended in it
   abbrev pub LeavesPiece : List ℕ → List ℕ → (P → Type 0) → List ℕ → List ℕ → End → Type 0

@@ -30,8 +30,8 @@ pub record IsMachineAt (s : SegmentState) (at : MachineState) : Type 0 where
   pub zeros : at.zeros ≡ true → HasZeroGaps s
 
 -- where a reading leads: the mode stays
-abbrev pub place_after : MachineState → Reading → MachineState
-place_after at asked = record {
+abbrev pub state_after : MachineState → Reading → MachineState
+state_after at asked = record {
   mode = at.mode;
   directory = (respond at.mode at.directory asked).1;
   zeros = zeros_after at.mode at.directory asked at.zeros;
@@ -40,7 +40,7 @@ place_after at asked = record {
 -- the output of a line in a state, and the next state
 abbrev pub answer_line : MachineState → List ℕ → List ℕ × MachineState
 answer_line at line = let asked = reading (whole_language current) line
-    in ((respond at.mode at.directory asked).0, place_after at asked)
+    in ((respond at.mode at.directory asked).0, state_after at asked)
 
 -- whether a line is refused at a place
 abbrev pub refuses_line : MachineState → List ℕ → Bool
@@ -54,7 +54,7 @@ is_idle_line at line = is_idle at.mode at.directory (reading (whole_language cur
 -- result says whether it was refused
 pub record Responds {E : Type 0} (old new : SegmentState) (took took' : WriterHistory) (result : Result Answered E)
     (asked : Reading) : Type 0 where
-  pub leads : (at : MachineState) → IsMachineAt old at → IsMachineAt new (place_after at asked)
+  pub leads : (at : MachineState) → IsMachineAt old at → IsMachineAt new (state_after at asked)
   pub writes : WritesFor took took' result (IsMachineAt old) (λ at. (respond at.mode at.directory asked).0)
   pub tells : (at : MachineState) → IsMachineAt old at → Tells result (refuses at.mode at.directory asked)
   -- and where that changes nothing, nothing changes

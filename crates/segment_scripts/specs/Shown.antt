@@ -14,9 +14,9 @@ abbrev pub counted_text : Kind → ℕ → List ℕ
 counted_text kind n = kind_text kind ++ (if n == 1 then [] else 0x5B ∷ number_text n ++ 0x5D ∷ [])
 
 -- a kind, and the number of elements if the object is an array of more than one scalar
-abbrev pub front_text : Kind → ℕ → List ℕ
-front_text (Scalar k) n = counted_text (Scalar k) n
-front_text kind n = kind_text kind
+abbrev pub prefix_text : Kind → ℕ → List ℕ
+prefix_text (Scalar k) n = counted_text (Scalar k) n
+prefix_text kind n = kind_text kind
 
 -- elements as an answer has them, each after a blank
 abbrev pub in_line : Spelling
@@ -27,9 +27,9 @@ in_line = record {
 }
 
 -- a number, if there is one
-abbrev pub number_words : Option ℕ → List (List ℕ)
-number_words None = []
-number_words (Some n) = number_text n ∷ []
+abbrev pub number_tokens : Option ℕ → List (List ℕ)
+number_tokens None = []
+number_tokens (Some n) = number_text n ∷ []
 
 -- a number after a blank, if there is one
 abbrev pub behind_text : Option ℕ → List ℕ

@@ -1,4 +1,4 @@
--- The outcome of a run that ends with the first refused line, for any machine that answers lines: `stops place line`
+-- The outcome of a run that ends with the first refused line, for any machine that answers lines: `stops state line`
 -- says whether the run ends after a line.
 use Rattle.std.specs.Prelude.{◌≡◌, ◌&&◌, ℕ, Bool, true, false, not, List, [], ◌∷◌, ◌++◌, take, Result, Ok, Err}
 use Rattle.raw_region.specs.Device.{ReadDelta, WriteDelta}
@@ -25,12 +25,12 @@ is_stop until answered = may_stop until && was_refused answered
 
 -- after which lines a run ends, if these are refused
 abbrev pub stops_at : {P : Type 0} → Until → (P → List ℕ → Bool) → P → List ℕ → Bool
-stops_at until refuses place line = may_stop until && refuses place line
+stops_at until refuses state line = may_stop until && refuses state line
 
 -- none of these lines ends the run
 abbrev pub goes_on : {P : Type 0} → (P → List ℕ → List ℕ × P) → (P → List ℕ → Bool) → P → List (List ℕ) → Bool
-goes_on respond stops place [] = true
-goes_on respond stops place (l ∷ ls) = not (stops place l) && goes_on respond stops (respond place l).1 ls
+goes_on respond stops state [] = true
+goes_on respond stops state (l ∷ ls) = not (stops state l) && goes_on respond stops (respond state l).1 ls
 
 module _ {P : Type 0} (respond : P → List ℕ → List ℕ × P) (stops : P → List ℕ
     → Bool) (start : P) (script : ReadDelta) (out : WriteDelta) (Stands : P → Type 0) where

@@ -19,15 +19,15 @@ is_zero_free ZeroFree = true
 is_zero_free c = false
 
 -- whether a container has this many places
-abbrev pub has_places : Result (ℕ × ℕ) Refusal → ℕ → Bool
-has_places (Ok (len, capacity)) n = nat_le n capacity
-has_places (Err why) n = false
+abbrev pub has_capacity : Result (ℕ × ℕ) Refusal → ℕ → Bool
+has_capacity (Ok (len, capacity)) n = nat_le n capacity
+has_capacity (Err why) n = false
 
 -- a command that may change a segment finds that there is nothing to do
 abbrev pub has_nothing_to_do : Directory → Command → Bool
 has_nothing_to_do d (asked.Destroy key) = not (is_some (object_at d key))
 has_nothing_to_do d (asked.FindOrConstruct key content) = is_some (object_at d key)
-has_nothing_to_do d (asked.Reserve key n) = has_places (sizes_at d key) n
+has_nothing_to_do d (asked.Reserve key n) = has_capacity (sizes_at d key) n
 has_nothing_to_do d (asked.ReserveNamed n) = nat_le n d.named.capacity
 has_nothing_to_do d (asked.ReserveUnique n) = nat_le n d.unique.capacity
 has_nothing_to_do d c = false

@@ -11,8 +11,8 @@ ghost use Rattle.segment_scripts.specs.Changes.{IsChangeable};
 ghost use Rattle.segment_scripts.specs.Replies.{bytes_taken};
 
 use crate::machine::ParseBuffers;
-use crate::rows::{Rows, ValueBuffer, literal_row, on_row, only_text};
-use crate::text_rows::{FEW, TextRow, literal_texts};
+use crate::scalars::{ScalarBuffers, ValueBuffer, copy_literals, on_buffer, only_text};
+use crate::text_buffers::{FEW, TextBuffer, literal_texts};
 use seg_types::{Key, Kind, Refusal, Scalar, ScalarKind};
 use segment_lang::{LineBuffer, Literals, Quoted};
 use segment_manager::{Object, Segment};
@@ -30,7 +30,7 @@ pub fn assign(
     segment: &mut Segment,
     key: &Key,
     values: Literals<'_>,
-    room: &mut ParseBuffers,
+    lent: &mut ParseBuffers,
 ) -> Result<(), Refusal>
     requires { bytes_taken values ≤ 4097 }
     ensures step { TakesStep segment.old segment.new (Assign (key_seen key.now) values.entry) (done_answer result) }
@@ -38,9 +38,9 @@ pub fn assign(
 {
     let object = object_to_change(segment, key)?;
     match object.kind {
-        Kind::Vector(element) => assign_vector(segment, object, element, values, &mut room.rows),
-        Kind::String => assign_string(segment, object, values, &mut room.text),
-        Kind::Strings => assign_texts(segment, object, values, &mut room.texts),
+        Kind::Vector(element) => assign_vector(segment, object, element, values, &mut lent.scalars),
+        Kind::String => assign_string(segment, object, values, &mut lent.text),
+        Kind::Strings => assign_texts(segment, object, values, &mut lent.texts),
         _ => Err(Refusal::WrongKind),
     }
 }
@@ -51,7 +51,7 @@ fn assign_vector(
     object: Object,
     kind: ScalarKind,
     values: Literals<'_>,
-    rows: &mut Rows,
+    scalars: &mut ScalarBuffers,
 ) -> Result<(), Refusal>
     requires object { IsObject object segment.old }
     requires kind_fit { IsChangeable segment.old (ByHandle object.handle) (VectorOf kind) }
@@ -60,15 +60,15 @@ fn assign_vector(
         (done_answer result) }
     ensures refused { OnErr result (segment.new ≡ segment.old) }
 {
-    on_row!(kind, rows, assign_row(segment, object, values))
+    on_buffer!(kind, scalars, assign_buffer(segment, object, values))
 }
 
 /// Replaces the elements of a vector of this type.
-fn assign_row<T: Scalar>(
+fn assign_buffer<T: Scalar>(
     segment: &mut Segment,
     object: Object,
     values: Literals<'_>,
-    row: &mut ValueBuffer<T>,
+    buffer: &mut ValueBuffer<T>,
 ) -> Result<(), Refusal>
     requires object { IsObject object segment.old }
     requires kind_fit { IsChangeable segment.old (ByHandle object.handle) (VectorOf T.kind) }
@@ -77,8 +77,8 @@ fn assign_row<T: Scalar>(
         (done_answer result) }
     ensures refused { OnErr result (segment.new ≡ segment.old) }
 {
-    literal_row(values, row)?;
-    segment.vec_assign(&object, row.as_slice())
+    copy_literals(values, buffer)?;
+    segment.vec_assign(&object, buffer.as_slice())
 }
 
 /// Makes one text the bytes of a string.
@@ -105,7 +105,7 @@ fn assign_texts(
     segment: &mut Segment,
     object: Object,
     values: Literals<'_>,
-    row: &mut TextRow,
+    buffer: &mut TextBuffer,
 ) -> Result<(), Refusal>
     requires object { IsObject object segment.old }
     requires kind_fit { IsChangeable segment.old (ByHandle object.handle) StringsKind }
@@ -114,22 +114,22 @@ fn assign_texts(
         (done_answer result) }
     ensures refused { UnchangedIfRefused segment.old segment.new result }
 {
-    literal_texts(values, row)?;
-    if FEW < row.len() {
-        return assign_many(segment, object, row);
+    literal_texts(values, buffer)?;
+    if FEW < buffer.len() {
+        return assign_many(segment, object, buffer);
     }
-    segment.texts_assign(&object, row.few().as_slice())
+    segment.texts_assign(&object, buffer.few().as_slice())
 }
 
 /// Replaces the texts of a vector of strings by those of a row of any length.
 #[inline(never)]
-fn assign_many(segment: &mut Segment, object: Object, row: &TextRow) -> Result<(), Refusal>
+fn assign_many(segment: &mut Segment, object: Object, buffer: &TextBuffer) -> Result<(), Refusal>
     requires { IsObject object segment.old }
     ensures step { TakesStepOfKind segment.old segment.new (ByHandle object.handle) StringsKind
-        (Assign (ByHandle object.handle) (map AskedQuoted row.now)) (done_answer result) }
+        (Assign (ByHandle object.handle) (map AskedQuoted buffer.now)) (done_answer result) }
     ensures refused { UnchangedIfRefused segment.old segment.new result }
 {
-    segment.texts_assign(&object, row.all().as_slice())
+    segment.texts_assign(&object, buffer.all().as_slice())
 }
 
 /// Appends the bytes of a text to a string.

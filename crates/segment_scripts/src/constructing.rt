@@ -10,8 +10,8 @@ ghost use Rattle.segment_scripts.specs.Replies.{IsLineContent, IsMeant, Replies}
 
 use crate::machine::ParseBuffers;
 use crate::replies::{CommandAnswer, found, made};
-use crate::rows::{Rows, ValueBuffer, on_row, value_row};
-use crate::text_rows::{FEW, TextRow, text_row};
+use crate::scalars::{ScalarBuffers, ValueBuffer, copy_values, on_buffer};
+use crate::text_buffers::{FEW, TextBuffer, copy_texts};
 use seg_types::{Handle, IndexKey, NewKey, Refusal, Scalar, ScalarKind, by_value};
 use segment_lang::{Content, LiteralValues, TextLiterals};
 use segment_manager::{NewMap, NewNumbers, NewString, NewTexts, NewVector, ObjectInit, Segment};
@@ -62,7 +62,7 @@ pub fn make<'a, K: LineKey>(
     segment: &mut Segment,
     key: &K,
     content: Content<'_>,
-    room: &mut ParseBuffers,
+    lent: &mut ParseBuffers,
 ) -> CommandAnswer<'a>
     requires { IsLineContent (K.key key.now) (content_of content) }
     ensures { Replies segment.old segment.new (K.command key.now (content_of content.entry)) result }
@@ -71,12 +71,12 @@ pub fn make<'a, K: LineKey>(
         Content::Scalars { value, count } => {
             by_value!(value, value => key.make(segment, &NewNumbers { count, value }))
         }
-        Content::Elements(values) => make_vector(segment, key, values, &mut room.rows),
+        Content::Elements(values) => make_vector(segment, key, values, &mut lent.scalars),
         Content::String(text) => {
-            let bytes = text.bytes(&mut room.text);
+            let bytes = text.bytes(&mut lent.text);
             key.make(segment, &NewString { bytes })
         }
-        Content::Strings(texts) => make_texts(segment, key, texts, &mut room.texts),
+        Content::Strings(texts) => make_texts(segment, key, texts, &mut lent.texts),
         Content::NoPairs {
             key: keys,
             value: values,
@@ -89,21 +89,21 @@ fn make_vector<'a, K: LineKey>(
     segment: &mut Segment,
     key: &K,
     values: LiteralValues<'_>,
-    rows: &mut Rows,
+    scalars: &mut ScalarBuffers,
 ) -> CommandAnswer<'a>
     requires { IsLineContent (K.key key.now) (Elements values.kind values.numbers) }
     ensures { Replies segment.old segment.new
         (K.command key.now (Elements values.entry.kind values.entry.numbers)) result }
 {
-    on_row!(values.kind(), rows, make_row(segment, key, values))
+    on_buffer!(values.kind(), scalars, make_buffered(segment, key, values))
 }
 
 /// Makes a vector of the values, which are of the type's kind.
-fn make_row<'a, T: Scalar, K: LineKey>(
+fn make_buffered<'a, T: Scalar, K: LineKey>(
     segment: &mut Segment,
     key: &K,
     values: LiteralValues<'_>,
-    row: &mut ValueBuffer<T>,
+    buffer: &mut ValueBuffer<T>,
 ) -> CommandAnswer<'a>
     requires kind { values.kind ≡ T.kind }
     requires content { IsLineContent (K.key key.now) (Elements values.kind values.numbers) }
@@ -112,8 +112,8 @@ fn make_row<'a, T: Scalar, K: LineKey>(
     ensures { Replies segment.old segment.new
         (K.command key.now (Elements values.entry.kind values.entry.numbers)) result }
 {
-    value_row(values, row);
-    let values = row.as_slice();
+    copy_values(values, buffer);
+    let values = buffer.as_slice();
     key.make(segment, &NewVector { values })
 }
 
@@ -123,27 +123,31 @@ fn make_texts<'a, K: LineKey>(
     segment: &mut Segment,
     key: &K,
     texts: TextLiterals<'_>,
-    row: &mut TextRow,
+    buffer: &mut TextBuffer,
 ) -> CommandAnswer<'a>
     requires { IsLineContent (K.key key.now) (Strings texts) }
     ensures { Replies segment.old segment.new (K.command key.now (Strings texts.entry)) result }
 {
-    text_row(texts, row);
-    if FEW < row.len() {
-        return make_many(segment, key, row);
+    copy_texts(texts, buffer);
+    if FEW < buffer.len() {
+        return make_many(segment, key, buffer);
     }
-    let few = row.few();
+    let few = buffer.few();
     let texts = few.as_slice();
     key.make(segment, &NewTexts { texts })
 }
 
 /// Constructs a vector of strings from a row of any length.
 #[inline(never)]
-fn make_many<'a, K: LineKey>(segment: &mut Segment, key: &K, row: &TextRow) -> CommandAnswer<'a>
-    requires { IsLineContent (K.key key.now) (Strings row.now) }
-    ensures { Replies segment.old segment.new (K.command key.now (Strings row.now)) result }
+fn make_many<'a, K: LineKey>(
+    segment: &mut Segment,
+    key: &K,
+    buffer: &TextBuffer,
+) -> CommandAnswer<'a>
+    requires { IsLineContent (K.key key.now) (Strings buffer.now) }
+    ensures { Replies segment.old segment.new (K.command key.now (Strings buffer.now)) result }
 {
-    let all = row.all();
+    let all = buffer.all();
     let texts = all.as_slice();
     key.make(segment, &NewTexts { texts })
 }

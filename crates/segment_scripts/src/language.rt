@@ -11,7 +11,7 @@ use segment_lang::{Piece, put_pieces};
 #[derive(Clone, Copy, Debug)]
 pub struct CommandRow {
     /// Its first word.
-    pub word: &'static str,
+    pub token: &'static str,
     /// The words that it has.
     pub usage: &'static str,
     /// The form of its answer.
@@ -51,7 +51,7 @@ fn put_row<W: Sink>(out: &mut W, row: &CommandRow) -> Result<(), DeviceFault>
 
 /// Returns the commands of the language in the order of the table: each command word with its arguments.
 pub fn command_rows() -> &'static [CommandRow]
-    ensures words { map (λ row. row.word.now) result.now ≡ map (λ form. form.0) forms }
+    ensures tokens { map (λ row. row.token.now) result.now ≡ map (λ form. form.0) forms }
     ensures usages { map (λ row. row.usage.now) result.now ≡ map form_usage form_rows }
     ensures meaning { map form_read form_rows ≡ forms }
 {
@@ -60,8 +60,8 @@ pub fn command_rows() -> &'static [CommandRow]
 
 /// The rows of a table: word, usage, answer and effect of each command.
 macro_rules! rows {
-    ($($word:literal, $usage:literal, $answer:literal, $does:literal;)*) => {
-        [$(CommandRow { word: $word, usage: $usage, answer: $answer, does: $does }),*]
+    ($($token:literal, $usage:literal, $answer:literal, $does:literal;)*) => {
+        [$(CommandRow { token: $token, usage: $usage, answer: $answer, does: $does }),*]
     };
 }
 

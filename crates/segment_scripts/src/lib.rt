@@ -14,12 +14,12 @@ mod observers;
 mod popping;
 mod printing;
 mod replies;
-mod rows;
+mod scalars;
 mod scripts;
 mod segments;
 mod showing;
 mod telling;
-mod text_rows;
+mod text_buffers;
 
 pub use answered::Answered;
 pub use ends::{End, Until};

@@ -3,7 +3,7 @@ ghost use Rattle.std.specs.Prelude.{◌≡◌, ◌≤◌, ◌-◌, ◌^◌, ◌<
 ghost use Rattle.raw_region.specs.Device.{Writes};
 ghost use Rattle.segment_scripts.specs.CommandRows.{usage_of};
 ghost use Rattle.segment_scripts.specs.LintLaws.{lint_line-long, misses_line-long};
-ghost use Rattle.segment_scripts.specs.Linting.{LintState, behind, column_of, expected, finding_text, first_word};
+ghost use Rattle.segment_scripts.specs.Linting.{LintState, behind, column_of, expected, finding_text, first_token};
 ghost use Rattle.segment_scripts.specs.Linting.{is_at, lint_line, misses_line, same, start};
 
 use crate::answered::Answered;
@@ -42,7 +42,7 @@ impl<'a> Lint<'a> {
 }
 
 impl<'a> Machine for Lint<'a> {
-    ghost Place = { LintState };
+    ghost RunState = { LintState };
 
     ghost respond = { λ at line. lint_line at line };
 
@@ -119,13 +119,13 @@ fn expected<'a>(rows: &'a [CommandRow], error: LineError, line: &[u8]) -> &'a [u
     match error {
         LineError::UnknownCommand => b"a command",
         LineError::LineTooLong => b"at most 4096 bytes",
-        LineError::BadSyntax => usage_of(rows, first_word(line)),
+        LineError::BadSyntax => usage_of(rows, first_token(line)),
     }
 }
 
 /// Returns the first word of a line.
-fn first_word(line: &[u8]) -> &[u8]
-    ensures { result.now ≡ first_word line.now }
+fn first_token(line: &[u8]) -> &[u8]
+    ensures { result.now ≡ first_token line.now }
 {
     let rest = behind(true, line);
     &rest[..rest.len() - behind(false, rest).len()]
@@ -147,12 +147,12 @@ fn behind(blanks: bool, bytes: &[u8]) -> &[u8]
 }
 
 /// Returns the words of the command that begins with this word, if there is one.
-fn usage_of<'a>(rows: &'a [CommandRow], word: &[u8]) -> &'a [u8]
-    ensures { result.now ≡ usage_of rows.now word.now }
+fn usage_of<'a>(rows: &'a [CommandRow], token: &[u8]) -> &'a [u8]
+    ensures { result.now ≡ usage_of rows.now token.now }
 {
     let mut rest = rows;
     'rows: while let [row, tail @ ..] = rest {
-        if row.word.as_bytes() == word {
+        if row.token.as_bytes() == token {
             return row.usage.as_bytes();
         }
         rest = tail;

@@ -6,7 +6,7 @@ ghost use Rattle.best_fit.specs.FreeTree.{span};
 ghost use Rattle.segment_manager.specs.Answers.{Blocks};
 ghost use Rattle.segment_manager.specs.Directory.{live};
 ghost use Rattle.segment_manager.specs.State.{DenotesCurrent};
-ghost use Rattle.segment_scripts.specs.Answer.{answer_text, block_words, line, role_word};
+ghost use Rattle.segment_scripts.specs.Answer.{answer_text, block_tokens, line, role_token};
 ghost use Rattle.segment_scripts.specs.Writing.{WritesFor};
 
 use block_tags::{Role, Tile};
@@ -37,7 +37,7 @@ pub fn put_blocks<W: Sink>(segment: &Segment, out: &mut W) -> Result<(), DeviceF
 /// Writes the line of a block or gap: its offset, its length and its use.
 fn put_tile<W: Sink>(out: &mut W, tile: Tile) -> Result<(), DeviceFault>
     requires { (W.history out.old).failures < 2 ^ 64 - 1 }
-    ensures { Writes (W.history out.old) (W.history out.new) result (line (block_words (span tile))) }
+    ensures { Writes (W.history out.old) (W.history out.new) result (line (block_tokens (span tile))) }
 {
     put_pieces(
         out,
@@ -46,15 +46,15 @@ fn put_tile<W: Sink>(out: &mut W, tile: Tile) -> Result<(), DeviceFault>
             Piece::Bytes(b" "),
             Piece::Number(tile.len),
             Piece::Bytes(b" "),
-            Piece::Bytes(role_word(tile.use_of)),
+            Piece::Bytes(role_token(tile.use_of)),
             Piece::Bytes(b"\n"),
         ],
     )
 }
 
 /// Returns the word for the use of a block, or for a gap.
-fn role_word(use_of: Option<Role>) -> &'static [u8]
-    ensures { result.now ≡ role_word use_of }
+fn role_token(use_of: Option<Role>) -> &'static [u8]
+    ensures { result.now ≡ role_token use_of }
 {
     match use_of {
         None => b"free",

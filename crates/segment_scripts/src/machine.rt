@@ -4,8 +4,8 @@ ghost use Rattle.segment_scripts.specs.Refusing.{Tells};
 ghost use Rattle.segment_scripts.specs.Writing.{WritesFor};
 
 use crate::answered::Answered;
-use crate::rows::Rows;
-use crate::text_rows::TextRow;
+use crate::scalars::ScalarBuffers;
+use crate::text_buffers::TextBuffer;
 use raw_region::{DeviceFault, Sink};
 use segment_lang::LineBuffer;
 
@@ -14,7 +14,7 @@ use segment_lang::LineBuffer;
 #[derive(Drop)]
 pub struct Scratch {
     pub(crate) name: LineBuffer,
-    pub(crate) room: ParseBuffers,
+    pub(crate) lent: ParseBuffers,
 }
 
 /// Room for a text that a line escapes, for the values of a vector, and for the texts of a vector of strings.
@@ -23,9 +23,9 @@ pub struct ParseBuffers {
     /// Room for a text of a line.
     pub text: LineBuffer,
     /// Room for the values of a line.
-    pub rows: Rows,
+    pub scalars: ScalarBuffers,
     /// Room for the texts of a line.
-    pub texts: TextRow,
+    pub texts: TextBuffer,
 }
 
 impl ParseBuffers {
@@ -33,8 +33,8 @@ impl ParseBuffers {
     pub fn new() -> ParseBuffers {
         ParseBuffers {
             text: LineBuffer::new(),
-            rows: Rows::new(),
-            texts: TextRow::new(),
+            scalars: ScalarBuffers::new(),
+            texts: TextBuffer::new(),
         }
     }
 }
@@ -42,19 +42,19 @@ impl ParseBuffers {
 /// A machine that answers the lines of a script.
 pub trait Machine {
     // The states that contracts speak of.
-    ghost Place: { Type 0 };
+    ghost RunState: { Type 0 };
 
     // The output of a line, passed without its end, in a state of the machine, and the next state.
-    ghost respond: { Place → List ℕ → List ℕ × Place };
+    ghost respond: { RunState → List ℕ → List ℕ × RunState };
 
     // Whether a line, without its end, is refused at a place.
-    ghost refuses: { Place → List ℕ → Bool };
+    ghost refuses: { RunState → List ℕ → Bool };
 
     // Whether a line, without its end, changes nothing at a place.
-    ghost is_idle: { Place → List ℕ → Bool };
+    ghost is_idle: { RunState → List ℕ → Bool };
 
     // The places that a machine may stand for.
-    ghost stands: { Self → Place → Type 0 };
+    ghost stands: { Self → RunState → Type 0 };
 
     /// Executes the line, which has no line end, writes its answer, and tells whether it was refused. A fault leaves
     /// the line executed, and a proper prefix of its answer written.
@@ -65,19 +65,19 @@ pub trait Machine {
         out: &mut W,
     ) -> Result<Answered, DeviceFault>
         requires { (W.history out.old).failures < 2 ^ 64 - 1 }
-        ensures step { (place : Place) → stands self.old place
-            → stands self.new (respond place line.now).1 }
+        ensures step { (state : RunState) → stands self.old state
+            → stands self.new (respond state line.now).1 }
         ensures output { WritesFor (W.history out.old) (W.history out.new) result (stands self.old)
-            (λ place. (respond place line.now).0) }
-        ensures report { (place : Place) → stands self.old place → Tells result (refuses place line.now) }
-        ensures noop { (place : Place) → stands self.old place → is_idle place line.now ≡ true
+            (λ state. (respond state line.now).0) }
+        ensures report { (state : RunState) → stands self.old state → Tells result (refuses state line.now) }
+        ensures noop { (state : RunState) → stands self.old state → is_idle state line.now ≡ true
             → self.new ≡ self.old };
 
     // Of a line of more than 4097 bytes the first 4098 decide.
-    ghost long_lines: { (place : Place) (line : List ℕ) → 4097 < length line
-        → respond place line ≡ respond place (take 4098 line) };
+    ghost long_lines: { (state : RunState) (line : List ℕ) → 4097 < length line
+        → respond state line ≡ respond state (take 4098 line) };
 
     // Also for whether it is refused.
-    ghost long_refusals: { (place : Place) (line : List ℕ) → 4097 < length line
-        → refuses place line ≡ refuses place (take 4098 line) };
+    ghost long_refusals: { (state : RunState) (line : List ℕ) → 4097 < length line
+        → refuses state line ≡ refuses state (take 4098 line) };
 }

@@ -47,29 +47,29 @@ pub enum CommandAnswer<'a> {
     Refused(Refusal),
 }
 
-/// Executes a command, and returns its answer. Names with escapes and lists are decoded into `room`.
+/// Executes a command, and returns its answer. Names with escapes and lists are decoded into `lent`.
 #[inline(never)]
 pub fn reply<'a>(
     segment: &mut Segment,
     operation: Operation<'a>,
-    room: &mut ParseBuffers,
+    lent: &mut ParseBuffers,
 ) -> CommandAnswer<'a>
     requires { IsMeant (operation_of operation) }
     ensures { Replies segment.old segment.new (operation_of operation.entry) result }
 {
     match operation {
-        Operation::Construct { key, content } => make(segment, &key, content, room),
+        Operation::Construct { key, content } => make(segment, &key, content, lent),
         Operation::ConstructIt { key, count, values } => {
             made(construct_it(segment, &key, count, values))
         }
         Operation::Find { kind, key } => looked_up(segment.find_kind(&key.into_key(), kind)),
-        Operation::FindOrConstruct { key, content } => make(segment, &key, content, room),
+        Operation::FindOrConstruct { key, content } => make(segment, &key, content, lent),
         Operation::Destroy(key) => truth(segment.destroy(&key)),
         Operation::DestroyPtr(handle) => gone(segment.destroy_ptr(handle)),
         Operation::Show(key) => CommandAnswer::Shown(key),
         Operation::Info(key) => CommandAnswer::Told(key),
         Operation::Set(key, index, value) => {
-            done(set(segment, &key, index, &value, &mut room.text))
+            done(set(segment, &key, index, &value, &mut lent.text))
         }
         Operation::Insert(key, index, value) => {
             done(add(
@@ -77,15 +77,15 @@ pub fn reply<'a>(
                 &key,
                 InsertSpot::Before(index),
                 &value,
-                &mut room.text,
+                &mut lent.text,
             ))
         }
         Operation::Erase(key, index) => done(erase(segment, &key, index)),
         Operation::Reserve(key, count) => done(segment.reserve(&key, count)),
         Operation::Shrink(key) => done(segment.shrink(&key)),
         Operation::Clear(key) => done(segment.clear(&key)),
-        Operation::Assign { key, values } => done(assign(segment, &key, values, room)),
-        Operation::Append { key, text } => done(append(segment, &key, text, &mut room.text)),
+        Operation::Assign { key, values } => done(assign(segment, &key, values, lent)),
+        Operation::Append { key, text } => done(append(segment, &key, text, &mut lent.text)),
         Operation::Lookup(key, at) => value_found(look_up(segment, &key, &at)),
         Operation::Remove(key, at) => truth(erase_pair(segment, &key, &at)),
         Operation::ListNames => CommandAnswer::Names,

@@ -45,11 +45,11 @@ fn answer_next<M: Machine, W: Sink, F: RunObserver<W>>(
     follower: &mut F,
 ) -> Result<Answered, DeviceFault>
     requires { (W.history out.old).failures < 2 ^ 64 - 1 }
-    ensures step { (place : M.Place) → M.stands machine.old place
-        → M.stands machine.new (M.respond place line.now).1 }
+    ensures step { (state : M.RunState) → M.stands machine.old state
+        → M.stands machine.new (M.respond state line.now).1 }
     ensures output { WritesFor (W.history out.old) (W.history out.new) result (M.stands machine.old)
-        (λ place. (M.respond place line.now).0) }
-    ensures report { (place : M.Place) → M.stands machine.old place → Tells result (M.refuses place line.now) }
+        (λ state. (M.respond state line.now).0) }
+    ensures report { (state : M.RunState) → M.stands machine.old state → Tells result (M.refuses state line.now) }
 {
     follower.before_line(out);
     machine.answer(scratch, line, out)
@@ -65,12 +65,12 @@ fn answer_ended<M: Machine, W: Sink, F: RunObserver<W>>(
     follower: &mut F,
 ) -> Result<Answered, DeviceFault>
     requires { (W.history out.old).failures < 2 ^ 64 - 1 }
-    ensures step { (place : M.Place) → M.stands machine.old place
-        → M.stands machine.new (M.respond place (take 4098 (line.old ++ end.now))).1 }
+    ensures step { (state : M.RunState) → M.stands machine.old state
+        → M.stands machine.new (M.respond state (take 4098 (line.old ++ end.now))).1 }
     ensures output { WritesFor (W.history out.old) (W.history out.new) result (M.stands machine.old)
-        (λ place. (M.respond place (take 4098 (line.old ++ end.now))).0) }
-    ensures report { (place : M.Place) → M.stands machine.old place
-        → Tells result (M.refuses place (take 4098 (line.old ++ end.now))) }
+        (λ state. (M.respond state (take 4098 (line.old ++ end.now))).0) }
+    ensures report { (state : M.RunState) → M.stands machine.old state
+        → Tells result (M.refuses state (take 4098 (line.old ++ end.now))) }
     ensures empty { line.new ≡ [] }
 {
     if line.is_empty() {
@@ -94,12 +94,12 @@ fn feed<M: Machine, W: Sink, F: RunObserver<W>>(
     until: Until,
 ) -> Result<End, DeviceFault>
     requires { (W.history out.old).failures < 2 ^ 64 - 1 }
-    ensures on_ok { IfOk result (λ end. (start : M.Place) (before read : List ℕ)
+    ensures on_ok { IfOk result (λ end. (start : M.RunState) (before read : List ℕ)
         → IsOn M.respond (stops_at until M.refuses) start before read (M.stands machine.old) line.old
         (W.history out.old).bytes
         → LeavesPiece M.respond (stops_at until M.refuses) start before read piece.now (M.stands machine.new) line.new
         (W.history out.new).bytes end) }
-    ensures on_error { OnErr result ((start : M.Place) (before read : List ℕ)
+    ensures on_error { OnErr result ((start : M.RunState) (before read : List ℕ)
         → IsOn M.respond (stops_at until M.refuses) start before read (M.stands machine.old) line.old
         (W.history out.old).bytes
         → FailsIn M.respond (stops_at until M.refuses) start before read piece.now (M.stands machine.new)
@@ -131,17 +131,17 @@ fn read_lines<M: Machine, S: Source, W: Sink, F: RunObserver<W>>(
     requires reader { (S.history script.old).failures < 2 ^ 64 - 1 }
     requires writer { (W.history out.old).failures < 2 ^ 64 - 1 }
     requires fresh { line.old ≡ [] }
-    ensures end { IfOk result (λ end. (start : M.Place) → M.stands machine.old start
+    ensures end { IfOk result (λ end. (start : M.RunState) → M.stands machine.old start
         → LeavesEnded M.respond (stops_at until M.refuses) start (W.history out.old).bytes
         (read_delta (S.history script.old) (S.history script.new))
         (M.stands machine.new) line.new (W.history out.new).bytes
         (write_delta (W.history out.old) (W.history out.new)) end) }
-    ensures fault { IfErr result (λ fault. (start : M.Place) → M.stands machine.old start
+    ensures fault { IfErr result (λ fault. (start : M.RunState) → M.stands machine.old start
         → FailsOnTheWay M.respond (stops_at until M.refuses) start
         (read_delta (S.history script.old) (S.history script.new))
         (write_delta (W.history out.old) (W.history out.new))
         (M.stands machine.new) fault) }
-    ensures output_history { (start : M.Place) → M.stands machine.old start
+    ensures output_history { (start : M.RunState) → M.stands machine.old start
         → AppendsBytes (W.history out.old).bytes (W.history out.new).bytes }
     ensures devices { UsesDevices (S.history script.old) (S.history script.new)
         (W.history out.old) (W.history out.new) result }
@@ -150,9 +150,9 @@ fn read_lines<M: Machine, S: Source, W: Sink, F: RunObserver<W>>(
     let mut left = SCRIPT_LIMIT;
     'pieces: loop {
         // one byte behind the limit says that the script is too long
-        let room = &mut piece[..PIECE.min(left + 1)];
+        let lent = &mut piece[..PIECE.min(left + 1)];
         follower.before_read(out);
-        let count = match script.read(room) {
+        let count = match script.read(lent) {
             Ok(count) => count,
             Err(_) => return Err(RunFault::ReadFault),
         };
@@ -164,7 +164,7 @@ fn read_lines<M: Machine, S: Source, W: Sink, F: RunObserver<W>>(
             machine,
             scratch,
             line,
-            &room[..within],
+            &lent[..within],
             out,
             follower,
             until,
@@ -190,12 +190,12 @@ fn answer_last<M: Machine, W: Sink, F: RunObserver<W>>(
     until: Until,
 ) -> Result<End, DeviceFault>
     requires { (W.history out.old).failures < 2 ^ 64 - 1 }
-    ensures on_ok { IfOk result (λ end. (start : M.Place) (before read : List ℕ)
+    ensures on_ok { IfOk result (λ end. (start : M.RunState) (before read : List ℕ)
         → IsOn M.respond (stops_at until M.refuses) start before read (M.stands machine.old) line.now
         (W.history out.old).bytes
         → LeavesLast M.respond (stops_at until M.refuses) start before read (M.stands machine.new)
         (W.history out.new).bytes end) }
-    ensures on_error { OnErr result ((start : M.Place) (before read : List ℕ)
+    ensures on_error { OnErr result ((start : M.RunState) (before read : List ℕ)
         → IsOn M.respond (stops_at until M.refuses) start before read (M.stands machine.old) line.now
         (W.history out.old).bytes
         → IsStoppedAtLast M.respond start before read (M.stands machine.new) (W.history out.new).bytes) }
@@ -226,19 +226,19 @@ pub fn run_until<M: Machine, S: Source, W: Sink, F: RunObserver<W>>(
 ) -> Result<End, RunFault>
     requires reader { (S.history script.old).failures < 2 ^ 64 - 1 }
     requires writer { (W.history out.old).failures < 2 ^ 64 - 1 }
-    ensures remainder { (place : M.Place) → M.stands machine.old place
-        → LeavesUntil M.respond (stops_at until M.refuses) place
+    ensures remainder { (state : M.RunState) → M.stands machine.old state
+        → LeavesUntil M.respond (stops_at until M.refuses) state
         (read_delta (S.history script.old) (S.history script.new))
         (write_delta (W.history out.old) (W.history out.new))
         (M.stands machine.new) result }
-    ensures output_history { (place : M.Place) → M.stands machine.old place
+    ensures output_history { (state : M.RunState) → M.stands machine.old state
         → AppendsBytes (W.history out.old).bytes (W.history out.new).bytes }
     ensures devices { UsesDevices (S.history script.old) (S.history script.new)
         (W.history out.old) (W.history out.new) result }
 {
     let mut scratch = Scratch {
         name: LineBuffer::new(),
-        room: ParseBuffers::new(),
+        lent: ParseBuffers::new(),
     };
     let mut line = PartialLine::new();
     match read_lines(
@@ -267,12 +267,12 @@ pub fn run_followed<M: Machine, S: Source, W: Sink, F: RunObserver<W>>(
 ) -> Result<(), RunFault>
     requires reader { (S.history script.old).failures < 2 ^ 64 - 1 }
     requires writer { (W.history out.old).failures < 2 ^ 64 - 1 }
-    ensures remainder { (place : M.Place) → M.stands machine.old place
-        → ExecutesScript M.respond place
+    ensures remainder { (state : M.RunState) → M.stands machine.old state
+        → ExecutesScript M.respond state
         (read_delta (S.history script.old) (S.history script.new))
         (write_delta (W.history out.old) (W.history out.new))
         result (M.stands machine.new) }
-    ensures output_history { (place : M.Place) → M.stands machine.old place
+    ensures output_history { (state : M.RunState) → M.stands machine.old state
         → AppendsBytes (W.history out.old).bytes (W.history out.new).bytes }
     ensures devices { UsesDevices (S.history script.old) (S.history script.new)
         (W.history out.old) (W.history out.new) result }
@@ -294,12 +294,12 @@ pub fn run<M: Machine, S: Source, W: Sink>(
 ) -> Result<(), RunFault>
     requires reader { (S.history script.old).failures < 2 ^ 64 - 1 }
     requires writer { (W.history out.old).failures < 2 ^ 64 - 1 }
-    ensures remainder { (place : M.Place) → M.stands machine.old place
-        → ExecutesScript M.respond place
+    ensures remainder { (state : M.RunState) → M.stands machine.old state
+        → ExecutesScript M.respond state
         (read_delta (S.history script.old) (S.history script.new))
         (write_delta (W.history out.old) (W.history out.new))
         result (M.stands machine.new) }
-    ensures output_history { (place : M.Place) → M.stands machine.old place
+    ensures output_history { (state : M.RunState) → M.stands machine.old state
         → AppendsBytes (W.history out.old).bytes (W.history out.new).bytes }
     ensures devices { UsesDevices (S.history script.old) (S.history script.new)
         (W.history out.old) (W.history out.new) result }

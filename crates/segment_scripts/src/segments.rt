@@ -27,7 +27,7 @@ use segment_manager::Segment;
 use segment_values::{InsertSpot, add, put_pair};
 
 impl Machine for Segment {
-    ghost Place = { MachineState };
+    ghost RunState = { MachineState };
 
     ghost respond = { λ at line. answer_line at line };
 
@@ -115,15 +115,15 @@ fn answer_push<W: Sink>(
     scratch: &mut Scratch,
     out: &mut W,
 ) -> Result<Answered, DeviceFault>
-    requires room { (W.history out.old).failures < 2 ^ 64 - 1 }
+    requires no_overflow { (W.history out.old).failures < 2 ^ 64 - 1 }
     requires meaning { (c : AskedCommand) → Asked c ≡ reading_by form.Push rest.now → IsMeant c }
     ensures { Responds segment.old segment.new (W.history out.old) (W.history out.new) result
         (reading_by form.Push rest.now) }
 {
     match key_and_literal(rest, &mut scratch.name) {
         Some((key, value)) => {
-            let room = &mut scratch.room.text;
-            let answer = done(add(segment, &key, InsertSpot::End, &value, room));
+            let buffer = &mut scratch.lent.text;
+            let answer = done(add(segment, &key, InsertSpot::End, &value, buffer));
             put_answer(segment, answer, out)
         }
         None => put_wrong(LineError::BadSyntax, out),
@@ -178,14 +178,14 @@ fn answer_operation<W: Sink>(
     scratch: &mut Scratch,
     out: &mut W,
 ) -> Result<Answered, DeviceFault>
-    requires room { (W.history out.old).failures < 2 ^ 64 - 1 }
+    requires no_overflow { (W.history out.old).failures < 2 ^ 64 - 1 }
     requires meaning { (c : AskedCommand) → Asked c ≡ reading_by (form.Operation kind) rest.now → IsMeant c }
     ensures { Responds segment.old segment.new (W.history out.old) (W.history out.new) result
         (reading_by (form.Operation kind) rest.now) }
 {
     match read_operation(kind, rest, &mut scratch.name) {
         Some(operation) => {
-            let answer = reply(segment, operation, &mut scratch.room);
+            let answer = reply(segment, operation, &mut scratch.lent);
             put_answer(segment, answer, out)
         }
         None => put_wrong(LineError::BadSyntax, out),

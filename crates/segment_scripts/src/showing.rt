@@ -10,7 +10,7 @@ ghost use Rattle.segment_manager.specs.Step.{step};
 ghost use Rattle.segment_scripts.specs.Answer.{answer_text};
 ghost use Rattle.segment_scripts.specs.Refusing.{AnswersFor};
 ghost use Rattle.segment_scripts.specs.Replies.{shown_at, text_at};
-ghost use Rattle.segment_scripts.specs.Shown.{counted_text, front_text};
+ghost use Rattle.segment_scripts.specs.Shown.{counted_text, prefix_text};
 ghost use Rattle.segment_scripts.specs.Writing.{WritesFor};
 
 use crate::answered::Answered;
@@ -47,7 +47,7 @@ fn put_value<W: Sink>(segment: &Segment, object: Object, out: &mut W) -> Result<
         (λ d. answer_text (shown_at d (ByHandle object.handle))) }
 {
     let count = count_of(segment, object);
-    put_front(object.kind, count, out)?;
+    put_prefix(object.kind, count, out)?;
     put_content(&InLine, segment, object, count, out)?;
     put_pieces(out, &[Piece::Bytes(b"\n")])
 }
@@ -93,9 +93,9 @@ impl Layout for InLine {
 }
 
 /// Writes a kind, and the number of elements if the object is an array of more than one scalar.
-fn put_front<W: Sink>(kind: Kind, count: u64, out: &mut W) -> Result<(), DeviceFault>
+fn put_prefix<W: Sink>(kind: Kind, count: u64, out: &mut W) -> Result<(), DeviceFault>
     requires { (W.history out.old).failures < 2 ^ 64 - 1 }
-    ensures { Writes (W.history out.old) (W.history out.new) result (front_text kind count) }
+    ensures { Writes (W.history out.old) (W.history out.new) result (prefix_text kind count) }
 {
     match kind {
         Kind::Scalar(_) => put_counted(kind, count, out),

@@ -9,11 +9,11 @@ ghost use Rattle.segment_manager.specs.Answers.{Kinds, Names};
 ghost use Rattle.segment_manager.specs.Directory.{Object, named_objects, unique_objects};
 ghost use Rattle.segment_manager.specs.objects.Located.{IsObject};
 ghost use Rattle.segment_manager.specs.State.{DenotesCurrent};
-ghost use Rattle.segment_scripts.specs.Answer.{answer_text, class_words, entry_words, line};
-ghost use Rattle.segment_scripts.specs.Parts.{said_words};
+ghost use Rattle.segment_scripts.specs.Answer.{answer_text, class_tokens, entry_tokens, line};
+ghost use Rattle.segment_scripts.specs.Parts.{said_tokens};
 ghost use Rattle.segment_scripts.specs.Refusing.{AnswersFor};
 ghost use Rattle.segment_scripts.specs.Replies.{told_at};
-ghost use Rattle.segment_scripts.specs.Shown.{behind_text, class_text, number_words};
+ghost use Rattle.segment_scripts.specs.Shown.{behind_text, class_text, number_tokens};
 ghost use Rattle.segment_scripts.specs.Writing.{WritesFor};
 
 use crate::answered::Answered;
@@ -73,8 +73,8 @@ fn put_instance<W: Sink>(
 ) -> Result<(), DeviceFault>
     requires { (W.history out.old).failures < 2 ^ 64 - 1 }
     ensures { Writes (W.history out.old) (W.history out.new) result
-        (line (class_words said.entry.class said.entry.name.now ++ said_words said.entry
-        ++ (number_words len ++ number_words capacity))) }
+        (line (class_tokens said.entry.class said.entry.name.now ++ said_tokens said.entry
+        ++ (number_tokens len ++ number_tokens capacity))) }
 {
     let (class, name) = class_pieces(said.class, said.name);
     let (before_len, len) = pieces_behind(len);
@@ -137,7 +137,7 @@ pub fn put_names<W: Sink>(segment: &Segment, out: &mut W) -> Result<(), DeviceFa
 fn put_named<W: Sink>(said: Instance<'_>, out: &mut W) -> Result<(), DeviceFault>
     requires { (W.history out.old).failures < 2 ^ 64 - 1 }
     ensures { Writes (W.history out.old) (W.history out.new) result
-        (line (name_text said.entry.name.now ∷ said_words said.entry)) }
+        (line (name_text said.entry.name.now ∷ said_tokens said.entry)) }
 {
     put_pieces(
         out,
@@ -170,7 +170,7 @@ pub fn put_kinds<W: Sink>(segment: &Segment, out: &mut W) -> Result<(), DeviceFa
 /// Writes the line of a unique object.
 fn put_unique<W: Sink>(said: Instance<'_>, out: &mut W) -> Result<(), DeviceFault>
     requires { (W.history out.old).failures < 2 ^ 64 - 1 }
-    ensures { Writes (W.history out.old) (W.history out.new) result (line (said_words said.entry)) }
+    ensures { Writes (W.history out.old) (W.history out.new) result (line (said_tokens said.entry)) }
 {
     put_pieces(
         out,

@@ -1,5 +1,5 @@
 -- Ranges of elements: read one by one (`Reads`) or where they stand (`InPlace`).
 pub mod InPlace
 pub mod Reads
-pub mod Rows
+pub mod Slices
 pub mod Lists

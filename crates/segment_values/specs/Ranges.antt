@@ -13,11 +13,11 @@ use Rattle.segment_manager.specs.declared.objects.object_ref.Object.{Object as L
 use Rattle.segment_manager.specs.Directory.{Directory}
 use Rattle.segment_manager.specs.objects.ElementLists.{list_at, numbers_in}
 use Rattle.segment_manager.specs.State.{AnswersWith, SegmentState, DenotesCurrent}
-pub use Rattle.segment_manager.specs.containers.Ranges.{is_row, numbers_if, range_at, range_in, range_of}
+pub use Rattle.segment_manager.specs.containers.Ranges.{is_slice, numbers_if, range_at, range_in, range_of}
 
 -- the elements of a located object, which is an array or a vector of scalars
-abbrev pub row_of : Located → Directory → List ℤ
-row_of o d = list_at numbers_in d (ByHandle o.handle) o.kind
+abbrev pub slice_of : Located → Directory → List ℤ
+slice_of o d = list_at numbers_in d (ByHandle o.handle) o.kind
 
 -- the bytes encode values of a kind, one after another
 pub record AreSpelled (k : ScalarKind) (zs : List ℤ) (bytes : List ℕ) : Type 0 where
@@ -25,14 +25,14 @@ pub record AreSpelled (k : ScalarKind) (zs : List ℤ) (bytes : List ℕ) : Type
   pub spelled_are : bytes ≡ spelled k zs
 
 -- an object of a kind has as many elements as a run, and its bytes from the run's offset on encode them
-pub record HasRow (s : SegmentState) (o : Located) (k : ScalarKind) (run : ElementRun) : Type 0 where
+pub record HasSlice (s : SegmentState) (o : Located) (k : ScalarKind) (run : ElementRun) : Type 0 where
   pub inside : run.offset + size_of k * run.count ≤ length s.cut.bytes
   pub short : length s.cut.bytes ≤ 1073741824
-  pub many : AnswersWith s (λ d. length (row_of o d)) run.count
+  pub many : AnswersWith s (λ d. length (slice_of o d)) run.count
   pub spells : (d : Directory) → DenotesCurrent s.cut.bytes d
-      → AreSpelled k (row_of o d) (part s.cut.bytes run.offset (size_of k * run.count))
+      → AreSpelled k (slice_of o d) (part s.cut.bytes run.offset (size_of k * run.count))
 
 -- the elements that a call read into a row, or its error
 abbrev pub read_into : {A : Type 0} → (A → ℤ) → List A → Result (Unit {0}) Refusal → Result (List ℤ) Refusal
-read_into whole row (Ok u) = Ok (map whole row)
-read_into whole row (Err why) = Err why
+read_into whole series (Ok u) = Ok (map whole series)
+read_into whole series (Err why) = Err why

@@ -12,11 +12,11 @@ use segment_manager::Segment;
 
 /// An iterator over the values of a row.
 #[derive(Drop)]
-struct RowItems<'a, T> {
+struct SliceItems<'a, T> {
     left: &'a [T],
 }
 
-impl<'a, T: Scalar> Iterator for RowItems<'a, T> {
+impl<'a, T: Scalar> Iterator for SliceItems<'a, T> {
     type Item = T;
 
     ghost next_gives = { YieldsFirst (λ items. items.left.now) };
@@ -43,15 +43,16 @@ impl<'a, T: Scalar> Iterator for RowItems<'a, T> {
 pub fn construct_array<T: Scalar>(
     segment: &mut Segment,
     key: &NewKey,
-    row: &[T],
+    series: &[T],
 ) -> Result<Handle, Refusal>
     requires kind { IsOfKind (new_key_seen key.now) (ScalarOf T.kind) }
-    requires non_empty { 1 ≤ length row.now }
-    requires max_count { length row.now ≤ 1048576 }
+    requires non_empty { 1 ≤ length series.now }
+    requires max_count { length series.now ≤ 1048576 }
     ensures step { TakesStep segment.old segment.new
-        (ConstructIt (new_key_seen key.now) T.kind (length row.now) (map T.whole row.now)) (handle_answer result) }
+        (ConstructIt (new_key_seen key.now) T.kind (length series.now) (map T.whole series.now)) (handle_answer
+        result) }
     ensures refused { UnchangedIfRefused segment.old segment.new result }
 {
-    let mut items = RowItems { left: row };
-    segment.construct_it(key, row.len() as u32, &mut items)
+    let mut items = SliceItems { left: series };
+    segment.construct_it(key, series.len() as u32, &mut items)
 }

@@ -33,7 +33,7 @@ pub fn set<L: WrittenValue>(
     key: &Key,
     index: u64,
     value: &L,
-    room: &mut L::Room,
+    scratch: &mut L::Scratch,
 ) -> Result<(), Refusal>
     requires { L.fits value.now }
     ensures step { TakesStep segment.old segment.new (Set (key_seen key.now) index (L.literal value.now))
@@ -48,7 +48,7 @@ pub fn set<L: WrittenValue>(
             set_scalar(segment, object, element, index, value)
         }
         Kind::String => set_scalar(segment, object, ScalarKind::U8, index, value),
-        Kind::Strings => set_text(segment, object, index, value, room),
+        Kind::Strings => set_text(segment, object, index, value, scratch),
         Kind::Map(_, _) => Err(Refusal::WrongKind),
     }
 }
@@ -79,7 +79,7 @@ fn set_text<L: WrittenValue>(
     object: Object,
     index: u64,
     value: &L,
-    room: &mut L::Room,
+    scratch: &mut L::Scratch,
 ) -> Result<(), Refusal>
     requires object { IsObject object segment.old }
     requires kind_fit { IsChangeable segment.old (ByHandle object.handle) StringsKind }
@@ -88,7 +88,7 @@ fn set_text<L: WrittenValue>(
         (done_answer result) }
     ensures refused { OnErr result (segment.new ≡ segment.old) }
 {
-    match value.text(room) {
+    match value.text(scratch) {
         Some(text) => segment.texts_set(&object, index, text),
         None => Err(Refusal::WrongKind),
     }

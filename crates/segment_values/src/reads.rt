@@ -5,7 +5,7 @@ ghost use Rattle.seg_types.specs.Names.{ByHandle};
 ghost use Rattle.segment_manager.specs.Directory.{Directory};
 ghost use Rattle.segment_manager.specs.objects.Located.{IsLocated};
 ghost use Rattle.segment_manager.specs.State.{AnswersWith, DenotesCurrent};
-ghost use Rattle.segment_values.specs.Ranges.{AreSpelled, HasRow, is_row, range_at, read_into, row_of};
+ghost use Rattle.segment_values.specs.Ranges.{AreSpelled, HasSlice, is_slice, range_at, read_into, slice_of};
 
 use seg_types::theorems::scalar_is_number;
 use seg_types::{Kind, Refusal, Scalar};
@@ -22,15 +22,15 @@ pub fn read_elements<T: Scalar, O: ObjectRef>(
     segment: &Segment,
     key: &O,
     first: u64,
-    row: &mut [T],
+    series: &mut [T],
 ) -> Result<(), Refusal>
     requires { O.stands key.now segment.now }
-    ensures read { AnswersWith segment.now (λ d. range_at d (O.key key.now) T.kind first (length row.old))
-        (read_into T.whole row.new result) }
-    ensures unchanged { OnErr result (row.new ≡ row.old) }
+    ensures read { AnswersWith segment.now (λ d. range_at d (O.key key.now) T.kind first (length series.old))
+        (read_into T.whole series.new result) }
+    ensures unchanged { OnErr result (series.new ≡ series.old) }
 {
     let object = locate(segment, key)?;
-    read_object(segment, &object, first, row)
+    read_object(segment, &object, first, series)
 }
 
 /// Copies elements of a located object into a row.
@@ -38,29 +38,30 @@ fn read_object<T: Scalar>(
     segment: &Segment,
     object: &Object,
     first: u64,
-    row: &mut [T],
+    series: &mut [T],
 ) -> Result<(), Refusal>
     requires { IsLocated segment.now (ByHandle object.now.handle) object.now }
     ensures read { AnswersWith segment.now (λ d.
-        range_at d (ByHandle object.now.handle) T.kind first (length row.old)) (read_into T.whole row.new result) }
-    ensures unchanged { OnErr result (row.new ≡ row.old) }
+        range_at d (ByHandle object.now.handle) T.kind first (length series.old)) (read_into T.whole series.new
+        result) }
+    ensures unchanged { OnErr result (series.new ≡ series.old) }
 {
-    if !is_row::<T>(object.kind) {
+    if !is_slice::<T>(object.kind) {
         return Err(Refusal::WrongKind);
     }
-    let run = row_run::<T>(segment, object);
-    if !has_range(run.count, first, row.len() as u64) {
+    let run = slice_run::<T>(segment, object);
+    if !has_range(run.count, first, series.len() as u64) {
         return Err(Refusal::OutOfRange);
     }
-    copy_row(segment, object, run, first, row);
+    copy_slice(segment, object, run, first, series);
     Ok(())
 }
 
 /// Returns the place of the object's elements in the image.
-fn row_run<T: Scalar>(segment: &Segment, object: &Object) -> ElementRun
+fn slice_run<T: Scalar>(segment: &Segment, object: &Object) -> ElementRun
     requires object { IsLocated segment.now (ByHandle object.now.handle) object.now }
-    requires kind { is_row T.kind object.now.kind ≡ true }
-    ensures { HasRow segment.now object.now T.kind result }
+    requires kind { is_slice T.kind object.now.kind ≡ true }
+    ensures { HasSlice segment.now object.now T.kind result }
 {
     let _ = segment.as_bytes();
     match segment.element_run(object) {
@@ -70,38 +71,38 @@ fn row_run<T: Scalar>(segment: &Segment, object: &Object) -> ElementRun
 }
 
 /// Returns true if objects of the kind are arrays or vectors of scalars of the type.
-fn is_row<T: Scalar>(kind: Kind) -> bool
-    ensures { result ≡ is_row T.kind kind }
+fn is_slice<T: Scalar>(kind: Kind) -> bool
+    ensures { result ≡ is_slice T.kind kind }
 {
     Kind::Vector(T::kind()).code() == kind.code() || Kind::Scalar(T::kind()).code() == kind.code()
 }
 
 /// Copies elements of an object, which has enough of them, from their place in the image into a row.
-fn copy_row<T: Scalar>(
+fn copy_slice<T: Scalar>(
     segment: &Segment,
     _object: &Object,
     run: ElementRun,
     first: u64,
-    row: &mut [T],
+    series: &mut [T],
 )
-    requires row { HasRow segment.now _object.now T.kind run }
-    requires in_bounds { first + length row.old ≤ run.count }
+    requires series { HasSlice segment.now _object.now T.kind run }
+    requires in_bounds { first + length series.old ≤ run.count }
     ensures { (d : Directory) → DenotesCurrent segment.now.cut.bytes d
-        → map T.whole row.new ≡ take (length row.old) (drop first (row_of _object.now d)) }
+        → map T.whole series.new ≡ take (length series.old) (drop first (slice_of _object.now d)) }
 {
     let from = (run.offset + T::SIZE * first) as usize;
-    let len = T::SIZE as usize * row.len();
-    read_values(&segment.as_bytes()[from..from + len], row);
+    let len = T::SIZE as usize * series.len();
+    read_values(&segment.as_bytes()[from..from + len], series);
 }
 
 /// Reads as many values as the row has from their encodings.
-fn read_values<T: Scalar>(bytes: &[u8], row: &mut [T])
-    requires { length bytes.now ≡ T.SIZE * length row.old }
-    ensures { (zs : List ℤ) → AreSpelled T.kind zs bytes.now → map T.whole row.new ≡ zs }
+fn read_values<T: Scalar>(bytes: &[u8], series: &mut [T])
+    requires { length bytes.now ≡ T.SIZE * length series.old }
+    ensures { (zs : List ℤ) → AreSpelled T.kind zs bytes.now → map T.whole series.new ≡ zs }
 {
     let each = T::SIZE as usize;
-    'values: for i in 0..row.len() {
-        row[i] = value_or(&bytes[each * i..each * (i + 1)], row[i]);
+    'values: for i in 0..series.len() {
+        series[i] = value_or(&bytes[each * i..each * (i + 1)], series[i]);
     }
 }
 

@@ -40,7 +40,7 @@ pub fn add<L: WrittenValue>(
     key: &Key,
     spot: InsertSpot,
     value: &L,
-    room: &mut L::Room,
+    scratch: &mut L::Scratch,
 ) -> Result<(), Refusal>
     requires { L.fits value.now }
     ensures step { TakesStep segment.old segment.new (command_at spot (key_seen key.now) (L.literal value.now))
@@ -54,7 +54,7 @@ pub fn add<L: WrittenValue>(
             let scalar = value.value_of(kind)?;
             add_scalar(segment, object, spot, scalar)
         }
-        Kind::Strings => match value.text(room) {
+        Kind::Strings => match value.text(scratch) {
             Some(text) => add_text(segment, object, spot, text),
             None => Err(Refusal::WrongKind),
         },

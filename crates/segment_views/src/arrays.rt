@@ -5,8 +5,8 @@ ghost use Rattle.segment_manager.specs.containers.Ranges.{ChangesRange, WritesRa
 ghost use Rattle.segment_manager.specs.objects.ElementLists.{array_at, array_length_at};
 ghost use Rattle.segment_manager.specs.{Keeping.ChangesElement, State.done_answer};
 
-use crate::elements::RowItems;
-use crate::rows::{Row, Storage};
+use crate::elements::SliceItems;
+use crate::slices::{Slice, Storage};
 use crate::views::View;
 use seg_types::{Kind, Refusal, Scalar, ScalarKind};
 use segment_manager::{Object, Segment};
@@ -16,10 +16,10 @@ use segment_manager::{Object, Segment};
 pub struct Array;
 
 /// One scalar of a type, or an array of them, in a segment that may be changed, looked up once.
-pub type ArrayView<'a, T> = View<'a, Row<T, Array>>;
+pub type ArrayView<'a, T> = View<'a, Slice<T, Array>>;
 
 /// The elements of an array of scalars, one after another.
-pub type ArrayItems<'a, T> = RowItems<'a, T, Array>;
+pub type ArrayItems<'a, T> = SliceItems<'a, T, Array>;
 
 impl Storage for Array {
     ghost kind = { ScalarOf };
@@ -52,7 +52,7 @@ impl Storage for Array {
     }
 }
 
-impl<'a, T: Scalar> View<'a, Row<T, Array>> {
+impl<'a, T: Scalar> View<'a, Slice<T, Array>> {
     ghost use Rattle.segment_views.specs.OfView.{SameView, key_of, segment_of};
 
     /// Sets the first elements, all of them or none. Changes no other byte.

@@ -6,7 +6,7 @@ ghost use Rattle.segment_manager.specs.objects.ElementLists.{number_or_none as n
 ghost use Rattle.segment_manager.specs.objects.Located.{IsObject};
 ghost use Rattle.segment_views.specs.Walked.{GoesOnElements};
 
-use crate::rows::Storage;
+use crate::slices::Storage;
 use seg_types::{Refusal, Scalar};
 use segment_manager::{Object, Segment};
 use std::marker::{Model, PhantomData};
@@ -15,7 +15,7 @@ use std::marker::{Model, PhantomData};
 ///
 /// Contracts see the segment, the object's key, and how many elements came.
 #[derive(Drop)]
-pub struct RowItems<'a, T: Scalar, S: Storage> {
+pub struct SliceItems<'a, T: Scalar, S: Storage> {
     segment: &'a Segment,
     object: Object,
     at: u64,
@@ -23,7 +23,7 @@ pub struct RowItems<'a, T: Scalar, S: Storage> {
     of: PhantomData<(T, S)>,
 }
 
-impl<'a, T: Scalar, S: Storage> Model for RowItems<'a, T, S> {
+impl<'a, T: Scalar, S: Storage> Model for SliceItems<'a, T, S> {
     ghost use Rattle.seg_types.specs.Names.{ByHandle};
     ghost use Rattle.segment_views.specs.Walked.{ElementWalk, IsWalkOver};
 
@@ -35,14 +35,14 @@ impl<'a, T: Scalar, S: Storage> Model for RowItems<'a, T, S> {
         w.len };
 }
 
-impl<'a, T: Scalar, S: Storage> RowItems<'a, T, S> {
+impl<'a, T: Scalar, S: Storage> SliceItems<'a, T, S> {
     /// Makes the elements of an object that was located.
-    pub(crate) fn new(segment: &'a Segment, object: Object) -> RowItems<'a, T, S>
+    pub(crate) fn new(segment: &'a Segment, object: Object) -> SliceItems<'a, T, S>
         requires { IsObject object segment.now }
         ensures { result ≡ record { segment = segment.now; key = ByHandle object.handle; at = 0 } }
     {
         let len = number_or_none(S::len::<T>(segment, &object));
-        RowItems {
+        SliceItems {
             segment,
             object,
             at: 0,
@@ -52,7 +52,7 @@ impl<'a, T: Scalar, S: Storage> RowItems<'a, T, S> {
     }
 }
 
-impl<'a, T: Scalar, S: Storage> Iterator for RowItems<'a, T, S> {
+impl<'a, T: Scalar, S: Storage> Iterator for SliceItems<'a, T, S> {
     type Item = T;
 
     ghost next_gives = { GoesOnElements (λ d key. S.elements d key T.kind) T.whole };

@@ -7,8 +7,8 @@ ghost use Rattle.segment_manager.specs.containers.{Contents.sizes_at, Ranges.Ext
 ghost use Rattle.segment_manager.specs.objects.ElementLists.{length_at_kind, vector_at};
 ghost use Rattle.segment_manager.specs.State.{AnswersWith, TakesStepOfKind, answer_of, done_answer};
 
-use crate::elements::RowItems;
-use crate::rows::{Row, Storage};
+use crate::elements::SliceItems;
+use crate::slices::{Slice, Storage};
 use crate::views::View;
 use seg_types::{Kind, Refusal, Scalar, ScalarKind};
 use segment_manager::{Object, Segment};
@@ -18,10 +18,10 @@ use segment_manager::{Object, Segment};
 pub struct Vector;
 
 /// A vector of scalars of a type in a segment that may be changed, looked up once.
-pub type VectorView<'a, T> = View<'a, Row<T, Vector>>;
+pub type VectorView<'a, T> = View<'a, Slice<T, Vector>>;
 
 /// The elements of a vector of scalars, one after another.
-pub type VectorItems<'a, T> = RowItems<'a, T, Vector>;
+pub type VectorItems<'a, T> = SliceItems<'a, T, Vector>;
 
 impl Storage for Vector {
     ghost kind = { VectorOf };
@@ -54,7 +54,7 @@ impl Storage for Vector {
     }
 }
 
-impl<'a, T: Scalar> View<'a, Row<T, Vector>> {
+impl<'a, T: Scalar> View<'a, Slice<T, Vector>> {
     ghost use Rattle.segment_views.specs.OfView.{SameView, key_of, segment_of};
 
     /// Returns how many elements it has, and how many places.

@@ -1,6 +1,6 @@
 -- Handles by piece, as the pieces become wider.
 use Rattle.best_fit.proofs.Common.{◌≡◌, refl, sym, ap, subst, ◌∙◌, ℕ, zero, suc, ◌+◌, ◌<◌, ◌≤◌, ◌⊎◌, inl, inr}
-use Rattle.best_fit.proofs.Common.{List, [], ◌∷◌, slice_index, arith, cases_lt, place_of}
+use Rattle.best_fit.proofs.Common.{List, [], ◌∷◌, slice_index, arith, cases_lt, slot_of}
 use Rattle.std.proofs.lemmas.List.{get_or-set_other}
 use Rattle.std.specs.Prelude.{slice_set}
 
@@ -25,8 +25,8 @@ set_zero (x ∷ xs) (suc at) = set_zero xs at
 pub record Widened (shorter wider : ℕ) (old now : List ℕ) (k : ℕ) : Type 0 where
   pub front : (i : ℕ) → i < 256 → slice_index now i ≡ slice_index old i
   pub ahead : (i : ℕ) → k ≤ i → slice_index now i ≡ slice_index old i
-  pub behind : (h : ℕ) → 0 < h → place_of wider h < k → slice_index now (place_of wider h) ≡ h
-      → slice_index old (place_of shorter h) ≡ h
+  pub behind : (h : ℕ) → 0 < h → slot_of wider h < k → slice_index now (slot_of wider h) ≡ h
+      → slice_index old (slot_of shorter h) ≡ h
 
 -- the next piece is emptied
 pub widened_clear : (shorter wider : ℕ) (old now : List ℕ) (k : ℕ) → 256 ≤ k → Widened shorter wider old now k
@@ -35,11 +35,11 @@ widened_clear shorter wider old now k far x =
     record {
       front = λ i less. get_or-set_other now k i 0 0 (λ e. omega arith) ∙ x.front i less;
       ahead = λ i le. get_or-set_other now k i 0 0 (λ e. omega arith) ∙ x.ahead i (omega arith);
-      behind = λ h pos below e. elim (set_either now k 0 (place_of wider h)) [
-        | inl stays ↦ elim (cases_lt (place_of wider h) k) [
+      behind = λ h pos below e. elim (set_either now k 0 (slot_of wider h)) [
+        | inl stays ↦ elim (cases_lt (slot_of wider h) k) [
           | inl less ↦ x.behind h pos less (sym stays ∙ e)
           | inr not_less ↦
-              let here : place_of wider h ≡ k = omega arith in
+              let here : slot_of wider h ≡ k = omega arith in
               let gone = subst (λ i. slice_index (slice_set now k 0) i ≡ 0) (sym here) (set_zero now k) in
               absurd (omega arith)
         ]
@@ -48,12 +48,12 @@ widened_clear shorter wider old now k far x =
     }
 
 -- and its handle is entered in a wider piece that is already passed
-pub widened_note : (shorter wider : ℕ) (old now next : List ℕ) (k v : ℕ) → 256 ≤ k → Widened shorter wider old now k
-    → slice_index now k ≡ v → place_of shorter v ≡ k → place_of wider v ≤ k
+pub widened_hint : (shorter wider : ℕ) (old now next : List ℕ) (k v : ℕ) → 256 ≤ k → Widened shorter wider old now k
+    → slice_index now k ≡ v → slot_of shorter v ≡ k → slot_of wider v ≤ k
     → ((i : ℕ) → (slice_index next i ≡ slice_index (slice_set now k 0) i)
-    ⊎ ((i ≡ place_of wider v) × (slice_index next i ≡ v)))
+    ⊎ ((i ≡ slot_of wider v) × (slice_index next i ≡ v)))
     → Widened shorter wider old next (k + 1)
-widened_note shorter wider old now next k v far x is home near noted =
+widened_hint shorter wider old now next k v far x is home near noted =
     let y = widened_clear shorter wider old now k far x in
     record {
       front = λ i less. elim (noted i) [
@@ -64,10 +64,10 @@ widened_note shorter wider old now next k v far x is home near noted =
         | inl stays ↦ stays ∙ y.ahead i le
         | inr there ↦ let at = there.0 in absurd (omega arith)
       ];
-      behind = λ h pos below e. elim (noted (place_of wider h)) [
+      behind = λ h pos below e. elim (noted (slot_of wider h)) [
         | inl stays ↦ y.behind h pos below (sym stays ∙ e)
         | inr there ↦
-            subst (λ u. slice_index old (place_of shorter u) ≡ u) (sym there.1 ∙ e)
+            subst (λ u. slice_index old (slot_of shorter u) ≡ u) (sym there.1 ∙ e)
             (ap (slice_index old) home ∙ sym (x.ahead k (omega arith)) ∙ is)
       ];
     }

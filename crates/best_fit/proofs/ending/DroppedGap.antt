@@ -3,8 +3,8 @@ use Rattle.best_fit.proofs.Common.{◌≡◌, refl, sym, ap, subst, ◌∙◌, �
 use Rattle.best_fit.proofs.Common.{◌∷◌, ◌++◌, length, arith, IsTrue, Some, None, both_ways, append-nil, length-append}
 use Rattle.best_fit.proofs.Common.{same_Some, none-some, WindowState, SameBytes, bytes_of, whole, current, Tile}
 use Rattle.best_fit.proofs.Common.{last_in}
-use Rattle.best_fit.proofs.Common.{without_last, is_free, FrontSaysTiles, EncodesTiles, SameExceptTags}
-use Rattle.best_fit.proofs.Common.{front_is_a_window, tiles_are_read_off, MovesEnd, KeepsTo, last_end, least_size}
+use Rattle.best_fit.proofs.Common.{without_last, is_free, PrefixSaysTiles, EncodesTiles, SameExceptTags}
+use Rattle.best_fit.proofs.Common.{prefix_is_a_window, tiles_are_read_off, MovesEnd, KeepsTo, last_end, least_size}
 use Rattle.best_fit.proofs.Common.{of_size, Extent, IsTreeOf, payloads, sorted_gaps, gaps_in, gaps_of, tiles_in}
 use Rattle.best_fit.proofs.Common.{HasGapTree, EncodesLiveSet, live_of}
 use Rattle.raw_region.specs.Memory.{cut_at}
@@ -104,10 +104,10 @@ module _ (c : WindowState) (front : List Tile) (t : Tile) (list : tiles_in c ≡
   row_c = said_row c (front ++ t ∷ []) said
 
   module _ (d : WindowState) (n : ℕ) (tags : (ts : List Tile) → EncodesTiles c ts
-      → FrontSaysTiles d n (without_last ts))
+      → PrefixSaysTiles d n (without_last ts))
       (rest : (ts : List Tile) → EncodesTiles c ts → SameExceptTags c d ts (without_last ts)) where
-    front_d : FrontSaysTiles d n front
-    front_d = subst (FrontSaysTiles d n) (without_behind front t) (tags (front ++ t ∷ []) said)
+    front_d : PrefixSaysTiles d n front
+    front_d = subst (PrefixSaysTiles d n) (without_behind front t) (tags (front ++ t ∷ []) said)
 
     beside : SameExceptTags c d (front ++ t ∷ []) front
     beside = subst (SameExceptTags c d (front ++ t ∷ [])) (without_behind front t) (rest (front ++ t ∷ []) said)
@@ -130,9 +130,9 @@ module _ (c : WindowState) (front : List Tile) (t : Tile) (list : tiles_in c ≡
       said_e : EncodesTiles e front
       said_e =
           let s = size_e in let within = front_d.within in
-          (front_is_a_window e d front (omega arith)
+          (prefix_is_a_window e d front (omega arith)
           (record { at = λ k low high. sym (same_d.at k low (omega arith)) })).1
-          (subst (λ k. FrontSaysTiles d k front) (sym size_e) front_d)
+          (subst (λ k. PrefixSaysTiles d k front) (sym size_e) front_d)
 
       legal_n : IsLegal n
       legal_n = legal_size n front_d.size

@@ -3,8 +3,8 @@ use Rattle.best_fit.proofs.Common.{◌≡◌, refl, sym, ap, subst, ◌∙◌, �
 use Rattle.best_fit.proofs.Common.{[], ◌∷◌, ◌++◌, length, arith, IsTrue, ◌==◌, Some, list_any, append-nil, false≢true}
 use Rattle.best_fit.proofs.Common.{eq-eqb, or_left, or_right, WindowState, SameBytes, bytes_of, whole, current, Object}
 use Rattle.best_fit.proofs.Common.{Tile}
-use Rattle.best_fit.proofs.Common.{is_legal_size, free_tile, used_for, with_use_at, FrontSaysTiles, CanTakeUse}
-use Rattle.best_fit.proofs.Common.{EncodesTiles, SameExceptTags, front_is_a_window, tiles_are_read_off, AppendsBlock}
+use Rattle.best_fit.proofs.Common.{is_legal_size, free_tile, used_for, with_use_at, PrefixSaysTiles, CanTakeUse}
+use Rattle.best_fit.proofs.Common.{EncodesTiles, SameExceptTags, prefix_is_a_window, tiles_are_read_off, AppendsBlock}
 use Rattle.best_fit.proofs.Common.{MovesEnd, KeepsTo, of_size, Extent, Gap, LiveSet, end_of, handle, proper_from}
 use Rattle.best_fit.proofs.Common.{others, released, IsTreeOf, payloads, sorted_gaps, gaps_in, gaps_of, tiles_in}
 use Rattle.best_fit.proofs.Common.{IsHeap, Deallocates, KeepsBlocks, EncodesLiveSet, is_live_in, live_of}
@@ -58,8 +58,8 @@ module _ (c c1 : WindowState) (extra : ℕ) (heap : IsHeap current c.bytes) (lon
   same1 : SameBytes (bytes_of c.bytes) (bytes_of c1.bytes) 0 (length c.bytes)
   same1 = resized_same c c1 (length c.bytes + extra) e1 fits (length c.bytes) (omega arith) (omega arith)
 
-  front1 : FrontSaysTiles c1 (length c.bytes) (tiles_in c)
-  front1 = let s = size1 in (front_is_a_window c c1 (tiles_in c) (omega arith) same1).0 says.said
+  front1 : PrefixSaysTiles c1 (length c.bytes) (tiles_in c)
+  front1 = let s = size1 in (prefix_is_a_window c c1 (tiles_in c) (omega arith) same1).0 says.said
 
   -- the conditions of the tile
   pub can_append : CanAppend c1 (length c.bytes)
@@ -73,9 +73,9 @@ module _ (c c1 : WindowState) (extra : ℕ) (heap : IsHeap current c.bytes) (lon
         room = omega arith;
       }
 
-  module _ (c2 : WindowState) (tags2 : (us : List Tile) → FrontSaysTiles c1 (length c.bytes) us
+  module _ (c2 : WindowState) (tags2 : (us : List Tile) → PrefixSaysTiles c1 (length c.bytes) us
       → EncodesTiles c2 (with_free us (length c.bytes - 16) (length c1.bytes - 16)))
-      (rest2 : (us : List Tile) → FrontSaysTiles c1 (length c.bytes) us
+      (rest2 : (us : List Tile) → PrefixSaysTiles c1 (length c.bytes) us
       → SameExceptTags c1 c2 us (with_free us (length c.bytes - 16) (length c1.bytes - 16))) where
     abbrev free : Tile
     free = free_tile (length c.bytes - 16) (length c1.bytes - 16 - (length c.bytes - 16))
@@ -237,15 +237,15 @@ module _ (c c1 : WindowState) (extra : ℕ) (heap : IsHeap current c.bytes) (lon
 pub record LongerWindow (c : WindowState) (extra size : ℕ) (c1 : WindowState) : Type 0 where
   pub room : CanAppend c1 size
   pub used : (c2 : WindowState)
-      → ((us : List Tile) → FrontSaysTiles c1 size us
+      → ((us : List Tile) → PrefixSaysTiles c1 size us
       → EncodesTiles c2 (with_free us (size - 16) (length c1.bytes - 16)))
-      → ((us : List Tile) → FrontSaysTiles c1 size us
+      → ((us : List Tile) → PrefixSaysTiles c1 size us
       → SameExceptTags c1 c2 us (with_free us (size - 16) (length c1.bytes - 16)))
       → CanTakeUse c2 (size - 16) (Some Object)
   pub block : (c2 : WindowState)
-      → ((us : List Tile) → FrontSaysTiles c1 size us
+      → ((us : List Tile) → PrefixSaysTiles c1 size us
       → EncodesTiles c2 (with_free us (size - 16) (length c1.bytes - 16)))
-      → ((us : List Tile) → FrontSaysTiles c1 size us
+      → ((us : List Tile) → PrefixSaysTiles c1 size us
       → SameExceptTags c1 c2 us (with_free us (size - 16) (length c1.bytes - 16)))
       → (c3 : WindowState) → ((us : List Tile) → EncodesTiles c2 us
       → EncodesTiles c3 (with_use_at (size - 16) (Some Object) us))

@@ -16,7 +16,7 @@ pub cut_list : (ts : List Tile) (at len : ℕ) (t : Tile) → tile_in ts at ≡ 
     → cut_at at len ts ≡ split_at at len ts
 cut_list ts at len t e l =
     let s = tile_stands_in_list ts at t e in
-    s.changed (cut_to len) ∙ ap (λ (us : List Tile). s.front ++ us)
+    s.changed (cut_to len) ∙ ap (λ (us : List Tile). s.prefix ++ us)
     (cond-false (nat_lt t.len (len + 32)) (t ∷ s.back) (in_two len t s.back) (le-ltb t.len (len + 32) l))
     ∙ sym (s.changed (in_two len))
 
@@ -25,7 +25,7 @@ pub kept_list : (ts : List Tile) (at len : ℕ) (t : Tile) → tile_in ts at ≡
     → t.len < len + 32 → cut_at at len ts ≡ ts
 kept_list ts at len t e l =
     let s = tile_stands_in_list ts at t e in
-    s.changed (cut_to len) ∙ ap (λ (us : List Tile). s.front ++ us)
+    s.changed (cut_to len) ∙ ap (λ (us : List Tile). s.prefix ++ us)
     (cond-true (nat_lt t.len (len + 32)) (t ∷ s.back) (in_two len t s.back) (lt-ltb t.len (len + 32) l))
     ∙ sym s.is
 
@@ -73,7 +73,7 @@ pub joined_list : (ts : List Tile) (at : ℕ) (t : Tile) (gap : ℕ) → tile_in
 joined_list ts at t gap e is =
     let s = tile_stands_in_list ts at t e in
     s.changed with_free_behind
-    ∙ ap (λ (us : List Tile). s.front ++ us) (join_cases t s.back gap (ap gap_offset (sym s.next) ∙ is))
+    ∙ ap (λ (us : List Tile). s.prefix ++ us) (join_cases t s.back gap (ap gap_offset (sym s.next) ∙ is))
     ∙ sym (s.changed in_one)
 
 unjoined_cases : (t : Tile) (back : List Tile) → gap_offset (first_in back) ≡ None → with_free_behind t back ≡ t ∷ back
@@ -87,7 +87,7 @@ pub unjoined_list : (ts : List Tile) (at : ℕ) (t : Tile) → tile_in ts at ≡
 unjoined_list ts at t e none =
     let s = tile_stands_in_list ts at t e in
     s.changed with_free_behind
-    ∙ ap (λ (us : List Tile). s.front ++ us) (unjoined_cases t s.back (ap gap_offset (sym s.next) ∙ none)) ∙ sym s.is
+    ∙ ap (λ (us : List Tile). s.prefix ++ us) (unjoined_cases t s.back (ap gap_offset (sym s.next) ∙ none)) ∙ sym s.is
 
 -- a free tile follows
 pub free_next : (c : WindowState) (at gap : ℕ) → (h : HasTileAt c at) → gap_offset (next_in h.tiles at) ≡ Some gap
@@ -145,8 +145,8 @@ pub gap_after_previous : (c : WindowState) (ts : List Tile) (at : ℕ) (t : Tile
 gap_after_previous c ts at t before said e free is =
     let s = tile_stands_in_list ts at t e in
     let f = read_gap (previous_in ts at) before is in
-    let next : next_in (s.front ++ (t ∷ s.back)) f.tile.offset ≡ Some t =
-    after_cases s.front f.tile (last_in-EndsWith s.front f.tile (sym s.previous ∙ f.is)) c t s.back
+    let next : next_in (s.prefix ++ (t ∷ s.back)) f.tile.offset ≡ Some t =
+    after_cases s.prefix f.tile (last_in-EndsWith s.prefix f.tile (sym s.previous ∙ f.is)) c t s.back
     (subst (EncodesTiles c) s.is said) in
     ap gap_offset (ap (next_in ts) (sym f.offset) ∙ ap (λ (us : List Tile). next_in us f.tile.offset) s.is ∙ next)
     ∙ cond-true (is_free t) (Some t.offset) None free
@@ -171,5 +171,5 @@ pub tile_before : (c : WindowState) (at : ℕ) (p : Tile) → (h : HasTileAt c a
     → previous_in h.tiles at ≡ Some p → HasTileAt c p.offset
 tile_before c at p h e =
     let s = tile_stands_in_list h.tiles at h.tile h.stands in
-    before_cases s.front p (last_in-EndsWith s.front p (sym s.previous ∙ e)) c h.tile s.back
+    before_cases s.prefix p (last_in-EndsWith s.prefix p (sym s.previous ∙ e)) c h.tile s.back
     (subst (EncodesTiles c) s.is h.said)

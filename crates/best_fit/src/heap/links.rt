@@ -12,7 +12,7 @@ ghost use Rattle.best_fit.specs.Heap.{ChangesBytes, Recolours, has_room, is_live
 use crate::heap::Heap;
 use crate::heap::nodes::{FREE_TREE_ROOT, set_link};
 use block_tags::{HEADER_LEN, TAG_LEN, set_red, tile_at};
-use offset_link::{Places, load, shift, shift_non_null};
+use offset_link::{Distance, load, shift, shift_non_null};
 use raw_region::Window;
 
 impl Heap {
@@ -132,15 +132,15 @@ fn move_non_null_to(window: &mut Window, source: u64, target: u64, n: u64)
 }
 
 /// Returns the distance and the direction from one link to another.
-fn way(source: u64, target: u64) -> Places
+fn way(source: u64, target: u64) -> Distance
     requires source_aligned { source % 8 ≡ 0 }
     requires target_aligned { target % 8 ≡ 0 }
     ensures result { moved_to source result ≡ target }
     ensures in_range { StaysInside source result }
 {
     if target >= source {
-        Places::Up((target - source) / 8)
+        Distance::Up((target - source) / 8)
     } else {
-        Places::Down((source - target) / 8)
+        Distance::Down((source - target) / 8)
     }
 }

@@ -6,7 +6,7 @@ ghost use Rattle.block_tags.specs.declared.tile.Role.{Role as ARole};
 ghost use Rattle.block_tags.specs.declared.tile.Tile.{Tile as ATile};
 ghost use Rattle.block_tags.specs.Lists.{joined_at, last_in, next_in, previous_in, split_at, tile_in, with_free};
 ghost use Rattle.block_tags.specs.Lists.{with_red_at, with_use_at, without_last};
-ghost use Rattle.block_tags.specs.Windows.{CanAppend, CanSplit, FrontSaysTiles, HasFreeLast, HasFreeNext, HasTileAt};
+ghost use Rattle.block_tags.specs.Windows.{CanAppend, CanSplit, PrefixSaysTiles, HasFreeLast, HasFreeNext, HasTileAt};
 ghost use Rattle.block_tags.specs.Windows.{IsTiledWindow, CanTakeUse, MayHaveColour, SameExceptTags, EncodesTiles};
 ghost use Rattle.link_tree.specs.Tree.{bits};
 ghost use Rattle.link_tree.specs.Nodes.{first_not_before, is_in};
@@ -47,8 +47,8 @@ impl<'a> TouchCounter<'a> {
         self.count
     }
 
-    /// Removes the first gap with at least `wanted` bytes from the tree, and returns its payload. If there is no such
-    /// gap, nothing changes.
+    /// Removes the best fit for `wanted` bytes from the tree, and returns its payload: the shortest gap that is long
+    /// enough, and of several with that length the one with the lowest offset. Without such a gap, nothing changes.
     pub fn take_best_fit(&mut self, wanted: u64) -> Option<u64>
         requires tree { (hs : List Gap) × HasGapTree self.old.gaps.now.window hs }
         requires no_overflow { self.old.count < 2 ^ 63 }
@@ -282,10 +282,10 @@ impl<'a> TouchCounter<'a> {
     pub fn append_free(&mut self, old_size: u64)
         requires fits { CanAppend self.old.gaps.now.window old_size }
         requires no_overflow { self.old.count + 1 < 2 ^ 64 }
-        ensures tags { (ts : List ATile) → FrontSaysTiles self.old.gaps.now.window old_size ts
+        ensures tags { (ts : List ATile) → PrefixSaysTiles self.old.gaps.now.window old_size ts
             → EncodesTiles self.new.gaps.now.window
             (with_free ts (old_size - TAG_LEN) (length self.old.gaps.now.window.bytes - TAG_LEN)) }
-        ensures frame { (ts : List ATile) → FrontSaysTiles self.old.gaps.now.window old_size ts
+        ensures frame { (ts : List ATile) → PrefixSaysTiles self.old.gaps.now.window old_size ts
             → SameExceptTags self.old.gaps.now.window self.new.gaps.now.window ts
             (with_free ts (old_size - TAG_LEN) (length self.old.gaps.now.window.bytes - TAG_LEN)) }
         ensures steps_exact { self.new.count ≡ self.old.count + 1 }
@@ -313,7 +313,7 @@ impl<'a> TouchCounter<'a> {
         requires tile { HasFreeLast self.old.gaps.now.window }
         requires no_overflow { self.old.count + 1 < 2 ^ 64 }
         ensures tags { (ts : List ATile) → EncodesTiles self.old.gaps.now.window ts
-            → FrontSaysTiles self.new.gaps.now.window result (without_last ts) }
+            → PrefixSaysTiles self.new.gaps.now.window result (without_last ts) }
         ensures frame { (ts : List ATile) → EncodesTiles self.old.gaps.now.window ts
             → SameExceptTags self.old.gaps.now.window self.new.gaps.now.window ts (without_last ts) }
         ensures steps_exact { self.new.count ≡ self.old.count + 1 }

@@ -10,7 +10,7 @@ use Rattle.block_tags.specs.declared.tile.Tile.{Tile}
 use Rattle.block_tags.specs.Format.{is_legal_size}
 use Rattle.block_tags.specs.Tiles.{AreTags, AreTilesOf}
 use Rattle.block_tags.specs.Lists.{free_tile, laid, with_free, last_in, without_last, IsBesideTags}
-use Rattle.block_tags.specs.Windows.{EncodesTiles, FrontSaysTiles, CanAppend, HasFreeLast, SameExceptTags, WritesWord}
+use Rattle.block_tags.specs.Windows.{EncodesTiles, PrefixSaysTiles, CanAppend, HasFreeLast, SameExceptTags, WritesWord}
 use Rattle.block_tags.proofs.tiles.ReadOff.{is_tile-IsWhole, AreTags-reaches}
 use Rattle.block_tags.proofs.changes.WrittenWords.{put-word}
 use Rattle.block_tags.proofs.tiles.TileInList.{is_tile-made}
@@ -134,7 +134,7 @@ module _ (c c1 c2 d : WindowState) (m : ℕ) (h : CanAppend c m)
     (p1 : WritesWord c c1 (m - 8) (length c.bytes - m))
     (p2 : WritesWord c1 c2 (length c.bytes - 16) (length c.bytes - m))
     (p3 : WritesWord c2 d (length c.bytes - 16 + 8) 1)
-    (ts : List Tile) (said : FrontSaysTiles c m ts) where
+    (ts : List Tile) (said : PrefixSaysTiles c m ts) where
   appended_size : length d.bytes ≡ length c.bytes
   appended_size = p3.size ∙ p2.size ∙ p1.size
 
@@ -146,13 +146,13 @@ module _ (c c1 c2 d : WindowState) (m : ℕ) (h : CanAppend c m)
       let same_len : length c.bytes - m ≡ length c.bytes - 16 - (m - 16) = omega arith in
       let tag_at : m - 16 + 8 ≡ m - 8 = omega arith in
       let on : m - 16 + (length c.bytes - 16 - (m - 16)) ≡ length c.bytes - 16 = omega arith in
-      let front : SameBytes (bytes_of c.bytes) (bytes_of d.bytes) 128 (m - 16 + 8) =
+      let prefix : SameBytes (bytes_of c.bytes) (bytes_of d.bytes) 128 (m - 16 + 8) =
       record {
         at = λ k a b. p3.rest.at k (inl (omega arith)) ∙ p2.rest.at k (inl (omega arith))
             ∙ p1.rest.at k (inl (omega arith));
       } in
       let tags = appended (bytes_of c.bytes) (bytes_of d.bytes) 128 0 ts (m - 16) (length c.bytes - 16 - (m - 16))
-      said.tags front (omega arith) (omega arith)
+      said.tags prefix (omega arith) (omega arith)
       (ap (λ (k : ℕ). word_at (bytes_of d.bytes) k) tag_at
       ∙ put-word c2 d (length c.bytes - 16 + 8) 1 p3 (m - 8) (inl (omega arith))
       ∙ put-word c1 c2 (length c.bytes - 16) (length c.bytes - m) p2 (m - 8) (inl (omega arith)) ∙ p1.word ∙ same_len)
@@ -245,7 +245,7 @@ module _ (c : WindowState) (h : HasFreeLast c) (w : ℕ) (e : w ≡ word_at (byt
     pub long : 32 ≤ w
     pub inside : w ≤ length c.bytes - 16
     pub size : length c.bytes ≤ 1073741824
-    pub front : Legal (length c.bytes - 16 - w + 16)
+    pub prefix : Legal (length c.bytes - 16 - w + 16)
 
   pub last_at : LastAt
   last_at =
@@ -261,12 +261,12 @@ module _ (c : WindowState) (h : HasFreeLast c) (w : ℕ) (e : w ≡ word_at (byt
         long = omega arith;
         inside = omega arith;
         size = size;
-        front = record { low = omega arith; high = omega arith; whole = omega arith; room = room };
+        prefix = record { low = omega arith; high = omega arith; whole = omega arith; room = room };
       }
 
   module _ (d : WindowState) (p : WritesWord c d (length c.bytes - 16 - w + 8) 1) (ts : List Tile)
       (said : EncodesTiles c ts) where
-    pub dropped_says : FrontSaysTiles d (length c.bytes - 16 - w + 16) (without_last ts)
+    pub dropped_says : PrefixSaysTiles d (length c.bytes - 16 - w + 16) (without_last ts)
     dropped_says =
         let l = last_ends ts said in let a = last_at in let is = a.is in let size = p.size in let inside = a.inside
         in let long = a.long in
@@ -274,7 +274,7 @@ module _ (c : WindowState) (h : HasFreeLast c) (w : ℕ) (e : w ≡ word_at (byt
         let end : h.last.offset ≡ length c.bytes - 16 - w + 16 - 16 = omega arith in
         let low = a.low in
         record {
-          size = legal_size (length c.bytes - 16 - w + 16) a.front;
+          size = legal_size (length c.bytes - 16 - w + 16) a.prefix;
           within = omega arith;
           tags = subst (λ (k : ℕ). AreTags current (bytes_of d.bytes) 128 0 (without_last ts) k) end
               (l.dropped (bytes_of d.bytes) (record { at = λ k x y. p.rest.at k (inl (omega arith)) })
@@ -314,20 +314,20 @@ laid_rest_of c c1 c2 c3 d size n e =
 -- after bytes are appended, the tags describe the list with one more free tile
 pub appended_says_of : (c c1 c2 d : WindowState) (m : ℕ) → CanAppend c m → (n : ℕ) → n ≡ length c.bytes
     → WritesWord c c1 (m - 8) (n - m) → WritesWord c1 c2 (n - 16) (n - m) → WritesWord c2 d (n - 16 + 8) 1
-    → (ts : List Tile) → FrontSaysTiles c m ts → EncodesTiles d (with_free ts (m - 16) (length c.bytes - 16))
+    → (ts : List Tile) → PrefixSaysTiles c m ts → EncodesTiles d (with_free ts (m - 16) (length c.bytes - 16))
 appended_says_of c c1 c2 d m h n e =
     let P : ℕ → Type 0 = λ (n : ℕ). WritesWord c c1 (m - 8) (n - m) → WritesWord c1 c2 (n - 16) (n - m)
-    → WritesWord c2 d (n - 16 + 8) 1 → (ts : List Tile) → FrontSaysTiles c m ts
+    → WritesWord c2 d (n - 16 + 8) 1 → (ts : List Tile) → PrefixSaysTiles c m ts
     → EncodesTiles d (with_free ts (m - 16) (length c.bytes - 16)) in
     subst P (sym e) (appended_says c c1 c2 d m h)
 
 -- bytes that are appended change tags alone
 pub appended_rest_of : (c c1 c2 d : WindowState) (m : ℕ) → CanAppend c m → (n : ℕ) → n ≡ length c.bytes
     → WritesWord c c1 (m - 8) (n - m) → WritesWord c1 c2 (n - 16) (n - m) → WritesWord c2 d (n - 16 + 8) 1
-    → (ts : List Tile) → FrontSaysTiles c m ts → SameExceptTags c d ts (with_free ts (m - 16) (length c.bytes - 16))
+    → (ts : List Tile) → PrefixSaysTiles c m ts → SameExceptTags c d ts (with_free ts (m - 16) (length c.bytes - 16))
 appended_rest_of c c1 c2 d m h n e =
     let P : ℕ → Type 0 = λ (n : ℕ). WritesWord c c1 (m - 8) (n - m) → WritesWord c1 c2 (n - 16) (n - m)
-    → WritesWord c2 d (n - 16 + 8) 1 → (ts : List Tile) → FrontSaysTiles c m ts
+    → WritesWord c2 d (n - 16 + 8) 1 → (ts : List Tile) → PrefixSaysTiles c m ts
     → SameExceptTags c d ts (with_free ts (m - 16) (length c.bytes - 16)) in
     subst P (sym e) (appended_rest c c1 c2 d m h)
 
@@ -342,10 +342,10 @@ module _ (c : WindowState) (h : HasFreeLast c) (n : ℕ) (e : n ≡ length c.byt
 
   -- after the last tile is dropped, the front of the window describes the other tiles
   pub dropped_says_of : (d : WindowState) → WritesWord c d (n - 16 - w + 8) 1 → (ts : List Tile) → EncodesTiles c ts
-      → FrontSaysTiles d (n - 16 - w + 16) (without_last ts)
+      → PrefixSaysTiles d (n - 16 - w + 16) (without_last ts)
   dropped_says_of =
       let P : ℕ → Type 0 = λ (n : ℕ). (d : WindowState) → WritesWord c d (n - 16 - w + 8) 1 → (ts : List Tile)
-      → EncodesTiles c ts → FrontSaysTiles d (n - 16 - w + 16) (without_last ts) in
+      → EncodesTiles c ts → PrefixSaysTiles d (n - 16 - w + 16) (without_last ts) in
       subst P (sym e) (dropped_says c h w last_word)
 
   -- a tile that is dropped changes tags alone

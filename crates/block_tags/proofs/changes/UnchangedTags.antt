@@ -10,7 +10,7 @@ use Rattle.block_tags.specs.declared.tile.Tile.{Tile}
 use Rattle.block_tags.specs.Format.{is_legal_size}
 use Rattle.block_tags.specs.Tiles.{AreTags, AreTilesOf}
 use Rattle.block_tags.specs.Lists.{AreContiguous, tile_in}
-use Rattle.block_tags.specs.Laws.{SameTags, TagsThatStaySayTheSame, PayloadMayChange, HeaderMayChange, FrontIsAWindow}
+use Rattle.block_tags.specs.Laws.{SameTags, TagsThatStaySayTheSame, PayloadMayChange, HeaderMayChange, PrefixIsAWindow}
 use Rattle.block_tags.proofs.tiles.ReadOff.{is_tile-IsWhole}
 use Rattle.raw_region.proofs.Laws.{SameBytes-word}
 use Rattle.block_tags.proofs.tiles.TileInList.{by_test, head_word, retag}
@@ -93,8 +93,8 @@ payload_may_change c d ts at t said stands size from n a b same =
     (tiles_fill_the_window c ts said) stands a b same).0
 
 -- the first bytes of a window
-pub front_is_a_window : FrontIsAWindow
-front_is_a_window c d ts l same = (
+pub prefix_is_a_window : PrefixIsAWindow
+prefix_is_a_window c d ts l same = (
   (λ said.
       let g = legal (length c.bytes) said.size in let low = g.low in
       record {

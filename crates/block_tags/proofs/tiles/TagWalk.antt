@@ -239,11 +239,11 @@ is_inside format m at before free end g =
     && is_tagged format t (word_at m (at + 8))) =
     (and_parts ((word_at m at == before) && nat_le t.len (end - at) && is_tagged format t (word_at m (at + 8)))
     (not (free && is_free t)) g).0 in
-    let front : IsTrue ((word_at m at == before) && nat_le t.len (end - at)) =
+    let prefix : IsTrue ((word_at m at == before) && nat_le t.len (end - at)) =
     (and_parts ((word_at m at == before) && nat_le t.len (end - at)) (is_tagged format t (word_at m (at + 8)))
     most).0 in
     let fits : IsTrue (nat_le t.len (end - at)) =
-    (and_parts (word_at m at == before) (nat_le t.len (end - at)) front).1 in
+    (and_parts (word_at m at == before) (nat_le t.len (end - at)) prefix).1 in
     grind arith
 
 onward : (format more : ℕ) (m : Memory) (size end at before : ℕ) (free : Bool) (tags : ℕ) → end ≡ size - 16

@@ -121,13 +121,13 @@ none_last [] = refl
 none_last (t ∷ ts) = last_or-last_in t ts
 
 record StandsBehind (before : Option Tile) (ts : List Tile) (at : ℕ) (t : Tile) : Type 0 where
-  front : List Tile
+  prefix : List Tile
   back : List Tile
-  is : ts ≡ front ++ t ∷ back
+  is : ts ≡ prefix ++ t ∷ back
   offset : t.offset ≡ at
   next : next_in ts at ≡ first_in back
-  previous : previous_from before ts at ≡ last_or before front
-  changed : (change : Tile → List Tile → List Tile) → changed_at at change ts ≡ front ++ change t back
+  previous : previous_from before ts at ≡ last_or before prefix
+  changed : (change : Tile → List Tile → List Tile) → changed_at at change ts ≡ prefix ++ change t back
 
 stands_behind : (before : Option Tile) (ts : List Tile) (at : ℕ) (t : Tile) → tile_in ts at ≡ Some t
     → StandsBehind before ts at t
@@ -137,7 +137,7 @@ stands_behind before (u ∷ us) at t e =
     by_test (u.offset == at) (StandsBehind before (u ∷ us) at t)
     (λ f. subst P (same_Some u t (sym (ap (λ (v : Bool). cond v (Some u) (tile_in us at)) f) ∙ e))
     (record {
-      front = [];
+      prefix = [];
       back = us;
       is = refl;
       offset = eqb-true u.offset at f;
@@ -148,7 +148,7 @@ stands_behind before (u ∷ us) at t e =
     (λ f.
     let r = stands_behind (Some u) us at t (sym (ap (λ (v : Bool). cond v (Some u) (tile_in us at)) f) ∙ e) in
     record {
-      front = u ∷ r.front;
+      prefix = u ∷ r.prefix;
       back = r.back;
       is = ap (λ (vs : List Tile). u ∷ vs) r.is;
       offset = r.offset;
@@ -163,23 +163,23 @@ pub tile_stands_in_list : TileStandsInList
 tile_stands_in_list ts at t e =
     let r = stands_behind None ts at t e in
     record {
-      front = r.front;
+      prefix = r.prefix;
       back = r.back;
       is = r.is;
       offset = r.offset;
       next = r.next;
-      previous = r.previous ∙ none_last r.front;
+      previous = r.previous ∙ none_last r.prefix;
       changed = r.changed;
     }
 
 -- ---- one tile at an offset
-offset_low : (format from : ℕ) (front : List Tile) (t : Tile) (back : List Tile) (to : ℕ)
-    → AreContiguous format from (front ++ t ∷ back) to → from ≤ t.offset
+offset_low : (format from : ℕ) (prefix : List Tile) (t : Tile) (back : List Tile) (to : ℕ)
+    → AreContiguous format from (prefix ++ t ∷ back) to → from ≤ t.offset
 offset_low format from [] t back to h = let e = h.0 in omega arith
 offset_low format from (u ∷ us) t back to h = let on = offset_low format (from + u.len) us t back to h.2 in omega arith
 
-one_at : (format from : ℕ) (front : List Tile) (t : Tile) (back : List Tile) (to : ℕ)
-    → AreContiguous format from (front ++ t ∷ back) to → tile_in (front ++ t ∷ back) t.offset ≡ Some t
+one_at : (format from : ℕ) (prefix : List Tile) (t : Tile) (back : List Tile) (to : ℕ)
+    → AreContiguous format from (prefix ++ t ∷ back) to → tile_in (prefix ++ t ∷ back) t.offset ≡ Some t
 one_at format from [] t back to h =
     ap (λ (v : Bool). cond v (Some t) (tile_in back t.offset)) (eq-eqb t.offset t.offset refl)
 one_at format from (u ∷ us) t back to h =
@@ -191,12 +191,12 @@ one_at format from (u ∷ us) t back to h =
 
 -- law: no two tiles begin at one offset
 pub one_tile_at_an_offset : OneTileAtAnOffset
-one_tile_at_an_offset c front t back said =
-    one_at current 128 front t back (length c.bytes - 16) (tiles_fill_the_window c (front ++ t ∷ back) said)
+one_tile_at_an_offset c prefix t back said =
+    one_at current 128 prefix t back (length c.bytes - 16) (tiles_fill_the_window c (prefix ++ t ∷ back) said)
 
 -- the tile after it
-next_at : (format from : ℕ) (front : List Tile) (t : Tile) (back : List Tile) (to : ℕ)
-    → AreContiguous format from (front ++ t ∷ back) to → next_in (front ++ t ∷ back) t.offset ≡ first_in back
+next_at : (format from : ℕ) (prefix : List Tile) (t : Tile) (back : List Tile) (to : ℕ)
+    → AreContiguous format from (prefix ++ t ∷ back) to → next_in (prefix ++ t ∷ back) t.offset ≡ first_in back
 next_at format from [] t back to h =
     ap (λ (v : Bool). cond v (first_in back) (next_in back t.offset)) (eq-eqb t.offset t.offset refl)
 next_at format from (u ∷ us) t back to h =
@@ -207,10 +207,10 @@ next_at format from (u ∷ us) t back to h =
     ∙ next_at format (from + u.len) us t back to h.2
 
 -- the next tile is the first of those after
-pub next_stands_behind : (c : WindowState) (front : List Tile) (t : Tile) (back : List Tile)
-    → EncodesTiles c (front ++ t ∷ back) → next_in (front ++ t ∷ back) t.offset ≡ first_in back
-next_stands_behind c front t back said =
-    next_at current 128 front t back (length c.bytes - 16) (tiles_fill_the_window c (front ++ t ∷ back) said)
+pub next_stands_behind : (c : WindowState) (prefix : List Tile) (t : Tile) (back : List Tile)
+    → EncodesTiles c (prefix ++ t ∷ back) → next_in (prefix ++ t ∷ back) t.offset ≡ first_in back
+next_stands_behind c prefix t back said =
+    next_at current 128 prefix t back (length c.bytes - 16) (tiles_fill_the_window c (prefix ++ t ∷ back) said)
 
 -- ---- the last tile
 pub last_tile_ends_list : LastTileEndsList

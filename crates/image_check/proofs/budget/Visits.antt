@@ -1,7 +1,7 @@
 -- Counts of visits: the rates of tiles, and the bound of all passes together: 64 for each 16 bytes of the size, and 64.
 use Rattle.image_check.proofs.Common.{EncodesTiles, HasTiles, Index, IsLinkClosed, IsTrue, List, Node, None, Option}
 use Rattle.image_check.proofs.Common.{Rates, Role, Row, Some, Spends, Storage, Tile, WindowState, [], ap, arith}
-use Rattle.image_check.proofs.Common.{bytes_of, is_in, is_legal_size, is_place, is_place-PayloadBounds, leads}
+use Rattle.image_check.proofs.Common.{bytes_of, is_in, is_legal_size, is_target, is_target-PayloadBounds, leads}
 use Rattle.image_check.proofs.Common.{legal_size, length, link_at, planting_rates, rate_of, refl, said_row, tag_rates}
 use Rattle.image_check.proofs.Common.{tiles_are_read_off, tree_rates, true, weigh, ℕ, ◌%◌, ◌*◌, ◌++◌, ◌+◌, ◌-◌, ◌/◌}
 use Rattle.image_check.proofs.Common.{◌<◌, ◌^◌, ◌∙◌, ◌∷◌, ◌≡◌, ◌≤◌}
@@ -11,10 +11,10 @@ use Rattle.link_tree.specs.Tree.{bits}
 use Rattle.std.proofs.lemmas.Int.Digits.{length-digits_of-le}
 use Rattle.image_check.specs.Opening.{IsRaisedFor}
 use Rattle.image_check.specs.Passes.{tiles_in}
-use Rattle.image_check.specs.Visits.{all_rates, block_rates, both, frame_rates, gathering_rates, note_rates}
+use Rattle.image_check.specs.Visits.{all_rates, block_rates, both, frame_rates, gathering_rates, hint_rates}
 use Rattle.image_check.specs.Visits.{planting_visits, step_rates}
-use Rattle.image_check.specs.FreeNodes.{place_cells, placed}
-use Rattle.image_check.specs.FreeLaws.{length-multiples, multiples, place_listed, placed_leads}
+use Rattle.image_check.specs.FreeNodes.{target_cells, good_target}
+use Rattle.image_check.specs.FreeLaws.{length-multiples, multiples, target_listed, target_leads}
 use Rattle.image_check.proofs.walks.Tiles.{tags-IsTiledWindow}
 
 -- ---- sums of plain numbers
@@ -260,25 +260,25 @@ pub search-short : (n steps : ℕ) → n < 2 ^ 26 - 1 → steps ≤ 2 * bits (n 
 search-short n steps l s = let short = length-digits_of-le 2 26 (n + 1) (omega arith) (omega arith) in omega arith
 
 -- the offsets at which a payload can begin are closed under links, and there is at most one for each 16 bytes
-listed-link : (c : WindowState) (o : Option ℕ) → leads (is_place c) o ≡ true
+listed-link : (c : WindowState) (o : Option ℕ) → leads (is_target c) o ≡ true
     → leads (λ n. is_in n (multiples (length c.bytes / 16))) o ≡ true
 listed-link c None h = refl
-listed-link c (Some n) h = place_listed c n (is_place-PayloadBounds c n h)
+listed-link c (Some n) h = target_listed c n (is_target-PayloadBounds c n h)
 
 places-closed : (c : WindowState) → IsTrue (is_legal_size (length c.bytes))
-    → IsLinkClosed (place_cells c) (multiples (length c.bytes / 16))
-unfolding place_cells
+    → IsLinkClosed (target_cells c) (multiples (length c.bytes / 16))
+unfolding target_cells
 places-closed c h = record {
-  left = λ n i. listed-link c (placed (length c.bytes) (link_at (bytes_of c.bytes) n))
-      (placed_leads c (link_at (bytes_of c.bytes) n) h);
-  right = λ n i. listed-link c (placed (length c.bytes) (link_at (bytes_of c.bytes) (n + 8)))
-      (placed_leads c (link_at (bytes_of c.bytes) (n + 8)) h);
+  left = λ n i. listed-link c (good_target (length c.bytes) (link_at (bytes_of c.bytes) n))
+      (target_leads c (link_at (bytes_of c.bytes) n) h);
+  right = λ n i. listed-link c (good_target (length c.bytes) (link_at (bytes_of c.bytes) (n + 8)))
+      (target_leads c (link_at (bytes_of c.bytes) (n + 8)) h);
 }
 
 -- the check of the tree visits at most as many nodes as there are gaps
 pub check-short : (c : WindowState) (root : Option ℕ) (old steps new : ℕ) → HasTiles c.bytes
-    → leads (is_place c) root ≡ true
-    → ((ns : List ℕ) → IsLinkClosed (place_cells c) ns → leads (λ n. is_in n ns) root ≡ true
+    → leads (is_target c) root ≡ true
+    → ((ns : List ℕ) → IsLinkClosed (target_cells c) ns → leads (λ n. is_in n ns) root ≡ true
     → steps ≤ 5 * length ns + 5) → new ≡ old + steps
     → Spends step_rates 50 c.bytes old new
 check-short c root old steps new h good most e =
@@ -363,7 +363,7 @@ module _ (c : WindowState) (old framed gathered : ℕ) (h : HasTiles c.bytes)
   blocks-raised new z = all-part c all_rates 115 old new h all-most (omega arith) (blocks-spent new z)
 
 -- and after the noting of the blocks
-noted-most : (u : Option Role) → rate_of (both all_rates note_rates) u ≤ 64
+noted-most : (u : Option Role) → rate_of (both all_rates hint_rates) u ≤ 64
 noted-most None = omega arith
 noted-most (Some Object) = omega arith
 noted-most (Some Index) = omega arith
@@ -373,10 +373,10 @@ noted-most (Some Node) = omega arith
 -- the visits of the notes are within the bound
 pub noted-raised : (c : WindowState) (old passed new count : ℕ) → HasTiles c.bytes
     → Spends all_rates 115 c.bytes old passed
-    → count ≤ weigh note_rates (tiles_in c.bytes) → new ≡ passed + count → IsRaisedFor (length c.bytes) old new
+    → count ≤ weigh hint_rates (tiles_in c.bytes) → new ≡ passed + count → IsRaisedFor (length c.bytes) old new
 noted-raised c old passed new count h x few e =
-    all-part c (both all_rates note_rates) 115 old new h noted-most (omega arith)
-    (spend-both c.bytes all_rates note_rates 115 0 old passed new x (omega arith, omega arith))
+    all-part c (both all_rates hint_rates) 115 old new h noted-most (omega arith)
+    (spend-both c.bytes all_rates hint_rates 115 0 old passed new x (omega arith, omega arith))
 
 -- if the tags are wrong, only they were read
 pub tags-raised : (b : List ℕ) (old tags new : ℕ) → 32 * tags + 112 ≤ length b → new ≡ old + tags

@@ -16,31 +16,31 @@ use Rattle.image_check.proofs.claims.TreeClaims.{IsLinkOf, links-closed, tree-co
 use mathlib.Core.Logic.{inl, inr}
 
 -- the offset of an object's value
-abbrev pub place_of : Object → ℕ
-place_of o = handle o.extent + 16 + padded (length o.name)
+abbrev pub index_at : Object → ℕ
+index_at o = handle o.extent + 16 + padded (length o.name)
 
 -- a kind and an offset of one of the objects
 pub record IsAmong (os : List Object) (p : Kind × ℕ) : Type 0 where
   pub object : Object
   pub mem : Mem object os
-  pub is : p ≡ (kind_of object.value, place_of object)
+  pub is : p ≡ (kind_of object.value, index_at object)
 
 -- the objects' values are the values of the tiles, and their fields the fields of the values
 pub record IsClaimed (format : ℕ) (m : Memory) (ts : List Tile) (os : List Object) (named unique : BackingArray) :
     Type 0 where
   pub of : (p : Kind × ℕ) → Mem p (values format m ts) → IsAmong os p
-  pub has : (o : Object) → Mem o os → Mem (kind_of o.value, place_of o) (values format m ts)
+  pub has : (o : Object) → Mem o os → Mem (kind_of o.value, index_at o) (values format m ts)
   pub storage : (o : Object) → Mem o os
-      → storage_field m ts (kind_of o.value, place_of o) ≡ storage_claims o.value (place_of o)
+      → storage_field m ts (kind_of o.value, index_at o) ≡ storage_claims o.value (index_at o)
   pub elements : (o : Object) → Mem o os
-      → element_fields m ts (kind_of o.value, place_of o) ≡ element_claims o.value (place_of o)
-  pub tree : (o : Object) → Mem o os → IsTreeRead m ts o.value (place_of o)
+      → element_fields m ts (kind_of o.value, index_at o) ≡ element_claims o.value (index_at o)
+  pub tree : (o : Object) → Mem o os → IsTreeRead m ts o.value (index_at o)
   pub named_field : index_field m ts 32 ≡ table_claims 32 named
   pub unique_field : index_field m ts 56 ≡ table_claims 56 unique
 
 -- the fields of an object
 abbrev pub claims_of : Memory → List Tile → Object → List Field
-claims_of m ts o = value_claims m ts o.value (place_of o)
+claims_of m ts o = value_claims m ts o.value (index_at o)
 
 -- the fields of the two indexes
 abbrev pub tables_claims : BackingArray → BackingArray → List Field
@@ -108,11 +108,11 @@ module _ (format : ℕ) (m : Memory) (ts : List Tile) (os : List Object) (named 
   of-tables : (f : Field) → Mem f (tables_claims named unique) → Mem f all
   of-tables f k = mem_right f (flat_map (claims_of m ts) os) (tables_claims named unique) k
 
-  of-nodes : (o : Object) (f : Field) → Mem o os → Mem f (node_claims m ts o.value (place_of o)) → Mem f all
+  of-nodes : (o : Object) (f : Field) → Mem o os → Mem f (node_claims m ts o.value (index_at o)) → Mem f all
   of-nodes o f k l =
-      of-object o f k (mem_right f (storage_claims o.value (place_of o)) (element_claims o.value (place_of o)
-      ++ node_claims m ts o.value (place_of o))
-      (mem_right f (element_claims o.value (place_of o)) (node_claims m ts o.value (place_of o)) l))
+      of-object o f k (mem_right f (storage_claims o.value (index_at o)) (element_claims o.value (index_at o)
+      ++ node_claims m ts o.value (index_at o))
+      (mem_right f (element_claims o.value (index_at o)) (node_claims m ts o.value (index_at o)) l))
 
   index-claimed : (f : Field) → Mem f (index_field m ts 32) → Mem f all
   index-claimed f k = of-tables f
@@ -127,29 +127,29 @@ module _ (format : ℕ) (m : Memory) (ts : List Tile) (os : List Object) (named 
       let p = mem_of_flat_map (storage_field m ts) f (values format m ts) k in
       let v = r.of p.one p.mem in
       let o = v.object in
-      let there : Mem f (storage_claims o.value (place_of o)) =
+      let there : Mem f (storage_claims o.value (index_at o)) =
       subst (Mem f) (ap (storage_field m ts) v.is ∙ r.storage o v.mem) p.is in
-      of-object o f v.mem (mem_left f (storage_claims o.value (place_of o)) (element_claims o.value (place_of o)
-      ++ node_claims m ts o.value (place_of o)) there)
+      of-object o f v.mem (mem_left f (storage_claims o.value (index_at o)) (element_claims o.value (index_at o)
+      ++ node_claims m ts o.value (index_at o)) there)
 
   elements-claimed : (f : Field) → Mem f (flat_map (element_fields m ts) (values format m ts)) → Mem f all
   elements-claimed f k =
       let p = mem_of_flat_map (element_fields m ts) f (values format m ts) k in
       let v = r.of p.one p.mem in
       let o = v.object in
-      let there : Mem f (element_claims o.value (place_of o)) =
+      let there : Mem f (element_claims o.value (index_at o)) =
       subst (Mem f) (ap (element_fields m ts) v.is ∙ r.elements o v.mem) p.is in
       of-object o f v.mem
-      (mem_right f (storage_claims o.value (place_of o)) (element_claims o.value (place_of o)
-      ++ node_claims m ts o.value (place_of o))
-      (mem_left f (element_claims o.value (place_of o)) (node_claims m ts o.value (place_of o)) there))
+      (mem_right f (storage_claims o.value (index_at o)) (element_claims o.value (index_at o)
+      ++ node_claims m ts o.value (index_at o))
+      (mem_left f (element_claims o.value (index_at o)) (node_claims m ts o.value (index_at o)) there))
 
   root-claimed : (x : ℕ) → Mem x (flat_map root_link (values format m ts)) → IsLinkOf m (λ f. Mem f all) x
   root-claimed x k =
       let p = mem_of_flat_map root_link x (values format m ts) k in
       let v = r.of p.one p.mem in
       let o = v.object in
-      root-link m ts (λ f. Mem f all) o.value (place_of o) (r.tree o v.mem) (λ f l.
+      root-link m ts (λ f. Mem f all) o.value (index_at o) (r.tree o v.mem) (λ f l.
       of-nodes o f v.mem l) x (subst (λ q. Mem x (root_link q)) v.is p.is)
 
   nodes-claimed : (f : Field) → Mem f
@@ -202,26 +202,26 @@ module _ (format : ℕ) (m : Memory) (ts : List Tile) (os : List Object) (named 
 
   value-counted : (o : Object) → Mem o os → (f : Field) → Mem f (claims_of m ts o) → Mem f (counted_fields format m ts)
   value-counted o k f h =
-      elim (mem_parts f (storage_claims o.value (place_of o)) (element_claims o.value (place_of o)
-      ++ node_claims m ts o.value (place_of o)) h) [
+      elim (mem_parts f (storage_claims o.value (index_at o)) (element_claims o.value (index_at o)
+      ++ node_claims m ts o.value (index_at o)) h) [
         | inl a ↦
             of-three f (mem_right f two (flat_map (storage_field m ts) (values format m ts))
             (mem_flat_map (storage_field m ts) (
               kind_of o.value,
-              place_of o,
+              index_at o,
             ) f (values format m ts) (r.has o k) (subst (Mem f) (sym (r.storage o k)) a)))
-        | inr w ↦ elim (mem_parts f (element_claims o.value (place_of o)) (node_claims m ts o.value (place_of o)) w) [
+        | inr w ↦ elim (mem_parts f (element_claims o.value (index_at o)) (node_claims m ts o.value (index_at o)) w) [
           | inl a ↦
               of-four f (mem_right f three (flat_map (element_fields m ts) (values format m ts))
               (mem_flat_map (element_fields m ts) (
                 kind_of o.value,
-                place_of o,
+                index_at o,
               ) f (values format m ts) (r.has o k) (subst (Mem f) (sym (r.elements o k)) a)))
           | inr a ↦
               mem_right f four nodes
               (node-counted m ts (flat_map root_link (values format m ts)) nodes (roots-covered format m ts) o.value
-              (place_of o) (r.tree o k)
-              (λ x l. mem_flat_map root_link (kind_of o.value, place_of o) x (values format m ts) (r.has o k) l) f a)
+              (index_at o) (r.tree o k)
+              (λ x l. mem_flat_map root_link (kind_of o.value, index_at o) x (values format m ts) (r.has o k) l) f a)
         ]
       ]
 

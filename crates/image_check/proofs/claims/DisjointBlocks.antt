@@ -10,7 +10,7 @@ use Rattle.image_check.proofs.bytes.Members.{mem_parts, mem_right}
 use Rattle.image_check.proofs.read_off.OwnBlocks.{IsOther, is_object_extent, value-other}
 use Rattle.image_check.proofs.indexes.Entries.{Distinct, distinct-append, object-from}
 use Rattle.image_check.proofs.claims.Fields.{table_claims, target_in, value-targets}
-use Rattle.image_check.proofs.claims.CountedClaims.{all_claims, claims_of, place_of, tables_claims}
+use Rattle.image_check.proofs.claims.CountedClaims.{all_claims, claims_of, index_at, tables_claims}
 use Rattle.image_check.proofs.law.DenotedHasNoClass.{both-targets}
 use Rattle.image_check.proofs.claims.FieldPlaces.{ArePlaced, option-at, option-once, same-handle}
 use Rattle.image_check.proofs.claims.DisjointObjects.{claim-high, claimed, objects-apart, value-once}
@@ -43,7 +43,7 @@ module _ (ts : List Tile) (end : ℕ) (a : Row 128 ts end) (m : Memory) (os : Li
   table-apart o k x y h i e =
       let c = r.objects o k in
       let f = mem_of_map target_in (handle x) (claims_of m ts o)
-      (subst (Mem (handle x)) (sym (value-targets m ts o.value (place_of o) c.good c.tree))
+      (subst (Mem (handle x)) (sym (value-targets m ts o.value (index_at o) c.good c.tree))
       (mem_map handle x (value_extents o.value) h)) in
       let g = table-claim y i in
       let same = r.unshared.one f.one g.one (claimed ts end a m os named unique r o k f.one f.mem)

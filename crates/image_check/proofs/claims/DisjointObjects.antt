@@ -12,7 +12,7 @@ use Rattle.image_check.proofs.claims.ReachedLinks.{field}
 use Rattle.image_check.proofs.indexes.Entries.{Distinct, distinct-append}
 use Rattle.image_check.proofs.claims.Fields.{array_claims, element_claims, node_claims, storage_claims, target_in}
 use Rattle.image_check.proofs.claims.Fields.{tree-targets, tree_claims, value-targets}
-use Rattle.image_check.proofs.claims.CountedClaims.{all_claims, claims_of, place_of, tables_claims}
+use Rattle.image_check.proofs.claims.CountedClaims.{all_claims, claims_of, index_at, tables_claims}
 use Rattle.image_check.proofs.claims.Forests.{AreAligned, NotBelow, one-tree, targets-distinct, tree-at, two-trees}
 use Rattle.image_check.proofs.claims.FieldPlaces.{ArePlaced, IsForest, Lies, at_of, element-array, elements-len, forest}
 use Rattle.image_check.proofs.claims.FieldPlaces.{in-one, node-aligned, node-lies, nodes-len, one-use, option-once}
@@ -29,18 +29,18 @@ module _ (ts : List Tile) (end : ℕ) (a : Row 128 ts end) (m : Memory) (os : Li
   claimed o k f h = mem_left f (flat_map (claims_of m ts) os) (tables_claims named unique)
       (mem_flat_map (claims_of m ts) o f os k h)
 
-  in-storage : (o : Object) (f : Field) → Mem f (storage_claims o.value (place_of o)) → Mem f (claims_of m ts o)
-  in-storage o f h = mem_left f (storage_claims o.value (place_of o)) (element_claims o.value (place_of o)
-      ++ node_claims m ts o.value (place_of o)) h
+  in-storage : (o : Object) (f : Field) → Mem f (storage_claims o.value (index_at o)) → Mem f (claims_of m ts o)
+  in-storage o f h = mem_left f (storage_claims o.value (index_at o)) (element_claims o.value (index_at o)
+      ++ node_claims m ts o.value (index_at o)) h
 
-  in-nodes : (o : Object) (f : Field) → Mem f (node_claims m ts o.value (place_of o)) → Mem f (claims_of m ts o)
+  in-nodes : (o : Object) (f : Field) → Mem f (node_claims m ts o.value (index_at o)) → Mem f (claims_of m ts o)
   in-nodes o f h =
-      mem_right f (storage_claims o.value (place_of o)) (element_claims o.value (place_of o)
-      ++ node_claims m ts o.value (place_of o))
-      (mem_right f (element_claims o.value (place_of o)) (node_claims m ts o.value (place_of o)) h)
+      mem_right f (storage_claims o.value (index_at o)) (element_claims o.value (index_at o)
+      ++ node_claims m ts o.value (index_at o))
+      (mem_right f (element_claims o.value (index_at o)) (node_claims m ts o.value (index_at o)) h)
 
   -- the value of a container lies in its object's tile
-  place-lies : (o : Object) (k : Mem o os) → value_len o.value ≡ 24 → Lies (place_of o) (r.objects o k).tile
+  place-lies : (o : Object) (k : Mem o os) → value_len o.value ≡ 24 → Lies (index_at o) (r.objects o k).tile
   place-lies o k e =
       let p = r.objects o k in
       let room = p.room in
@@ -49,30 +49,30 @@ module _ (ts : List Tile) (end : ℕ) (a : Row 128 ts end) (m : Memory) (os : Li
 
   -- a claim at this offset is a word of the object or of its array; links of map nodes are excluded
   data Home (o : Object) (x : ℕ) : Type 0 where
-    at_place : value_len o.value ≡ 24 → x ≡ place_of o → Home o x
+    at_place : value_len o.value ≡ 24 → x ≡ index_at o → Home o x
     in_array : (t : Tile) → Mem t ts → IsTrue (is_use Storage t) → Lies x t → value_len o.value ≡ 24
-        → Mem (field (place_of o) (payload t)) (storage_claims o.value (place_of o)) → Home o x
+        → Mem (field (index_at o) (payload t)) (storage_claims o.value (index_at o)) → Home o x
 
   -- the offset of a link of a tree
   data NodeHome (o : Object) (x : ℕ) : Type 0 where
-    at_root : value_len o.value ≡ 24 → x ≡ place_of o → NodeHome o x
+    at_root : value_len o.value ≡ 24 → x ≡ index_at o → NodeHome o x
     in_node : (t : Tile) → Mem t ts → IsTrue (is_use Node t) → Lies x t → NodeHome o x
 
-  storage-home : (o : Object) (f : Field) → Mem f (storage_claims o.value (place_of o)) → Home o f.at
-  storage-home o f h = let s = storage-at o.value (place_of o) f h in at_place s.1 s.0
+  storage-home : (o : Object) (f : Field) → Mem f (storage_claims o.value (index_at o)) → Home o f.at
+  storage-home o f h = let s = storage-at o.value (index_at o) f h in at_place s.1 s.0
 
-  element-home : (o : Object) → Mem o os → (f : Field) → Mem f (element_claims o.value (place_of o)) → Home o f.at
+  element-home : (o : Object) → Mem o os → (f : Field) → Mem f (element_claims o.value (index_at o)) → Home o f.at
   element-home o k f h =
       let p = r.objects o k in
-      let w = element-array ts end a o.value (place_of o) p.good p.extents f h in
-      in_array w.0 w.1 w.2 w.3 (elements-len o.value (place_of o) f h) w.4
+      let w = element-array ts end a o.value (index_at o) p.good p.extents f h in
+      in_array w.0 w.1 w.2 w.3 (elements-len o.value (index_at o) f h) w.4
 
-  node-home : (o : Object) → Mem o os → (f : Field) → Mem f (node_claims m ts o.value (place_of o)) → NodeHome o f.at
+  node-home : (o : Object) → Mem o os → (f : Field) → Mem f (node_claims m ts o.value (index_at o)) → NodeHome o f.at
   node-home o k f h =
       let p = r.objects o k in
-      let w = forest ts end a m o.value (place_of o) p.good p.extents p.tree in
-      elim (tree-at (place_of o) w.tree f (subst (Mem f) w.claims h)) [
-        | inl e ↦ at_root (nodes-len m ts o.value (place_of o) f h) e
+      let w = forest ts end a m o.value (index_at o) p.good p.extents p.tree in
+      elim (tree-at (index_at o) w.tree f (subst (Mem f) w.claims h)) [
+        | inl e ↦ at_root (nodes-len m ts o.value (index_at o) f h) e
         | inr b ↦ (let t = w.tiles b.node b.mem in in_node t.0 t.1 t.2 (node-lies ts end a b.node t f.at b.is))
       ]
 
@@ -88,81 +88,81 @@ module _ (ts : List Tile) (end : ℕ) (a : Row 128 ts end) (m : Memory) (os : Li
 
   -- the place of an object's value in a tile of another use
   place-alone : (o : Object) (k : Mem o os) → value_len o.value ≡ 24 → (t : Tile) (q : Role) → Mem t ts
-      → IsTrue (is_use q t) → same_role ObjectRole q ≡ false → Lies (place_of o) t → ⊥
+      → IsTrue (is_use q t) → same_role ObjectRole q ≡ false → Lies (index_at o) t → ⊥
   place-alone o k e t q h i n l =
       let p = r.objects o k in
-      two-roles p.tile t ObjectRole q p.mem h p.use_of i (place_of o) (place-lies o k e) l n
+      two-roles p.tile t ObjectRole q p.mem h p.use_of i (index_at o) (place-lies o k e) l n
 
   -- the values of two objects are at two offsets
   places-differ : (o p : Object) (k : Mem o os) (l : Mem p os) → value_len o.value ≡ 24 → value_len p.value ≡ 24
-      → (o.extent.offset ≡ p.extent.offset → ⊥) → place_of o ≡ place_of p → ⊥
+      → (o.extent.offset ≡ p.extent.offset → ⊥) → index_at o ≡ index_at p → ⊥
   places-differ o p k l e f n g =
       let x = r.objects o k in
       let y = r.objects p l in
-      let same = in-one 128 ts end (place_of o) x.tile y.tile a x.mem y.mem (place-lies o k e)
-      (move (place_of o) (place_of p) y.tile g (place-lies p l f)) in
+      let same = in-one 128 ts end (index_at o) x.tile y.tile a x.mem y.mem (place-lies o k e)
+      (move (index_at o) (index_at p) y.tile g (place-lies p l f)) in
       n (sym x.offset ∙ ap (λ (t : Tile). t.offset) same ∙ y.offset)
 
   homes : (o p : Object) (k : Mem o os) (l : Mem p os) (x : ℕ) → (o.extent.offset ≡ p.extent.offset → ⊥) → Home o x
       → Home p x → ⊥
   homes o p k l x n (at_place e f) (at_place g h) = places-differ o p k l e g n (sym f ∙ h)
   homes o p k l x n (at_place e f) (in_array t h i j g c) =
-      place-alone o k e t Storage h i refl (move (place_of o) x t (sym f) j)
+      place-alone o k e t Storage h i refl (move (index_at o) x t (sym f) j)
   homes o p k l x n (in_array t h i j g c) (at_place e f) =
-      place-alone p l e t Storage h i refl (move (place_of p) x t (sym f) j)
+      place-alone p l e t Storage h i refl (move (index_at p) x t (sym f) j)
   homes o p k l x n (in_array t h i j e c) (in_array u h2 i2 j2 e2 c2) =
       let same = in-one 128 ts end x t u a h h2 j j2 in
-      let there : K (field (place_of o) (payload t)) =
-      claimed o k (field (place_of o) (payload t)) (in-storage o (field (place_of o) (payload t)) c) in
-      let there2 : K (field (place_of p) (payload u)) =
-      claimed p l (field (place_of p) (payload u)) (in-storage p (field (place_of p) (payload u)) c2) in
-      places-differ o p k l e e2 n (r.unshared.one (field (place_of o) (payload t)) (field (place_of p) (payload u))
+      let there : K (field (index_at o) (payload t)) =
+      claimed o k (field (index_at o) (payload t)) (in-storage o (field (index_at o) (payload t)) c) in
+      let there2 : K (field (index_at p) (payload u)) =
+      claimed p l (field (index_at p) (payload u)) (in-storage p (field (index_at p) (payload u)) c2) in
+      places-differ o p k l e e2 n (r.unshared.one (field (index_at o) (payload t)) (field (index_at p) (payload u))
       there there2 (ap payload same))
 
   home-node : (o p : Object) (k : Mem o os) (l : Mem p os) (x : ℕ) → (o.extent.offset ≡ p.extent.offset → ⊥)
       → Home o x → NodeHome p x → ⊥
   home-node o p k l x n (at_place e f) (at_root g h) = places-differ o p k l e g n (sym f ∙ h)
   home-node o p k l x n (at_place e f) (in_node t h i j) =
-      place-alone o k e t Node h i refl (move (place_of o) x t (sym f) j)
+      place-alone o k e t Node h i refl (move (index_at o) x t (sym f) j)
   home-node o p k l x n (in_array t h i j g c) (at_root e f) =
-      place-alone p l e t Storage h i refl (move (place_of p) x t (sym f) j)
+      place-alone p l e t Storage h i refl (move (index_at p) x t (sym f) j)
   home-node o p k l x n (in_array t h i j g c) (in_node u h2 i2 j2) = two-roles t u Storage Node h h2 i i2 x j j2 refl
 
   -- ---- maps
 
-  forest-of : (o : Object) → Mem o os → IsForest ts end a m o.value (place_of o)
-  forest-of o k = let p = r.objects o k in forest ts end a m o.value (place_of o) p.good p.extents p.tree
+  forest-of : (o : Object) → Mem o os → IsForest ts end a m o.value (index_at o)
+  forest-of o k = let p = r.objects o k in forest ts end a m o.value (index_at o) p.good p.extents p.tree
 
   forest-aligned : (o : Object) (k : Mem o os) → AreAligned (nodes_of (forest-of o k).tree)
   forest-aligned o k = record { at = λ n h. node-aligned ts end a n ((forest-of o k).tiles n h) }
 
-  forest-claimed : (o : Object) (k : Mem o os) (f : Field) → Mem f (tree_claims (place_of o) (forest-of o k).tree) → K f
+  forest-claimed : (o : Object) (k : Mem o os) (f : Field) → Mem f (tree_claims (index_at o) (forest-of o k).tree) → K f
   forest-claimed o k f h = claimed o k f (in-nodes o f (subst (Mem f) (sym (forest-of o k).claims) h))
 
   not-in-node : (o : Object) (k : Mem o os) → value_len o.value ≡ 24 → (p : Object) (l : Mem p os)
-      → NotBelow (place_of o) (nodes_of (forest-of p l).tree)
+      → NotBelow (index_at o) (nodes_of (forest-of p l).tree)
   not-in-node o k e p l = record {
     first = λ n h f. (let t = (forest-of p l).tiles n h
-        in place-alone o k e t.0 Node t.1 t.2 refl (node-lies ts end a n t (place_of o) (inl f)));
+        in place-alone o k e t.0 Node t.1 t.2 refl (node-lies ts end a n t (index_at o) (inl f)));
     second = λ n h f. (let t = (forest-of p l).tiles n h
-        in place-alone o k e t.0 Node t.1 t.2 refl (node-lies ts end a n t (place_of o) (inr f)));
+        in place-alone o k e t.0 Node t.1 t.2 refl (node-lies ts end a n t (index_at o) (inr f)));
   }
 
   nodes-apart : (o p : Object) (k : Mem o os) (l : Mem p os) → (o.extent.offset ≡ p.extent.offset → ⊥)
-      → (f g : Field) → Mem f (node_claims m ts o.value (place_of o)) → Mem g (node_claims m ts p.value (place_of p))
+      → (f g : Field) → Mem f (node_claims m ts o.value (index_at o)) → Mem g (node_claims m ts p.value (index_at p))
       → f.target ≡ g.target → ⊥
   nodes-apart o p k l n f g h i e =
-      let lo = nodes-len m ts o.value (place_of o) f h in
-      let lp = nodes-len m ts p.value (place_of p) g i in
+      let lo = nodes-len m ts o.value (index_at o) f h in
+      let lp = nodes-len m ts p.value (index_at p) g i in
       let s : Tree = (forest-of o k).tree in
       let t : Tree = (forest-of p l).tree in
       let x : Mem f.target (nodes_of s) =
-      subst (Mem f.target) (tree-targets (place_of o) s)
-      (mem_map target_in f (tree_claims (place_of o) s) (subst (Mem f) (forest-of o k).claims h)) in
+      subst (Mem f.target) (tree-targets (index_at o) s)
+      (mem_map target_in f (tree_claims (index_at o) s) (subst (Mem f) (forest-of o k).claims h)) in
       let y : Mem g.target (nodes_of t) =
-      subst (Mem g.target) (tree-targets (place_of p) t)
-      (mem_map target_in g (tree_claims (place_of p) t) (subst (Mem g) (forest-of p l).claims i)) in
-      two-trees K r.unshared (place_of o) s (place_of p) t (forest-claimed o k) (forest-claimed p l)
+      subst (Mem g.target) (tree-targets (index_at p) t)
+      (mem_map target_in g (tree_claims (index_at p) t) (subst (Mem g) (forest-of p l).claims i)) in
+      two-trees K r.unshared (index_at o) s (index_at p) t (forest-claimed o k) (forest-claimed p l)
       (forest-aligned o k) (forest-aligned p l) (places-differ o p k l lo lp n)
       (not-in-node o k lo p l) (not-in-node p l lp o k) f.target x (subst (λ z. Mem z (nodes_of t)) (sym e) y)
 
@@ -170,13 +170,13 @@ module _ (ts : List Tile) (end : ℕ) (a : Row 128 ts end) (m : Memory) (os : Li
 
   data Part_of (o : Object) (f : Field) : Type 0 where
     home : Home o f.at → Part_of o f
-    node : Mem f (node_claims m ts o.value (place_of o)) → Part_of o f
+    node : Mem f (node_claims m ts o.value (index_at o)) → Part_of o f
 
   part-of : (o : Object) (k : Mem o os) (f : Field) → Mem f (claims_of m ts o) → Part_of o f
-  part-of o k f h = elim (mem_parts f (storage_claims o.value (place_of o)) (element_claims o.value (place_of o)
-      ++ node_claims m ts o.value (place_of o)) h) [
+  part-of o k f h = elim (mem_parts f (storage_claims o.value (index_at o)) (element_claims o.value (index_at o)
+      ++ node_claims m ts o.value (index_at o)) h) [
         | inl x ↦ home (storage-home o f x)
-        | inr y ↦ elim (mem_parts f (element_claims o.value (place_of o)) (node_claims m ts o.value (place_of o)) y)
+        | inr y ↦ elim (mem_parts f (element_claims o.value (index_at o)) (node_claims m ts o.value (index_at o)) y)
             [ inl x ↦ home (element-home o k f x) | inr x ↦ node x ]
       ]
 
@@ -196,10 +196,10 @@ module _ (ts : List Tile) (end : ℕ) (a : Row 128 ts end) (m : Memory) (os : Li
       let c = r.objects o k in
       let d = r.objects p l in
       let f = mem_of_map target_in (handle x) (claims_of m ts o)
-      (subst (Mem (handle x)) (sym (value-targets m ts o.value (place_of o) c.good c.tree))
+      (subst (Mem (handle x)) (sym (value-targets m ts o.value (index_at o) c.good c.tree))
       (mem_map handle x (value_extents o.value) h)) in
       let g = mem_of_map target_in (handle y) (claims_of m ts p)
-      (subst (Mem (handle y)) (sym (value-targets m ts p.value (place_of p) d.good d.tree))
+      (subst (Mem (handle y)) (sym (value-targets m ts p.value (index_at p) d.good d.tree))
       (mem_map handle y (value_extents p.value) i)) in
       let t : (f.one).target ≡ (g.one).target = sym f.is ∙ e ∙ g.is in
       parts-apart o p k l n f.one g.one
@@ -209,7 +209,7 @@ module _ (ts : List Tile) (end : ℕ) (a : Row 128 ts end) (m : Memory) (os : Li
   -- ---- one object names a block once
 
   own-elements : (o : Object) (k : Mem o os) (v : Value) → v ≡ o.value
-      → Distinct (map at_of (element_claims v (place_of o)))
+      → Distinct (map at_of (element_claims v (index_at o)))
   own-elements o k (Numbers q zs) e = tt
   own-elements o k (Elements q zs t) e = tt
   own-elements o k (Bytes bs t) e = tt
@@ -227,34 +227,34 @@ module _ (ts : List Tile) (end : ℕ) (a : Row 128 ts end) (m : Memory) (os : Li
   storage-once (Pairs q v ps) at = tt
   storage-once (Texts ps t) at = option-once t.extent at
 
-  nodes-once : (o : Object) (k : Mem o os) → Distinct (map target_in (node_claims m ts o.value (place_of o)))
+  nodes-once : (o : Object) (k : Mem o os) → Distinct (map target_in (node_claims m ts o.value (index_at o)))
   nodes-once o k = nodes-once-if o k (forest-of o k).tree refl
     where
       nodes-once-if : (o : Object) (k : Mem o os) (t : Tree) → t ≡ (forest-of o k).tree
-          → Distinct (map target_in (node_claims m ts o.value (place_of o)))
+          → Distinct (map target_in (node_claims m ts o.value (index_at o)))
       nodes-once-if o k leaf e =
-          let c : node_claims m ts o.value (place_of o) ≡ [] =
-          (forest-of o k).claims ∙ ap (tree_claims (place_of o)) (sym e) in
+          let c : node_claims m ts o.value (index_at o) ≡ [] =
+          (forest-of o k).claims ∙ ap (tree_claims (index_at o)) (sym e) in
           subst (λ fs. Distinct (map target_in fs)) (sym c) tt
       nodes-once-if o k (fork red l n q) e =
           let t : Tree = (forest-of o k).tree in
-          let c : node_claims m ts o.value (place_of o) ≡ tree_claims (place_of o) t = (forest-of o k).claims in
-          let root : Mem (field (place_of o) n) (node_claims m ts o.value (place_of o)) =
-          subst (Mem (field (place_of o) n)) (sym (c ∙ ap (tree_claims (place_of o)) (sym e)))
-          (mem_right (field (place_of o) n) (tree_claims n l) (field (place_of o) n ∷ tree_claims (n + 8) q)
+          let c : node_claims m ts o.value (index_at o) ≡ tree_claims (index_at o) t = (forest-of o k).claims in
+          let root : Mem (field (index_at o) n) (node_claims m ts o.value (index_at o)) =
+          subst (Mem (field (index_at o) n)) (sym (c ∙ ap (tree_claims (index_at o)) (sym e)))
+          (mem_right (field (index_at o) n) (tree_claims n l) (field (index_at o) n ∷ tree_claims (n + 8) q)
           (inl refl)) in
-          subst Distinct (sym (ap (map target_in) c ∙ tree-targets (place_of o) t))
-          (one-tree K r.unshared (place_of o) t (forest-claimed o k) (forest-aligned o k)
-          (not-in-node o k (nodes-len m ts o.value (place_of o) (field (place_of o) n) root) o k))
+          subst Distinct (sym (ap (map target_in) c ∙ tree-targets (index_at o) t))
+          (one-tree K r.unshared (index_at o) t (forest-claimed o k) (forest-aligned o k)
+          (not-in-node o k (nodes-len m ts o.value (index_at o) (field (index_at o) n) root) o k))
 
   -- a storage link and an element of one value
-  storage-element : (o : Object) (k : Mem o os) (f g : Field) → Mem f (storage_claims o.value (place_of o))
-      → Mem g (element_claims o.value (place_of o)) → f.at ≡ g.at → ⊥
+  storage-element : (o : Object) (k : Mem o os) (f g : Field) → Mem f (storage_claims o.value (index_at o))
+      → Mem g (element_claims o.value (index_at o)) → f.at ≡ g.at → ⊥
   storage-element o k f g h i e =
       let p = r.objects o k in
-      let s = storage-at o.value (place_of o) f h in
-      let w = element-array ts end a o.value (place_of o) p.good p.extents g i in
-      place-alone o k s.1 w.0 Storage w.1 w.2 refl (move (place_of o) g.at w.0 (sym s.0 ∙ e) w.3)
+      let s = storage-at o.value (index_at o) f h in
+      let w = element-array ts end a o.value (index_at o) p.good p.extents g i in
+      place-alone o k s.1 w.0 Storage w.1 w.2 refl (move (index_at o) g.at w.0 (sym s.0 ∙ e) w.3)
 
   -- a value has tree nodes or the others
   no-nodes : (v : Value) (at : ℕ) (f g : Field) → Mem f (storage_claims v at ++ element_claims v at)
@@ -269,7 +269,7 @@ module _ (ts : List Tile) (end : ℕ) (a : Row 128 ts end) (m : Memory) (os : Li
   pub value-once : (o : Object) (k : Mem o os) → Distinct (map handle (value_extents o.value))
   value-once o k =
       let p = r.objects o k in
-      let at : ℕ = place_of o in
+      let at : ℕ = index_at o in
       let ss : List Field = storage_claims o.value at in
       let es : List Field = element_claims o.value at in
       let ns : List Field = node_claims m ts o.value at in

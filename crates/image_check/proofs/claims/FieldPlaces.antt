@@ -22,7 +22,7 @@ use Rattle.image_check.proofs.read_off.OwnBlocks.{IsOther, is_object_extent}
 use Rattle.image_check.proofs.indexes.Entries.{Distinct}
 use Rattle.image_check.proofs.claims.Fields.{IsTreeRead, array_claims, element_claims, node_claims, option_claims}
 use Rattle.image_check.proofs.claims.Fields.{option_tree_claims, storage_claims, target_in, text_claims, tree_claims}
-use Rattle.image_check.proofs.claims.CountedClaims.{all_claims, place_of}
+use Rattle.image_check.proofs.claims.CountedClaims.{all_claims, index_at}
 use Rattle.image_check.proofs.claims.Forests.{Unshared}
 use mathlib.Core.Logic.{◌⊎◌, inl, inr}
 
@@ -85,11 +85,11 @@ pub record IsPlaced (m : Memory) (ts : List Tile) (o : Object) : Type 0 where
   pub mem : Mem tile ts
   pub use_of : IsTrue (is_use ObjectRole tile)
   pub offset : tile.offset ≡ o.extent.offset
-  pub room : place_of o + value_len o.value ≤ tile.offset + tile.len
+  pub room : index_at o + value_len o.value ≤ tile.offset + tile.len
   pub own : Mem o.extent (used ts)
   pub own_role : IsTrue (is_object_extent o.extent)
   pub good : IsTrue (is_good_value o.value)
-  pub tree : IsTreeRead m ts o.value (place_of o)
+  pub tree : IsTreeRead m ts o.value (index_at o)
   pub extents : AllByRecursion (λ x. Mem x (used ts)) (value_extents o.value)
 
 -- the extents of objects and indexes are among the tiles, and their links are the fields that count

@@ -1,6 +1,7 @@
 -- The bounds of a pair of a map, and its fields.
 use Rattle.image_check.proofs.Common.{Blocks, Option, ScalarKind, U8, WindowState, ap, arith, bytes_of, int_lt}
-use Rattle.image_check.proofs.Common.{is_pair-IsPairNode, is_place, is_place-PayloadBounds, kept_link, length, link_at}
+use Rattle.image_check.proofs.Common.{is_pair-IsPairNode, is_target, is_target-PayloadBounds, kept_link, length}
+use Rattle.image_check.proofs.Common.{link_at}
 use Rattle.image_check.proofs.Common.{little_number, part, read, read-part, size_of, small_size, sym, true, value_of, ℕ}
 use Rattle.image_check.proofs.Common.{◌%◌, ◌*◌, ◌+◌, ◌∙◌, ◌≡◌, ◌≤◌}
 use Rattle.seg_types.specs.declared.kinds.ScalarKind.TheVariants.{Bool as BoolKind, I32, I64, U64}
@@ -39,9 +40,9 @@ pub record Lies (c : WindowState) (k v : ScalarKind) (n : ℕ) : Type 0 where
   pub small : length c.bytes ≤ 1073741824
 
 -- a place of a pair lies in the window
-pub place-lies : (c : WindowState) (k v : ScalarKind) (n : ℕ) → is_place c n ≡ true → Lies c k v n
+pub place-lies : (c : WindowState) (k v : ScalarKind) (n : ℕ) → is_target c n ≡ true → Lies c k v n
 place-lies c k v n h =
-    let p = is_place-PayloadBounds c n h in
+    let p = is_target-PayloadBounds c n h in
     let a = size-most k in
     let b = size-most v in
     let high = p.high in

@@ -3,7 +3,8 @@ use Rattle.image_check.proofs.Common.{AreBlocks, AreCellsOf, AreFollowed, Block,
 use Rattle.image_check.proofs.Common.{Memory, Node, None, Option, Owner, ScalarKind, Some, Tile, Tree, WindowState}
 use Rattle.image_check.proofs.Common.{and_from, and_parts, ap, are_spellings, arith, block_at, bytes_of, cases_Bool}
 use Rattle.image_check.proofs.Common.{cells_of, cond-false, eq-eqb, false, false≢true, fork, in_parts, inl, inr, is_in}
-use Rattle.image_check.proofs.Common.{is_node_of, is_pair-IsPairNode, is_place, is_rooted, is_spelling, leads, leads_to}
+use Rattle.image_check.proofs.Common.{is_node_of, is_pair-IsPairNode, is_target, is_rooted, is_spelling, leads}
+use Rattle.image_check.proofs.Common.{leads_to}
 use Rattle.image_check.proofs.Common.{leaf, link_at, nat_le, nodes_of, owner_at, owner_in, read, refl, root_of}
 use Rattle.image_check.proofs.Common.{same_role, size_of, subst, sym, tile_of, true, ℕ, ◌&&◌, ◌*◌, ◌+◌, ◌∙◌, ◌≡◌}
 use Rattle.link_tree.proofs.Laws.{in_left, in_middle, in_right}
@@ -100,9 +101,9 @@ unfolding is_pair
 all-four c es root k v n p =
     let key = is_spelling k (read (bytes_of c.bytes) (n + 16) (size_of k)) in
     let value = is_spelling v (read (bytes_of c.bytes) (n + 16 + size_of k) (size_of v)) in
-    and_from (is_place c n && is_node_block root (pair_len k v) (block_at es n) && key) value
-    (and_from (is_place c n && is_node_block root (pair_len k v) (block_at es n)) key
-    (and_from (is_place c n) (is_node_block root (pair_len k v) (block_at es n)) p.place p.block) p.key) p.value
+    and_from (is_target c n && is_node_block root (pair_len k v) (block_at es n) && key) value
+    (and_from (is_target c n && is_node_block root (pair_len k v) (block_at es n)) key
+    (and_from (is_target c n) (is_node_block root (pair_len k v) (block_at es n)) p.place p.block) p.key) p.value
 
 pub node-pair : (c : WindowState) (es : Blocks) (root at : ℕ) (k v : ScalarKind) (n : ℕ) → HasTiles c.bytes
     → AreFollowed (bytes_of c.bytes) (tiles_in c.bytes) es

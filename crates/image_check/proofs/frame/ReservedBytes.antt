@@ -1,7 +1,7 @@
 -- The reserved bytes of the header.
 use Rattle.image_check.proofs.Common.{AreZero, List, bytes_of, false, has_reserved, inl, inr, true, ℕ, ◌≡◌, ◌⊎◌}
 use Rattle.std.proofs.lemmas.Bool.{false_from_ne_true}
-use Rattle.image_check.specs.HeaderPlaces.{IsFirstNonzero}
+use Rattle.image_check.specs.HeaderOffsets.{IsFirstNonzero}
 use Rattle.image_check.proofs.bytes.Numbers.{from_two_rows, two_rows}
 
 -- zeros pass the test of reserved bytes

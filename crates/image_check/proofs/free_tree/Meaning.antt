@@ -3,13 +3,13 @@ use Rattle.image_check.proofs.Common.{Apart, Cell, EncodesTiles, IsSearchTree, I
 use Rattle.image_check.proofs.Common.{None, Option, Some, Tile, Tree, WindowState, [], and_from, and_parts, ap, arith}
 use Rattle.image_check.proofs.Common.{before_irreflexive, both_ways, bytes_of, cases_Bool, cells_of, cond-false}
 use Rattle.image_check.proofs.Common.{cond-true, eq-eqb, eqb-true, false, false≢true, has_free_tree, has_tags, inl, inr}
-use Rattle.image_check.proofs.Common.{is_bad, is_in, is_legal_size, is_none, is_place, is_place-from, is_planted}
+use Rattle.image_check.proofs.Common.{is_bad, is_in, is_legal_size, is_none, is_target, is_target-from, is_planted}
 use Rattle.image_check.proofs.Common.{is_sorted, le-leb, leads, legal_size, length, link_at, list_all, nat_le, nodes_of}
 use Rattle.image_check.proofs.Common.{not, not-true, or_cases, or_left, or_right, refl, stands_before, subst, sym}
 use Rattle.image_check.proofs.Common.{tiles_are_read_off, true, ℕ, ◌%◌, ◌&&◌, ◌*◌, ◌++◌, ◌+◌, ◌-◌, ◌/◌, ◌==◌, ◌∙◌, ◌∷◌}
 use Rattle.image_check.proofs.Common.{◌≡◌, ◌≤◌}
 use Rattle.raw_region.specs.Memory.{word_at}
-use Rattle.offset_link.specs.Link.{is_handle_place}
+use Rattle.offset_link.specs.Link.{is_handle_offset}
 use Rattle.link_tree.proofs.Laws.{root_in, tree_same}
 use Rattle.raw_region.specs.Format.{current}
 use Rattle.block_tags.specs.Tiles.{is_free, tile_at}
@@ -22,23 +22,23 @@ use Rattle.best_fit.proofs.Laws.{NodeAt, all_gaps, free-unused, gaps_of-free, ga
 use Rattle.best_fit.proofs.Laws.{is_merged-Apart, length-sorted, node_from, node_len, sorted-is_sorted, unused}
 use Rattle.best_fit.proofs.Laws.{use_cases, used}
 use Rattle.image_check.specs.EarlyTests.{free_payloads}
-use Rattle.image_check.specs.FreeNodes.{has_good_links, len_at, place_cells}
+use Rattle.image_check.specs.FreeNodes.{has_good_links, len_at, target_cells}
 use Rattle.image_check.specs.FreeLaws.{before_transitive}
 use Rattle.image_check.proofs.frame.Formats.{free-payloads, tree-passes, tree-said}
-use Rattle.image_check.proofs.free_tree.Places.{all-of, good-placed, is_sorted-same}
+use Rattle.image_check.proofs.free_tree.Places.{all-of, good-good_target, is_sorted-same}
 use Rattle.image_check.proofs.walks.Tiles.{WalksAt, at-lies, at-meets}
 
 -- ---- a tile's payload is a place
 
 -- a multiple of 16 inside the window is a handle's place
-pub handle_from : (size n : ℕ) → n % 16 ≡ 0 → 144 ≤ n → n + 32 ≤ size → is_handle_place size n ≡ true
+pub handle_from : (size n : ℕ) → n % 16 ≡ 0 → 144 ≤ n → n + 32 ≤ size → is_handle_offset size n ≡ true
 handle_from size n a b c =
     and_from ((n % 16 == 0) && nat_le 144 n) (nat_le (n + 32) size)
     (and_from (n % 16 == 0) (nat_le 144 n) (eq-eqb (n % 16) 0 a) (le-leb 144 n b)) (le-leb (n + 32) size c)
 
 -- the payload of the tile is a place
 pub at-place : (c : WindowState) (Kept : List Tile → Type 0) (here : Tile) → WalksAt c Kept here
-    → IsTrue (is_legal_size (length c.bytes)) → is_place c (here.offset + 16) ≡ true
+    → IsTrue (is_legal_size (length c.bytes)) → is_target c (here.offset + 16) ≡ true
 at-place c Kept here a legal =
     let lies = at-lies c Kept here a in
     let met = at-meets c Kept here a in
@@ -47,7 +47,7 @@ at-place c Kept here a legal =
     let high = met.within in
     let whole = lies.whole (omega arith) in
     let least = (legal_size (length c.bytes) legal).low in
-    is_place-from c (here.offset + 16) legal
+    is_target-from c (here.offset + 16) legal
     (handle_from (length c.bytes) (here.offset + 16) (omega arith) (omega arith) (omega arith))
 
 tag-len : (m : Memory) (at n : ℕ) (t : Tile) → tile_at m at ≡ t → n ≡ at + 16 → len_at m n ≡ t.len
@@ -178,7 +178,7 @@ wanted c = payloads (sorted_gaps (gaps_in c))
 node : (c : WindowState) (n : ℕ) → Tagged c → is_in n (wanted c) ≡ true → NodeAt c n
 node c n g i = node_from c n g.said g.apart (sym (in_sorted n (gaps_in c)) ∙ i)
 
-node-handle : (c : WindowState) (n : ℕ) → NodeAt c n → is_handle_place (length c.bytes) n ≡ true
+node-handle : (c : WindowState) (n : ℕ) → NodeAt c n → is_handle_offset (length c.bytes) n ≡ true
 node-handle c n d =
     let low = d.low in
     let long = d.long in
@@ -206,19 +206,20 @@ wanted-is_sorted c g =
 -- ---- links
 
 -- a node with good links reads as the tree of the gaps does
-same_cell : (c : WindowState) (n : ℕ) → has_good_links c n ≡ true → place_cells c n ≡ cells_of (bytes_of c.bytes) n
-unfolding place_cells
+same_cell : (c : WindowState) (n : ℕ) → has_good_links c n ≡ true → target_cells c n ≡ cells_of (bytes_of c.bytes) n
+unfolding target_cells
 same_cell c n h =
     let m = bytes_of c.bytes in
     let parts = and_parts (not (is_bad (length c.bytes) (link_at m n)))
     (not (is_bad (length c.bytes) (link_at m (n + 8)))) h in
-    let left = good-placed (length c.bytes) (link_at m n) (not-true (is_bad (length c.bytes) (link_at m n)) parts.0) in
-    let right = good-placed (length c.bytes) (link_at m (n + 8))
+    let left = good-good_target (length c.bytes) (link_at m n) (not-true (is_bad (length c.bytes) (link_at m n))
+    parts.0) in
+    let right = good-good_target (length c.bytes) (link_at m (n + 8))
     (not-true (is_bad (length c.bytes) (link_at m (n + 8))) parts.1) in
     λ i. record { left = left i; right = right i; red = is_red m n }
 
 not_bad : (c : WindowState) (ns : List ℕ) (o : Option ℕ)
-    → ((n : ℕ) → is_in n ns ≡ true → is_handle_place (length c.bytes) n ≡ true) → leads (λ k. is_in k ns) o ≡ true
+    → ((n : ℕ) → is_in n ns ≡ true → is_handle_offset (length c.bytes) n ≡ true) → leads (λ k. is_in k ns) o ≡ true
     → is_bad (length c.bytes) o ≡ false
 not_bad c ns None f h = refl
 not_bad c ns (Some n) f h = ap not (f n h)
@@ -232,7 +233,7 @@ root_among f (Some n) t w = root_in f n t w
 pub record Planted (c : WindowState) : Type 0 where
   pub tree : Tree
   pub root : is_bad (length c.bytes) (link_at (bytes_of c.bytes) 24) ≡ false
-  pub search : IsSearchTree (stands_before (bytes_of c.bytes)) (place_cells c) (link_at (bytes_of c.bytes) 24) tree
+  pub search : IsSearchTree (stands_before (bytes_of c.bytes)) (target_cells c) (link_at (bytes_of c.bytes) 24) tree
   pub few : length (nodes_of tree) ≡ length (gaps_in c)
   pub all : list_all (is_planted c (nodes_of tree)) (tiles_in c) ≡ true
 
@@ -241,7 +242,7 @@ pub planted : (c : WindowState) → Tagged c → IsTreeOf (bytes_of c.bytes) 24 
 planted c g w =
     let m = bytes_of c.bytes in
     let ns = nodes_of w.tree in
-    let places : (n : ℕ) → is_in n ns ≡ true → is_handle_place (length c.bytes) n ≡ true =
+    let places : (n : ℕ) → is_in n ns ≡ true → is_handle_offset (length c.bytes) n ≡ true =
     λ n i. node-handle c n (node c n g (subst (λ (ks : List ℕ). is_in n ks ≡ true) w.lists i)) in
     let links : (n : ℕ) → is_in n ns ≡ true → has_good_links c n ≡ true =
     λ n i.
@@ -253,7 +254,8 @@ planted c g w =
       tree = w.tree;
       root = not_bad c ns (link_at m 24) places (root_among (cells_of m) (link_at m 24) w.tree w.linked);
       search = record {
-        tree = tree_same (cells_of m) (place_cells c) (link_at m 24) w.tree (λ n i. same_cell c n (links n i)) w.linked;
+        tree = tree_same (cells_of m) (target_cells c) (link_at m 24) w.tree (λ n i. same_cell c n (links n i))
+            w.linked;
         ordered = subst (λ (ks : List ℕ). is_sorted (stands_before m) ks ≡ true) (sym w.lists) (wanted-is_sorted c g);
         red_black = w.red_black;
       };
@@ -266,7 +268,7 @@ planted c g w =
 
 -- a tree with fewer nodes than gaps is not right
 pub unplanted : (c : WindowState) (t : Tree) → Tagged c
-    → IsSearchTree (stands_before (bytes_of c.bytes)) (place_cells c) (link_at (bytes_of c.bytes) 24) t
+    → IsSearchTree (stands_before (bytes_of c.bytes)) (target_cells c) (link_at (bytes_of c.bytes) 24) t
     → length (nodes_of t) ≡ length (gaps_in c)
     → list_all (is_planted c (nodes_of t)) (tiles_in c) ≡ true → IsTreeOf (bytes_of c.bytes) 24 (wanted c)
 unplanted c t g s few all =
@@ -279,7 +281,7 @@ unplanted c t g s few all =
     (wanted-is_sorted c g) s.ordered (λ n i. (both n i).0) (length-sorted (gaps_in c) ∙ sym few) in
     record {
       tree = t;
-      linked = tree_same (place_cells c) (cells_of m) (link_at m 24) t (λ n i.
+      linked = tree_same (target_cells c) (cells_of m) (link_at m 24) t (λ n i.
           sym (same_cell c n (both n (subst (λ (ks : List ℕ). is_in n ks ≡ true) (sym same) i)).1)) s.tree;
       red_black = s.red_black;
       lists = sym same;

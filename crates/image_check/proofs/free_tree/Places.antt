@@ -2,46 +2,48 @@
 use Rattle.image_check.proofs.Common.{IsTrue, List, None, Option, Some, WindowState, [], all_at, all_from, and_from}
 use Rattle.image_check.proofs.Common.{and_parts, ap, arith, both_ways, bytes_of, cases_Bool, cond-false, cond-true}
 use Rattle.image_check.proofs.Common.{eq-eqb, eqb-true, false, false≢true, inl, inr, is_bad, is_in, is_legal_size}
-use Rattle.image_check.proofs.Common.{is_place, is_place-from, is_sorted, leads, length, link_at, list_all, nat_eq}
+use Rattle.image_check.proofs.Common.{is_target, is_target-from, is_sorted, leads, length, link_at, list_all, nat_eq}
 use Rattle.image_check.proofs.Common.{ne_eqb, not, not-false, not-true, or_cases, or_left, or_right, refl, some_same}
 use Rattle.image_check.proofs.Common.{subst, sym, true, ℕ, ◌+◌, ◌==◌, ◌∙◌, ◌∷◌, ◌≡◌}
 use Rattle.std.proofs.Common.{Bool}
 use Rattle.std.specs.List.{find}
-use Rattle.offset_link.specs.Link.{is_handle_place}
+use Rattle.offset_link.specs.Link.{is_handle_offset}
 use Rattle.link_tree.specs.Nodes.{first_not_before}
 use Rattle.link_tree.proofs.Laws.{none_some}
-use Rattle.image_check.specs.FreeNodes.{place_cells, placed}
+use Rattle.image_check.specs.FreeNodes.{target_cells, good_target}
 
 -- ---- links
 
 -- a good link is read as it is, and a bad one as null
-pub good-placed : (size : ℕ) (o : Option ℕ) → is_bad size o ≡ false → placed size o ≡ o
-unfolding placed
-good-placed size None h = refl
-good-placed size (Some n) h = cond-true (is_handle_place size n) (Some n) None (not-false (is_handle_place size n) h)
+pub good-good_target : (size : ℕ) (o : Option ℕ) → is_bad size o ≡ false → good_target size o ≡ o
+unfolding good_target
+good-good_target size None h = refl
+good-good_target size (Some n) h = cond-true (is_handle_offset size n) (Some n) None (not-false (is_handle_offset
+    size n) h)
 
 -- a link to no such offset is read as none
-pub bad-placed : (size : ℕ) (o : Option ℕ) → is_bad size o ≡ true → placed size o ≡ None
-unfolding placed
-bad-placed size None h = refl
-bad-placed size (Some n) h = cond-false (is_handle_place size n) (Some n) None (not-true (is_handle_place size n) h)
+pub bad-good_target : (size : ℕ) (o : Option ℕ) → is_bad size o ≡ true → good_target size o ≡ None
+unfolding good_target
+bad-good_target size None h = refl
+bad-good_target size (Some n) h = cond-false (is_handle_offset size n) (Some n) None (not-true (is_handle_offset
+    size n) h)
 
 -- a link that is not bad is null or leads to such an offset
 pub good-leads : (c : WindowState) (o : Option ℕ) → IsTrue (is_legal_size (length c.bytes))
-    → is_bad (length c.bytes) o ≡ false → leads (is_place c) o ≡ true
+    → is_bad (length c.bytes) o ≡ false → leads (is_target c) o ≡ true
 good-leads c None size h = refl
-good-leads c (Some n) size h = is_place-from c n size (not-false (is_handle_place (length c.bytes) n) h)
+good-leads c (Some n) size h = is_target-from c n size (not-false (is_handle_offset (length c.bytes) n) h)
 
 -- the left link as it is read
-pub left-is : (c : WindowState) (n : ℕ) (o : Option ℕ) → o ≡ placed (length c.bytes) (link_at (bytes_of c.bytes) n)
-    → o ≡ (place_cells c n).left
-unfolding place_cells
+pub left-is : (c : WindowState) (n : ℕ) (o : Option ℕ) → o ≡ good_target (length c.bytes) (link_at (bytes_of c.bytes) n)
+    → o ≡ (target_cells c n).left
+unfolding target_cells
 left-is c n o e = e
 
 -- the right link as it is read
 pub right-is : (c : WindowState) (n : ℕ) (o : Option ℕ)
-    → o ≡ placed (length c.bytes) (link_at (bytes_of c.bytes) (n + 8)) → o ≡ (place_cells c n).right
-unfolding place_cells
+    → o ≡ good_target (length c.bytes) (link_at (bytes_of c.bytes) (n + 8)) → o ≡ (target_cells c n).right
+unfolding target_cells
 right-is c n o e = e
 
 -- ---- a search

@@ -1,5 +1,5 @@
 -- The entries of an index, one after another: whether each leads to an object without an earlier entry.
-use Rattle.image_check.proofs.Common.{Block, Blocks, EntersLink, IsTrue, List, None, NotesEntries, Option, Owner, Some}
+use Rattle.image_check.proofs.Common.{Block, Blocks, EntersLink, IsTrue, List, None, EntersEntries, Option, Owner, Some}
 use Rattle.image_check.proofs.Common.{Tile, [], and_from, and_parts, ap, are_distinct, are_enterable, are_new}
 use Rattle.image_check.proofs.Common.{both_ways, can_enter, cases_Bool, cond-false, cond-true, entry_in, false}
 use Rattle.image_check.proofs.Common.{false≢true, flat_map, good_for, index_of, is_among, is_none, is_some, list_all}
@@ -83,7 +83,7 @@ targets-split front back link n e =
     ap (λ l. targets_of (front ++ l ∷ back)) e ∙ flat_map-append option_to_list front (Some n ∷ back)
 
 module _ (ts : List Tile) (old es : Blocks) (root place : ℕ) (front : List (Option ℕ)) (link : Option ℕ)
-    (a : NotesEntries ts old es root (targets_of front)) (r : are_enterable ts old front ≡ true) where
+    (a : EntersEntries ts old es root (targets_of front)) (r : are_enterable ts old front ≡ true) where
   parts : (list_all (is_good ts) front ≡ true) × (are_new old (targets_of front) ≡ true)
   parts = and_parts (list_all (is_good ts) front) (are_new old (targets_of front)) r
 
@@ -112,7 +112,7 @@ module _ (ts : List Tile) (old es : Blocks) (root place : ℕ) (front : List (Op
 
     -- one more entry is entered
     pub one-entered : (are_enterable ts old (front ++ link ∷ []) ≡ true)
-        × NotesEntries ts old new root (targets_of (front ++ link ∷ []))
+        × EntersEntries ts old new root (targets_of (front ++ link ∷ []))
     one-entered =
         let same = targets-split front [] link e.target e.leads in (
           and_from (list_all (is_good ts) (front ++ link ∷ [])) (are_new old (targets_of (front ++ link ∷ [])))
@@ -120,7 +120,7 @@ module _ (ts : List Tile) (old es : Blocks) (root place : ℕ) (front : List (Op
               ∙ and_from (list_all (is_good ts) front) (list_all (is_good ts) (link ∷ [])) parts.0
               (and_from (is_good ts link) true (good ts old es new root place (targets_of front) link a e) refl))
               (ap (are_new old) same ∙ new-from old (targets_of front ++ e.target ∷ []) new-more),
-          subst (NotesEntries ts old new root) (sym same)
+          subst (EntersEntries ts old new root) (sym same)
               (added-more ts old es new root place (targets_of front) link a e),
         )
 
@@ -134,7 +134,7 @@ free-block b o e = no-owner b.owner (sym (ap root_in (cond-true (same_role b.rol
     no-owner (Some o) h = absurd (cc)
 
 module _ (ts : List Tile) (old es : Blocks) (root : ℕ) (front : List (Option ℕ))
-    (a : NotesEntries ts old es root (targets_of front)) where
+    (a : EntersEntries ts old es root (targets_of front)) where
   -- an object that is not among the earlier ones and has no entry can be entered
   pub can : (n : ℕ) → is_some (tile_of ts Object n) ≡ true → is_among (targets_of front) n ≡ false
       → index_of old n ≡ None → can_enter es (Some n) ≡ true

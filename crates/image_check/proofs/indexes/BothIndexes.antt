@@ -1,6 +1,6 @@
 -- Both indexes, one after the other: whether they pass their test, and the entries that are entered.
 use Rattle.image_check.proofs.Common.{Block, Blocks, HasTiles, HaveEntries, IsMarking, IsUnmarked, List, Memory, None}
-use Rattle.image_check.proofs.Common.{NotesEntries, Option, Owner, Role, Some, Tile, [], and_from, and_parts, ap}
+use Rattle.image_check.proofs.Common.{EntersEntries, Option, Owner, Role, Some, Tile, [], and_from, and_parts, ap}
 use Rattle.image_check.proofs.Common.{are_distinct, are_new, block_at, both_ways, bytes_of, cases_Bool, cond}
 use Rattle.image_check.proofs.Common.{cond-false, cond-true, cons_option, entries_of, entry_in, entry_of, false, frames}
 use Rattle.image_check.proofs.Common.{has_index, has_indexes, index_of, is_among, is_some, nat_eq, new_block, owner_at}
@@ -63,7 +63,7 @@ none-entered ts es gathered n = ap is_some (ap (λ (es : Blocks). index_of es n)
 -- ---- both tests
 
 module _ (m : Memory) (ts : List Tile) (es0 es1 : Blocks) (gathered : es0
-    ≡ entries_of ts) (a : NotesEntries ts es0 es1 32 (targets m 32)) where
+    ≡ entries_of ts) (a : EntersEntries ts es0 es1 32 (targets m 32)) where
   abbrev xs : List ℕ
   xs = targets m 32
 
@@ -132,7 +132,7 @@ module _ (m : Memory) (ts : List Tile) (es0 es1 : Blocks) (gathered : es0
         (new-parts es1 ys second.1).distinct (λ x y h k e. apart x h (subst (λ z. Mem z ys) (sym e) k))))
 
     -- both indexes are entered
-    pub both-entered : (es2 : Blocks) → NotesEntries ts es1 es2 56 (targets m 56) → AreEntered m es2
+    pub both-entered : (es2 : Blocks) → EntersEntries ts es1 es2 56 (targets m 56) → AreEntered m es2
     both-entered es2 b = record {
       apart = apart_tests;
       at = λ n. b.entered n ∙ ap (λ (o : Option ℕ). cond (is_among ys n) (Some 56) o) (a.entered n
@@ -176,7 +176,7 @@ first-wrong m ts es0 gathered f = elim (cases_Bool (has_indexes m ts)) [
 
 -- if only entries of objects are entered, no link of another block is
 pub entries-unmarked : (ts : List Tile) (es0 es1 es2 : Blocks) (xs ys : List ℕ) → es0 ≡ entries_of ts
-    → NotesEntries ts es0 es1 32 xs → NotesEntries ts es1 es2 56 ys → IsUnmarked ts es2
+    → EntersEntries ts es0 es1 32 xs → EntersEntries ts es1 es2 56 ys → IsUnmarked ts es2
 entries-unmarked ts es0 es1 es2 xs ys g a b = record {
   frame = b.frame ∙ a.frame ∙ ap frames g;
   none = λ n. b.owners n ∙ a.owners n ∙ ap (λ (es : Blocks). owner_at es n) g ∙ (gathered-unmarked ts).none n;

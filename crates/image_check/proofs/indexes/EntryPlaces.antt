@@ -1,6 +1,6 @@
 -- The first entry of an index that is wrong.
 use Rattle.image_check.proofs.Common.{Blocks, ChecksClass, EntersLink, Err, HaveEntries, List, MatchResult, Memory}
-use Rattle.image_check.proofs.Common.{None, NotesEntries, Ok, Option, Result, Some, Tile, and_from, and_parts, ap}
+use Rattle.image_check.proofs.Common.{None, EntersEntries, Ok, Option, Result, Some, Tile, and_from, and_parts, ap}
 use Rattle.image_check.proofs.Common.{are_distinct, are_enterable, are_new, are_ranked, can_enter, cond, entries, false}
 use Rattle.image_check.proofs.Common.{first_targets, good_for, has_index, index_of, inr, is_among, is_new, is_none}
 use Rattle.image_check.proofs.Common.{is_some, link_at, links_in, list_all, not, not-true, or_parts, refl, subst, sym}
@@ -11,8 +11,8 @@ use Rattle.std.proofs.lemmas.List.Folds.{list_any-append}
 use Rattle.raw_region.specs.Memory.{word_at}
 use Rattle.block_tags.specs.declared.tile.Role.TheVariants.{Object}
 use Rattle.image_check.specs.Entered.{is_enterable}
-use Rattle.image_check.specs.IndexPlaces.{IsFirstWrong, IsWrongAt, earlier_targets, is_head}
-use Rattle.image_check.specs.ObjectPlaces.{IsMisplaced, IsOutOfOrder}
+use Rattle.image_check.specs.IndexOffsets.{IsFirstWrong, IsWrongAt, earlier_targets, is_head}
+use Rattle.image_check.specs.ObjectOffsets.{IsMisplaced, IsOutOfOrder}
 use Rattle.image_check.proofs.indexes.AllEntries.{can, targets_of}
 use Rattle.image_check.proofs.indexes.OneEntry.{good, new-before, not-before}
 use Rattle.image_check.proofs.indexes.Entries.{entries_in}
@@ -24,7 +24,7 @@ none-noted None e = refl
 none-noted (Some n) e = absurd (true≢false e)
 
 module _ (ts : List Tile) (old es : Blocks) (root : ℕ) (front : List (Option ℕ))
-    (a : NotesEntries ts old es root (targets_of front)) (earlier : List ℕ) (have : HaveEntries old earlier) where
+    (a : EntersEntries ts old es root (targets_of front)) (earlier : List ℕ) (have : HaveEntries old earlier) where
   among-both : (n : ℕ) → is_among (earlier ++ targets_of front) n
       ≡ (is_among earlier n || is_among (targets_of front) n)
   among-both n = list_any-append (λ y. n == y) earlier (targets_of front)
@@ -89,14 +89,14 @@ module _ (m : Memory) (ts : List Tile) (es : Blocks) (at : ℕ) where
   pub index-entered : {A : Type 0} (new : Blocks) (block n : ℕ) (k : Result A ℕ) → is_head m ts at ≡ true
       → link_at m at ≡ Some block → n ≡ word_at m (at + 8) → HaveEntries es (earlier_targets m at)
       → MatchResult k (λ done. (are_enterable ts es (links_in m block n) ≡ true)
-      × NotesEntries ts es new at (first_targets m block n)) (λ place.
+      × EntersEntries ts es new at (first_targets m block n)) (λ place.
       (are_enterable ts es (links_in m block n) ≡ false)
       × ((earlier : List ℕ) → HaveEntries es earlier → IsFirstWrong m ts earlier block n place))
-      → MatchResult k (λ done. (is_enterable m ts es at ≡ true) × NotesEntries ts es new at (targets m at))
+      → MatchResult k (λ done. (is_enterable m ts es at ≡ true) × EntersEntries ts es new at (targets m at))
       (λ place. (is_enterable m ts es at ≡ false) × IsWrongAt m ts at place)
   index-entered new block n (Ok done) head link e have h = (
     some-entries block head link ∙ ap (λ c. are_enterable ts es (links_in m block c)) (sym e) ∙ h.0,
-    subst (NotesEntries ts es new at) (ap (first_targets m block) e ∙ sym (some-targets m at block link)) h.1,
+    subst (EntersEntries ts es new at) (ap (first_targets m block) e ∙ sym (some-targets m at block link)) h.1,
   )
   index-entered new block n (Err place) head link e have h = (
     some-entries block head link ∙ ap (λ c. are_enterable ts es (links_in m block c)) (sym e) ∙ h.0,

@@ -1,5 +1,5 @@
 -- One more index entry: the check enters its link at the object to which the link leads.
-use Rattle.image_check.proofs.Common.{Block, Blocks, EntersLink, IsBlockAt, IsTileAt, List, None, NotesEntries, Option}
+use Rattle.image_check.proofs.Common.{Block, Blocks, EntersLink, IsBlockAt, IsTileAt, List, None, EntersEntries, Option}
 use Rattle.image_check.proofs.Common.{Owner, Role, Some, Tile, [], and_parts, ap, block_at, cases_Bool, cases_eq, cond}
 use Rattle.image_check.proofs.Common.{cond-false, cond-true, entry_in, false, false≢true, frame_of, frames, good_for}
 use Rattle.image_check.proofs.Common.{index_of, is_among, is_none, is_some, nat_eq, ne_eqb, owner_at, owner_in, refl}
@@ -50,7 +50,7 @@ entry-of-object b h = cond-true (same_role b.role Object) b.owner None h
 -- ---- one entry more
 
 module _ (ts : List Tile) (old es new : Blocks) (root place : ℕ) (xs : List ℕ) (link : Option ℕ)
-    (a : NotesEntries ts old es root xs) (e : EntersLink es new link place root) where
+    (a : EntersEntries ts old es root xs) (e : EntersLink es new link place root) where
   abbrev n : ℕ
   n = e.target
 
@@ -132,7 +132,7 @@ module _ (ts : List Tile) (old es new : Blocks) (root place : ℕ) (xs : List �
       only-one false y h = ap (λ z. z || false) h
 
   -- the object is entered, and all others stay
-  pub added-more : NotesEntries ts old new root (xs ++ n ∷ [])
+  pub added-more : EntersEntries ts old new root (xs ++ n ∷ [])
   added-more = record {
     blocks = record { tiles = tiles-after; blocks = blocks-after };
     frame = ap frames e.after ∙ frame-put n e.block w es refl refl e.is ∙ a.frame;

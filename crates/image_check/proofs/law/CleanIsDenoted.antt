@@ -25,7 +25,7 @@ use Rattle.image_check.proofs.law.Uniqueness.{tiles_in}
 use Rattle.image_check.proofs.frame.Formats.{IsFramed, framed-heap, framed-proper, framed-rising, live_in, second-fails}
 use Rattle.image_check.proofs.indexes.Entries.{Distinct}
 use Rattle.image_check.proofs.claims.Fields.{target_in, value-targets}
-use Rattle.image_check.proofs.claims.CountedClaims.{claims_of, counted-claimed, place_of, tables_claims}
+use Rattle.image_check.proofs.claims.CountedClaims.{claims_of, counted-claimed, index_at, tables_claims}
 use Rattle.image_check.proofs.law.DenotedHasNoClass.{both-targets}
 use Rattle.image_check.proofs.claims.FieldPlaces.{same-handle}
 use Rattle.image_check.proofs.law.CleanTests.{IsLateClean, classes-clean}
@@ -101,7 +101,7 @@ module _ (format : ℕ) (b : List ℕ) (s : AreSmall (bytes_of b)) (fr : IsFrame
   led-value x h o k f l e =
       let p = (said format b s fr c o k).placed in
       let i = mem_of_map handle f.target (value_extents o.value)
-      (subst (Mem f.target) (value-targets m ts o.value (place_of o) p.good p.tree)
+      (subst (Mem f.target) (value-targets m ts o.value (index_at o) p.good p.tree)
       (mem_map target_in f (claims_of m ts o) l)) in
       let y : Extent = i.one in
       let same : x ≡ y = same-handle ts (length b - 16) (tiles format b s fr c) x y h

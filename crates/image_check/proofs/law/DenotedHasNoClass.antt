@@ -38,7 +38,7 @@ use Rattle.image_check.proofs.claims.Fields.{IsTreeRead, element-same, index-sam
 use Rattle.image_check.proofs.claims.Fields.{table_claims, target_in, value-targets}
 use Rattle.image_check.proofs.claims.UnsharedFields.{none-shared, one_field}
 use Rattle.image_check.proofs.claims.CountedClaims.{IsClaimed, all_claims, claimed-counted, claims_of, counted-claimed}
-use Rattle.image_check.proofs.claims.CountedClaims.{place_of, tables_claims}
+use Rattle.image_check.proofs.claims.CountedClaims.{index_at, tables_claims}
 use mathlib.Core.Logic.{◌⊎◌, inl, inr}
 
 -- ---- extents that are apart have different handles
@@ -77,12 +77,12 @@ both-targets named unique =
 
 objects-targets : (m : Memory) (ts : List Tile) (os : List Object)
     → ((o : Object) → Mem o os → IsTrue (is_good_value o.value))
-    → ((o : Object) → Mem o os → IsTreeRead m ts o.value (place_of o))
+    → ((o : Object) → Mem o os → IsTreeRead m ts o.value (index_at o))
     → map target_in (flat_map (object_claims m ts) os) ≡ map handle (flat_map extents_of os)
 objects-targets m ts [] g r = refl
 objects-targets m ts (o ∷ os) g r =
     let first : map target_in (object_claims m ts o) ≡ map handle (extents_of o) =
-    ap (λ xs. handle o.extent ∷ xs) (value-targets m ts o.value (place_of o) (g o (inl refl)) (r o (inl refl))) in
+    ap (λ xs. handle o.extent ∷ xs) (value-targets m ts o.value (index_at o) (g o (inl refl)) (r o (inl refl))) in
     let rest = objects-targets m ts os (λ p k. g p (inr k)) (λ p k. r p (inr k)) in
     map-append target_in (object_claims m ts o) (flat_map (object_claims m ts) os)
     ∙ (λ i. first i ++ rest i)
@@ -95,7 +95,7 @@ whole_claims m ts os named unique = flat_map (object_claims m ts) os ++ tables_c
 -- all fields of a directory lead to the extents that it names, in order
 pub whole-targets : (m : Memory) (ts : List Tile) (os : List Object) (named unique : BackingArray)
     → ((o : Object) → Mem o os → IsTrue (is_good_value o.value))
-    → ((o : Object) → Mem o os → IsTreeRead m ts o.value (place_of o))
+    → ((o : Object) → Mem o os → IsTreeRead m ts o.value (index_at o))
     → map target_in (whole_claims m ts os named unique)
     ≡ map handle (flat_map extents_of os ++ (table_extents named ++ table_extents unique))
 unfolding whole_claims
@@ -153,20 +153,20 @@ module _ (format : ℕ) (b : List ℕ) (d : Directory) (s : AreSmall (bytes_of b
   good : (o : Object) → Mem o d.objects → IsTrue (is_good_value o.value)
   good o k = (good-object format b d s h o k).value
 
-  at-place : (o : Object) → Mem o d.objects → IsValueAt (bytes_of b) (place_of o) o.value
+  at-place : (o : Object) → Mem o d.objects → IsValueAt (bytes_of b) (index_at o) o.value
   at-place o k = (stands format b d s h o k).value
 
-  trees : (o : Object) → Mem o d.objects → IsTreeRead (bytes_of b) (tiles_in b) o.value (place_of o)
-  trees o k = tree-of (bytes_of b) (tiles_in b) (length b - 16) tiles o.value (place_of o) (good o k) (at-place o k)
+  trees : (o : Object) → Mem o d.objects → IsTreeRead (bytes_of b) (tiles_in b) o.value (index_at o)
+  trees o k = tree-of (bytes_of b) (tiles_in b) (length b - 16) tiles o.value (index_at o) (good o k) (at-place o k)
       (value-in-use format b d s h o k) (few format b d s h o k)
 
   pub claimed : IsClaimed format (bytes_of b) (tiles_in b) d.objects d.named d.unique
   claimed = record {
     of = λ p k. (let v = values-of format b d s h p k in record { object = v.object; mem = v.mem; is = v.is });
     has = λ o k. values-has format b d s h o k;
-    storage = λ o k. storage-same (tiles_in b) (length b - 16) tiles (bytes_of b) o.value (place_of o) (good o k)
+    storage = λ o k. storage-same (tiles_in b) (length b - 16) tiles (bytes_of b) o.value (index_at o) (good o k)
         (at-place o k) (value-in-use format b d s h o k);
-    elements = λ o k. element-same (tiles_in b) (length b - 16) tiles (bytes_of b) o.value (place_of o) (good o k)
+    elements = λ o k. element-same (tiles_in b) (length b - 16) tiles (bytes_of b) o.value (index_at o) (good o k)
         (at-place o k) (value-in-use format b d s h o k);
     tree = trees;
     named_field = index-same (tiles_in b) (length b - 16) tiles (bytes_of b) Index 8 32 d.named
@@ -222,7 +222,7 @@ module _ (format : ℕ) (b : List ℕ) (d : Directory) (s : AreSmall (bytes_of b
       absurd (false≢true (sym e ∙ here))
   led-object x e o k (inr l) =
       led-from x (claims_of (bytes_of b) (tiles_in b) o)
-      (subst (Mem (handle x)) (sym (value-targets (bytes_of b) (tiles_in b) o.value (place_of o) (good o k)
+      (subst (Mem (handle x)) (sym (value-targets (bytes_of b) (tiles_in b) o.value (index_at o) (good o k)
       (trees o k))) (mem_map handle x (value_extents o.value) l))
       (λ f g.
       mem_left f (flat_map (claims_of (bytes_of b) (tiles_in b)) d.objects) (tables_claims d.named d.unique)

@@ -30,7 +30,7 @@ use Rattle.image_check.proofs.frame.Formats.{IsFramed, framed-rising, framed-til
 use Rattle.image_check.proofs.indexes.Entries.{Distinct}
 use Rattle.image_check.proofs.claims.Fields.{element-same, index-same, storage-same}
 use Rattle.image_check.proofs.claims.TreeClaims.{some-tile}
-use Rattle.image_check.proofs.claims.CountedClaims.{IsAmong, IsClaimed, claimed-counted, place_of}
+use Rattle.image_check.proofs.claims.CountedClaims.{IsAmong, IsClaimed, claimed-counted, index_at}
 use Rattle.image_check.proofs.claims.FieldPlaces.{ArePlaced}
 use Rattle.image_check.proofs.claims.DisjointBlocks.{extents-once}
 use Rattle.image_check.proofs.read_off.Objects.{IsSaid, tile-said}
@@ -226,14 +226,14 @@ module _ (format : ℕ) (b : List ℕ) (s : AreSmall (bytes_of b)) (fr : IsFrame
       let w = said-tile t k in
       let kind = w.kind in
       let place = w.place in
-      let is : Some p ≡ Some (kind_of o.value, place_of o) =
+      let is : Some p ≡ Some (kind_of o.value, index_at o) =
       sym e ∙ (λ i. option_map (λ k. (k, sym place i)) (kind i)) in
-      record { object = o; mem = of-object t k; is = some-same p (kind_of o.value, place_of o) is }
+      record { object = o; mem = of-object t k; is = some-same p (kind_of o.value, index_at o) is }
 
   value-has : (t : Tile) → Mem t (object_tiles ts)
       → Mem (
         kind_of (object_from format m ts (object_block t)).value,
-        place_of (object_from format m ts (object_block t)),
+        index_at (object_from format m ts (object_block t)),
       ) (values format m ts)
   value-has t k =
       let o : Object = object_from format m ts (object_block t) in
@@ -243,7 +243,7 @@ module _ (format : ℕ) (b : List ℕ) (s : AreSmall (bytes_of b)) (fr : IsFrame
       mem_filter_map (λ (u : Tile). option_map (λ k.
       (k, value_offset m (payload u))) (kind_at format m (payload u))) t (
         kind_of o.value,
-        place_of o,
+        index_at o,
       ) (object_tiles ts) k
       (λ i. option_map (λ k. (k, sym place i)) (kind i))
 
@@ -255,12 +255,12 @@ module _ (format : ℕ) (b : List ℕ) (s : AreSmall (bytes_of b)) (fr : IsFrame
         option_map (λ k. (k, value_offset m (payload u))) (kind_at format m (payload u))) p (object_tiles ts) k in
         value-among w.one w.mem p w.is);
     has = λ o k. (let w = of-tile o k
-        in subst (λ (q : Object). Mem (kind_of q.value, place_of q) (values format m ts)) (sym w.is)
+        in subst (λ (q : Object). Mem (kind_of q.value, index_at q) (values format m ts)) (sym w.is)
         (value-has w.tile w.mem));
     storage = λ o k. (let w = said o k
-        in storage-same ts (length b - 16) tiles m o.value (place_of o) w.placed.good w.stands.value w.placed.extents);
+        in storage-same ts (length b - 16) tiles m o.value (index_at o) w.placed.good w.stands.value w.placed.extents);
     elements = λ o k. (let w = said o k
-        in element-same ts (length b - 16) tiles m o.value (place_of o) w.placed.good w.stands.value w.placed.extents);
+        in element-same ts (length b - 16) tiles m o.value (index_at o) w.placed.good w.stands.value w.placed.extents);
     tree = λ o k. (said o k).placed.tree;
     named_field = index-same ts (length b - 16) tiles m Index 8 32 named first_index.linked.table
         first_index.linked.mem first_index.linked.leads refl;

@@ -16,9 +16,9 @@ use Rattle.image_check.specs.declared.versions.AcceptedVersions.TheVariants.{All
 use Rattle.image_check.specs.declared.errors.OpenError.TheVariants.{Image}
 use Rattle.image_check.specs.declared.verdict.Verdict.{Verdict}
 use Rattle.image_check.specs.Classes.{holds}
-use Rattle.image_check.specs.HeaderPlaces.{IsFrontPlace}
+use Rattle.image_check.specs.HeaderOffsets.{IsFrontOffset}
 use Rattle.image_check.specs.Opening.{Opens}
-use Rattle.image_check.specs.Reading.{IsMisfit, IsNotPlaced}
+use Rattle.image_check.specs.Reading.{IsMisfit, IsNotCopied}
 use Rattle.image_check.proofs.reading.Deciding.{decided-some, first_class}
 use Rattle.image_check.proofs.frame.EarlyClasses.{cut-Truncated}
 use Rattle.image_check.proofs.reading.Fronts.{IsRight, front-decided, front-wrong, has_front-IsRight}
@@ -94,7 +94,7 @@ misfit-more format b base capacity size at r room l = record {
 }
 
 -- the place that shows it
-pub front-place : (format : ℕ) (b : List ℕ) (c : ImageClass) (at : ℕ) → 24 ≤ length b → IsFrontPlace b c at
+pub front-place : (format : ℕ) (b : List ℕ) (c : ImageClass) (at : ℕ) → 24 ≤ length b → IsFrontOffset b c at
     → Shows format b c at
 front-place format b c at l p =
     subst (λ (x : List ℕ). Shows format x c at) (append-nil b) (front-shown format b [] l c at p)
@@ -116,7 +116,7 @@ back-as-was format b region base back e = record {
 
 -- an image that was not placed is not opened
 pub not-placed : (format : ℕ) (b region : List ℕ) (base : ℕ) (mode : Mode) (refused : OpenRefused)
-    → IsNotPlaced format b region base refused → Opens format (as_given b) region base mode (Err refused)
+    → IsNotCopied format b region base refused → Opens format (as_given b) region base mode (Err refused)
 not-placed format b region base mode refused n = record {
   answers = record {
     why = n.misfit.why;

@@ -20,7 +20,7 @@ use Rattle.image_check.proofs.read_off.Directory.{class_from, kind_or_text, obje
 use Rattle.image_check.proofs.read_off.Numbers.{HasBytesAt-append, HasBytesAt-read, unguarded}
 use Rattle.image_check.proofs.read_off.Vectors.{IsBack}
 use Rattle.image_check.proofs.read_off.Maps.{value-back}
-use Rattle.image_check.proofs.claims.CountedClaims.{place_of}
+use Rattle.image_check.proofs.claims.CountedClaims.{index_at}
 use Rattle.image_check.proofs.claims.FieldPlaces.{IsPlaced}
 use mathlib.Core.Logic.{◌⊎◌, inl, inr}
 
@@ -135,7 +135,7 @@ pub record IsSaid (format : ℕ) (m : Memory) (ts : List Tile) (o : Object) : Ty
   pub is_object : IsTrue (is_object format o)
   pub stands : IsObjectAt m o
   pub kind : kind_at format m (handle o.extent) ≡ Some (kind_of o.value)
-  pub place : place_of o ≡ value_offset m (handle o.extent)
+  pub place : index_at o ≡ value_offset m (handle o.extent)
   pub name_is : name_at m (handle o.extent) ≡ o.name
   pub code : code_at m (handle o.extent) ≡ code_of (kind_of o.value)
   pub class_is : class_at m (handle o.extent) ≡ class_code o.class
@@ -177,11 +177,11 @@ tile-said format m ts s t h k c =
     let value_is : o.value ≡ v = ap (λ x. value_from m ts (kind_or_text x) count vat) said in
     let n : ℕ = name_len_at m at in
     let name_len : length o.name ≡ n = read-length m (at + 16) n in
-    let place : place_of o ≡ vat = ap (λ x. at + 16 + padded x) name_len in
+    let place : index_at o ≡ vat = ap (λ x. at + 16 + padded x) name_len in
     let back1 : IsBack ts m vat end q count v = value-back ts m q count vat end s e.value test in
-    let back2 : IsBack ts m (place_of o) end q count v = subst (λ x. IsBack ts m x end q count v) (sym place) back1 in
-    let back : IsBack ts m (place_of o) end q count o.value =
-    subst (λ w. IsBack ts m (place_of o) end q count w) (sym value_is) back2 in
+    let back2 : IsBack ts m (index_at o) end q count v = subst (λ x. IsBack ts m x end q count v) (sym place) back1 in
+    let back : IsBack ts m (index_at o) end q count o.value =
+    subst (λ w. IsBack ts m (index_at o) end q count w) (sym value_is) back2 in
     let cls : ℕ = class_at m at in
     let small = class-if format cls n o.name (cls == 1) refl e.name in
     let cs = class-cases format cls n o.name name_len (small-cases cls small) e.name in

@@ -10,7 +10,7 @@ use Rattle.std.proofs.lemmas.List.{get_or_append_left}
 use Rattle.image_check.specs.declared.errors.OpenError.TheVariants.{Image, OutOfMemory, ReadFault, RegionTooSmall}
 use Rattle.image_check.specs.declared.verdict.Verdict.{Verdict}
 use Rattle.image_check.specs.Causes.{IsEnd, IsExcess}
-use Rattle.image_check.specs.HeaderPlaces.{IsFirstOther, IsFrontPlace}
+use Rattle.image_check.specs.HeaderOffsets.{IsFirstOther, IsFrontOffset}
 use Rattle.image_check.proofs.reading.Deciding.{size_word-front}
 use Rattle.image_check.proofs.reading.Buffer.{HasFront-IsRight}
 use Rattle.image_check.proofs.reading.Fronts.{IsRight-append, IsRight-take}
@@ -45,7 +45,7 @@ module _ (format : ℕ) (front more : List ℕ) (long : 24 ≤ length front) whe
       }
 
   -- the reported offset in a wrong front shows the class
-  pub front-shown : (c : ImageClass) (at : ℕ) → IsFrontPlace front c at → Shows format (front ++ more) c at
+  pub front-shown : (c : ImageClass) (at : ℕ) → IsFrontOffset front c at → Shows format (front ++ more) c at
   front-shown Truncated at p = absurd p
   front-shown BadMagic at p = magic-shown at p
   front-shown UnsupportedVersion at p = p

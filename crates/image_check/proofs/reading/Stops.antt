@@ -171,9 +171,9 @@ wrong_front_decides format old mid new front xs ended f f' base capacity v l k e
 -- ---- after a right front
 
 -- the region has room for the size in the bytes
-room_for : (format : ℕ) (b : List ℕ) (size : ℕ) (ended : Bool) (f f' base capacity : ℕ) → IsRight format b size
+table_for : (format : ℕ) (b : List ℕ) (size : ℕ) (ended : Bool) (f f' base capacity : ℕ) → IsRight format b size
     → base + size ≤ capacity → IsTooSmallFor format (given b ended f f') base capacity → ⊥
-room_for format b size ended f f' base capacity r l t = let says = r.says in let small = t.small in omega arith
+table_for format b size ended f f' base capacity r l t = let says = r.says in let small = t.small in omega arith
 
 -- too few bytes after the front: the reading stops
 pub rest_stops : (format : ℕ) (old mid new front xs : List ℕ) (size : ℕ) (ended : Bool) (f f' base capacity : ℕ)
@@ -192,7 +192,7 @@ rest_stops format old mid new front xs size ended f f' base capacity cause r l r
     (short_stops format b ended f f' base capacity cause
     (cut-Truncated format b right.magic right.version (ap is_legal_size says ∙ right.legal) (omega arith))
     (right-undecided format b size right (omega arith))
-    (room_for format b size ended f f' base capacity right room) s g)
+    (table_for format b size ended f f' base capacity right room) s g)
 
 -- more bytes than the size are a wrong size
 pub more-decided : (format : ℕ) (b : List ℕ) (size : ℕ) → IsRight format b size → size < length b
@@ -216,7 +216,7 @@ pub whole_stops : (format : ℕ) (old mid new b : List ℕ) (size : ℕ) (ended 
 whole_stops format old mid new b size ended f f' base capacity ReadFault r l room e h g =
     stops_since format old new b ended f f' base capacity ReadFault (h ∙ e)
     (fault_stops format b ended f f' base capacity (right-undecided format b size r (omega arith))
-    (room_for format b size ended f f' base capacity r room) g)
+    (table_for format b size ended f f' base capacity r room) g)
 whole_stops format old mid new b size ended f f' base capacity RegionTooSmall r l room e h g = absurd h
 whole_stops format old mid new b size ended f f' base capacity (OutOfMemory refusal) r l room e h g = absurd h
 whole_stops format old mid new b size ended f f' base capacity (Image v) r l room e h g =
@@ -230,6 +230,6 @@ whole_stops format old mid new b size ended f f' base capacity (Image v) r l roo
         sound = none_failed f f' g;
         right = inr (subst (DecidesClass format (b ++ one)) (sym h.0) decides);
       };
-      too_small = λ t. absurd (room_for format (b ++ one) size ended f f' base capacity right room t);
+      too_small = λ t. absurd (table_for format (b ++ one) size ended f f' base capacity right room t);
       early = ap (λ c. nat_lt 7 (number_of c)) h.0;
     })

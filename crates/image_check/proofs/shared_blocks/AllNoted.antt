@@ -1,7 +1,7 @@
 -- All links that count are entered, pass after pass.
 use Rattle.image_check.proofs.Common.{AreIndexesNoted, Blocks, ChecksClass, Err, HasTiles, IsIndexNoted, IsMarkingOf}
 use Rattle.image_check.proofs.Common.{IsSharedIn, IsUnmarked, IsWholeMarkingOf, List, Map, MatchResult, None}
-use Rattle.image_check.proofs.Common.{NotesValues, Ok, Option, Result, arith, bytes_of, is_shared, not, refl, subst}
+use Rattle.image_check.proofs.Common.{EntersValues, Ok, Option, Result, arith, bytes_of, is_shared, not, refl, subst}
 use Rattle.image_check.proofs.Common.{sym, true, ℕ, ◌≡◌}
 use Rattle.seg_types.specs.declared.kinds.Kind.TheVariants.{Strings}
 use Rattle.image_check.specs.Passes.{tiles_in}
@@ -35,7 +35,7 @@ indexes-noted format b old waited es pending waiting fs p2 w2 u x y = record {
 
 -- all links are entered
 pub whole : (format : ℕ) (b : List ℕ) (es : Blocks) (p1 : Option ℕ) (w1 : ℕ) (fs : Blocks) (p2 : Option ℕ) (w2 : ℕ)
-    (gs : Blocks) (p3 : Option ℕ) (w3 : ℕ) → AreIndexesNoted format b es p1 w1 → NotesValues format b es fs p2 w2
+    (gs : Blocks) (p3 : Option ℕ) (w3 : ℕ) → AreIndexesNoted format b es p1 w1 → EntersValues format b es fs p2 w2
     → FollowsAll format b fs gs p3 w3 → IsWholeMarkingOf format b gs w3
 whole format b es p1 w1 fs p2 w2 gs p3 w3 x y z = record {
   marking = subst (λ p. IsMarkingOf format b None gs p w3) z.none z.marking;

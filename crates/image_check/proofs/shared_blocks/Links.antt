@@ -5,9 +5,9 @@ use Rattle.image_check.proofs.Common.{MatchResult, MayCount, Memory, Node, None,
 use Rattle.image_check.proofs.Common.{Tile, ap, arith, bytes_of, cases_eq, index_capacity, length, link_at, owner, refl}
 use Rattle.image_check.proofs.Common.{subst, sym, ℕ, ◌*◌, ◌+◌, ◌<◌, ◌^◌, ◌≡◌, ◌≤◌}
 use Rattle.raw_region.specs.Format.{current}
-use Rattle.image_check.specs.Owners.{IsIndexPlace, IsStart}
+use Rattle.image_check.specs.Owners.{IsIndexOffset, IsStart}
 use Rattle.image_check.specs.Passes.{tiles_in}
-use Rattle.image_check.specs.Sharing.{IsElementPlace, MarksLinks}
+use Rattle.image_check.specs.Sharing.{IsElementOffset, MarksLinks}
 use Rattle.image_check.specs.Visits.{AddsVisits}
 use Rattle.image_check.proofs.shared_blocks.Worklist.{debts-small}
 use Rattle.image_check.proofs.block_collection.Places.{payload-inside}
@@ -30,18 +30,18 @@ few-wait format b now es pending waiting h k =
     omega arith
 
 -- the links of the indexes are before all tiles
-pub index-start : (b : List ℕ) (at : ℕ) → HasTiles b → IsIndexPlace at → IsStart (tiles_in b) at
+pub index-start : (b : List ℕ) (at : ℕ) → HasTiles b → IsIndexOffset at → IsStart (tiles_in b) at
 index-start b at h p n t e =
     let low = (payload-inside current (bytes_of b) (length b) Node n t h.tags e).low in
     let small : at ≤ 56 = below p in
     (λ f. absurd (omega arith), λ f. absurd (omega arith))
   where
-    below : IsIndexPlace at → at ≤ 56
+    below : IsIndexOffset at → at ≤ 56
     below (inl e) = omega arith
     below (inr e) = omega arith
 
 -- the link of an index with capacity can count
-pub index-may : (format : ℕ) (m : Memory) (ts : List Tile) (at : ℕ) → IsIndexPlace at → 0 < index_capacity m at
+pub index-may : (format : ℕ) (m : Memory) (ts : List Tile) (at : ℕ) → IsIndexOffset at → 0 < index_capacity m at
     → MayCount format m ts Index at
 index-may format m ts at (inl e) =
     subst (λ (x : ℕ). 0 < index_capacity m x
@@ -126,7 +126,7 @@ pub elements-start : (format : ℕ) (b : List ℕ) (array count seen : ℕ) (es 
     → NotedElements format b array es waiting seen 0 count es pending waiting seen
 elements-start format b array count seen es pending waiting k = record {
   done = record {
-    grown = grown-none format b (IsElementPlace array 0) es pending waiting k;
+    grown = grown-none format b (IsElementOffset array 0) es pending waiting k;
     noted = λ i l. absurd (omega arith);
   };
   below = omega arith;
@@ -148,8 +148,8 @@ elements-on format b array old waited seen i count es pending waiting visits fs 
     let hi = v.1 in
     record {
       done = record {
-        grown = grown-on format b (IsElementPlace array i) (λ p.
-            p ≡ array + 16 * i) (IsElementPlace array (i + 1)) old waited es pending waiting fs p2 w2
+        grown = grown-on format b (IsElementOffset array i) (λ p.
+            p ≡ array + 16 * i) (IsElementOffset array (i + 1)) old waited es pending waiting fs p2 w2
             (λ p h. let l = h.1 in (h.0, omega arith, h.2)) (λ p h.
             (i, omega arith, h)) k.done.grown (marked-grown format b es waiting fs p2 w2 Storage (array + 16 * i) d);
         noted = λ j l. elim (cases_eq j i) [

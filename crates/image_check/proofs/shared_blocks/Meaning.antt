@@ -10,7 +10,7 @@ use Rattle.std.specs.Prelude.{find}
 use Rattle.raw_region.specs.Format.{current}
 use Rattle.image_check.specs.Fields.{is_left, leave_some}
 use Rattle.image_check.specs.Meaning.{IsShared}
-use Rattle.image_check.specs.ObjectPlaces.{IsFirstTile}
+use Rattle.image_check.specs.ObjectOffsets.{IsFirstTile}
 use Rattle.image_check.specs.Passes.{tiles_in}
 use Rattle.image_check.proofs.bytes.Members.{list_any_from, list_any_of}
 use Rattle.image_check.proofs.frame.Tags.{has_tags-AreWholeTiles}

@@ -1,7 +1,8 @@
 -- The links behind all values, entered in a walk over the tiles.
 use Rattle.image_check.proofs.Common.{Blocks, Contains, HasTiles, Index, IsCountedLink, IsMarkingOf, IsTileGrown}
 use Rattle.image_check.proofs.Common.{IsTrue, IsValueGrown, IsValueReady, Kind, List, Map, Memory, Node, None}
-use Rattle.image_check.proofs.Common.{NotesValues, Option, Owner, Rates, Role, Row, Scalar, Some, Storage, String, Tile}
+use Rattle.image_check.proofs.Common.{EntersValues, Option, Owner, Rates, Role, Row, Scalar, Some, Storage, String}
+use Rattle.image_check.proofs.Common.{Tile}
 use Rattle.image_check.proofs.Common.{Vector, WindowState, [], and_parts, ap, arith, bytes_of, class_at, code_before}
 use Rattle.image_check.proofs.Common.{cond, count_at, debts, false, false≢true, has_link, has_name, has_objects}
 use Rattle.image_check.proofs.Common.{has_padding, if◌then◌else◌, is_indexed, is_object_tile, is_use, is_value_in}
@@ -16,7 +17,7 @@ use Rattle.block_tags.specs.declared.tile.Role.TheVariants.{Object}
 use Rattle.seg_types.specs.declared.kinds.Kind.TheVariants.{Strings}
 use Rattle.image_check.specs.Owners.{IsStart, KeepsMarks}
 use Rattle.image_check.specs.Passes.{tiles_in}
-use Rattle.image_check.specs.Sharing.{AllElements, IsInStorage, IsPlaceOf, IsValueNoted, OfObject, object_cost}
+use Rattle.image_check.specs.Sharing.{AllElements, IsInStorage, IsLinkOffset, IsValueNoted, OfObject, object_cost}
 use Rattle.image_check.specs.Sharing.{value_rates}
 use Rattle.image_check.specs.Visits.{sharing_rates}
 use Rattle.image_check.proofs.claims.CountedFields.{Contains-Mem, Mem-Contains}
@@ -186,14 +187,14 @@ module _ (t u : Tile) (e : t.offset ≡ u.offset) (f : t.len ≡ u.len) (g : t.u
       let black : Tile = record { offset = u.offset; len = u.len; use_of = u.use_of; red = t.red } in
       let x = subst (λ (y : Tile). IsTileGrown format b y old waited es pending waiting) (recoloured t u e f g) d in
       record {
-        grown = grown-in format b (IsPlaceOf format (bytes_of b) (tiles_in b) black)
-            (IsPlaceOf format (bytes_of b) (tiles_in b) u) old waited es pending waiting place x.grown;
+        grown = grown-in format b (IsLinkOffset format (bytes_of b) (tiles_in b) black)
+            (IsLinkOffset format (bytes_of b) (tiles_in b) u) old waited es pending waiting place x.grown;
         noted = x.noted;
       }
     where
-      place : (p : ℕ) → IsPlaceOf format (bytes_of b) (tiles_in b)
+      place : (p : ℕ) → IsLinkOffset format (bytes_of b) (tiles_in b)
           (record { offset = u.offset; len = u.len; use_of = u.use_of; red = t.red }) p
-          → IsPlaceOf format (bytes_of b) (tiles_in b) u p
+          → IsLinkOffset format (bytes_of b) (tiles_in b) u p
       place p (inl l) = inl (record { kind = l.kind; object = l.object; is = l.is; link = l.link; place = l.place })
       place p (inr s) = inr s
 
@@ -346,7 +347,7 @@ module _ (format : ℕ) (c : WindowState) (here : Tile) (h : HasTiles c.bytes)
   module _ (fs : Blocks) (p2 : Option ℕ) (w2 v2 : ℕ) (d : IsTileGrown format b here es waiting fs p2 w2)
       (lo : visits ≤ v2) (hi : v2 + (6 * w2 + unspent_budget fs)
       ≤ visits + (6 * waiting + unspent_budget es + suc (object_cost here))) where
-    place-passed : (p : ℕ) → IsPlaceOf format (bytes_of b) (tiles_in b) here p
+    place-passed : (p : ℕ) → IsLinkOffset format (bytes_of b) (tiles_in b) here p
         → IsPassed (tiles_in b) (a.front ++ here ∷ []) p
     place-passed p (inl w) =
         inr (inl (
@@ -414,7 +415,7 @@ value-if m t kind at (Some k) e =
 -- after the last tile all values are entered
 pub noting-end : (format : ℕ) (b : List ℕ) (old : Blocks) (owed seen : ℕ) (es : Blocks) (pending : Option ℕ)
     (waiting visits : ℕ) → Noting format b old owed seen es pending waiting visits (tiles_in b)
-    → NotesValues format b old es pending waiting
+    → EntersValues format b old es pending waiting
 noting-end format b old owed seen es pending waiting visits n = record {
   marking = n.marking;
   keeps = n.keeps;
@@ -438,14 +439,14 @@ pub tile-grown : (format : ℕ) (b : List ℕ) (t : Tile) (kind : Kind) (at : �
     → IsValueGrown format b kind at old waited es pending waiting → IsTileGrown format b t old waited es pending waiting
 tile-grown format b t kind at u e there old waited es pending waiting d = record {
   grown = grown-in format b (λ p. (IsTrue (has_link kind) × (p ≡ at))
-      ⊎ IsInStorage (tiles_in b) p) (IsPlaceOf format (bytes_of b) (tiles_in b) t) old waited es pending waiting
+      ⊎ IsInStorage (tiles_in b) p) (IsLinkOffset format (bytes_of b) (tiles_in b) t) old waited es pending waiting
       place d.grown;
   noted = λ k v f. subst (λ x. IsValueNoted (bytes_of b) (tiles_in b) k x es) there
       (subst (λ x. IsValueNoted (bytes_of b) (tiles_in b) x at es) (same k f) d.noted);
 }
   where
     place : (p : ℕ) → (IsTrue (has_link kind) × (p ≡ at)) ⊎ IsInStorage (tiles_in b) p
-        → IsPlaceOf format (bytes_of b) (tiles_in b) t p
+        → IsLinkOffset format (bytes_of b) (tiles_in b) t p
     place p (inl w) = inl (record { kind = kind; object = u; is = e; link = w.0; place = w.1 ∙ there })
     place p (inr w) = inr w
 

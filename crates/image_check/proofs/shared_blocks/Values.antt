@@ -10,7 +10,7 @@ use Rattle.raw_region.specs.Memory.{word_at}
 use Rattle.raw_region.specs.Format.{current}
 use Rattle.seg_types.specs.declared.kinds.Kind.TheVariants.{Strings}
 use Rattle.image_check.specs.Passes.{tiles_in}
-use Rattle.image_check.specs.Sharing.{AllElements, IsElementPlace, IsInStorage, IsStorageStart, Pays}
+use Rattle.image_check.specs.Sharing.{AllElements, IsElementOffset, IsInStorage, IsStorageStart, Pays}
 use Rattle.image_check.proofs.block_collection.Places.{Found, found}
 use Rattle.image_check.proofs.shared_blocks.Links.{grown-in, grown-none, grown-on, marked-grown}
 use Rattle.image_check.proofs.claims.ReachedLinks.{good_for-IsGood}
@@ -96,7 +96,7 @@ module _ (b : List ℕ) (at array len : ℕ) (h : HasTiles b) (w : IsArrayAt b a
       → AreElementsNoted format b array count old waited es pending waiting
       → AreTextsNoted format b at old waited es pending waiting
   texts-noted format n count e r fits old waited es pending waiting d = record {
-    grown = grown-in format b (IsElementPlace array count) (IsInStorage (tiles_in b)) old waited es pending waiting
+    grown = grown-in format b (IsElementOffset array count) (IsInStorage (tiles_in b)) old waited es pending waiting
         (λ p k. element-in k.0 count p k.1 r k.2) d.grown;
     noted = λ t i p g l k.
         let same = same-tile t g in

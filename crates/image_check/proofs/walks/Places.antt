@@ -1,6 +1,7 @@
 -- The bounds of the tiles of an image.
 use Rattle.image_check.proofs.Common.{HasTiles, List, Role, Row, Some, Tile, WindowState, [], arith, bytes_of, inl, inr}
-use Rattle.image_check.proofs.Common.{is_place, is_place-from, legal_size, length, some_same, subst, sym, tile_of, true}
+use Rattle.image_check.proofs.Common.{is_target, is_target-from, legal_size, length, some_same, subst, sym, tile_of}
+use Rattle.image_check.proofs.Common.{true}
 use Rattle.image_check.proofs.Common.{ℕ, ◌%◌, ◌+◌, ◌-◌, ◌∷◌, ◌≡◌, ◌≤◌}
 use Rattle.raw_region.specs.Format.{current}
 use Rattle.image_check.specs.Passes.{tiles_in}
@@ -61,7 +62,7 @@ named b role n t h e =
     record { lies = tile-lies b t h g.mem; mem = g.mem; at = some_same (t.offset + 16) n (sym g.leads) }
 
 -- whose payload is a place
-pub named-place : (c : WindowState) (n : ℕ) (t : Tile) → HasTiles c.bytes → Named c.bytes n t → is_place c n ≡ true
+pub named-place : (c : WindowState) (n : ℕ) (t : Tile) → HasTiles c.bytes → Named c.bytes n t → is_target c n ≡ true
 named-place c n t h k =
     let at = k.at in
     let low = k.lies.low in
@@ -69,4 +70,4 @@ named-place c n t h k =
     let long = k.lies.long in
     let high = k.lies.high in
     let least = (legal_size (length c.bytes) h.size).low in
-    is_place-from c n h.size (handle_from (length c.bytes) n (omega arith) (omega arith) (omega arith))
+    is_target-from c n h.size (handle_from (length c.bytes) n (omega arith) (omega arith) (omega arith))

@@ -6,7 +6,7 @@ ghost use Rattle.link_tree.specs.Nodes.{leads};
 ghost use Rattle.link_tree.specs.Tree.{Tree, IsSearchTree, nodes_of};
 ghost use Rattle.block_tags.specs.Format.{is_legal_size};
 ghost use Rattle.seg_types.specs.Kinds.{size_of, is_spelling as is_spelling_of};
-ghost use Rattle.image_check.specs.FreeNodes.{is_place};
+ghost use Rattle.image_check.specs.FreeNodes.{is_target};
 ghost use Rattle.image_check.specs.MapNodes.{is_node_block, is_pair, kept_link, key_before, pair_cells, pair_len};
 ghost use Rattle.image_check.specs.MapLaws.{keys_irreflexive, keys_transitive, nothing_before, pairs_finite};
 ghost use Rattle.image_check.specs.MapLaws.{pairs_left, pairs_right};
@@ -47,10 +47,10 @@ fn is_spelled(window: &ImageWindow, kind: ScalarKind, at: u64) -> bool
 }
 
 /// Returns true if a payload can begin at the offset `node`.
-#[tactic(auto, unfolding(crate::specs::FreeNodes::is_place))]
-fn is_place_in(window: &ImageWindow, node: u64) -> bool
+#[tactic(auto, unfolding(crate::specs::FreeNodes::is_target))]
+fn is_target_in(window: &ImageWindow, node: u64) -> bool
     requires { IsTrue (is_legal_size (length window.now.bytes)) }
-    ensures { result ≡ is_place window.now node }
+    ensures { result ≡ is_target window.now node }
 {
     if node % 16 != 0 || node < 144 {
         return false;
@@ -86,7 +86,7 @@ impl CheckedPairTree<'_> {
         ensures { result ≡ is_pair self.now.window.now self.now.blocks.now.entries self.now.root self.now.key
             self.now.value node }
     {
-        if !is_place_in(self.window, node) || !self.has_node(node) {
+        if !is_target_in(self.window, node) || !self.has_node(node) {
             return false;
         }
         is_spelled(self.window, self.key, node + LINKS)

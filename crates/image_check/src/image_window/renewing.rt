@@ -11,7 +11,7 @@ ghost use Rattle.image_check.specs.Passes.{tiles_in};
 
 use super::{BlockTable, ImageWindow};
 use crate::checking::VisitCounter;
-use crate::noting::note_blocks;
+use crate::noting::hint_blocks;
 use best_fit::Heap;
 use raw_region::Window;
 use segment_manager::layout::{FORMAT, FORMAT_AT};
@@ -40,7 +40,7 @@ impl ImageWindow {
     {
         let mut heap = as_heap(format, self.window);
         set_version(format, &mut heap);
-        note_blocks(blocks, &mut heap, visits);
+        hint_blocks(blocks, &mut heap, visits);
         segment_of(heap, mode)
     }
 }

@@ -10,7 +10,7 @@ use Rattle.block_tags.specs.declared.tile.Tile.{Tile}
 use Rattle.block_tags.specs.Format.{is_legal_size}
 use Rattle.block_tags.specs.Tiles.{is_free, may_be_red}
 use Rattle.block_tags.specs.Lists.{free_tile, tile_in, next_in, last_in, laid}
-use Rattle.block_tags.specs.Windows.{EncodesTiles, FrontSaysTiles, IsTiledWindow, HasTileAt, CanSplit, HasFreeNext}
+use Rattle.block_tags.specs.Windows.{EncodesTiles, PrefixSaysTiles, IsTiledWindow, HasTileAt, CanSplit, HasFreeNext}
 use Rattle.block_tags.specs.Windows.{CanTakeUse, MayHaveColour, HasFreeLast, CanAppend}
 use Rattle.block_tags.proofs.Laws.{legal}
 
@@ -67,7 +67,7 @@ module _ (c : WindowState) (ts : List Tile) (said : EncodesTiles c ts) where
 
 -- the window of one free tile, of which the last was taken away
 pub can_append : (c d : WindowState) (n : ℕ) → EncodesTiles c (free_tile 128 880 ∷ [])
-    → length d.bytes ≡ length c.bytes → FrontSaysTiles d n [] → CanAppend d n
+    → length d.bytes ≡ length c.bytes → PrefixSaysTiles d n [] → CanAppend d n
 can_append c d n old size front =
     let end = old.tags.4.0 in let start = front.tags.0 in let g = legal n front.size in let low = g.low in
     let h = legal (length c.bytes) old.size in let least = h.low in

@@ -109,39 +109,41 @@ module _ {lt : ℕ → ℕ → Bool} {before : ℕ → Bool} (agrees : (a b : �
     → before a ≡ true)
     {K : Type 0} (pass : K → ℕ → Bool → Bool → K) (node : K → Option ℕ) where
   -- the last node passed that does not stand before the probe is the first one of the tree
-  first_noted : ((notes : K) (n : ℕ) (red b : Bool) → node (pass notes n red b) ≡ (if b then node notes else Some n))
-      → (notes : K) (t : Tree) → is_sorted lt (nodes_of t) ≡ true
-      → node (noted pass before notes t) ≡ option_or (first_not_before before (nodes_of t)) (node notes)
-  first_noted says notes leaf o = refl
-  first_noted says notes (fork red l n r) o =
+  first_noted : ((folded : K) (n : ℕ) (red b : Bool) → node (pass folded n red b) ≡ (if b then node folded else Some n))
+      → (folded : K) (t : Tree) → is_sorted lt (nodes_of t) ≡ true
+      → node (noted pass before folded t) ≡ option_or (first_not_before before (nodes_of t)) (node folded)
+  first_noted says folded leaf o = refl
+  first_noted says folded (fork red l n r) o =
       let a = nodes_of l in
       let b = nodes_of r in
       let sp = rises_split lt a n b o in
       elim (cases_Bool (before n)) [
         | inl e ↦
             let passed = all_from before a (λ m i. agrees m n (all_at (λ k. lt k n) a m sp.below i) e) in
-            rw e (first_noted says (pass notes n red true) r sp.right
-            ∙ ap (option_or (first_not_before before b)) (says notes n red true)
-            ∙ ap (λ f. option_or f (node notes)) (sym (first_not_before-right before a n b passed e)))
-        | inr e ↦ rw e (first_noted says (pass notes n red false) l sp.left
-            ∙ ap (option_or (first_not_before before a)) (says notes n red false)
-            ∙ sym (ap (λ f. option_or f (node notes)) (first_not_before-left before a n b e)
-            ∙ or_some (first_not_before before a) n (node notes)))
+            rw e (first_noted says (pass folded n red true) r sp.right
+            ∙ ap (option_or (first_not_before before b)) (says folded n red true)
+            ∙ ap (λ f. option_or f (node folded)) (sym (first_not_before-right before a n b passed e)))
+        | inr e ↦ rw e (first_noted says (pass folded n red false) l sp.left
+            ∙ ap (option_or (first_not_before before a)) (says folded n red false)
+            ∙ sym (ap (λ f. option_or f (node folded)) (first_not_before-left before a n b e)
+            ∙ or_some (first_not_before before a) n (node folded)))
       ]
 
   -- a search ends with the first node that is not before the probe
-  pub first_from : ((notes : K) (n : ℕ) (red b : Bool) → node (pass notes n red b) ≡ (if b then node notes else Some n))
+  pub first_from : ((folded : K) (n : ℕ) (red b : Bool) → node (pass folded n red b) ≡ (if b then node folded
+      else Some n))
       → (start : K) (t : Tree) → is_sorted lt (nodes_of t) ≡ true → node start ≡ None
       → node (noted pass before start t) ≡ first_not_before before (nodes_of t)
   first_from says start t o e =
       first_noted says start t o ∙ ap (option_or (first_not_before before (nodes_of t))) e ∙ or_none _
 
   -- the last node passed that stands before it is the last one of the tree
-  pub last_noted : ((notes : K) (n : ℕ) (red b : Bool) → node (pass notes n red b) ≡ (if b then Some n else node notes))
-      → (notes : K) (t : Tree) → is_sorted lt (nodes_of t) ≡ true
-      → node (noted pass before notes t) ≡ option_or (last_before before (nodes_of t)) (node notes)
-  last_noted says notes leaf o = refl
-  last_noted says notes (fork red l n r) o =
+  pub last_noted : ((folded : K) (n : ℕ) (red b : Bool) → node (pass folded n red b) ≡ (if b then Some n else
+      node folded))
+      → (folded : K) (t : Tree) → is_sorted lt (nodes_of t) ≡ true
+      → node (noted pass before folded t) ≡ option_or (last_before before (nodes_of t)) (node folded)
+  last_noted says folded leaf o = refl
+  last_noted says folded (fork red l n r) o =
       let a = nodes_of l in
       let b = nodes_of r in
       let sp = rises_split lt a n b o in
@@ -149,15 +151,15 @@ module _ {lt : ℕ → ℕ → Bool} {before : ℕ → Bool} (agrees : (a b : �
       elim (cases_Bool (before n)) [
         | inl e ↦
             let here = rw e at parts in
-            rw e (last_noted says (pass notes n red true) r sp.right
-            ∙ ap (option_or (last_before before b)) (says notes n red true)
-            ∙ sym (ap (λ f. option_or f (node notes)) here ∙ or_some (last_before before b) n (node notes)))
+            rw e (last_noted says (pass folded n red true) r sp.right
+            ∙ ap (option_or (last_before before b)) (says folded n red true)
+            ∙ sym (ap (λ f. option_or f (node folded)) here ∙ or_some (last_before before b) n (node folded)))
         | inr e ↦
             let behind = last_none before b (all_from (λ m. not (before m)) b (λ m i. not_from_false (before m)
             (false_from_ne_true (before m)
             (λ k. true≢false (sym (agrees n m (all_at (lt n) b m sp.above i) k) ∙ e))))) in
             let here = rw (e, behind) at parts in
-            rw e (last_noted says (pass notes n red false) l sp.left
-            ∙ ap (option_or (last_before before a)) (says notes n red false)
-            ∙ ap (λ f. option_or f (node notes)) (sym here))
+            rw e (last_noted says (pass folded n red false) l sp.left
+            ∙ ap (option_or (last_before before a)) (says folded n red false)
+            ∙ ap (λ f. option_or f (node folded)) (sym here))
       ]

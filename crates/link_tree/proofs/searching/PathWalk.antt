@@ -17,11 +17,11 @@ onward false = Left
 
 -- the rest of the path, with the value folded so far, gives the value of the whole path
 pub record Seeking {K : Type 0} (pass : K → ℕ → Bool → Bool → K) (start : K) (lt : ℕ → ℕ → Bool) (h : ℕ → Cell)
-    (before : ℕ → Bool) (whole : Tree) (link at : Option ℕ) (notes : K) (steps : ℕ) : Type 0 where
+    (before : ℕ → Bool) (whole : Tree) (link at : Option ℕ) (folded : K) (steps : ℕ) : Type 0 where
   pub tree : Tree
   pub is_tree : IsTree h link tree
   pub ordered : is_sorted lt (nodes_of tree) ≡ true
-  pub kept : noted pass before notes tree ≡ noted pass before start whole
+  pub kept : noted pass before folded tree ≡ noted pass before start whole
   pub taken : steps + height tree ≤ height whole
   pub path : steps + path_length before tree ≡ path_length before whole
   pub away : (m : ℕ) → link ≡ Some m → at ≡ Some m → ⊥
@@ -32,10 +32,10 @@ module _ {K : Type 0} (pass : K → ℕ → Bool → Bool → K) (before : ℕ �
   path_on true red near n far e = rw e refl
   path_on false red near n far e = rw e refl
 
-  noted_on : (notes : K) (b : Bool) (red : Bool) (near : Tree) (n : ℕ) (far : Tree) → before n ≡ b
-      → noted pass before notes (joined_at (onward b) red near n far) ≡ noted pass before (pass notes n red b) near
-  noted_on notes true red near n far e = rw e refl
-  noted_on notes false red near n far e = rw e refl
+  noted_on : (folded : K) (b : Bool) (red : Bool) (near : Tree) (n : ℕ) (far : Tree) → before n ≡ b
+      → noted pass before folded (joined_at (onward b) red near n far) ≡ noted pass before (pass folded n red b) near
+  noted_on folded true red near n far e = rw e refl
+  noted_on folded false red near n far e = rw e refl
 
 module _ {K : Type 0} {pass : K → ℕ → Bool → Bool → K} {start : K} {lt : ℕ → ℕ → Bool} {h : ℕ → Cell}
     {before : ℕ → Bool} {whole : Tree} where
@@ -53,21 +53,21 @@ module _ {K : Type 0} {pass : K → ℕ → Bool → Bool → K} {start : K} {lt
   }
 
   -- the value and the steps of a search that has ended
-  pub seek_end : (link at : Option ℕ) (notes : K) (steps : ℕ) → link ≡ None
-      → Seeking pass start lt h before whole link at notes steps
-      → (notes ≡ noted pass before start whole) × (steps ≡ path_length before whole)
-  seek_end link at notes steps k s =
+  pub seek_end : (link at : Option ℕ) (folded : K) (steps : ℕ) → link ≡ None
+      → Seeking pass start lt h before whole link at folded steps
+      → (folded ≡ noted pass before start whole) × (steps ≡ path_length before whole)
+  seek_end link at folded steps k s =
       let e = no_tree h s.tree (rw k at s.is_tree) in
       let g = rw e at s.kept in
       let p = rw e at s.path in
       (g, omega arith)
 
   -- one node further down
-  pub seek_on : IsStrict lt → (b : Bool) (n : ℕ) (at at' : Option ℕ) (notes notes' : K) (steps steps' : ℕ)
-      → Seeking pass start lt h before whole (Some n) at notes steps → before n ≡ b
-      → notes' ≡ pass notes n (h n).red b → steps' ≡ steps + 1 → at' ≡ Some n
-      → Seeking pass start lt h before whole (child_of (onward b) (h n)) at' notes' steps'
-  seek_on strict b n at at' notes notes' steps steps' s e k st here =
+  pub seek_on : IsStrict lt → (b : Bool) (n : ℕ) (at at' : Option ℕ) (folded folded' : K) (steps steps' : ℕ)
+      → Seeking pass start lt h before whole (Some n) at folded steps → before n ≡ b
+      → folded' ≡ pass folded n (h n).red b → steps' ≡ steps + 1 → at' ≡ Some n
+      → Seeking pass start lt h before whole (child_of (onward b) (h n)) at' folded' steps'
+  seek_on strict b n at at' folded folded' steps steps' s e k st here =
       let o = parted strict (onward b) h n s.tree s.is_tree s.ordered in
       let red = (h n).red in
       let kept = rw o.is at s.kept in
@@ -79,7 +79,7 @@ module _ {K : Type 0} {pass : K → ℕ → Bool → Bool → K} {start : K} {lt
         tree = o.near;
         is_tree = o.near_tree;
         ordered = o.apart.near_rises;
-        kept = ap (λ x. noted pass before x o.near) k ∙ sym (noted_on pass before notes b red o.near n o.far e) ∙ kept;
+        kept = ap (λ x. noted pass before x o.near) k ∙ sym (noted_on pass before folded b red o.near n o.far e) ∙ kept;
         taken = omega arith;
         path = omega arith;
         away = λ m f g.

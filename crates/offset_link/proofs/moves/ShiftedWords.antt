@@ -233,7 +233,7 @@ even_leads at w even null = by_word (w == 1) refl
 
 -- a word that is even where it was moved by an even distance was even
 plain_even : (at to w : ℕ) → at < 2 ^ 64 → to < 2 ^ 64 → at % 8 ≡ to % 8 → word_by_distance at to w % 2 ≡ 0 → w % 2 ≡ 0
-plain_even at to w small here places even = omega (arith, small, here, places, even)
+plain_even at to w small here slots even = omega (arith, small, here, slots, even)
 
 -- the bits of four words, joined to the bits of one before
 five_even : (s a c e g : ℕ) → bit_or (bit_or (bit_or (bit_or s a) c) e) g % 2 ≡ 0
@@ -247,7 +247,7 @@ pub even_of : (a b : ℕ) → (bit_or a b % 2 == 1) ≡ false → BothEven a b
 even_of a b none = or_even a b (omega (arith, eqb-false (bit_or a b % 2) 1 none))
 
 -- ---- links that were seen not to be null, as they moved
-module _ (m : Memory) (at to : ℕ) (small : at + 64 < 2 ^ 64) (here : to + 64 < 2 ^ 64) (places : at % 8 ≡ to % 8) where
+module _ (m : Memory) (at to : ℕ) (small : at + 64 < 2 ^ 64) (here : to + 64 < 2 ^ 64) (slots : at % 8 ≡ to % 8) where
   leads_from : (k w : ℕ) → k < 8 → w ≡ word_by_distance (at + 8 * k) (to + 8 * k) (word_at m (at + 8 * k))
       → w % 2 ≡ 0 → link_at m (at + 8 * k) ≢ None
   leads_from k w few e even =

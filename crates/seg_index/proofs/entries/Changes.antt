@@ -51,7 +51,7 @@ counted {a} {b} {c} {at} {block} {f} {n} {place} {count} {t} gs p w one low link
         entries = subst (λ (o : Option Extent). AreIndexEntries C (record { capacity = t.capacity; extent = o }) gs)
             (sym p.is) (subst (λ k. AreLinksTo C k gs) (sym p.begins) links2);
       };
-      places = i.places;
+      slots = i.slots;
       few = few;
       held = subst (λ (l : LiveSet). IfSome t.extent (λ x. extent_at l (handle x) ≡ Some x))
           (sym (same_live two ∙ same_live one)) i.held;
@@ -117,20 +117,20 @@ gaps_kept {a} {b} {c} {at} {block} {n} {t = t} p w k one few e two =
 
 -- ---- a block that is offered
 
-block_room : (c : WindowState) (h places : ℕ) → IsBlockFor c h places
-    → IsTrue (has_room (live_of c.bytes) h (8 * places))
-block_room c h places f =
-    let n = 8 * places in let x = f.extent in let two = and_parts (same_role x.role IndexRole) (holds x n) f.fits in
+block_room : (c : WindowState) (h slots : ℕ) → IsBlockFor c h slots
+    → IsTrue (has_room (live_of c.bytes) h (8 * slots))
+block_room c h slots f =
+    let n = 8 * slots in let x = f.extent in let two = and_parts (same_role x.role IndexRole) (holds x n) f.fits in
     found-room (live_of c.bytes) h n x f.found (leb-true (n + 16) x.len two.1)
 
 -- the block of an index begins at a multiple of 16
-pub block_whole : {c : WindowState} {h places : ℕ} → IsHeap current c.bytes → IsBlockFor c h places → h % 16 ≡ 0
-block_whole {c} {h} {places} heap f =
-    block_aligned c h (room_block c h (8 * places) heap (block_room c h places f)).block
+pub block_whole : {c : WindowState} {h slots : ℕ} → IsHeap current c.bytes → IsBlockFor c h slots → h % 16 ≡ 0
+block_whole {c} {h} {slots} heap f =
+    block_aligned c h (room_block c h (8 * slots) heap (block_room c h slots f)).block
 
 -- a change leaves it
-pub still_offered : {a b : WindowState} {from n h places : ℕ} → ChangesBytes current a b from n → IsBlockFor a h places
-    → IsBlockFor b h places
+pub still_offered : {a b : WindowState} {from n h slots : ℕ} → ChangesBytes current a b from n → IsBlockFor a h slots
+    → IsBlockFor b h slots
 still_offered {h = h} c f = record {
   extent = f.extent;
   found = ap (λ (l : LiveSet). extent_at l h) (same_live c) ∙ f.found;
@@ -183,7 +183,7 @@ settled {a} {d} {at} {block} {count} {capacity} hs h w heap f within some links 
         capacity = h.capacity_word;
         entries = subst (λ k. AreLinksTo D k hs) (sym same) there;
       };
-      places = and_from (nat_lt 0 capacity) (serves x IndexRole (8 * capacity)) (lt-ltb 0 capacity some) f.fits;
+      slots = and_from (nat_lt 0 capacity) (serves x IndexRole (8 * capacity)) (lt-ltb 0 capacity some) f.fits;
       few = omega arith;
       held = ap (λ (l : LiveSet). extent_at l (handle x)) (same_live h.change)
           ∙ ap (λ k. extent_at (live_of a.bytes) k) same ∙ f.found;
@@ -192,10 +192,10 @@ settled {a} {d} {at} {block} {count} {capacity} hs h w heap f within some links 
     subst (λ (o : Option Extent). IsIndexOf d at (record { capacity = capacity; extent = o }) hs) (sym f.found) index
 
 -- as many places as were meant, in a block that was in use before
-pub index_in : (b d e : WindowState) (h : ℕ) {at k places : ℕ} {hs : List ℕ}
-    → live_of d.bytes ≡ live_of b.bytes → k ≡ places → InstallsBlock d e at h k hs → InstallsBlock b e at h places hs
-index_in b d e h {at} {places = places} {hs} same is i = subst (λ (l : LiveSet). IsIndexOf e at
-    (record { capacity = places; extent = extent_at l h }) hs) same (subst (λ n. InstallsBlock d e at h n hs) is i)
+pub index_in : (b d e : WindowState) (h : ℕ) {at k slots : ℕ} {hs : List ℕ}
+    → live_of d.bytes ≡ live_of b.bytes → k ≡ slots → InstallsBlock d e at h k hs → InstallsBlock b e at h slots hs
+index_in b d e h {at} {slots = slots} {hs} same is i = subst (λ (l : LiveSet). IsIndexOf e at
+    (record { capacity = slots; extent = extent_at l h }) hs) same (subst (λ n. InstallsBlock d e at h n hs) is i)
 
 -- the block to which the link led before
 pub gone : (c : WindowState) {link : Option ℕ} {block : ℕ} (old : ℕ) → link ≡ Some old
@@ -228,7 +228,7 @@ headed_released_keeps {a} {d} {e} {at} h w r in_header =
 pub record Move : Type 0 where
   pub at : ℕ
   pub block : ℕ
-  pub places : ℕ
+  pub slots : ℕ
   pub from : ℕ
   pub link : Option ℕ
   pub table : BackingArray
@@ -240,20 +240,20 @@ pub record Offer (c : WindowState) (m : Move) : Type 0 where
   pub index : IsIndexOf c m.at m.table m.handles
   pub leads : link_at (bytes_of c.bytes) m.at ≡ m.link
   pub begins : m.from ≡ unwrap_or m.link m.block
-  pub offered : IsBlockFor c m.block m.places
+  pub offered : IsBlockFor c m.block m.slots
   pub apart : m.link ≡ Some m.block → ⊥
 
 -- the offered block has room for the entries
-pub target : {c : WindowState} {m : Move} (n : ℕ) → Offer c m → n ≤ 8 * m.places
+pub target : {c : WindowState} {m : Move} (n : ℕ) → Offer c m → n ≤ 8 * m.slots
     → IsTrue (has_room (live_of c.bytes) m.block n)
 target {c} {m} n o few =
-    room-less (live_of c.bytes) m.block (8 * m.places) n few (block_room c m.block m.places o.offered)
+    room-less (live_of c.bytes) m.block (8 * m.slots) n few (block_room c m.block m.slots o.offered)
 
 -- a new block is offered to the index
-pub offer : {c : WindowState} {at h places from place : ℕ} {link : Option ℕ} {t : BackingArray} {hs : List ℕ}
+pub offer : {c : WindowState} {at h slots from place : ℕ} {link : Option ℕ} {t : BackingArray} {hs : List ℕ}
     → InHeader at → place ≡ at → link ≡ link_at (bytes_of c.bytes) place → from ≡ unwrap_or link h
-    → IsBlockFor c h places → (link_at (bytes_of c.bytes) at ≡ Some h → ⊥) → IsIndexOf c at t hs
-    → Offer c (record { at = at; block = h; places = places; from = from; link = link; table = t; handles = hs })
+    → IsBlockFor c h slots → (link_at (bytes_of c.bytes) at ≡ Some h → ⊥) → IsIndexOf c at t hs
+    → Offer c (record { at = at; block = h; slots = slots; from = from; link = link; table = t; handles = hs })
 offer {c} w e f begins block apart i =
     let leads = leads_from c e f refl in record {
       header = w;
@@ -268,7 +268,7 @@ offer {c} w e f begins block apart i =
 pub taken_offer : {a b : WindowState} {at n k h from place : ℕ} {link : Option ℕ} {t : BackingArray} {hs : List ℕ}
     → InHeader at → AllocatesOk current a b k IndexRole h → k ≡ min (n * 8) (2 ^ 64 - 1)
     → place ≡ at → link ≡ link_at (bytes_of b.bytes) place → from ≡ unwrap_or link h → IsIndexOf a at t hs
-    → Offer b (record { at = at; block = h; places = n; from = from; link = link; table = t; handles = hs })
+    → Offer b (record { at = at; block = h; slots = n; from = from; link = link; table = t; handles = hs })
 taken_offer {a} {b} {at} {n} {k} {h} {t = t} {hs} w al much e f begins i =
     let j = still_taken w al i in let same = i.stands.link ∙ sym j.stands.link in
     offer w e f begins (taken_block a b k n h al (meant n i.heap al much))
@@ -302,7 +302,7 @@ source {c} {m} o = subst (λ (p : Option ℕ). Source c m p) (sym o.leads) (by_c
 
 -- after the block is written it is still offered
 pub written : {a b : WindowState} {m : Move} {n : ℕ}
-    → Offer a m → ChangesBytes current a b (m.block + 0) n → n ≤ 8 * m.places → Offer b m
+    → Offer a m → ChangesBytes current a b (m.block + 0) n → n ≤ 8 * m.slots → Offer b m
 written {m = m} {n} o c few =
     let room = target (0 + n) o (omega arith) in
     let i = still_written m.block 0 o.header c room (λ e. o.apart (sym o.leads ∙ e)) o.index in record {
@@ -347,7 +347,7 @@ written_both {count = count} h one two l =
 
 -- the blocks but two: one is written, and then the index leaves the other
 pub written_keeps : {a d e : WindowState} {m : Move} {n : ℕ} → Offer a m → ChangesBytes current a d (m.block + 0) n
-    → n ≤ 8 * m.places → KeepsOutsideIndex d e m.at (without_index_block d m.at).extents
+    → n ≤ 8 * m.slots → KeepsOutsideIndex d e m.at (without_index_block d m.at).extents
     → KeepsOutsideIndex a e m.at (others m.block (without_index_block a m.at).extents)
 written_keeps {a} {d} {e} {m} {n} o c few k =
     let l = live_of a.bytes in let to = link_at (bytes_of a.bytes) m.at in
@@ -417,7 +417,7 @@ empty_index hs w zero whole = record {
     capacity = w.capacity_word;
     entries = nil_from_length hs zero;
   };
-  places = refl;
+  slots = refl;
   few = omega arith;
   held = tt;
   whole = whole;
@@ -520,7 +520,7 @@ shrunk_some a b e at cap x hs p some one word s w =
     let l = live_of a.bytes in let n = length hs in let y = shorter l x (8 * n) in
     let few = i.few in let live : live_of b.bytes ≡ l = same_live one in
     let r : ResizesBlock current b e x y = resized_here live i.held s in
-    let two = and_parts (nat_lt 0 cap) (serves x IndexRole (8 * cap)) i.places in
+    let two = and_parts (nat_lt 0 cap) (serves x IndexRole (8 * cap)) i.slots in
     let h : Short x y (8 * n) = short l x cap n few two.1 in let begins = h.begins in
     let now : live_of e.bytes ≡ resized l y = resized-live current b e x y r ∙ ap (λ (k : LiveSet). resized k y) live in
     let links : AreLinksTo E (handle y) hs = links_moved A E (handle x) (handle y) hs i.stands.entries (λ k f.
@@ -539,7 +539,7 @@ shrunk_some a b e at cap x hs p some one word s w =
         capacity = SameBytes-word B E 32 128 (at + 16) r.keeps.behind (omega arith) (omega arith) ∙ word;
         entries = links;
       };
-      places = and_from (nat_lt 0 n) (serves y IndexRole (8 * n)) (lt-ltb 0 n (omega (arith, some))) h.serves_it;
+      slots = and_from (nat_lt 0 n) (serves y IndexRole (8 * n)) (lt-ltb 0 n (omega (arith, some))) h.serves_it;
       few = omega arith;
       held = ap (λ (k : LiveSet). extent_at k (handle y)) now
           ∙ found_cut l x y (live-rises l i.heap.proper) i.held begins;

@@ -6,7 +6,7 @@ use common.{IndexRole, ℕ, ◌≤◌, [], ◌∷◌, WindowState, sym, ap, ◌�
 use common.{IsTrue, Option, Extent, handle, IsHeap, get_or, insert, remove, Memory, nat_lt, others, serves}
 use common.{AllByRecursion, none-some, length-insert, length-remove, slice_get-get_or, comparisons_in, beside_table}
 use common.{same_Some, extent_at, has_room, live-rises, room_block, KeepTargets, cases_Bool, found-room, is_live_in}
-use common.{current, live_of, link_at, AllLinksLead, AreLinksTo, leb-true, bytes_of, word_at, order_at, place_of}
+use common.{current, live_of, link_at, AllLinksLead, AreLinksTo, leb-true, bytes_of, word_at, order_at, index_at}
 use common.{AreKeys, Less, ap₂}
 use Rattle.seg_index.proofs.entries.HeapChanges.{changed_used, changed_touches, InHeader}
 use Rattle.seg_index.proofs.{keys.Order.none_left, keys.Order.same_comparisons, Common.Ordering}
@@ -198,17 +198,17 @@ remove_links {m} {m'} at i hs a within low tail = links_from m' at (remove hs i)
 -- ---- the place of an index
 
 -- the words of an index lie in the header
-pub place_small : (i : Index) → place_of i + 24 ≤ 128
+pub place_small : (i : Index) → index_at i + 24 ≤ 128
 place_small Named = omega arith
 place_small Unique = omega arith
 
 -- the words of an index lie after the heap's word
-pub place_behind : (i : Index) → 32 ≤ place_of i
+pub place_behind : (i : Index) → 32 ≤ index_at i
 place_behind Named = omega arith
 place_behind Unique = omega arith
 
 -- the words of an index lie in the header
-pub in_header : (i : Index) → InHeader (place_of i)
+pub in_header : (i : Index) → InHeader (index_at i)
 in_header i = record { behind = place_behind i; small = place_small i }
 
 -- ---- its block
@@ -236,7 +236,7 @@ pub record Placed (c : WindowState) (at : ℕ) (t : BackingArray) (hs : List ℕ
 pub long_enough : {c : WindowState} {at cap : ℕ} {x : Extent} {hs : List ℕ}
     → IsIndexOf c at (record { capacity = cap; extent = Some x }) hs → 8 * cap + 16 ≤ x.len
 long_enough {cap = cap} {x} i =
-    let two = and_parts (nat_lt 0 cap) (serves x IndexRole (8 * cap)) i.places in
+    let two = and_parts (nat_lt 0 cap) (serves x IndexRole (8 * cap)) i.slots in
     leb-true (8 * cap + 16) x.len (and_parts (same_role x.role IndexRole) (holds x (8 * cap)) two.1).1
 
 -- the block behind an index's link is the index's
@@ -268,7 +268,7 @@ beside {t = t} p xs = ap (λ k. others k xs) (sym p.begins) ∙ ap (λ (o : Opti
 -- without a block the capacity is 0
 pub bare : {c : WindowState} {at : ℕ} {t : BackingArray} {hs : List ℕ}
     → IsIndexOf c at t hs → link_at (bytes_of c.bytes) at ≡ None → t.capacity ≡ 0
-bare {c} {at} {t} {hs} i leads = table_cases (λ u. IsIndexOf c at u hs → u.capacity ≡ 0) (λ cap j. let p = j.places
+bare {c} {at} {t} {hs} i leads = table_cases (λ u. IsIndexOf c at u hs → u.capacity ≡ 0) (λ cap j. let p = j.slots
     in eqb-true cap 0 p) (λ cap x j. absurd (none-some (handle x) (sym leads ∙ j.stands.link))) t i
 
 -- an index without a block has no entries
@@ -290,10 +290,10 @@ pub leads_from : (c : WindowState) {at place : ℕ} {o p : Option ℕ} → place
 leads_from c e f g = ap (λ k. link_at (bytes_of c.bytes) k) (sym e) ∙ sym f ∙ g
 
 -- if the capacity is not 0 there is a block, and the link leads to it
-pub has_places : {c : WindowState} {at : ℕ} {t : BackingArray} {hs : List ℕ} {block place : ℕ} {o : Option ℕ}
+pub has_slots : {c : WindowState} {at : ℕ} {t : BackingArray} {hs : List ℕ} {block place : ℕ} {o : Option ℕ}
     → IsIndexOf c at t hs → 0 < t.capacity
     → place ≡ at → o ≡ link_at (bytes_of c.bytes) place → block ≡ unwrap_or o 0 → Placed c at t hs block
-has_places {c} {at} {t} {hs} {block} {place} {o} i some e f b = by_case o refl
+has_slots {c} {at} {t} {hs} {block} {place} {o} i some e f b = by_case o refl
   where
     by_case : (p : Option ℕ) → o ≡ p → Placed c at t hs block
     by_case None q = let z = bare i (leads_from c e f q) in absurd (omega arith)
@@ -301,11 +301,11 @@ has_places {c} {at} {t} {hs} {block} {place} {o} i some e f b = by_case o refl
         let same : block ≡ h = b ∙ ap (λ (r : Option ℕ). unwrap_or r 0) q in
         placed block i (leads_from c e f q ∙ ap (λ k. Some k) (sym same))
 
-pub places_room : {c : WindowState} {at : ℕ} {t : BackingArray} {hs : List ℕ} (block place : ℕ) {o : Option ℕ} (k : ℕ)
+pub slots_room : {c : WindowState} {at : ℕ} {t : BackingArray} {hs : List ℕ} (block place : ℕ) {o : Option ℕ} (k : ℕ)
     → IsIndexOf c at t hs → 0 < t.capacity → place ≡ at → o ≡ link_at (bytes_of c.bytes) place → block ≡ unwrap_or o 0
     → k ≤ 8 * t.capacity → IsTrue (has_room (live_of c.bytes) block k)
-places_room {c} {t = t} block place k i some e f b few =
-    room-less (live_of c.bytes) block (8 * t.capacity) k few (has_places i some e f b).room
+slots_room {c} {t = t} block place k i some e f b few =
+    room-less (live_of c.bytes) block (8 * t.capacity) k few (has_slots i some e f b).room
 
 pub link_used : {c : WindowState} {at : ℕ} {t : BackingArray} {hs : List ℕ} (block place : ℕ) {o : Option ℕ}
     → IsIndexOf c at t hs
@@ -319,7 +319,7 @@ pub ruleset sizes = (
   block_ends,
   capacity_small,
   room-less,
-  places_room,
+  slots_room,
   link_used,
   changed-room,
   changed_used,
@@ -350,8 +350,8 @@ key_given {c} {i} key h e heap k =
 
 -- the entries of an index have keys in order
 pub keys_given : (c : WindowState) (i : Index) (key : Entry) (block count : ℕ)
-    → (k : HasSortedIndex c i) → index_of key ≡ i → Placed c (place_of i) k.table k.handles block
-    → count ≡ word_at (bytes_of c.bytes) (place_of i + 8) → AreKeys c block count key
+    → (k : HasSortedIndex c i) → index_of key ≡ i → Placed c (index_at i) k.table k.handles block
+    → count ≡ word_at (bytes_of c.bytes) (index_at i + 8) → AreKeys c block count key
 keys_given c i key block count k sort p e =
     let m = bytes_of c.bytes in let hs = k.handles in
     record {

@@ -38,7 +38,7 @@ stays a b at t hs i r =
             links_moved A B (handle x) (handle x) hs j.stands.entries (λ k l. SameBytes-link A B (handle x) (end_of x)
             (handle x + 8 * k) q.block.1 (omega arith) (omega arith))) t i r;
       };
-      places = i.places;
+      slots = i.slots;
       few = i.few;
       held = table_cases (λ u. Around a b at u → IfSome u.extent (λ x. extent_at (live_of b.bytes) (handle x) ≡ Some x))
           (λ cap q. tt) (λ cap x q. q.block.0) t r;
@@ -145,9 +145,9 @@ is_found {a} {b} {n} {h} {role} i =
     ∙ found-new y xs (fresh i).differs
 
 -- an allocated block suits an index
-pub taken_block : (a b : WindowState) (n places h : ℕ) → AllocatesOk current a b n IndexRole h → n ≡ 8 * places
-    → IsBlockFor b h places
-taken_block a b n places h i e = record {
+pub taken_block : (a b : WindowState) (n slots h : ℕ) → AllocatesOk current a b n IndexRole h → n ≡ 8 * slots
+    → IsBlockFor b h slots
+taken_block a b n slots h i e = record {
   extent = i.extent;
   found = is_found i;
   fits = subst (λ k. IsTrue (serves i.extent IndexRole k)) e
@@ -204,11 +204,11 @@ pub prepared : (a b : WindowState) (at : ℕ) (g : Option ℕ) (t : BackingArray
     → IsIndexOf a at t hs → PreparesOk a b at g → 32 ≤ at → at + 24 ≤ 128 → CanGrow b at g
 prepared a b at None t hs i k low head = subst (λ (c : WindowState). entry_count c at < capacity_at c at) (sym k.1) k.0
 prepared a b at (Some h) t hs i k low head =
-    let places = grown_capacity (capacity_at a at) in
+    let slots = grown_capacity (capacity_at a at) in
     let w = words_in a b k.1.keeps.behind (record { behind = low; small = head }) in (
       subst (λ n. IsBlockFor b h n) (ap grown_capacity (sym w.capacity))
-          (taken_block a b (8 * places) places h k.1 refl),
-      λ e. not_its_own a b at (8 * places) IndexRole h t hs i k.1 (sym w.link ∙ e),
+          (taken_block a b (8 * slots) slots h k.1 refl),
+      λ e. not_its_own a b at (8 * slots) IndexRole h t hs i k.1 (sym w.link ∙ e),
     )
 
 -- a growth can be used still after a block is allocated

@@ -14,7 +14,7 @@ use Rattle.std.specs.{Cmp.IsTotalOrder, List.Sorted.IsStrictlySortedBy}
 use Rattle.seg_index.proofs.entries.Entries.{all_at, all_found, first, insert_all, no_entries, placed, less_at}
 use Rattle.seg_index.proofs.entries.Entries.{remove_all}
 use Rattle.seg_index.proofs.{entries.Entries.table_cases, entries.Frame.found_still, entries.HeapChanges.same_live}
-use Rattle.seg_index.specs.{declared.index.Index.Index, Held.place_of, Keys.code_at, Lookups.FindsPosition}
+use Rattle.seg_index.specs.{declared.index.Index.Index, Held.index_at, Keys.code_at, Lookups.FindsPosition}
 use Rattle.seg_index.specs.declared.index.Index.TheVariants.{Named, Unique}
 use Rattle.seg_index.specs.Sorted.{AreSortedHandles, BelongsAt, HasSortKey, CanAdd, IsKeyOf, KeepsSorted, index_of}
 use Rattle.seg_index.specs.Sorted.{sort_key_end, sort_order}
@@ -152,7 +152,7 @@ roles-apart l h g x y e f object index same =
 index-role : {c : WindowState} {at cap : ℕ} {y : Extent} {hs : List ℕ}
     → IsIndexOf c at (record { capacity = cap; extent = Some y }) hs → IsTrue (same_role y.role IndexRole)
 index-role {cap = cap} {y} i =
-    let two = and_parts (nat_lt 0 cap) (serves y IndexRole (8 * cap)) i.places in
+    let two = and_parts (nat_lt 0 cap) (serves y IndexRole (8 * cap)) i.slots in
     (and_parts (same_role y.role IndexRole) (holds y (8 * cap)) two.1).0
 
 module _ {a : WindowState} {at : ℕ} {t : BackingArray} {hs : List ℕ} (i : IsIndexOf a at t hs) (h : ℕ) (x : Extent)
@@ -267,13 +267,13 @@ beside-stays {a} {t = t} i k found h = record {
 }
 
 -- after an index moves into a block that was in use
-pub moved-stays : {a b : WindowState} {at : ℕ} {t : BackingArray} {hs : List ℕ} {g places : ℕ}
-    → IsIndexOf a at t hs → IsBlockFor a g places → live_of b.bytes ≡ without_index_block a at
+pub moved-stays : {a b : WindowState} {at : ℕ} {t : BackingArray} {hs : List ℕ} {g slots : ℕ}
+    → IsIndexOf a at t hs → IsBlockFor a g slots → live_of b.bytes ≡ without_index_block a at
     → KeepsOutsideIndex a b at (others g (without_index_block a at).extents) → (h : ℕ) → ObjectStays a b h
-moved-stays {a} {at = at} {g = g} {places} i block live k h = record {
+moved-stays {a} {at = at} {g = g} {slots} i block live k h = record {
   each = λ x e role.
       let f = unlinked-found i h x e role (live_of a.bytes) e in
-      let y = block.extent in let two = and_parts (same_role y.role IndexRole) (holds y (8 * places)) block.fits in (
+      let y = block.extent in let two = and_parts (same_role y.role IndexRole) (holds y (8 * slots)) block.fits in (
         ap (λ (l : LiveSet). extent_at l h) live ∙ f,
         in-kept (others g (without_index_block a at).extents) h x k (found-less h g x (without_index_block a at).extents
             (roles-apart (live_of a.bytes) h g x y e block.found role two.0) f),
@@ -434,7 +434,7 @@ aligned {c} {i} {place} {h} k =
 
 -- with the new entry the entries are sorted, for each table
 pub added-sorted : {c : WindowState} {i : Index} {place h : ℕ} {t : BackingArray} {hs : List ℕ} → CanAdd c i place h
-    → IsIndexOf c (place_of i) t hs → AreSortedHandles c i (insert hs place h)
+    → IsIndexOf c (index_at i) t hs → AreSortedHandles c i (insert hs place h)
 added-sorted {c} {i} {place} {h} k index =
     subst (λ gs. AreSortedHandles c i (insert gs place h)) (one-list k.index.index index)
     (one-more k.index.sorted k.belongs)

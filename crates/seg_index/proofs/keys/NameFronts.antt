@@ -2,7 +2,7 @@
 use Rattle.seg_index.proofs.Common.{◌≡◌, ◌≢◌, refl, sym, ap, subst, ◌∙◌, ℕ, zero, suc, ◌+◌, ◌-◌, ◌*◌, ◌/◌, ◌%◌, ◌^◌}
 use Rattle.seg_index.proofs.Common.{◌<◌, ◌≤◌, inl, inr, List, [], ◌∷◌, length, bit_and, arith, slice_cmp, slice_range}
 use Rattle.seg_index.proofs.Common.{nat_cmp, ordering_reverse, Ordering, Less, Equal, Greater, cases_lt}
-use Rattle.seg_index.proofs.Common.{nat_list_cmp_total, big_number, Memory, bytes_of, read, AreBytes, front}
+use Rattle.seg_index.proofs.Common.{nat_list_cmp_total, big_number, Memory, bytes_of, read, AreBytes, prefix}
 use Rattle.std.proofs.{Math.Nat.add-mul, Math.Nat.mul-le-mul_right, Math.Nat.mul_assoc, Common.drop, Common.slice_index}
 use Rattle.std.proofs.lemmas.{List.get_or-drop, List.get_or-take, List.get_or_past, List.length-take, Nat.Bits.ones_shr}
 use Rattle.std.proofs.lemmas.Nat.{and_mask, mod_low, pow-add}
@@ -60,49 +60,50 @@ then_rest : (x y : ℕ) (xs ys : List ℕ) (r : Ordering) → r ≡ nat_cmp x y
     → slice_cmp nat_cmp (x ∷ xs) (y ∷ ys) ≡ ordering_then r (slice_cmp nat_cmp xs ys)
 then_rest x y xs ys r e = ap (λ (o : Ordering). ordering_then o (slice_cmp nat_cmp xs ys)) (sym e)
 
-front_less : (n : ℕ) (xs ys : List ℕ) → AreBytes xs → AreBytes ys → big_from 0 n xs < big_from 0 n ys
+prefix_less : (n : ℕ) (xs ys : List ℕ) → AreBytes xs → AreBytes ys → big_from 0 n xs < big_from 0 n ys
     → slice_cmp nat_cmp xs ys ≡ Less
-front_less zero xs ys bx by l = absurd (omega arith)
-front_less (suc n) [] [] bx by l = absurd (omega arith)
-front_less (suc n) [] (y ∷ ys) bx by l = refl
-front_less (suc n) (x ∷ xs) [] bx by l = absurd (omega (arith, big_from-zeros 0 (suc n) [] (λ k low. refl)))
-front_less (suc n) (x ∷ xs) (y ∷ ys) bx by l = elim (cases_lt x y) [
+prefix_less zero xs ys bx by l = absurd (omega arith)
+prefix_less (suc n) [] [] bx by l = absurd (omega arith)
+prefix_less (suc n) [] (y ∷ ys) bx by l = refl
+prefix_less (suc n) (x ∷ xs) [] bx by l = absurd (omega (arith, big_from-zeros 0 (suc n) [] (λ k low. refl)))
+prefix_less (suc n) (x ∷ xs) (y ∷ ys) bx by l = elim (cases_lt x y) [
   | inl before ↦ then_rest x y xs ys Less (nat_cmp_is x y Less before)
   | inr not_before ↦ elim (cases_lt y x) [
     | inl behind ↦ absurd (omega (arith, l, higher n y x ys xs by behind))
     | inr not_behind ↦
         let level : x ≡ y = omega arith in let worth : x * 256 ^ n ≡ y * 256 ^ n = ap (λ (z : ℕ). z * 256 ^ n) level in
-        then_rest x y xs ys Equal (nat_cmp_is x y Equal level) ∙ front_less n xs ys (λ k. bx (suc k)) (λ k. by (suc k))
+        then_rest x y xs ys Equal (nat_cmp_is x y Equal level) ∙ prefix_less n xs ys (λ k. bx (suc k)) (λ k. by (suc k))
         (omega (arith, l, big_cons n x xs, big_cons n y ys, worth))
   ]
 ]
 
 -- and no two names of one length up to n have one front
-pub front_equal : (n : ℕ) (xs ys : List ℕ) → AreBytes xs → AreBytes ys → length xs ≡ length ys → length xs ≤ n
+pub prefix_equal : (n : ℕ) (xs ys : List ℕ) → AreBytes xs → AreBytes ys → length xs ≡ length ys → length xs ≤ n
     → big_from 0 n xs ≡ big_from 0 n ys → slice_cmp nat_cmp xs ys ≡ Equal
-front_equal n [] [] bx by e few l = refl
-front_equal n [] (y ∷ ys) bx by e few l = absurd (omega (arith, e))
-front_equal n (x ∷ xs) [] bx by e few l = absurd (omega (arith, e))
-front_equal zero (x ∷ xs) (y ∷ ys) bx by e few l = absurd (omega (arith, few))
-front_equal (suc n) (x ∷ xs) (y ∷ ys) bx by e few l = elim (cases_lt x y) [
+prefix_equal n [] [] bx by e few l = refl
+prefix_equal n [] (y ∷ ys) bx by e few l = absurd (omega (arith, e))
+prefix_equal n (x ∷ xs) [] bx by e few l = absurd (omega (arith, e))
+prefix_equal zero (x ∷ xs) (y ∷ ys) bx by e few l = absurd (omega (arith, few))
+prefix_equal (suc n) (x ∷ xs) (y ∷ ys) bx by e few l = elim (cases_lt x y) [
   | inl before ↦ absurd (omega (arith, l, higher n x y xs ys bx before))
   | inr not_before ↦ elim (cases_lt y x) [
     | inl behind ↦ absurd (omega (arith, l, higher n y x ys xs by behind))
     | inr not_behind ↦
         let level : x ≡ y = omega arith in let worth : x * 256 ^ n ≡ y * 256 ^ n = ap (λ (z : ℕ). z * 256 ^ n) level in
-        then_rest x y xs ys Equal (nat_cmp_is x y Equal level) ∙ front_equal n xs ys (λ k. bx (suc k)) (λ k. by (suc k))
+        then_rest x y xs ys Equal (nat_cmp_is x y Equal level) ∙ prefix_equal n xs ys (λ k. bx (suc k)) (λ k. by
+        (suc k))
         (omega (arith, e)) (omega (arith, few)) (omega (arith, l, big_cons n x xs, big_cons n y ys, worth))
   ]
 ]
 
 -- fronts that differ have the order of the names
-pub front_order : (xs ys : List ℕ) → AreBytes xs → AreBytes ys → front xs ≢ front ys
-    → nat_cmp (front xs) (front ys) ≡ slice_cmp nat_cmp xs ys
-front_order xs ys bx by apart = elim (cases_lt (front xs) (front ys)) [
-  | inl before ↦ sym (nat_cmp_is (front xs) (front ys) Less before) ∙ sym (front_less 8 xs ys bx by before)
-  | inr not_before ↦ elim (cases_lt (front ys) (front xs)) [
-    | inl behind ↦ sym (nat_cmp_is (front xs) (front ys) Greater behind)
-        ∙ sym (nat_list_cmp_total.antisymm xs ys ∙ ap ordering_reverse (front_less 8 ys xs by bx behind))
+pub prefix_order : (xs ys : List ℕ) → AreBytes xs → AreBytes ys → prefix xs ≢ prefix ys
+    → nat_cmp (prefix xs) (prefix ys) ≡ slice_cmp nat_cmp xs ys
+prefix_order xs ys bx by apart = elim (cases_lt (prefix xs) (prefix ys)) [
+  | inl before ↦ sym (nat_cmp_is (prefix xs) (prefix ys) Less before) ∙ sym (prefix_less 8 xs ys bx by before)
+  | inr not_before ↦ elim (cases_lt (prefix ys) (prefix xs)) [
+    | inl behind ↦ sym (nat_cmp_is (prefix xs) (prefix ys) Greater behind)
+        ∙ sym (nat_list_cmp_total.antisymm xs ys ∙ ap ordering_reverse (prefix_less 8 ys xs by bx behind))
     | inr not_behind ↦ absurd (apart (omega arith))
   ]
 ]
@@ -143,8 +144,8 @@ module _ (b : List ℕ) (bytes : AreBytes b) (h len word : ℕ)
   same k within few = read_here (bytes_of b) (h + 16) len k within ∙ sym (range_here b (h + 16) k few)
 
   -- the word of a long name is its front
-  pub long_front : 8 ≤ len → word ≡ front name
-  long_front long = is ∙ sym (big_from-same 0 8 name eight (λ k low high. same k (omega arith) (omega arith)))
+  pub long_prefix : 8 ≤ len → word ≡ prefix name
+  long_prefix long = is ∙ sym (big_from-same 0 8 name eight (λ k low high. same k (omega arith) (omega arith)))
 
   module _ (short : len < 8) where
     abbrev rest : ℕ
@@ -169,8 +170,8 @@ module _ (b : List ℕ) (bytes : AreBytes b) (h len word : ℕ)
         ∙ mod_low (big_from 0 len eight) (8 * rest) (big_from len rest eight) small
 
     -- the word of a short name, without the bytes after it, is its front
-    pub short_front : word - bit_and word ((2 ^ 64 - 1) / 2 ^ (8 * len)) ≡ front name
-    short_front =
+    pub short_prefix : word - bit_and word ((2 ^ 64 - 1) / 2 ^ (8 * len)) ≡ prefix name
+    short_prefix =
         let whole = is ∙ split eight in let own = split name in
         let none = big_from-zeros len rest name (λ k low. read_past (bytes_of b) (h + 16) len k low) in
         let alike = big_from-same 0 len name eight (λ k low high. same k (omega arith) (omega arith)) in

@@ -92,15 +92,15 @@ module _ {T : Type 0} (size : ℕ) (test : T → Bool) (sp : T → List ℕ)
       ∙ sym (one-more (length xs) x both.0)
 
   -- one more value is encoded after others
-  pub spelled-next : (row : List ℕ) (from : ℕ) (front : List T) (y : T) → IsTrue (list_all test front) → test y ≡ true
-      → from + size * length front + size ≤ length row
-      → patched (patched row from (flat_map sp front)) (from + size * length front) (sp y)
-      ≡ patched row from (flat_map sp (front ++ y ∷ []))
-  spelled-next row from front y v e inside =
+  pub spelled-next : (slice : List ℕ) (from : ℕ) (front : List T) (y : T) → IsTrue (list_all test front) → test y ≡ true
+      → from + size * length front + size ≤ length slice
+      → patched (patched slice from (flat_map sp front)) (from + size * length front) (sp y)
+      ≡ patched slice from (flat_map sp (front ++ y ∷ []))
+  spelled-next slice from front y v e inside =
       let long = flat-long front v in
-      ap (λ k. patched (patched row from (flat_map sp front)) (from + k) (sp y)) (sym long)
-      ∙ patched-append row from (flat_map sp front) (sp y) (omega (arith, long, spells y e, inside))
-      ∙ ap (λ bs. patched row from bs) (ap (λ bs. flat_map sp front ++ bs) (sym (append-nil (sp y)))
+      ap (λ k. patched (patched slice from (flat_map sp front)) (from + k) (sp y)) (sym long)
+      ∙ patched-append slice from (flat_map sp front) (sp y) (omega (arith, long, spells y e, inside))
+      ∙ ap (λ bs. patched slice from bs) (ap (λ bs. flat_map sp front ++ bs) (sym (append-nil (sp y)))
       ∙ sym (flat_map-append sp front (y ∷ [])))
 
   -- the first elements have the first bytes

@@ -103,7 +103,7 @@ decimal-blankless zero h = ap blankless (decimal_digit 0 (omega arith))
 decimal-blankless (suc m) h = ap blankless (decimal-digits_of (suc m) (omega arith) h)
     ∙ digits-blankless (digits_of 10 (suc m))
 
-module _ (n : ℕ) (few : n < 2 ^ 64) (old new : List ℕ) (front : is_in_text false old ≡ false) where
+module _ (n : ℕ) (few : n < 2 ^ 64) (old new : List ℕ) (line_start : is_in_text false old ≡ false) where
   abbrev text : List ℕ
   text = decimal n ++ 0x3A ∷ 0x20 ∷ []
 
@@ -116,7 +116,7 @@ module _ (n : ℕ) (few : n < 2 ^ 64) (old new : List ℕ) (front : is_in_text f
   -- a number leaves the text as it was
   pub number_text : new ≡ old ++ text → text_part false new ≡ text_part false old
   number_text took = ap (text_part false) took ∙ text-append false old text
-      ∙ ap (λ (t : Bool). text_part false old ++ text_part t text) front
+      ∙ ap (λ (t : Bool). text_part false old ++ text_part t text) line_start
       ∙ ap (λ (l : List ℕ). text_part false old ++ l) (text-append false (decimal n) (0x3A ∷ 0x20 ∷ [])
       ∙ ap₂ (λ (l : List ℕ) (t : Bool).
       l ++ text_part t (0x3A ∷ 0x20 ∷ [])) (hidden-text (decimal n) (decimal-blankless n few))
@@ -125,7 +125,8 @@ module _ (n : ℕ) (few : n < 2 ^ 64) (old new : List ℕ) (front : is_in_text f
 
   -- a number ends in a text
   pub number_end : new ≡ old ++ text → is_in_text false new ≡ true
-  number_end took = ap (is_in_text false) took ∙ in-append false old text ∙ ap (λ (t : Bool). is_in_text t text) front
+  number_end took = ap (is_in_text false) took ∙ in-append false old text ∙ ap (λ (t : Bool). is_in_text t text)
+      line_start
       ∙ in-append false (decimal n) (0x3A ∷ 0x20 ∷ [])
       ∙ ap (λ (t : Bool). is_in_text t (0x3A ∷ 0x20 ∷ [])) (hidden-in (decimal n) (decimal-blankless n few))
 
@@ -147,13 +148,13 @@ module _ (n : ℕ) (few : n < 2 ^ 64) (old new : List ℕ) (front : is_in_text f
     -- a part leaves the text as it was
     pub part_text : text_part false new ≡ text_part false old
     part_text = ap (text_part false) grown ∙ text-append false old cut
-        ∙ ap (λ (t : Bool). text_part false old ++ text_part t cut) front
+        ∙ ap (λ (t : Bool). text_part false old ++ text_part t cut) line_start
         ∙ ap (λ (l : List ℕ). text_part false old ++ l)
         (hidden-text cut (blankless-take adds.count digits digits-have-none)) ∙ append-nil (text_part false old)
 
     -- a part does not end in a text
     pub part_end : is_in_text false new ≡ false
-    part_end = ap (is_in_text false) grown ∙ in-append false old cut ∙ ap (λ (t : Bool). is_in_text t cut) front
+    part_end = ap (is_in_text false) grown ∙ in-append false old cut ∙ ap (λ (t : Bool). is_in_text t cut) line_start
         ∙ hidden-in cut (blankless-take adds.count digits digits-have-none)
 
 -- what passes a writer that takes all

@@ -94,9 +94,9 @@ pub none_beyond : (count limit : ℕ) → count ≤ count + limit + 1
 none_beyond count limit = omega arith
 
 -- a front of the image was added
-pub front_added : (old new image : List ℕ) → AppendsProperPrefix old new image
+pub prefix_added : (old new image : List ℕ) → AppendsProperPrefix old new image
     → IsProperPrefix (drop (length old) new) image
-front_added old new image h =
+prefix_added old new image h =
     let parts : image ≡ take h.count image ++ drop h.count image = sym (take-append-drop h.count image) in (
       drop h.count image,
       rw (added old new (take h.count image) h.added) parts,

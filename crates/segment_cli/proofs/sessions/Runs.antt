@@ -151,9 +151,9 @@ module _ (start : Start) (mode : Mode) (t : SessionIo) (from : Directory) (known
           next = a.next;
           rest = a.rest;
           script = a.parts;
-          front = a.front;
-          prints = a.prints ∙ ap (λ (l : List ℕ). l ++ a.front) (printed-segment mode from known a.answered);
-          part = subst (λ (at : MachineState). IsProperPrefix a.front (answer_line at a.next).0) led a.part;
+          prefix = a.prefix;
+          prints = a.prints ∙ ap (λ (l : List ℕ). l ++ a.prefix) (printed-segment mode from known a.answered);
+          part = subst (λ (at : MachineState). IsProperPrefix a.prefix (answer_line at a.next).0) led a.part;
           saves = nothing;
         };
         failed = rw (image, h.read, h.written, saved) refl;

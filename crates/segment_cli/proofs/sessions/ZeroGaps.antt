@@ -3,7 +3,7 @@ use Rattle.std.proofs.Common.{◌≡◌, ℕ, ◌+◌, ◌-◌, List, [], ◌∷
 use Rattle.std.proofs.lemmas.Bool.{cond_both}
 use Rattle.std.specs.List.{AllByRecursion}
 use Rattle.raw_region.specs.{Memory.AreZero, Memory.bytes_of, Format.current}
-use Rattle.best_fit.specs.{Extents.Gap, Extents.gaps, Extents.gap_between, FreeTree.gap_front}
+use Rattle.best_fit.specs.{Extents.Gap, Extents.gaps, Extents.gap_between, FreeTree.gap_head}
 use Rattle.best_fit.proofs.Laws.{lay_out_one}
 use Rattle.segment_manager.specs.{declared.modes.Mode.Mode, Directory.Directory, Directory.empty, Directory.live}
 use Rattle.segment_manager.specs.{State.SegmentState, State.DenotesCurrent, Calls.HasZeroGaps, Calls.CreatesOk}
@@ -31,7 +31,7 @@ unfolding gaps live
 empty_gaps size = refl
 
 abbrev Zero : List ℕ → List Gap → Type 0
-Zero b = AllByRecursion (λ (g : Gap). AreZero (bytes_of b) (g.offset + gap_front current) (g.offset + g.len))
+Zero b = AllByRecursion (λ (g : Gap). AreZero (bytes_of b) (g.offset + gap_head current) (g.offset + g.len))
 
 -- the gaps of a new segment are zero
 pub created_zeros : (region : List ℕ) (base size : ℕ) (mode : Mode) (s : SegmentState)

@@ -6,7 +6,7 @@ use Rattle.seg_types.specs.Commands.{Show}
 use Rattle.seg_types.specs.Names.{Key}
 use Rattle.segment_lang.specs.Language.{whole_language}
 use Rattle.segment_lang.specs.Reading.{key_of, with_key}
-use Rattle.segment_lang.specs.Words.{Word}
+use Rattle.segment_lang.specs.Lexing.{Token}
 use Rattle.segment_manager.specs.Answers.{Answer}
 use Rattle.segment_manager.specs.Directory.{Directory}
 use Rattle.segment_manager.specs.State.{AnswersWith, SegmentState}
@@ -38,7 +38,7 @@ same-keys (Some r) None e = cc
 same-keys (Some r) (Some q) e = let same : r ≡ q = cc in ap Some same
 
 -- the key that is read for a command is the key of its only word
-pub key_read : (r : Option Key) (w : Option Word)
+pub key_read : (r : Option Key) (w : Option Token)
     → option_map Show r ≡ option_and_then (λ x. with_key Show key_of (whole_language current) (x ∷ [])) w
     → r ≡ option_and_then (key_of (whole_language current)) w
 key_read r None e = same-keys r None e

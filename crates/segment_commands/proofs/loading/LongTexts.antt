@@ -11,7 +11,8 @@ use Rattle.segment_dump.specs.declared.needs.Needs.{Needs}
 use Rattle.segment_dump.specs.Need.{all_needs, block_room, both, item_needs, items_needs, text_needs, texts_needs}
 use Rattle.segment_dump.specs.Notes.{are_notes, before_notes, without_notes}
 use Rattle.segment_manager.specs.Parts.{parts_until}
-use Rattle.segment_dump.specs.Texts.{content_text, dump_text, end_text, front_text, head_line, item_text as object_text}
+use Rattle.segment_dump.specs.Texts.{content_text, dump_text, end_text, prefix_text, head_line}
+use Rattle.segment_dump.specs.Texts.{item_text as object_text}
 use Rattle.segment_dump.specs.Texts.{items_text, length_text, piece_lead, piece_line, piece_of, pieces_in, pieces_text}
 use Rattle.segment_dump.specs.Texts.{text_lines}
 
@@ -88,7 +89,7 @@ dump-long n items =
       all-long item_needs object_text item-long items.named,
       all-long item_needs object_text item-long items.unique,
       all-long item_needs object_text item-long items.anonymous,
-      length-append (front_text n (length items.named) (length items.unique)) (named
+      length-append (prefix_text n (length items.named) (length items.unique)) (named
           ++ (unique ++ (anonymous ++ end_text))),
       length-append named (unique ++ (anonymous ++ end_text)),
       length-append unique (anonymous ++ end_text),

@@ -65,12 +65,12 @@ written-made how image written (inl e) = subst IsMade (sym e) (whole_outcome-mad
 written-made how image written (inr u) = subst IsMade (sym u.left) tt
 
 -- a segment has bytes: a word at their front
-no_word : word_at (bytes_of []) magic_at ≡ 0
+no_token : word_at (bytes_of []) magic_at ≡ 0
 unfolding word_at
-no_word = refl
+no_token = refl
 
 has_bytes : (b : List ℕ) (d : Directory) → DenotesCurrent b d → 0 < length b
-has_bytes [] d h = let magic = h.denotes.header.magic in let none = no_word in omega (arith, magic, none)
+has_bytes [] d h = let magic = h.denotes.header.magic in let none = no_token in omega (arith, magic, none)
 has_bytes (x ∷ xs) d h = omega arith
 
 -- whether a mode is the one that saves

@@ -124,17 +124,17 @@ module _ (d : Directory) (site : Site) (done : List DumpItem) (key : Key) (conte
       let taken = room-taken d len ObjectRole rest i.proper h' r in
       let x = taken.extent in
       let o : Object = object_of x (bare content) in
-      let fronts : List Extent = flat_map extents_of d.objects in
+      let prefixes : List Extent = flat_map extents_of d.objects in
       let tables : List Extent = table_extents d.named ++ table_extents d.unique in
       let before : AllByRecursion (λ (p : Object). p.extent.offset ≤ o.extent.offset) d.objects =
-      subst (λ n. AllByRecursion (λ (p : Object). p.extent.offset ≤ n) d.objects) (sym taken.front)
-      (all-by h.end d.objects (AllByRecursion-front (λ (y : Extent). end_of y ≤ h.end) fronts tables h.below)) in
+      subst (λ n. AllByRecursion (λ (p : Object). p.extent.offset ≤ n) d.objects) (sym taken.prefix)
+      (all-by h.end d.objects (AllByRecursion-front (λ (y : Extent). end_of y ≤ h.end) prefixes tables h.below)) in
       let objects : (with_object d o).objects ≡ d.objects ++ o ∷ [] = put-last o d.objects before in
       let alone : extents_of o ++ [] ≡ x ∷ [] = append-nil (extents_of o) ∙ ap (λ l. x ∷ l) p.alone in
-      let all : fronts ++ x ∷ tables ≡ all_extents (with_object d o) =
+      let all : prefixes ++ x ∷ tables ≡ all_extents (with_object d o) =
       sym (ap (λ os. flat_map extents_of os ++ tables) objects
-      ∙ ap (λ l. l ++ tables) (flat_map-append extents_of d.objects (o ∷ []) ∙ ap (λ l. fronts ++ l) alone)
-      ∙ append_assoc fronts (x ∷ []) tables) in
+      ∙ ap (λ l. l ++ tables) (flat_map-append extents_of d.objects (o ∷ []) ∙ ap (λ l. prefixes ++ l) alone)
+      ∙ append_assoc prefixes (x ∷ []) tables) in
       record {
         handle = handle x;
         next = with_object d o;
@@ -154,7 +154,7 @@ module _ (d : Directory) (site : Site) (done : List DumpItem) (key : Key) (conte
           handle_is = refl;
           value_is = refl;
           room = subst (λ xs. HasExactRoom xs d.size rest) all
-              (room-with fronts tables x d.size (room len + rest) rest h' taken.front taken.fits);
+              (room-with prefixes tables x d.size (room len + rest) rest h' taken.prefix taken.fits);
         };
       }
 
@@ -244,7 +244,7 @@ module _ (d : Directory) (n rest : ℕ) (i : IsDirectory current d)
         next = made (table_of n taken.extent);
         is = index-asks false (lt-leb n 0 l) ∙ met-perform d (8 * n) Index taken.extent (λ x.
             Reply Done (made (table_of n x))) Done (made (table_of n taken.extent)) taken.is refl;
-        holds = some taken.extent h taken.front taken.fits;
+        holds = some taken.extent h taken.prefix taken.fits;
       }
 
 -- law: the index of names is reserved
@@ -259,8 +259,9 @@ named-reserved size n rest i b r =
       built = record { size_is = refl; named = l; unique = omega arith; items = refl; room = room };
     } in
     index-by (empty size) n rest i b.room r (fronted size) (asked.ReserveNamed n) (IsFronted size n rest) refl
-    (λ z room. fronted-so no_backing (omega (arith, z)) room) (λ x h front fits. fronted-so (table_of n x) (omega arith)
-    (room-with [] [] x size (room (8 * n) + rest) rest h front fits)) (n == 0) refl
+    (λ z room. fronted-so no_backing (omega (arith, z)) room) (λ x h prefix fits. fronted-so (table_of n x)
+    (omega arith)
+    (room-with [] [] x size (room (8 * n) + rest) rest h prefix fits)) (n == 0) refl
 
 -- law: the index of kinds is reserved
 pub unique-reserved : (size named n rest : ℕ) (t : BackingArray) → IsDirectory current (fronted size t)
@@ -271,10 +272,10 @@ unique-reserved size named n rest t i b r =
     index-by (fronted size t) n rest i b.room r (λ u. record { size = size; objects = []; named = t; unique = u })
     (asked.ReserveUnique n) (λ e. HasBuiltItems e (record { named = named; unique = n; size = size }) [] rest) refl
     (λ z room. record { size_is = refl; named = b.named; unique = omega (arith, z); items = refl; room = room })
-    (λ x h front fits. record {
+    (λ x h prefix fits. record {
       size_is = refl;
       named = b.named;
       unique = omega arith;
       items = refl;
-      room = room-with (table_extents t) [] x size (room (8 * n) + rest) rest h front fits;
+      room = room-with (table_extents t) [] x size (room (8 * n) + rest) rest h prefix fits;
     }) (n == 0) refl

@@ -170,9 +170,9 @@ module _ (d : Directory) (site : Site) (done : List DumpItem) (head : Head) (v :
   -- one block more, from the front of the gap
   pub block-more : (w : Value) (x : Extent) (less : ℕ) → value_extents w ≡ value_extents v ++ x ∷ []
       → x.offset ≡ f.room.end → end_of x + 16 + less ≤ d.size → IsFilling (changed d f.object w) site done head w less
-  block-more w x less e front fits =
+  block-more w x less e prefix fits =
       let more : HasExactRoom ((lead_extents ++ f.object.extent ∷ value_extents v) ++ x ∷ tables) d.size less =
-      room-with (lead_extents ++ f.object.extent ∷ value_extents v) tables x d.size rest less room_now front fits in
+      room-with (lead_extents ++ f.object.extent ∷ value_extents v) tables x d.size rest less room_now prefix fits in
       filled-changed w less (subst (λ xs. HasExactRoom xs d.size less) (one-more (value_extents v) x
       ∙ ap with_extents (sym e) ∙ extents-then w) more)
 

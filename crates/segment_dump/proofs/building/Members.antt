@@ -12,8 +12,8 @@ use Rattle.segment_dump.proofs.{texts.AllElements.all-kept, texts.Options.none-s
 -- ---- a list that rises by offset has each handle once
 
 -- the first stands at n or after it, and the others after the first
-rises-front : (n : ℕ) (o : Object) (os : List Object) → IsTrue (rises_from n (o ∷ os)) → n ≤ o.extent.offset
-rises-front n o os h = leb-true n o.extent.offset
+rises-prefix : (n : ℕ) (o : Object) (os : List Object) → IsTrue (rises_from n (o ∷ os)) → n ≤ o.extent.offset
+rises-prefix n o os h = leb-true n o.extent.offset
     (and_parts (nat_le n o.extent.offset) (rises_from (o.extent.offset + 1) os) h).0
 
 rises-rest : (n : ℕ) (o : Object) (os : List Object) → IsTrue (rises_from n (o ∷ os))
@@ -23,9 +23,9 @@ rises-rest n o os h = (and_parts (nat_le n o.extent.offset) (rises_from (o.exten
 rises-at : (n : ℕ) (os : List Object) (j : ℕ) (o : Object) → IsTrue (rises_from n os) → slice_get os j ≡ Some o
     → n ≤ o.extent.offset
 rises-at n [] j o h e = absurd (none-some o e)
-rises-at n (p ∷ ps) zero o h e = subst (λ (q : Object). n ≤ q.extent.offset) (same_Some p o e) (rises-front n p ps h)
+rises-at n (p ∷ ps) zero o h e = subst (λ (q : Object). n ≤ q.extent.offset) (same_Some p o e) (rises-prefix n p ps h)
 rises-at n (p ∷ ps) (suc j) o h e =
-    let first = rises-front n p ps h in
+    let first = rises-prefix n p ps h in
     let more = rises-at (p.extent.offset + 1) ps j o (rises-rest n p ps h) e in
     omega arith
 
@@ -54,10 +54,10 @@ at-place P [] j o a e = absurd (none-some o e)
 at-place P (p ∷ ps) zero o a e = subst P (same_Some p o e) a.0
 at-place P (p ∷ ps) (suc j) o a e = at-place P ps j o a.1 e
 
-from-places : (P : Object → Type 0) (os : List Object) → ((j : ℕ) (o : Object) → slice_get os j ≡ Some o → P o)
+from-slots : (P : Object → Type 0) (os : List Object) → ((j : ℕ) (o : Object) → slice_get os j ≡ Some o → P o)
     → AllByRecursion P os
-from-places P [] h = tt
-from-places P (p ∷ ps) h = (h zero p refl, from-places P ps (λ j o e. h (suc j) o e))
+from-slots P [] h = tt
+from-slots P (p ∷ ps) h = (h zero p refl, from-slots P ps (λ j o e. h (suc j) o e))
 
 -- ---- the three lists
 
@@ -68,7 +68,7 @@ IsFoundIn d o = object_at d (ByHandle (handle o.extent)) ≡ Some o
 module _ (b : List ℕ) (d : Directory) (st : DenotesCurrent b d) where
   -- each object is found by its handle
   pub all-objects : AllByRecursion (IsFoundIn d) d.objects
-  all-objects = from-places (IsFoundIn d) d.objects (λ j o e. found-at 0 d.objects j o st.denotes.directory.by_offset e)
+  all-objects = from-slots (IsFoundIn d) d.objects (λ j o e. found-at 0 d.objects j o st.denotes.directory.by_offset e)
 
   all-of-class : (c : Class) → AllByRecursion (IsFoundIn d) (filter (is_class c) d.objects)
   all-of-class c = all-kept (IsFoundIn d) (IsFoundIn d) (is_class c) (λ o e f. f) d.objects all-objects

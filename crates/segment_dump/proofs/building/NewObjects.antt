@@ -160,10 +160,10 @@ new-object old new site done i more room called next moved =
 
 -- ---- after its kind and its count
 
-module _ {E F : Type 0} (old new : SegmentState) (key : Kind → Key) (words : List ℕ) where
+module _ {E F : Type 0} (old new : SegmentState) (key : Kind → Key) (tokens : List ℕ) where
   -- no shape: no object is started
-  pub shape-unread : (e : E) (result : Result (ℕ × ObjectLine) F) → ReadsKindAndCount words (Err e)
-      → StartsUnder old new key words result
+  pub shape-unread : (e : E) (result : Result (ℕ × ObjectLine) F) → ReadsKindAndCount tokens (Err e)
+      → StartsUnder old new key tokens result
   shape-unread e result r = record {
     starts = λ site done i more room next k w.
         let q = r.reads (kind_of_content i.content) (count_of_content i.content)
@@ -177,10 +177,10 @@ module _ {E F : Type 0} (old new : SegmentState) (key : Kind → Key) (words : L
 
   -- an object of the shape is started
   pub started : (shape : ObjectLine) (called : Result ℕ Refusal) (result : Result (ℕ × ObjectLine) F)
-      → ReadsKindAndCount {E = E} words (Ok shape) → (IsCountOf shape.kind shape.count
+      → ReadsKindAndCount {E = E} tokens (Ok shape) → (IsCountOf shape.kind shape.count
       → TakesStep old new (asked.Construct (key shape.kind) (first_content shape.kind shape.count))
       (handle_answer called))
-      → ((h : ℕ) → called ≡ Ok h → result ≡ Ok (h, shape)) → StartsUnder old new key words result
+      → ((h : ℕ) → called ≡ Ok h → result ≡ Ok (h, shape)) → StartsUnder old new key tokens result
   started shape called result r moved ok = record {
     starts = λ site done i more room next k w.
         let kind = kind_of_content i.content in

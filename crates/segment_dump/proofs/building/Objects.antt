@@ -5,24 +5,24 @@ use Rattle.segment_dump.proofs.Common.{◌++◌, length, get_or, Result, Ok, Err
 use Rattle.segment_dump.proofs.Common.{append-nil, append_assoc, codes, eq-eqb, length-append, Class, Anonymous, Named}
 use Rattle.segment_dump.proofs.Common.{Unique, Kind, class_code, name_text, bare, SegmentState, ObjectLine, AreLeft}
 use Rattle.segment_dump.proofs.Common.{BuildsAllObjects, FillsNew, HasIndexSlot, IsEmptyObject, IsFillable}
-use Rattle.segment_dump.proofs.Common.{CanBuildItem, StartsNext, content_need, first_content, Site, class_words}
-use Rattle.segment_dump.proofs.Common.{count_class, measure_words, of_class, FillState, IsNameIn, StandsBuilt}
+use Rattle.segment_dump.proofs.Common.{CanBuildItem, StartsNext, content_need, first_content, Site, class_tokens}
+use Rattle.segment_dump.proofs.Common.{count_class, measure_tokens, of_class, FillState, IsNameIn, StandsBuilt}
 use Rattle.segment_dump.proofs.Common.{StandsFilling, DumpItem, count_of_content, kind_of_content, IsShortLine}
 use Rattle.segment_dump.proofs.Common.{ReadsLine, all_needs, item_needs, HasNoEnd, ended, content_text, end_text}
 use Rattle.segment_dump.proofs.{Common.head_line, Common.item_text, Common.items_text, texts.Options.never-ok}
 use Rattle.segment_dump.proofs.{texts.Options.ok-same}
 use Rattle.segment_dump.proofs.{texts.QuotedTexts.IsName, texts.QuotedTexts.name-is, building.NewObjects.items-rest}
 use Rattle.segment_dump.proofs.{building.ObjectOrder.of-both}
-use Rattle.segment_dump.specs.{Builders.BuildsObject, Builders.IsAtItems, Builders.AcceptsEnd, Building.head_words}
-use Rattle.segment_dump.proofs.texts.Elements.{no_end-both, quoted-no_end, word-no_end, no_end-test}
+use Rattle.segment_dump.specs.{Builders.BuildsObject, Builders.IsAtItems, Builders.AcceptsEnd, Building.head_tokens}
+use Rattle.segment_dump.proofs.texts.Elements.{no_end-both, quoted-no_end, token-no_end, no_end-test}
 use Rattle.segment_dump.proofs.texts.Lines.{measure-no_end, measure-short, name-short}
 
 -- ---- one object
 
-module _ {E F : Type 0} (old mid : SegmentState) (words : List ℕ) where
+module _ {E F : Type 0} (old mid : SegmentState) (tokens : List ℕ) where
   -- an object that was not made: nothing is built
   pub object-unstarted : (new : SegmentState) (text rest : List ℕ) (room : ℕ) (e : E) (result : Result (Unit {0}) F)
-      → StartsNext old mid words (Err e) → BuildsObject old new words text rest room result
+      → StartsNext old mid tokens (Err e) → BuildsObject old new tokens text rest room result
   object-unstarted new text rest room e result s =
       record {
         builds = λ site done i more a next w t. let q = s.starts site done i more room next w
@@ -34,9 +34,9 @@ module _ {E F : Type 0} (old mid : SegmentState) (words : List ℕ) where
 
   -- an object that was made and filled is built
   pub object-built : (new : SegmentState) (text rest : List ℕ) (room h : ℕ) (shape : ObjectLine)
-      (result : Result (Unit {0}) F) → StartsNext {E = E} old mid words (Ok (h, shape))
+      (result : Result (Unit {0}) F) → StartsNext {E = E} old mid tokens (Ok (h, shape))
       → FillsNew mid new h shape.kind shape.count text rest room result
-      → BuildsObject old new words text rest room result
+      → BuildsObject old new tokens text rest room result
   object-built new text rest room h shape result s f = record {
     builds = λ site done i more a next w t.
         let q = s.starts site done i more room next w in
@@ -76,11 +76,11 @@ module _ {E F : Type 0} (old mid : SegmentState) (words : List ℕ) where
 -- ---- its line
 
 name-no_end : (name t : List ℕ) → IsName name t → HasNoEnd t
-name-no_end name t (said.bare c cs e n w f) = subst HasNoEnd (sym f) (word-no_end name w)
+name-no_end name t (said.bare c cs e n w f) = subst HasNoEnd (sym f) (token-no_end name w)
 name-no_end name t (said.quoted f) = subst HasNoEnd (sym f) (quoted-no_end name)
 
 -- the words of a class have no line end
-pub class-no_end : (c : Class) (name : List ℕ) → HasNoEnd (class_words c name)
+pub class-no_end : (c : Class) (name : List ℕ) → HasNoEnd (class_tokens c name)
 class-no_end Named name =
     no_end-both (codes "named " ++ name_text name) (0x20 ∷ [])
     (no_end-both (codes "named ") (name_text name) (no_end-test (codes "named ") refl)
@@ -88,7 +88,7 @@ class-no_end Named name =
 class-no_end Unique name = no_end-test (codes "unique ") refl
 class-no_end Anonymous name = no_end-test (codes "anonymous ") refl
 
-class-short : (c : Class) (name : List ℕ) → IsNameIn c name → length (class_words c name) ≤ 1030
+class-short : (c : Class) (name : List ℕ) → IsNameIn c name → length (class_tokens c name) ≤ 1030
 class-short Named name h = omega (
   arith,
   name-short name,
@@ -99,31 +99,31 @@ class-short Named name h = omega (
 class-short Unique name h = omega arith
 class-short Anonymous name h = omega arith
 
-head-no_end : (i : DumpItem) → HasNoEnd (head_words i)
-head-no_end i = no_end-both (class_words i.class i.name)
-    (measure_words (kind_of_content i.content) (count_of_content i.content)) (class-no_end i.class i.name)
+head-no_end : (i : DumpItem) → HasNoEnd (head_tokens i)
+head-no_end i = no_end-both (class_tokens i.class i.name)
+    (measure_tokens (kind_of_content i.content) (count_of_content i.content)) (class-no_end i.class i.name)
     (measure-no_end (kind_of_content i.content) (count_of_content i.content))
 
-head-short : (i : DumpItem) → IsNameIn i.class i.name → IsShortLine (head_words i)
+head-short : (i : DumpItem) → IsNameIn i.class i.name → IsShortLine (head_tokens i)
 head-short i h =
-    let m = measure_words (kind_of_content i.content) (count_of_content i.content) in
+    let m = measure_tokens (kind_of_content i.content) (count_of_content i.content) in
     omega (
       arith,
       class-short i.class i.name h,
       measure-short (kind_of_content i.content) (count_of_content i.content),
-      length-append (class_words i.class i.name) m,
+      length-append (class_tokens i.class i.name) m,
     )
 
 head-by : (c : Class) (name : List ℕ) (kind : Kind) (n : ℕ)
-    → head_line c name kind n ≡ ended (class_words c name ++ measure_words kind n)
+    → head_line c name kind n ≡ ended (class_tokens c name ++ measure_tokens kind n)
 head-by Named name kind n =
-    let m = measure_words kind n in
+    let m = measure_tokens kind n in
     ap (λ l. codes "named " ++ l) (ap (λ l. l) (sym (append_assoc (name_text name) (0x20 ∷ []) (m ++ 0x0A ∷ []))))
-    ∙ sym (append_assoc (class_words Named name) m (0x0A ∷ []))
-head-by Unique name kind n = sym (append_assoc (codes "unique ") (measure_words kind n) (0x0A ∷ []))
-head-by Anonymous name kind n = sym (append_assoc (codes "anonymous ") (measure_words kind n) (0x0A ∷ []))
+    ∙ sym (append_assoc (class_tokens Named name) m (0x0A ∷ []))
+head-by Unique name kind n = sym (append_assoc (codes "unique ") (measure_tokens kind n) (0x0A ∷ []))
+head-by Anonymous name kind n = sym (append_assoc (codes "anonymous ") (measure_tokens kind n) (0x0A ∷ []))
 
-item-apart : (i : DumpItem) (a : List ℕ) → item_text i ++ a ≡ ended (head_words i) ++ (content_text i.content ++ a)
+item-apart : (i : DumpItem) (a : List ℕ) → item_text i ++ a ≡ ended (head_tokens i) ++ (content_text i.content ++ a)
 item-apart i a =
     append_assoc (head_line i.class i.name (kind_of_content i.content) (count_of_content i.content))
     (content_text i.content) a ∙ ap (λ l. l ++ (content_text i.content ++ a))
@@ -169,31 +169,31 @@ pub build-start : (s : SegmentState) (text : List ℕ) (most room : ℕ) → InB
 build-start s text most room = record { at = λ site items a l m. ([], items, refl, a, l, omega arith) }
 
 -- what the next line is
-abbrev end_words : List ℕ
-end_words = codes "end"
+abbrev end_tokens : List ℕ
+end_tokens = codes "end"
 
-letter-other : (c : Class) (name m : List ℕ) → class_words c name ++ m ≡ end_words → ⊥
+letter-other : (c : Class) (name m : List ℕ) → class_tokens c name ++ m ≡ end_tokens → ⊥
 letter-other Named name m e = omega (arith, ap (λ l. get_or l 0 0) e)
 letter-other Unique name m e = omega (arith, ap (λ l. get_or l 0 0) e)
 letter-other Anonymous name m e = omega (arith, ap (λ l. get_or l 0 0) e)
 
-head-other : (i : DumpItem) → head_words i ≡ end_words → ⊥
-head-other i e = letter-other i.class i.name (measure_words (kind_of_content i.content) (count_of_content i.content)) e
+head-other : (i : DumpItem) → head_tokens i ≡ end_tokens → ⊥
+head-other i e = letter-other i.class i.name (measure_tokens (kind_of_content i.content) (count_of_content i.content)) e
 
 end-line : {E : Type 0} (rest after : List ℕ) (r : Result (List ℕ) E) → rest ≡ end_text → ReadsLine rest after r
-    → (r ≡ Ok end_words) × (after ≡ [])
-end-line rest after r e h = h.reads end_words [] (no_end-test end_words refl) (omega arith)
+    → (r ≡ Ok end_tokens) × (after ≡ [])
+end-line rest after r e h = h.reads end_tokens [] (no_end-test end_tokens refl) (omega arith)
     (e ∙ sym (append-nil end_text))
 
 item-behind : (i : DumpItem) (more : List DumpItem) → items_text (i ∷ more)
-    ++ end_text ≡ ended (head_words i) ++ (content_text i.content ++ (items_text more ++ end_text))
+    ++ end_text ≡ ended (head_tokens i) ++ (content_text i.content ++ (items_text more ++ end_text))
 item-behind i more = append_assoc (item_text i) (items_text more) end_text ∙ item-apart i (items_text more ++ end_text)
 
 item-line : {E : Type 0} (rest after : List ℕ) (r : Result (List ℕ) E) (i : DumpItem) (more : List DumpItem)
     → IsNameIn i.class i.name → rest ≡ items_text (i ∷ more) ++ end_text → ReadsLine rest after r
-    → (r ≡ Ok (head_words i)) × (after ≡ content_text i.content ++ (items_text more ++ end_text))
+    → (r ≡ Ok (head_tokens i)) × (after ≡ content_text i.content ++ (items_text more ++ end_text))
 item-line rest after r i more n e h =
-    h.reads (head_words i) (content_text i.content ++ (items_text more ++ end_text)) (head-no_end i)
+    h.reads (head_tokens i) (content_text i.content ++ (items_text more ++ end_text)) (head-no_end i)
     (head-short i n) (e ∙ item-behind i more)
 
 -- a line is shorter than the text
@@ -204,8 +204,8 @@ line-long rest i more e =
     omega (
       arith,
       ap length (e ∙ item-behind i more),
-      length-append (ended (head_words i)) a,
-      length-append (head_words i) (0x0A ∷ []),
+      length-append (ended (head_tokens i)) a,
+      length-append (head_tokens i) (0x0A ∷ []),
     )
 
 next-of : (s : SegmentState) (site : Site) (done : List DumpItem) (i : DumpItem) (more : List DumpItem) (room : ℕ)
@@ -234,35 +234,35 @@ module _ (old now : SegmentState) (text rest : List ℕ) (most room counter : �
     (b : InBuild old now text rest most room counter) where
   no-line-by : {E : Type 0} (site : Site) (done left : List DumpItem) (e : E) (after : List ℕ)
       → IsAtItems now rest site done left → AreLeft site room done left → ReadsLine rest after (Err e) → ⊥
-  no-line-by site done [] e after a l h = never-ok e end_words (end-line rest after (Err e) a.text_is h).0
+  no-line-by site done [] e after a l h = never-ok e end_tokens (end-line rest after (Err e) a.text_is h).0
   no-line-by site done (i ∷ more) e after a l h =
-      never-ok e (head_words i) (item-line rest after (Err e) i more l.good.0.name a.text_is h).0
+      never-ok e (head_tokens i) (item-line rest after (Err e) i more l.good.0.name a.text_is h).0
 
-  end-by : {E F : Type 0} (site : Site) (done left : List DumpItem) (after words : List ℕ)
+  end-by : {E F : Type 0} (site : Site) (done left : List DumpItem) (after tokens : List ℕ)
       (result : Result (Unit {0}) F) → IsAtItems now rest site done left → AreLeft site room done left
-      → ReadsLine {E = E} rest after (Ok words) → words ≡ end_words → AcceptsEnd after result
+      → ReadsLine {E = E} rest after (Ok tokens) → tokens ≡ end_tokens → AcceptsEnd after result
       → (result ≡ Ok tt) × StandsBuilt now site (done ++ left) 0
-  end-by {E} {F} site done [] after words result a l h w g = (
-    g.gone (end-line {E = E} rest after (Ok words) a.text_is h).1,
+  end-by {E} {F} site done [] after tokens result a l h w g = (
+    g.gone (end-line {E = E} rest after (Ok tokens) a.text_is h).1,
     subst (λ is. StandsBuilt now site is 0) (sym (append-nil done)) a.stands,
   )
-  end-by {E} {F} site done (i ∷ more) after words result a l h w g =
-      let is : words ≡ head_words i =
-      ok-same {E = E} words (head_words i)
-      (item-line {E = E} rest after (Ok words) i more l.good.0.name a.text_is h).0 in
+  end-by {E} {F} site done (i ∷ more) after tokens result a l h w g =
+      let is : tokens ≡ head_tokens i =
+      ok-same {E = E} tokens (head_tokens i)
+      (item-line {E = E} rest after (Ok tokens) i more l.good.0.name a.text_is h).0 in
       absurd (head-other i (sym is ∙ w))
 
-  object-by : {E F : Type 0} (site : Site) (done left : List DumpItem) (after words last : List ℕ)
+  object-by : {E F : Type 0} (site : Site) (done left : List DumpItem) (after tokens last : List ℕ)
       (new : SegmentState) (r : Result (Unit {0}) F) → IsAtItems now rest site done left → AreLeft site room done left
-      → ReadsLine {E = E} rest after (Ok words) → words ≢ end_words → BuildsObject now new words after last room r
+      → ReadsLine {E = E} rest after (Ok tokens) → tokens ≢ end_tokens → BuildsObject now new tokens after last room r
       → length rest + counter ≤ most → (r ≡ Ok tt) × ((i : DumpItem) × (more : List DumpItem) × (left ≡ i ∷ more)
       × IsAtItems new last site (done ++ i ∷ []) more × AreLeft site room (done ++ i ∷ []) more
       × (length last + (counter + 1) ≤ most))
-  object-by {E} {F} site done [] after words last new r a l h n o m =
-      absurd (n (ok-same {E = E} words end_words (end-line {E = E} rest after (Ok words) a.text_is h).0))
-  object-by {E} {F} site done (i ∷ more) after words last new r a l h n o m =
-      let line = item-line {E = E} rest after (Ok words) i more l.good.0.name a.text_is h in
-      let is : words ≡ head_words i = ok-same {E = E} words (head_words i) line.0 in
+  object-by {E} {F} site done [] after tokens last new r a l h n o m =
+      absurd (n (ok-same {E = E} tokens end_tokens (end-line {E = E} rest after (Ok tokens) a.text_is h).0))
+  object-by {E} {F} site done (i ∷ more) after tokens last new r a l h n o m =
+      let line = item-line {E = E} rest after (Ok tokens) i more l.good.0.name a.text_is h in
+      let is : tokens ≡ head_tokens i = ok-same {E = E} tokens (head_tokens i) line.0 in
       let q = o.builds site done i (all_needs item_needs more).room (items_text more ++ end_text)
       (next-of now site done i more room a.stands l) is line.1 in
       let shorter = line-long rest i more a.text_is in
@@ -288,35 +288,35 @@ module _ (old now : SegmentState) (text rest : List ℕ) (most room counter : �
       }
 
   -- the last line: all objects are built
-  pub build-end : {E F : Type 0} (after words : List ℕ) (result : Result (Unit {0}) F)
-      → ReadsLine {E = E} rest after (Ok words) → words ≡ end_words → AcceptsEnd after result
+  pub build-end : {E F : Type 0} (after tokens : List ℕ) (result : Result (Unit {0}) F)
+      → ReadsLine {E = E} rest after (Ok tokens) → tokens ≡ end_tokens → AcceptsEnd after result
       → BuildsAllObjects old now text most room result
-  build-end {E} {F} after words result h w g = record {
+  build-end {E} {F} after tokens result h w g = record {
     builds = λ site items a l m.
         let q = b.at site items a l m in
-        let r = end-by {E = E} {F = F} site q.0 q.1 after words result q.3 q.4 h w g in
+        let r = end-by {E = E} {F = F} site q.0 q.1 after tokens result q.3 q.4 h w g in
         (r.0, subst (λ is. StandsBuilt now site is 0) q.2 r.1);
   }
 
   -- an object that was not built: the build fails
-  pub build-cut : {E F : Type 0} (new last : SegmentState) (after words final : List ℕ) (e : F)
-      (result : Result (Unit {0}) F) → ReadsLine {E = E} rest after (Ok words) → words ≢ end_words
-      → BuildsObject now new words after final room (Err e) → BuildsAllObjects old last text most room result
-  build-cut {E} {F} new last after words final e result h n o = record {
+  pub build-cut : {E F : Type 0} (new last : SegmentState) (after tokens final : List ℕ) (e : F)
+      (result : Result (Unit {0}) F) → ReadsLine {E = E} rest after (Ok tokens) → tokens ≢ end_tokens
+      → BuildsObject now new tokens after final room (Err e) → BuildsAllObjects old last text most room result
+  build-cut {E} {F} new last after tokens final e result h n o = record {
     builds = λ site items a l m.
         let q = b.at site items a l m in
         absurd (never-ok {X = Unit {0}} {E =
-        F} e tt (object-by {E = E} {F = F} site q.0 q.1 after words final new (Err e) q.3 q.4 h n o q.5).0);
+        F} e tt (object-by {E = E} {F = F} site q.0 q.1 after tokens final new (Err e) q.3 q.4 h n o q.5).0);
   }
 
   -- one object more is built
-  pub build-more : {E F : Type 0} (new : SegmentState) (after words final : List ℕ) (u : Unit {0})
-      → ReadsLine {E = E} rest after (Ok words) → words ≢ end_words
-      → BuildsObject {E = F} now new words after final room (Ok u) → InBuild old new text final most room (counter + 1)
-  build-more {E} {F} new after words final u h n o = record {
+  pub build-more : {E F : Type 0} (new : SegmentState) (after tokens final : List ℕ) (u : Unit {0})
+      → ReadsLine {E = E} rest after (Ok tokens) → tokens ≢ end_tokens
+      → BuildsObject {E = F} now new tokens after final room (Ok u) → InBuild old new text final most room (counter + 1)
+  build-more {E} {F} new after tokens final u h n o = record {
     at = λ site items a l m.
         let q = b.at site items a l m in
-        let r = (object-by {E = E} {F = F} site q.0 q.1 after words final new (Ok u) q.3 q.4 h n o q.5).1 in
+        let r = (object-by {E = E} {F = F} site q.0 q.1 after tokens final new (Ok u) q.3 q.4 h n o q.5).1 in
         (q.0 ++ r.0 ∷ [], r.1, one-behind q.0 r.0 r.1 ∙ ap (λ l. q.0 ++ l) (sym r.2) ∙ q.2, r.3, r.4, r.5);
   }
 
@@ -331,8 +331,8 @@ module _ (old now : SegmentState) (text rest : List ℕ) (most room counter : �
   }
 
 -- a build with as much room is the same
-pub as-long : {E : Type 0} (old new : SegmentState) (words text rest : List ℕ) (room room' : ℕ)
-    (result : Result (Unit {0}) E) → room ≡ room' → BuildsObject old new words text rest room result
-    → BuildsObject old new words text rest room' result
-as-long {E} old new words text rest room room' result e b =
-    subst (λ m. BuildsObject {E = E} old new words text rest m result) e b
+pub as-long : {E : Type 0} (old new : SegmentState) (tokens text rest : List ℕ) (room room' : ℕ)
+    (result : Result (Unit {0}) E) → room ≡ room' → BuildsObject old new tokens text rest room result
+    → BuildsObject old new tokens text rest room' result
+as-long {E} old new tokens text rest room room' result e b =
+    subst (λ m. BuildsObject {E = E} old new tokens text rest m result) e b

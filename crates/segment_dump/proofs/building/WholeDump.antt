@@ -7,7 +7,7 @@ use Rattle.segment_dump.proofs.Common.{by_name, is_class, live, named_objects, s
 use Rattle.segment_dump.proofs.Common.{DenotesCurrent, all-sorted, by_kind-strict, by_name-strict, live-extents}
 use Rattle.segment_dump.proofs.Common.{live-size, EndBy, HasExactRoom, all_extents, kind_less, name_less, of_class}
 use Rattle.segment_dump.proofs.Common.{total, DumpItem, Items, item_of_object, portable, all_items, AreOf, dump_text}
-use Rattle.segment_dump.proofs.Common.{end_text, front_text, items_text}
+use Rattle.segment_dump.proofs.Common.{end_text, prefix_text, items_text}
 use Rattle.std.specs.Prelude.{sum_by}
 use Rattle.segment_dump.specs.Succeeding.{AreOrderedItems}
 use Rattle.segment_dump.proofs.loading.Portable.{named-in_order, unique-in_order}
@@ -79,8 +79,8 @@ portable-sorted b d s =
 
 -- a dump is its front and the objects after it
 pub text-behind : (n : ℕ) (items : Items) → dump_text n items
-    ≡ front_text n (length items.named) (length items.unique) ++ (items_text (all_items items) ++ end_text)
-text-behind n items = ap (λ l. front_text n (length items.named) (length items.unique) ++ l) (all-text items)
+    ≡ prefix_text n (length items.named) (length items.unique) ++ (items_text (all_items items) ++ end_text)
+text-behind n items = ap (λ l. prefix_text n (length items.named) (length items.unique) ++ l) (all-text items)
 
 -- ---- nothing is free
 

@@ -92,13 +92,13 @@ never-other : (new : Compared) (o : Option ℕ) (text : List ℕ) (count : ℕ) 
     → new.failures ≡ 1 → HasTaken new text (take count text) → ⊥
 never-other new None text count e c f h = omega (arith, c.failed e, f)
 never-other new (Some b) text count e c f h =
-    let front = take new.at new.text in
-    let parts : take count text ≡ front ++ b ∷ [] = sym h.taken_is ∙ ap (λ p. front ++ option_to_list p) e in
-    let whole : new.text ≡ front ++ (b ∷ drop count text) =
+    let prefix = take new.at new.text in
+    let parts : take count text ≡ prefix ++ b ∷ [] = sym h.taken_is ∙ ap (λ p. prefix ++ option_to_list p) e in
+    let whole : new.text ≡ prefix ++ (b ∷ drop count text) =
     h.text_is ∙ sym (take-append-drop count text) ∙ ap (λ l. l ++ drop count text) parts
-    ∙ append_assoc front (b ∷ []) (drop count text) in
+    ∙ append_assoc prefix (b ∷ []) (drop count text) in
     let rest : drop new.at new.text ≡ b ∷ drop count text =
-    ap (drop new.at) whole ∙ drop_at front (b ∷ drop count text) new.at (length-take-le new.at new.text c.inside) in
+    ap (drop new.at) whole ∙ drop_at prefix (b ∷ drop count text) new.at (length-take-le new.at new.text c.inside) in
     let other : IsOther (drop new.at new.text) (Some b) = subst (IsOther (drop new.at new.text)) e c.other in
     other (drop count text) rest
 

@@ -2,11 +2,12 @@
 use Rattle.segment_dump.proofs.Common.{◌≡◌, ◌≢◌, ℕ, ◌+◌, ◌*◌, ◌<◌, ◌≤◌, ◌^◌, List, [], ◌∷◌, ◌++◌, length, Option, Some}
 use Rattle.segment_dump.proofs.Common.{None, Result, Ok, Err, refl, sym, ap, subst, ◌∙◌, arith, append_assoc}
 use Rattle.segment_dump.proofs.Common.{append-nil, length-append, AllByRecursion, IsErr, false≢true, flat_map-append}
-use Rattle.segment_dump.proofs.Common.{Class, Anonymous, Named, Unique, Count, Front, Needs, AreCountable, CountsDump}
-use Rattle.segment_dump.proofs.Common.{IsFront, IsNameless, DumpItem, Items, IsSmall, all_needs, both, front_room}
+use Rattle.segment_dump.proofs.Common.{Class, Anonymous, Named, Unique, Count, DumpPrefix, Needs, AreCountable}
+use Rattle.segment_dump.proofs.Common.{CountsDump}
+use Rattle.segment_dump.proofs.Common.{IsDumpPrefix, IsNameless, DumpItem, Items, IsSmall, all_needs, both, prefix_room}
 use Rattle.segment_dump.proofs.Common.{item_needs, items_needs, nothing, only_room, all_items, dump_text, end_text}
 use Rattle.segment_dump.proofs.{Common.item_text, Common.items_text, texts.OneReading.heads}
-use Rattle.segment_dump.proofs.{reading.FrontLines.FrontReads}
+use Rattle.segment_dump.proofs.{reading.PrefixLines.PrefixReads}
 use Rattle.segment_dump.proofs.{counting.Objects.ObjectReads, texts.AllElements.AllByRecursion-append}
 use Rattle.segment_dump.specs.Counting.{CountsObjects}
 use Rattle.segment_dump.proofs.texts.Objects.{IsFirst, item-first, letter}
@@ -170,41 +171,42 @@ all-needed items =
     all-append item_needs items.named (items.unique ++ items.anonymous)
     ∙ ap (both (all_needs item_needs items.named)) (all-append item_needs items.unique items.anonymous)
 
-front-least : (named unique : ℕ) → (named ≤ front_room named unique) × (unique ≤ front_room named unique)
-unfolding front_room
-front-least named unique = let p = block-least (8 * named) in let q = block-least (8 * unique)
+prefix-least : (named unique : ℕ) → (named ≤ prefix_room named unique) × (unique ≤ prefix_room named unique)
+unfolding prefix_room
+prefix-least named unique = let p = block-least (8 * named) in let q = block-least (8 * unique)
     in (omega arith, omega arith)
 
-abbrev front_of : ℕ → Items → Front
-front_of n items = record { size = n; named = length items.named; unique = length items.unique }
+abbrev prefix_of : ℕ → Items → DumpPrefix
+prefix_of n items = record { size = n; named = length items.named; unique = length items.unique }
 
 -- the front of a dump is one
-pub is-front : (n : ℕ) (items : Items) → n < 2 ^ 64 → AreCountable items → IsFront (front_of n items)
-is-front n items l h =
-    let p = front-least (length items.named) (length items.unique) in
+pub is-prefix : (n : ℕ) (items : Items) → n < 2 ^ 64 → AreCountable items → IsDumpPrefix (prefix_of n items)
+is-prefix n items l h =
+    let p = prefix-least (length items.named) (length items.unique) in
     let s = h.small in
     record { size = l; named = omega (arith, p.0); unique = omega (arith, p.1) }
 
-abbrev behind_front : Items → List ℕ
-behind_front items = items_text items.named ++ (items_text items.unique ++ (items_text items.anonymous ++ end_text))
+abbrev behind_prefix : Items → List ℕ
+behind_prefix items = items_text items.named ++ (items_text items.unique ++ (items_text items.anonymous ++ end_text))
 
-front-found : (text : List ℕ) (o : Option (Front × List ℕ)) (n : ℕ) (items : Items) → FrontReads text o → n < 2 ^ 64
-    → AreCountable items → text ≡ dump_text n items → o ≡ Some (front_of n items, behind_front items)
-front-found text o n items h l g e = h.reads (front_of n items) (behind_front items) (is-front n items l g) tt e
+prefix-found : (text : List ℕ) (o : Option (DumpPrefix × List ℕ)) (n : ℕ) (items : Items) → PrefixReads text o →
+    n < 2 ^ 64
+    → AreCountable items → text ≡ dump_text n items → o ≡ Some (prefix_of n items, behind_prefix items)
+prefix-found text o n items h l g e = h.reads (prefix_of n items) (behind_prefix items) (is-prefix n items l g) tt e
 
 -- a text without a front is no dump
-pub dump-no_front : (text : List ℕ) (m : ℕ) → FrontReads text None → CountsDump text (Err m)
-dump-no_front text m h = record {
+pub dump-no_prefix : (text : List ℕ) (m : ℕ) → PrefixReads text None → CountsDump text (Err m)
+dump-no_prefix text m h = record {
   counts = λ n items l g e. absurd
-      (none-some (front_of n items, behind_front items) (front-found text None n items h l g e));
+      (none-some (prefix_of n items, behind_prefix items) (prefix-found text None n items h l g e));
 }
 
-objects-found : (text : List ℕ) (front : Front) (rest : List ℕ) (r : Result Needs ℕ) (n : ℕ) (items : Items)
-    → FrontReads text (Some (front, rest)) → CountsObjects rest r → n < 2 ^ 64 → AreCountable items
-    → text ≡ dump_text n items → (front ≡ front_of n items) × (r ≡ Ok (all_needs item_needs (all_items items)))
-objects-found text front rest r n items h k l g e =
-    let p = some-pair front (front_of n items) rest (behind_front items)
-    (front-found text (Some (front, rest)) n items h l g e) in
+objects-found : (text : List ℕ) (prefix : DumpPrefix) (rest : List ℕ) (r : Result Needs ℕ) (n : ℕ) (items : Items)
+    → PrefixReads text (Some (prefix, rest)) → CountsObjects rest r → n < 2 ^ 64 → AreCountable items
+    → text ≡ dump_text n items → (prefix ≡ prefix_of n items) × (r ≡ Ok (all_needs item_needs (all_items items)))
+objects-found text prefix rest r n items h k l g e =
+    let p = some-pair prefix (prefix_of n items) rest (behind_prefix items)
+    (prefix-found text (Some (prefix, rest)) n items h l g e) in
     let rooms = ap (λ (x : Needs). x.room) (all-needed items) in
     let whole = g.small in
     let small : IsSmall (all_needs item_needs (all_items items)).room = omega arith in (
@@ -219,40 +221,40 @@ dump-any text (Ok count) e h = absurd (false≢true e)
 dump-any text (Err m) e h = h m
 
 -- a text whose objects were not read is no dump
-pub dump-no_objects : (text : List ℕ) (front : Front) (rest : List ℕ) (j : ℕ) (r : Result Count ℕ) → IsErr r
-    → FrontReads text (Some (front, rest)) → CountsObjects rest (Err j) → CountsDump text r
-dump-no_objects text front rest j r f h k =
+pub dump-no_objects : (text : List ℕ) (prefix : DumpPrefix) (rest : List ℕ) (j : ℕ) (r : Result Count ℕ) → IsErr r
+    → PrefixReads text (Some (prefix, rest)) → CountsObjects rest (Err j) → CountsDump text r
+dump-no_objects text prefix rest j r f h k =
     dump-any text r f
     (λ m. record {
       counts = λ n items l g e.
           absurd (never-ok j (all_needs item_needs (all_items items))
-          (objects-found text front rest (Err j) n items h k l g e).1);
+          (objects-found text prefix rest (Err j) n items h k l g e).1);
     })
 
-whole-found : (indexes objects sum : Needs) (front : Front) (n : ℕ) (items : Items)
-    → indexes ≡ only_room (front_room front.named front.unique) → front ≡ front_of n items
+whole-found : (indexes objects sum : Needs) (prefix : DumpPrefix) (n : ℕ) (items : Items)
+    → indexes ≡ only_room (prefix_room prefix.named prefix.unique) → prefix ≡ prefix_of n items
     → objects ≡ all_needs item_needs (all_items items) → AreCountable items
     → (indexes.room + objects.room < 18446744073709551616 → sum ≡ both indexes objects) → sum ≡ items_needs items
-whole-found indexes objects sum front n items e f o g h =
-    let first : indexes ≡ only_room (front_room (length items.named) (length items.unique)) =
-    e ∙ ap (λ (x : Front). only_room (front_room x.named x.unique)) f in
+whole-found indexes objects sum prefix n items e f o g h =
+    let first : indexes ≡ only_room (prefix_room (length items.named) (length items.unique)) =
+    e ∙ ap (λ (x : DumpPrefix). only_room (prefix_room x.named x.unique)) f in
     let others = o ∙ all-needed items in
     let whole = g.small in
     let small : indexes.room + objects.room < 18446744073709551616 =
     omega (arith, ap (λ (x : Needs). x.room) first, ap (λ (x : Needs). x.room) others) in
     h small ∙ ap (λ x. both x objects) first
-    ∙ ap (both (only_room (front_room (length items.named) (length items.unique)))) others
+    ∙ ap (both (only_room (prefix_room (length items.named) (length items.unique)))) others
 
 -- a text with a front and objects is a dump
-pub dump-some : (text : List ℕ) (front : Front) (rest : List ℕ) (indexes objects sum : Needs)
-    → FrontReads text (Some (front, rest)) → CountsObjects rest (Ok objects)
-    → indexes ≡ only_room (front_room front.named front.unique)
+pub dump-some : (text : List ℕ) (prefix : DumpPrefix) (rest : List ℕ) (indexes objects sum : Needs)
+    → PrefixReads text (Some (prefix, rest)) → CountsObjects rest (Ok objects)
+    → indexes ≡ only_room (prefix_room prefix.named prefix.unique)
     → (indexes.room + objects.room < 18446744073709551616 → sum ≡ both indexes objects)
-    → CountsDump text (Ok (record { size = front.size; needs = sum }))
-dump-some text front rest indexes objects sum h k e f = record {
+    → CountsDump text (Ok (record { size = prefix.size; needs = sum }))
+dump-some text prefix rest indexes objects sum h k e f = record {
   counts = λ n items l g w.
-      let p = objects-found text front rest (Ok objects) n items h k l g w in
-      let same = whole-found indexes objects sum front n items e p.0
+      let p = objects-found text prefix rest (Ok objects) n items h k l g w in
+      let same = whole-found indexes objects sum prefix n items e p.0
       (ok-same objects (all_needs item_needs (all_items items)) p.1) g f in
       λ i. Ok (record { size = (p.0 i).size; needs = same i });
 }

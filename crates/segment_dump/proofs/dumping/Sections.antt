@@ -6,7 +6,7 @@ use Rattle.segment_dump.proofs.Common.{ByHandle, Instance, Directory, Object, is
 use Rattle.segment_dump.proofs.Common.{unique_objects, SaysOf, SaysAt, AnswersWith, SegmentState, DenotesCurrent}
 use Rattle.segment_dump.proofs.Common.{anonymous_objects, content_of, item_of_object, kind_of_content, portable}
 use Rattle.segment_dump.proofs.Common.{all_text, count_at, object_count, where_anonymous, WritesOf, part_of, in_lines}
-use Rattle.segment_dump.proofs.Common.{laid_at, laid_object, parts_until, dump_text, end_text, front_text, head_line}
+use Rattle.segment_dump.proofs.Common.{laid_at, laid_object, parts_until, dump_text, end_text, prefix_text, head_line}
 use Rattle.segment_dump.proofs.Common.{item_text, items_text, IsErr, WriterHistory}
 use Rattle.segment_dump.specs.DumpWrites.{object_text, objects_text, text_at}
 use Rattle.std.proofs.lemmas.Option.{slice_get_within}
@@ -24,9 +24,10 @@ objects-made os = sym (flat_map-made item_text item_of_object os)
 
 -- the front and all objects are the dump
 pub dump-parts : (size : ℕ) (d : Directory)
-    → front_text size (length (named_objects d)) (length (unique_objects d)) ++ all_text d ≡ dump_text size (portable d)
+    → prefix_text size (length (named_objects d)) (length (unique_objects d)) ++ all_text d ≡ dump_text size
+    (portable d)
 dump-parts size d =
-    (λ i. front_text size (sym (length-made item_of_object (named_objects d)) i)
+    (λ i. prefix_text size (sym (length-made item_of_object (named_objects d)) i)
     (sym (length-made item_of_object (unique_objects d)) i) ++ (objects-made (named_objects d) i
     ++ (objects-made (unique_objects d) i ++ (objects-made (anonymous_objects d) i ++ end_text))))
 
@@ -48,26 +49,26 @@ module _ {s : SegmentState} {objects : Directory → List Object} {text : Object
   place-said w = of-same w (text-of s objects i said at each text)
 
   -- one object more goes out
-  pub places-more : {B F : Type 0} {y : B} → WritesOf {E = F} s mid new (Ok y)
+  pub slots-more : {B F : Type 0} {y : B} → WritesOf {E = F} s mid new (Ok y)
       (λ d. part_of text (object_at d (ByHandle said.handle)))
       → WritesOf s old new well (λ d. parts_until (object_at_place text objects d) (i + 1))
-  places-more w = of-more (object_at_place text objects) before (place-said w)
+  slots-more w = of-more (object_at_place text objects) before (place-said w)
 
   -- an object that did not go out
-  pub places-cut : {B C F G : Type 0} {y : F} {result : Result C G}
+  pub slots-cut : {B C F G : Type 0} {y : F} {result : Result C G}
       → WritesOf {A = B} s mid new (Err y) (λ d. part_of text (object_at d (ByHandle said.handle))) → IsErr result
       → WritesOf s old new result (λ d. flat_map text (objects d))
-  places-cut w is_err =
+  slots-cut w is_err =
       of-same (of-cut_in (object_at_place text objects) (λ d. length (objects d)) before
       (λ d st. let o = at.says d st in slice_get_within (objects d) i o.0 o.1) (place-said w) is_err)
       (λ d st. parts-all text (objects d))
 
 -- no object has a later place
-pub places-all : {B F : Type 0} (s : SegmentState) (objects : Directory → List Object) (text : Object → List ℕ) (i : ℕ)
+pub slots-all : {B F : Type 0} (s : SegmentState) (objects : Directory → List Object) (text : Object → List ℕ) (i : ℕ)
     {old new : WriterHistory} {y : B} → WritesOf s old new well (λ d. parts_until (object_at_place text objects d) i)
     → ((d : Directory) → DenotesCurrent s.cut.bytes d → length (objects d) ≤ i)
     → WritesOf {E = F} s old new (Ok y) (λ d. flat_map text (objects d))
-places-all s objects text i w all = of-same (of-all (object_at_place text objects) i i w refl)
+slots-all s objects text i w all = of-same (of-all (object_at_place text objects) i i w refl)
     (λ d st. parts-taken text (objects d) i ∙ ap (flat_map text) (take_all i (objects d) (all d st)))
 
 -- ---- the line of an object

@@ -12,7 +12,7 @@ use Rattle.segment_dump.proofs.Common.{block_room, text_needs, content_text, Bac
 use Rattle.seg_types.specs.declared.kinds.ScalarKind.TheVariants.{Bool as BoolKind}
 use Rattle.segment_manager.specs.Step.{with_table}
 use Rattle.segment_dump.specs.{Builders.FillsElements, Filling.map_course, Filling.strings_course}
-use Rattle.segment_dump.specs.Filling.{vector_course, FillCourse, HasFirstElements, HasReservedPlaces, array_course}
+use Rattle.segment_dump.specs.Filling.{vector_course, FillCourse, HasFirstElements, HasReservedSlots, array_course}
 use Rattle.segment_dump.proofs.{filling.Addition.string-of, filling.Addition.was-done, space.OneGap.IsRest}
 use Rattle.segment_dump.proofs.{space.OneGap.rest-both}
 use Rattle.segment_dump.proofs.filling.OneElement.{filled, led, stands-filling, texts-rest}
@@ -65,7 +65,7 @@ elements-end old now h kind count text rest room counter e i = record {
 first-part : {X Y : Type 0} (way : FillCourse X Y) (all : List Y) (v : Value) (need : ℕ) → way.items [] ≡ []
     → v ≡ way.value [] all → need ≡ way.need all → HasFirstElements way all 0 v (flat_map way.line all) need
 first-part way all v need i e f = record {
-  front = [];
+  prefix = [];
   back = all;
   all_are = ap (λ l. l ++ all) (sym i);
   many = refl;
@@ -74,11 +74,11 @@ first-part way all v need i e f = record {
   need_is = f;
 }
 
-at-front : (s : SegmentState) (text : List ℕ) (p : FillState) (h : ℕ) (c : ValueContent) → c ≡ p.content → (v : Value)
+at-prefix : (s : SegmentState) (text : List ℕ) (p : FillState) (h : ℕ) (c : ValueContent) → c ≡ p.content → (v : Value)
     (need : ℕ) → IsPartialValue c 0 v (content_text c) need
     → StandsFilling s p.site p.done (head_of p h) v (need + p.more) → text ≡ content_text c ++ p.after
     → FillsAt s text p h 0
-at-front s text p h c e v need part st t = record {
+at-prefix s text p h c e v need part st t = record {
   value = v;
   left = content_text c;
   need = need;
@@ -92,12 +92,12 @@ begun-by : (c : ValueContent) (p : FillState) (kind : Kind) → c ≡ p.content 
     → StandsFilling s p.site p.done (head_of p h) (bare (first_content (kind_of_content c) (count_of_content c)))
     (content_need c + p.more) → text ≡ content_text c ++ p.after → FillsAt s text p h 0
 begun-by (Scalars k zs) p kind e q n v s text h st t =
-    at-front s text p h (Scalars k zs) e (Numbers k (replicate (length zs) (pos 0))) _
+    at-prefix s text p h (Scalars k zs) e (Numbers k (replicate (length zs) (pos 0))) _
     (first-part (array_course k) zs (Numbers k (replicate (length zs) (pos 0))) (content_need (Scalars k zs)) refl refl
     refl) st t
 begun-by (Vector k zs) p kind e q n v s text h st t = absurd (v (subst IsVectorKind q tt))
 begun-by (String bs) p kind e q n v s text h st t = absurd (n (sym q))
-begun-by (Map k w ps) p kind e q n v s text h st t = at-front s text p h (Map k w ps) e (Pairs k w []) _
+begun-by (Map k w ps) p kind e q n v s text h st t = at-prefix s text p h (Map k w ps) e (Pairs k w []) _
     (first-part (map_course k w) ps (Pairs k w []) (content_need (Map k w ps)) refl refl (omega arith)) st t
 begun-by (Strings ts) p kind e q n v s text h st t = absurd (v (subst IsVectorKind q tt))
 
@@ -115,13 +115,13 @@ size-long : (k : ScalarKind) → 0 < size_of k
 size-long BoolKind = omega arith
 size-long k = omega arith
 
-with-places : {X Y : Type 0} (way : BackingArray → FillCourse X Y) (first : Value) (all : List Y) (text : List ℕ)
+with-slots : {X Y : Type 0} (way : BackingArray → FillCourse X Y) (first : Value) (all : List Y) (text : List ℕ)
     (need : ℕ) → ((t : BackingArray) → HasFirstElements (way t) all 0 (with_table first t) text need) → (w : Value)
-    → HasTable first (length all) w → HasReservedPlaces way all 0 w text need
-with-places way first all text need part w (none e) =
-    record { table = no_backing; places = omega (arith, e); part = part no_backing }
-with-places way first all text need part w (some x) =
-    let t = table_of (length all) x in record { table = t; places = omega arith; part = part t }
+    → HasTable first (length all) w → HasReservedSlots way all 0 w text need
+with-slots way first all text need part w (none e) =
+    record { table = no_backing; slots = omega (arith, e); part = part no_backing }
+with-slots way first all text need part w (some x) =
+    let t = table_of (length all) x in record { table = t; slots = omega arith; part = part t }
 
 reserved-for : (c : ValueContent) (p : FillState) → c ≡ p.content → (first : Value) (each n more : ℕ)
     → IsStored first each → 0 < each → content_need c + p.more ≡ block_room (each * n) + (more + p.more)
@@ -136,7 +136,7 @@ reserved-for c p e first each n more stored long needs rest part s new text h ca
     st.stands.denotes.directory stored long f rest in
     let u = led st.stands st.mode _ moved done in (
       u.given_is,
-      at-front new text p h c e u.holds.value more (part u.holds.value u.holds.table)
+      at-prefix new text p h c e u.holds.value more (part u.holds.value u.holds.table)
           (stands-filling u.stands u.mode u.holds.filling) t,
     )
 
@@ -150,13 +150,13 @@ reserved-by : (c : ValueContent) (p : FillState) (kind : Kind) → c ≡ p.conte
 reserved-by (Vector k zs) p kind e q v r s new text h called st t moved =
     reserved-for (Vector k zs) p e (Elements k [] no_backing) (size_of k) (length zs) 0 (vector-stored k) (size-long k)
     (omega arith) (subst IsRest (sym (zero-add p.more)) r)
-    (with-places (vector_course k) (Elements k [] no_backing) zs (content_text (Vector k zs)) 0
+    (with-slots (vector_course k) (Elements k [] no_backing) zs (content_text (Vector k zs)) 0
     (λ t. first-part (vector_course k t) zs (Elements k [] t) 0 refl refl refl)) s new text h called st t moved
 reserved-by (Strings ts) p kind e q v r s new text h called st t moved =
     let texts : ℕ = (all_needs text_needs ts).room in
     reserved-for (Strings ts) p e (Texts [] no_backing) 16 (length ts) texts texts-stored (omega arith) (omega arith)
     (rest-both texts p.more (texts-rest ts) r)
-    (with-places strings_course (Texts [] no_backing) ts (content_text (Strings ts)) texts
+    (with-slots strings_course (Texts [] no_backing) ts (content_text (Strings ts)) texts
     (λ t. first-part (strings_course t) ts (Texts [] t) texts refl refl refl)) s new text h called st t moved
 reserved-by (Scalars k zs) p kind e q v r s new text h called st t moved = absurd (subst IsVectorKind (sym q) v)
 reserved-by (String bs) p kind e q v r s new text h called st t moved = absurd (subst IsVectorKind (sym q) v)

@@ -22,7 +22,7 @@ use Rattle.seg_vector.specs.Vector.{capacity_for_one, capacity_for_text}
 use Rattle.segment_manager.specs.{Answers.Refused, Plan.Regrown, Plan.with_capacity, Plan.with_owned_text}
 use Rattle.segment_manager.specs.Step.{map_of, push, put, set, storage_of, text_of, with_table}
 use Rattle.segment_dump.proofs.{space.OneGap.IsRest, space.OneGap.block-some, building.MachineSteps.writes}
-use Rattle.segment_dump.proofs.{texts.Words.bool-near}
+use Rattle.segment_dump.proofs.{texts.LineTokens.bool-near}
 use Rattle.segment_dump.proofs.building.MachineSteps.{at-object, block-more, filled-at, filled-kind, of-kind, requested}
 use Rattle.segment_dump.proofs.building.MachineSteps.{same-blocks}
 
@@ -47,9 +47,9 @@ literal-back k z e = ap (λ b. in_range b z) e
 
 -- ---- places that are there
 
-places-there : (each n : ℕ) (t : BackingArray) (next : BackingArray → Plan) → n ≤ t.capacity
+slots-there : (each n : ℕ) (t : BackingArray) (next : BackingArray → Plan) → n ≤ t.capacity
     → with_capacity each n t next ≡ next t
-places-there each n t next h =
+slots-there each n t next h =
     ap (λ b. if b then next t else Request (Regrown t.extent (each * n))
     (λ x. next (record { capacity = n; extent = Some x }))) (le-leb n t.capacity h)
 
@@ -58,14 +58,14 @@ place-there : (each len : ℕ) (t : BackingArray) (next : BackingArray → Plan)
 place-there each len t next h =
     let same : capacity_for_one len t.capacity ≡ t.capacity = ap (λ b. if b then t.capacity else max 4 (2 * t.capacity))
     (lt-ltb len t.capacity h) in
-    places-there each (capacity_for_one len t.capacity) t next (omega (arith, same))
+    slots-there each (capacity_for_one len t.capacity) t next (omega (arith, same))
 
 text-there : (len : ℕ) (t : BackingArray) (next : BackingArray → Plan) → len ≤ t.capacity
     → with_capacity 1 (capacity_for_text len t.capacity) t next ≡ next t
 text-there len t next h =
     let same : capacity_for_text len t.capacity ≡ t.capacity = ap
     (λ b. if b then t.capacity else max (max 16 (2 * t.capacity)) len) (le-leb len t.capacity h) in
-    places-there 1 (capacity_for_text len t.capacity) t next (omega (arith, same))
+    slots-there 1 (capacity_for_text len t.capacity) t next (omega (arith, same))
 
 -- ---- the calls that ask for no block
 
@@ -241,7 +241,7 @@ module _ (d : Directory) (site : Site) (done : List DumpItem) (head : Head) (v :
       let w = with_table v no_backing in
       record {
         next = changed d f.object w;
-        is = reserve-plan rest f ∙ ap (perform d (live d)) (places-there each n no_backing (λ u.
+        is = reserve-plan rest f ∙ ap (perform d (live d)) (slots-there each n no_backing (λ u.
             Reply Done (changed d f.object (with_table v u))) (omega (arith, e)));
         holds = record {
           value = w;
@@ -270,7 +270,7 @@ module _ (d : Directory) (site : Site) (done : List DumpItem) (head : Head) (v :
         holds = record {
           value = w;
           table = some taken.extent;
-          filling = block-more d site done head v all i f w taken.extent rest one taken.front taken.fits;
+          filling = block-more d site done head v all i f w taken.extent rest one taken.prefix taken.fits;
         };
       }
 
@@ -364,7 +364,7 @@ module _ (d : Directory) (site : Site) (done : List DumpItem) (head : Head) (ps 
         holds = record {
           block = Some taken.extent;
           filling = block-more d site done head (Texts ps t) all i f w taken.extent rest
-              (last-owned ps (own bs (Some taken.extent)) t) taken.front taken.fits;
+              (last-owned ps (own bs (Some taken.extent)) t) taken.prefix taken.fits;
         };
       }
 
@@ -463,6 +463,6 @@ module _ (d : Directory) (site : Site) (done : List DumpItem) (head : Head) (k v
         holds = record {
           node = taken.extent;
           filling = block-more d site done head (Pairs k v ps) all i f w taken.extent rest (node-last ps p k v)
-              taken.front taken.fits;
+              taken.prefix taken.fits;
         };
       }

@@ -16,7 +16,7 @@ use Rattle.segment_dump.proofs.{Common.text_lines, building.BuildSteps.built}
 use Rattle.segment_manager.specs.State.{Transitions}
 use Rattle.segment_dump.specs.Builders.{IsFilled}
 use Rattle.segment_dump.specs.Filling.{map_course, strings_course, vector_course, FillCourse, HasFirstElements}
-use Rattle.segment_dump.specs.Filling.{HasReservedPlaces, StandsBuilt, array_course, filled_item}
+use Rattle.segment_dump.specs.Filling.{HasReservedSlots, StandsBuilt, array_course, filled_item}
 use Rattle.segment_dump.proofs.filling.FillSteps.{AreLess, StepsTo, pushed, text-pushed, was-put, was-set}
 use Rattle.segment_dump.proofs.space.OneGap.{IsRest, block-rest, rest-both, needs-rest}
 
@@ -88,11 +88,11 @@ pub record NextElement {Y : Type 0} (s : SegmentState) (text : List ℕ) (p : Fi
       → (given ≡ answer) × FillsAt new after p h (n + 1)
 
 -- the directory has it after those before it
-record HasNext {X Y : Type 0} (way : FillCourse X Y) (p : FillState) (h : ℕ) (front : List X) (y : Y) (back : List Y)
+record HasNext {X Y : Type 0} (way : FillCourse X Y) (p : FillState) (h : ℕ) (prefix : List X) (y : Y) (back : List Y)
     (e : Directory) : Type 0 where
   one : X
-  items : way.items (front ++ one ∷ []) ≡ way.items front ++ y ∷ []
-  filling : IsFilling e p.site p.done (head_of p h) (way.value (front ++ one ∷ []) back) (way.need back + p.more)
+  items : way.items (prefix ++ one ∷ []) ≡ way.items prefix ++ y ∷ []
+  filling : IsFilling e p.site p.done (head_of p h) (way.value (prefix ++ one ∷ []) back) (way.need back + p.more)
 
 -- what is left of a text
 next-text : (text left after one rest : List ℕ) → text ≡ left ++ after → left ≡ one ++ rest
@@ -105,33 +105,33 @@ steps-so t f = record { next = t.next; is = t.is; holds = f t.next t.holds }
 
 module _ {X Y : Type 0} (way : FillCourse X Y) (s : SegmentState) (text : List ℕ) (p : FillState) (h n : ℕ)
     (all : List Y) (kind : Kind) (c : Y → Command) (answer : Answer) (Good : Y → Type 0) (l : n < length all)
-    (g : AllByRecursion Good all) (count : (front : List X) → length (way.items front) ≡ length front)
+    (g : AllByRecursion Good all) (count : (prefix : List X) → length (way.items prefix) ≡ length prefix)
     (part : (v : Value) (left : List ℕ) (need : ℕ) → HasFirstElements way all (n + 1) v left need
     → IsPartialValue p.content (n + 1) v left need)
-    (steps : (front : List X) (y : Y) (back : List Y) → all ≡ way.items front ++ y ∷ back → n ≡ length front → Good y
+    (steps : (prefix : List X) (y : Y) (back : List Y) → all ≡ way.items prefix ++ y ∷ back → n ≡ length prefix → Good y
     → (d : Directory) → IsDirectory current d
-    → IsFilling d p.site p.done (head_of p h) (way.value front (y ∷ back)) (way.need (y ∷ back) + p.more)
-    → StepsTo (step_of_kind Write d (ByHandle h) kind (c y)) answer (HasNext way p h front y back)) where
+    → IsFilling d p.site p.done (head_of p h) (way.value prefix (y ∷ back)) (way.need (y ∷ back) + p.more)
+    → StepsTo (step_of_kind Write d (ByHandle h) kind (c y)) answer (HasNext way p h prefix y back)) where
   next-behind : (f : FillsAt s text p h n) (q : HasFirstElements way all n f.value f.left f.need) (back : List Y)
       → q.back ≡ back → NextElement s text p h n way.line Good kind c answer
   next-behind f q [] b = absurd (omega (
     arith,
     l,
     q.many,
-    count q.front,
-    ap length (q.all_are ∙ ap (λ ys. way.items q.front ++ ys) b ∙ append-nil (way.items q.front)),
+    count q.prefix,
+    ap length (q.all_are ∙ ap (λ ys. way.items q.prefix ++ ys) b ∙ append-nil (way.items q.prefix)),
   ))
   next-behind f q (y ∷ back) b =
-      let front = q.front in
+      let prefix = q.prefix in
       let st = f.stands in
-      let a : all ≡ way.items front ++ y ∷ back = q.all_are ∙ ap (λ ys. way.items front ++ ys) b in
-      let is : Good y = all-last Good (way.items front) y back (subst (AllByRecursion Good) a g) in
-      let filling : IsFilling st.directory p.site p.done (head_of p h) (way.value front (y ∷ back))
+      let a : all ≡ way.items prefix ++ y ∷ back = q.all_are ∙ ap (λ ys. way.items prefix ++ ys) b in
+      let is : Good y = all-last Good (way.items prefix) y back (subst (AllByRecursion Good) a g) in
+      let filling : IsFilling st.directory p.site p.done (head_of p h) (way.value prefix (y ∷ back))
       (way.need (y ∷ back) + p.more) =
-      subst (λ m. IsFilling st.directory p.site p.done (head_of p h) (way.value front (y ∷ back)) (m + p.more))
+      subst (λ m. IsFilling st.directory p.site p.done (head_of p h) (way.value prefix (y ∷ back)) (m + p.more))
       (q.need_is ∙ ap way.need b) (subst (λ v. IsFilling st.directory p.site p.done (head_of p h) v (f.need + p.more))
-      (q.value_is ∙ ap (way.value front) b) st.filling) in
-      let made = steps front y back a q.many is st.directory st.stands.denotes.directory filling in
+      (q.value_is ∙ ap (way.value prefix) b) st.filling) in
+      let made = steps prefix y back a q.many is st.directory st.stands.denotes.directory filling in
       record {
         value = y;
         after = flat_map way.line back ++ p.after;
@@ -140,17 +140,17 @@ module _ {X Y : Type 0} (way : FillCourse X Y) (s : SegmentState) (text : List �
         good = is;
         leads = λ new given r.
             let u = led-of_kind st.stands st.mode _ _ _ r made in
-            let front' : List X = front ++ u.holds.one ∷ [] in (
+            let prefix' : List X = prefix ++ u.holds.one ∷ [] in (
               u.given_is,
               record {
-                value = way.value front' back;
+                value = way.value prefix' back;
                 left = flat_map way.line back;
                 need = way.need back;
-                part = part (way.value front' back) (flat_map way.line back) (way.need back) (record {
-                  front = front';
+                part = part (way.value prefix' back) (flat_map way.line back) (way.need back) (record {
+                  prefix = prefix';
                   back = back;
-                  all_are = a ∙ one-behind (way.items front) y back ∙ ap (λ ys. ys ++ back) (sym u.holds.items);
-                  many = omega (arith, q.many, one-longer front u.holds.one);
+                  all_are = a ∙ one-behind (way.items prefix) y back ∙ ap (λ ys. ys ++ back) (sym u.holds.items);
+                  many = omega (arith, q.many, one-longer prefix u.holds.one);
                   value_is = refl;
                   text_is = refl;
                   need_is = refl;
@@ -176,13 +176,13 @@ module _ (s : SegmentState) (text : List ℕ) (p : FillState) (h n : ℕ) (f : F
       → NextElement s text p h n (element_line k) (λ z. is_value k z ≡ true) (kinds.Scalar k)
       (λ z. asked.Set (ByHandle h) n (literal_of k z)) Done
   next-scalar k zs e l g = next-behind (array_course k) s text p h n zs (kinds.Scalar k)
-      (λ z. asked.Set (ByHandle h) n (literal_of k z)) Done (λ z. is_value k z ≡ true) l g (λ front. refl) (as-part e)
-      (λ front z back a m is d i filling.
+      (λ z. asked.Set (ByHandle h) n (literal_of k z)) Done (λ z. is_value k z ≡ true) l g (λ prefix. refl) (as-part e)
+      (λ prefix z back a m is d i filling.
       let zeros : List ℤ = replicate (length back) (pos 0) in
-      let set : slice_set (front ++ pos 0 ∷ zeros) n z ≡ (front ++ z ∷ []) ++ zeros =
-      ap (λ i. slice_set (front ++ pos 0 ∷ zeros) i z) m ∙ set-behind front (pos 0) z zeros in
-      steps-so (was-set d p.site p.done (head_of p h) k (front ++ pos 0 ∷ zeros) (0 + p.more) n z i filling is
-      (omega (arith, m, length-append front (pos 0 ∷ zeros)))) (λ e t. record {
+      let set : slice_set (prefix ++ pos 0 ∷ zeros) n z ≡ (prefix ++ z ∷ []) ++ zeros =
+      ap (λ i. slice_set (prefix ++ pos 0 ∷ zeros) i z) m ∙ set-behind prefix (pos 0) z zeros in
+      steps-so (was-set d p.site p.done (head_of p h) k (prefix ++ pos 0 ∷ zeros) (0 + p.more) n z i filling is
+      (omega (arith, m, length-append prefix (pos 0 ∷ zeros)))) (λ e t. record {
         one = z;
         items = refl;
         filling = subst (λ ys. IsFilling e p.site p.done (head_of p h) (Numbers k ys) (0 + p.more)) set t;
@@ -193,14 +193,14 @@ module _ (s : SegmentState) (text : List ℕ) (p : FillState) (h n : ℕ) (f : F
       → NextElement s text p h n (element_line k) (λ z. is_value k z ≡ true) (kinds.Vector k)
       (λ z. asked.Push (ByHandle h) (literal_of k z)) Done
   next-pushed k zs e l g =
-      let q : HasReservedPlaces (vector_course k) zs n f.value f.left f.need = its-part e in
+      let q : HasReservedSlots (vector_course k) zs n f.value f.left f.need = its-part e in
       next-behind (vector_course k q.table) s text p h n zs (kinds.Vector k)
-      (λ z. asked.Push (ByHandle h) (literal_of k z)) Done (λ z. is_value k z ≡ true) l g (λ front. refl)
-      (λ v left need r. as-part e v left need (record { table = q.table; places = q.places; part = r }))
-      (λ front z back a m is d i filling.
-      let places = q.places in
-      steps-so (pushed d p.site p.done (head_of p h) k front q.table (0 + p.more) z i filling is
-      (omega (arith, m, places, l))) (λ e t. record { one = z; items = refl; filling = t })) f q.part _ refl
+      (λ z. asked.Push (ByHandle h) (literal_of k z)) Done (λ z. is_value k z ≡ true) l g (λ prefix. refl)
+      (λ v left need r. as-part e v left need (record { table = q.table; slots = q.slots; part = r }))
+      (λ prefix z back a m is d i filling.
+      let slots = q.slots in
+      steps-so (pushed d p.site p.done (head_of p h) k prefix q.table (0 + p.more) z i filling is
+      (omega (arith, m, slots, l))) (λ e t. record { one = z; items = refl; filling = t })) f q.part _ refl
 
 -- ---- a pair
 
@@ -212,33 +212,36 @@ pub times-rest : (b n : ℕ) → IsRest b → IsRest (n * b)
 times-rest b zero r = inl (zero-mul b)
 times-rest b (suc n) r = subst IsRest (sym (suc-mul n b)) (rest-both (n * b) b (times-rest b n r) r)
 
-less-all : (front : List NumberPair) (x y : ℤ) (back : List (ℤ × ℤ))
-    → AreRising (map item_of front ++ (x, y) ∷ back) → AreLess x front
+less-all : (prefix : List NumberPair) (x y : ℤ) (back : List (ℤ × ℤ))
+    → AreRising (map item_of prefix ++ (x, y) ∷ back) → AreLess x prefix
 less-all [] x y back a = tt
-less-all (q ∷ front) x y back a =
-    (all-last (λ (r : ℤ × ℤ). int_lt q.key r.0 ≡ true) (map item_of front) (x, y) back a.0, less-all front x y back a.1)
+less-all (q ∷ prefix) x y back a = (
+  all-last (λ (r : ℤ × ℤ). int_lt q.key r.0 ≡ true) (map item_of prefix) (x, y) back a.0,
+  less-all prefix x y
+      back a.1,
+)
 
 module _ (p : FillState) (h n : ℕ) (k w : ScalarKind) (ps : List (ℤ × ℤ)) (r : AreRising ps) (m : IsRest p.more) where
   abbrev node_room : ℕ
   node_room = block_room (node_len (size_of k) (size_of w))
 
-  pair-put : (front : List NumberPair) (y : ℤ × ℤ) (back : List (ℤ × ℤ)) → ps ≡ map item_of front ++ y ∷ back
-      → n ≡ length front → IsTypedPair k w y → (d : Directory) → IsDirectory current d
-      → IsFilling d p.site p.done (head_of p h) (Pairs k w front) (length (y ∷ back) * node_room + p.more)
+  pair-put : (prefix : List NumberPair) (y : ℤ × ℤ) (back : List (ℤ × ℤ)) → ps ≡ map item_of prefix ++ y ∷ back
+      → n ≡ length prefix → IsTypedPair k w y → (d : Directory) → IsDirectory current d
+      → IsFilling d p.site p.done (head_of p h) (Pairs k w prefix) (length (y ∷ back) * node_room + p.more)
       → StepsTo (step_of_kind Write d (ByHandle h) (kinds.Map k w)
       (asked.Put (ByHandle h) (literal_of k y.0) (literal_of w y.1))) (Boolean true)
-      (HasNext (map_course k w) p h front y back)
-  pair-put front (x, y) back a _ is d i filling =
+      (HasNext (map_course k w) p h prefix y back)
+  pair-put prefix (x, y) back a _ is d i filling =
       let rest : ℕ = length back * node_room + p.more in
       let needs : length ((x, y) ∷ back) * node_room + p.more ≡ node_room + rest =
       omega (arith, suc-mul (length back) node_room) in
-      steps-so (was-put d p.site p.done (head_of p h) k w front x y rest i is.0 is.1
-      (less-all front x y back (subst AreRising a r)) int-asym
-      (subst (IsFilling d p.site p.done (head_of p h) (Pairs k w front)) needs filling)
+      steps-so (was-put d p.site p.done (head_of p h) k w prefix x y rest i is.0 is.1
+      (less-all prefix x y back (subst AreRising a r)) int-asym
+      (subst (IsFilling d p.site p.done (head_of p h) (Pairs k w prefix)) needs filling)
       (rest-both (length back * node_room) p.more
       (times-rest node_room (length back) (block-rest (node_len (size_of k) (size_of w)))) m)) (λ e t. record {
         one = record { key = x; value = y; node = t.node };
-        items = map-append item_of front (record { key = x; value = y; node = t.node } ∷ []);
+        items = map-append item_of prefix (record { key = x; value = y; node = t.node } ∷ []);
         filling = t.filling;
       })
 
@@ -249,7 +252,7 @@ pub next-pair : (s : SegmentState) (text : List ℕ) (p : FillState) (h n : ℕ)
     (λ y. asked.Put (ByHandle h) (literal_of k y.0) (literal_of w y.1)) (Boolean true)
 next-pair s text p h n k w ps e l g r m f = next-behind (map_course k w) s text p h n ps (kinds.Map k w)
     (λ y. asked.Put (ByHandle h) (literal_of k y.0) (literal_of w y.1)) (Boolean true) (IsTypedPair k w) l g
-    (λ front. length-map front item_of) (as-part s text p h n f e) (pair-put p h n k w ps r m) f
+    (λ prefix. length-map prefix item_of) (as-part s text p h n f e) (pair-put p h n k w ps r m) f
     (its-part s text p h n f e) _ refl
 
 -- ---- a text
@@ -274,20 +277,20 @@ pub next-text_of : (s : SegmentState) (text : List ℕ) (p : FillState) (h n lon
     → IsRest p.more → FillsAt s text p h n → NextElement s text p h n text_lines (IsShortText longest) kinds.Strings
     (λ bs. asked.Push (ByHandle h) (asked.Quoted bs)) Done
 next-text_of s text p h n longest ts e l g long m f =
-    let q : HasReservedPlaces strings_course ts n f.value f.left f.need = its-part s text p h n f e in
+    let q : HasReservedSlots strings_course ts n f.value f.left f.need = its-part s text p h n f e in
     next-behind (strings_course q.table) s text p h n ts kinds.Strings
     (λ bs. asked.Push (ByHandle h) (asked.Quoted bs)) Done (IsShortText longest) l (all-short longest ts g long)
-    (λ front. length-map front bytes_in) (λ v left need r. as-part s text p h n f e v left need
-    (record { table = q.table; places = q.places; part = r }))
-    (λ front bs back a many is d i filling.
-    let places = q.places in
+    (λ prefix. length-map prefix bytes_in) (λ v left need r. as-part s text p h n f e v left need
+    (record { table = q.table; slots = q.slots; part = r }))
+    (λ prefix bs back a many is d i filling.
+    let slots = q.slots in
     let rest : ℕ = (all_needs text_needs back).room + p.more in
     let needs : (all_needs text_needs (bs ∷ back)).room + p.more ≡ block_room (length bs) + rest = omega arith in
-    steps-so (text-pushed d p.site p.done (head_of p h) front q.table bs rest i (omega (arith, many, places, l))
-    (subst (IsFilling d p.site p.done (head_of p h) (Texts front q.table)) needs filling)
+    steps-so (text-pushed d p.site p.done (head_of p h) prefix q.table bs rest i (omega (arith, many, slots, l))
+    (subst (IsFilling d p.site p.done (head_of p h) (Texts prefix q.table)) needs filling)
     (rest-both (all_needs text_needs back).room p.more (texts-rest back) m)) (λ e t. record {
       one = record { bytes = bs; extent = t.block };
-      items = map-append bytes_in front (record { bytes = bs; extent = t.block } ∷ []);
+      items = map-append bytes_in prefix (record { bytes = bs; extent = t.block } ∷ []);
       filling = t.filling;
     })) f q.part _ refl
 
@@ -299,22 +302,28 @@ record IsWhole (c : ValueContent) (v : Value) (left : List ℕ) (need : ℕ) : T
   left_is : left ≡ []
   need_is : need ≡ 0
 
-no-more : {X : Type 0} (all front back : List X) → all ≡ front ++ back → length all ≤ length front → back ≡ []
-no-more all front [] a l = refl
-no-more all front (x ∷ back) a l = absurd (omega (arith, l, ap length a, length-append front (x ∷ back)))
+no-more : {X : Type 0} (all prefix back : List X) → all ≡ prefix ++ back → length all ≤ length prefix → back ≡ []
+no-more all prefix [] a l = refl
+no-more all prefix (x ∷ back) a l = absurd (omega (arith, l, ap length a, length-append prefix (x ∷ back)))
 
 module _ {X Y : Type 0} (way : FillCourse X Y) (all : List Y) (n : ℕ) (v : Value) (left : List ℕ) (need : ℕ)
-    (c : List Y → ValueContent) (has : (front : List X) → content_of (way.value front []) ≡ c (way.items front))
-    (none : way.need [] ≡ 0) (count : (front : List X) → length (way.items front) ≡ length front)
+    (c : List Y → ValueContent) (has : (prefix : List X) → content_of (way.value prefix []) ≡ c (way.items prefix))
+    (none : way.need [] ≡ 0) (count : (prefix : List X) → length (way.items prefix) ≡ length prefix)
     (l : length all ≤ n) (q : HasFirstElements way all n v left need) where
-  whole-front : IsWhole (c all) v left need
-  whole-front =
-      let end : q.back ≡ [] = no-more all (way.items q.front) q.back q.all_are (omega (arith, l, q.many, count q.front))
+  whole-prefix : IsWhole (c all) v left need
+  whole-prefix =
+      let end : q.back ≡ [] = no-more all (way.items q.prefix) q.back q.all_are (omega (
+        arith,
+        l,
+        q.many,
+        count
+            q.prefix,
+      ))
       in
-      let same : all ≡ way.items q.front =
-      q.all_are ∙ ap (λ b. way.items q.front ++ b) end ∙ append-nil (way.items q.front) in
+      let same : all ≡ way.items q.prefix =
+      q.all_are ∙ ap (λ b. way.items q.prefix ++ b) end ∙ append-nil (way.items q.prefix) in
       record {
-        value_is = ap content_of q.value_is ∙ ap (λ b. content_of (way.value q.front b)) end ∙ has q.front
+        value_is = ap content_of q.value_is ∙ ap (λ b. content_of (way.value q.prefix b)) end ∙ has q.prefix
             ∙ ap c (sym same);
         left_is = q.text_is ∙ ap (flat_map way.line) end;
         need_is = q.need_is ∙ ap way.need end ∙ none;
@@ -322,15 +331,16 @@ module _ {X Y : Type 0} (way : FillCourse X Y) (all : List Y) (n : ℕ) (v : Val
 
 whole-by : (c : ValueContent) (n : ℕ) (v : Value) (left : List ℕ) (need : ℕ) → count_of_content c ≤ n
     → IsPartialValue c n v left need → IsWhole c v left need
-whole-by (Scalars k zs) n v left need l q = whole-front (array_course k) zs n v left need (Scalars k)
-    (λ front. ap (Scalars k) (append-nil front)) refl (λ front. refl) l q
+whole-by (Scalars k zs) n v left need l q = whole-prefix (array_course k) zs n v left need (Scalars k)
+    (λ prefix. ap (Scalars k) (append-nil prefix)) refl (λ prefix. refl) l q
 whole-by (Vector k zs) n v left need l q =
-    whole-front (vector_course k q.table) zs n v left need (Vector k) (λ front. refl) refl (λ front. refl) l q.part
+    whole-prefix (vector_course k q.table) zs n v left need (Vector k) (λ prefix. refl) refl (λ prefix. refl) l q.part
 whole-by (String bs) n v left need l q = absurd q
-whole-by (Map k w ps) n v left need l q = whole-front (map_course k w) ps n v left need (Map k w) (λ front. refl)
-    (zero-mul (block_room (node_len (size_of k) (size_of w)))) (λ front. length-map front item_of) l q
-whole-by (Strings ts) n v left need l q = whole-front (strings_course q.table) ts n v left need Strings (λ front. refl)
-    refl (λ front. length-map front bytes_in) l q.part
+whole-by (Map k w ps) n v left need l q = whole-prefix (map_course k w) ps n v left need (Map k w) (λ prefix. refl)
+    (zero-mul (block_room (node_len (size_of k) (size_of w)))) (λ prefix. length-map prefix item_of) l q
+whole-by (Strings ts) n v left need l q = whole-prefix (strings_course q.table) ts n v left need Strings (λ
+    prefix. refl)
+    refl (λ prefix. length-map prefix bytes_in) l q.part
 
 -- with all of its content it is built
 pub filled-so : {s : SegmentState} (p : FillState) (h : ℕ) (v : Value) (rest : ℕ) → content_of v ≡ p.content

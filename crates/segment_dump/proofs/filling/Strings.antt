@@ -10,35 +10,35 @@ use Rattle.segment_dump.proofs.Common.{IsBuildableContent, StandsFilling, head_o
 use Rattle.segment_dump.proofs.Common.{count_of_content, kind_of_content, ReadsLine, block_room, content_text, piece_of}
 use Rattle.segment_dump.proofs.{texts.Options.never-ok, texts.Options.ok-same, filling.Addition.string-of}
 use Rattle.segment_dump.proofs.texts.Options.{no-ok, ok-is}
-use Rattle.segment_dump.proofs.{filling.Addition.was-done, texts.Elements.piece_front}
+use Rattle.segment_dump.proofs.{filling.Addition.was-done, texts.Elements.piece_prefix}
 use Rattle.segment_dump.proofs.{Common.pieces_in, Common.text_lines, reading.Pieces.piece-bytes}
 use Rattle.segment_dump.proofs.{reading.Pieces.piece-line}
 use Rattle.segment_dump.specs.Builders.{AppendsPiece}
 use Rattle.segment_dump.proofs.filling.OneElement.{filled-so, led, led-of_kind, stands-filling}
 use Rattle.segment_dump.proofs.filling.FillSteps.{HasTable, appended, none, reserved, some, string-stored, table_of}
-use Rattle.segment_dump.proofs.reading.Pieces.{first-fits, front-all, front-few, front-more, front_bytes, none-left}
+use Rattle.segment_dump.proofs.reading.Pieces.{first-fits, prefix-all, prefix-few, prefix-more, prefix_bytes, none-left}
 
 -- ---- one piece
 
 -- a piece that was not read: nothing is appended
-pub piece-unappended : {E F : Type 0} (old new : SegmentState) (h : ℕ) (words : List ℕ) (e : E)
-    (result : Result (Unit {0}) F) → ReadsPiece words (Err e) → AppendsPiece old new h words result
-piece-unappended old new h words e result r =
-    record { appends = λ site done class name front t rest i bs s a w l. absurd (never-ok e bs (r.reads i bs a w)) }
+pub piece-unappended : {E F : Type 0} (old new : SegmentState) (h : ℕ) (tokens : List ℕ) (e : E)
+    (result : Result (Unit {0}) F) → ReadsPiece tokens (Err e) → AppendsPiece old new h tokens result
+piece-unappended old new h tokens e result r =
+    record { appends = λ site done class name prefix t rest i bs s a w l. absurd (never-ok e bs (r.reads i bs a w)) }
 
 -- a piece that was read is appended
-pub piece-appended : {E F : Type 0} (old new : SegmentState) (h : ℕ) (words p bytes : List ℕ)
-    (called : Result (Unit {0}) Refusal) (result : Result (Unit {0}) F) → ReadsPiece {E = E} words (Ok p) → bytes ≡ p
+pub piece-appended : {E F : Type 0} (old new : SegmentState) (h : ℕ) (tokens p bytes : List ℕ)
+    (called : Result (Unit {0}) Refusal) (result : Result (Unit {0}) F) → ReadsPiece {E = E} tokens (Ok p) → bytes ≡ p
     → TakesStepOfKind old new (ByHandle h) kinds.String (asked.Append (ByHandle h) bytes) (done_answer called)
-    → (called ≡ Ok tt → result ≡ Ok tt) → AppendsPiece old new h words result
-piece-appended {E} {F} old new h words p bytes called result r e step ok = record {
-  appends = λ site done class name front t rest i bs s a w l.
+    → (called ≡ Ok tt → result ≡ Ok tt) → AppendsPiece old new h tokens result
+piece-appended {E} {F} old new h tokens p bytes called result r e step ok = record {
+  appends = λ site done class name prefix t rest i bs s a w l.
       let head : Head = record { class = class; name = name; handle = h } in
       let is : bytes ≡ bs = e ∙ ok-same {E = E} p bs (r.reads i bs a w) in
       let step' : TakesStepOfKind old new (ByHandle h) kinds.String (asked.Append (ByHandle h) bs)
       (done_answer called) = subst (λ b.
       TakesStepOfKind old new (ByHandle h) kinds.String (asked.Append (ByHandle h) b) (done_answer called)) is step in
-      let done' = appended s.directory site done head front t rest bs s.stands.denotes.directory s.filling l in
+      let done' = appended s.directory site done head prefix t rest bs s.stands.denotes.directory s.filling l in
       let u = led-of_kind s.stands s.mode _ _ _ step' done' in (
         ok (was-done called u.given_is),
         stands-filling u.stands u.mode u.holds,
@@ -50,8 +50,8 @@ piece-appended {E} {F} old new h words p bytes called result r e step ok = recor
 -- this many pieces are there
 pub record StringAt (s : SegmentState) (text : List ℕ) (p : FillState) (h n : ℕ) (bs : List ℕ) : Type 0 where
   pub table : BackingArray
-  pub places : length bs ≤ table.capacity
-  pub stands : StandsFilling s p.site p.done (head_of p h) (Bytes (front_bytes bs n) table) p.more
+  pub slots : length bs ≤ table.capacity
+  pub stands : StandsFilling s p.site p.done (head_of p h) (Bytes (prefix_bytes bs n) table) p.more
   pub left : PiecesLeft bs p.after n text
   pub inside : n ≤ pieces_in (length bs)
 
@@ -94,7 +94,8 @@ begun old text p h room f b =
       lines = b.text_is ∙ ap (λ (c : ValueContent). content_text c ++ p.after) q.1;
     }
 
-module _ (old mid : SegmentState) (h room : ℕ) (text rest words : List ℕ) (len : ℕ) (called : Result (Unit {0}) Refusal)
+module _ (old mid : SegmentState) (h room : ℕ) (text rest tokens : List ℕ) (len : ℕ) (called : Result (Unit {0})
+    Refusal)
     (moved : TakesStep old mid (asked.Reserve (ByHandle h) len) (done_answer called)) where
   -- the places are there
   record Placed (p : FillState) : Type 0 where
@@ -104,19 +105,19 @@ module _ (old mid : SegmentState) (h room : ℕ) (text rest words : List ℕ) (l
     good : IsByteList bytes
     was : done_answer called ≡ Done
     table : BackingArray
-    places : length bytes ≤ table.capacity
+    slots : length bytes ≤ table.capacity
     stands : StandsFilling mid p.site p.done (head_of p h) (Bytes [] table) p.more
-    words_are : words ≡ piece_front bytes 0
+    tokens_are : tokens ≡ piece_prefix bytes 0
     left : PiecesLeft bytes p.after 1 rest
 
-  placed : {E : Type 0} → ReadsLength {E = E} text rest (Ok (words, len)) → (p : FillState)
+  placed : {E : Type 0} → ReadsLength {E = E} text rest (Ok (tokens, len)) → (p : FillState)
       → IsFillable p kinds.String room → IsEmptyObject old text p h → Placed p
   placed {E} r p f b =
       let g = begun old text p h room f b in
       let bs = g.bytes in
       let q = r.reads bs p.after g.counted g.lines in
-      let both : ◌≡◌ {A = List ℕ × ℕ} (words, len) (piece_front bs 0, length bs) =
-      ok-same {E = E} (words, len) (piece_front bs 0, length bs) q.0 in
+      let both : ◌≡◌ {A = List ℕ × ℕ} (tokens, len) (piece_prefix bs 0, length bs) =
+      ok-same {E = E} (tokens, len) (piece_prefix bs 0, length bs) q.0 in
       let many : len ≡ length bs = ap (λ (b : List ℕ × ℕ). b.1) both in
       let moved' : TakesStep old mid (asked.Reserve (ByHandle h) (length bs)) (done_answer called) =
       subst (λ n. TakesStep old mid (asked.Reserve (ByHandle h) n) (done_answer called)) many moved in
@@ -131,30 +132,30 @@ module _ (old mid : SegmentState) (h room : ℕ) (text rest words : List ℕ) (l
         good = g.good;
         was = u.given_is;
         table = t.0;
-        places = t.2;
+        slots = t.2;
         stands = subst (λ w. StandsFilling mid p.site p.done (head_of p h) w p.more) t.1
             (stands-filling u.stands u.mode u.holds.filling);
-        words_are = ap (λ (b : List ℕ × ℕ). b.0) both;
+        tokens_are = ap (λ (b : List ℕ × ℕ). b.0) both;
         left = q.1;
       }
 
   -- no storage: the string is not filled
   pub string-refused : {E F : Type 0} {new : SegmentState} {rest' : List ℕ} {why : Refusal}
-      {result : Result (Unit {0}) F} → ReadsLength {E = E} text rest (Ok (words, len)) → called ≡ Err why
+      {result : Result (Unit {0}) F} → ReadsLength {E = E} text rest (Ok (tokens, len)) → called ≡ Err why
       → FillsNew old new h kinds.String 1 text rest' room result
   string-refused r e =
       record { fills = λ p f c b. let ok : called ≡ Ok tt = was-done called (placed r p f b).was in absurd (cc) }
 
   first-appended : {E F : Type 0} {new : SegmentState} {r' : Result (Unit {0}) F}
-      → ReadsLength {E = E} text rest (Ok (words, len)) → AppendsPiece mid new h words r'
+      → ReadsLength {E = E} text rest (Ok (tokens, len)) → AppendsPiece mid new h tokens r'
       → (p : FillState) (f : IsFillable p kinds.String room) (b : IsEmptyObject old text p h) → (r' ≡ Ok tt)
       × ((bs : List ℕ) × (p.content ≡ String bs) × (len ≡ length bs) × IsByteList bs × StringAt new rest p h 1 bs)
   first-appended {new = new} r a p f b =
       let g = placed r p f b in
       let bs = g.bytes in
       let one = a.appends p.site p.done p.class p.name [] g.table p.more 0 (piece_of bs 0) g.stands
-      (piece-bytes bs 0 g.good) g.words_are (omega (arith, first-fits bs, g.places)) in
-      let front : piece_of bs 0 ≡ front_bytes bs 1 = sym (front-more bs 0) in (
+      (piece-bytes bs 0 g.good) g.tokens_are (omega (arith, first-fits bs, g.slots)) in
+      let prefix : piece_of bs 0 ≡ prefix_bytes bs 1 = sym (prefix-more bs 0) in (
         one.0,
         (
           bs,
@@ -163,8 +164,8 @@ module _ (old mid : SegmentState) (h room : ℕ) (text rest words : List ℕ) (l
           g.good,
           record {
             table = g.table;
-            places = g.places;
-            stands = subst (λ w. StandsFilling new p.site p.done (head_of p h) (Bytes w g.table) p.more) front one.1;
+            slots = g.slots;
+            stands = subst (λ w. StandsFilling new p.site p.done (head_of p h) (Bytes w g.table) p.more) prefix one.1;
             left = g.left;
             inside = omega arith;
           },
@@ -173,13 +174,13 @@ module _ (old mid : SegmentState) (h room : ℕ) (text rest words : List ℕ) (l
 
   -- the first piece was not appended: the string is not filled
   pub string-no_piece : {E F : Type 0} {new : SegmentState} {rest' : List ℕ} {e : F} {result : Result (Unit {0}) F}
-      → ReadsLength {E = E} text rest (Ok (words, len)) → AppendsPiece mid new h words (Err e)
+      → ReadsLength {E = E} text rest (Ok (tokens, len)) → AppendsPiece mid new h tokens (Err e)
       → FillsNew old new h kinds.String 1 text rest' room result
   string-no_piece r a = record { fills = λ p f c b. absurd (no-ok (first-appended r a p f b).0) }
 
   -- the first piece is appended
   pub string-start : {E F : Type 0} {new : SegmentState} {u : Unit {0}}
-      → ReadsLength {E = E} text rest (Ok (words, len)) → AppendsPiece {E = F} mid new h words (Ok u)
+      → ReadsLength {E = E} text rest (Ok (tokens, len)) → AppendsPiece {E = F} mid new h tokens (Ok u)
       → InString old new h text rest room len 0
   string-start r a = record { at = λ p f b. (first-appended r a p f b).1 }
 
@@ -197,7 +198,7 @@ module _ {old now : SegmentState} {h room : ℕ} {text rest : List ℕ} {len cou
     (i : InString old now h text rest room len counter) (l : counter < (len - 1) / 1000) where
   line-there : {E : Type 0} {rest' : List ℕ} {r : Result (List ℕ) E} → ReadsLine rest rest' r
       → (p : FillState) (f : IsFillable p kinds.String room) (b : IsEmptyObject old text p h)
-      → (r ≡ Ok (piece_front (i.at p f b).0 (suc counter)))
+      → (r ≡ Ok (piece_prefix (i.at p f b).0 (suc counter)))
       × PiecesLeft (i.at p f b).0 p.after (suc (suc counter)) rest'
   line-there {rest' = rest'} {r} k p f b = let q = i.at p f b
       in piece-line q.0 p.after (suc counter) rest rest' r (omega (arith, l, q.2)) q.4.left k
@@ -208,8 +209,8 @@ module _ {old now : SegmentState} {h room : ℕ} {text rest : List ℕ} {len cou
       → FillsNew old new h kinds.String 1 text final room result
   string-no_line k = record { fills = λ p f c b. absurd (no-ok (line-there k p f b).0) }
 
-  more-appended : {E F : Type 0} {new : SegmentState} {rest' words : List ℕ} {r : Result (Unit {0}) F}
-      → ReadsLine {E = E} rest rest' (Ok words) → AppendsPiece now new h words r
+  more-appended : {E F : Type 0} {new : SegmentState} {rest' tokens : List ℕ} {r : Result (Unit {0}) F}
+      → ReadsLine {E = E} rest rest' (Ok tokens) → AppendsPiece now new h tokens r
       → (p : FillState) (f : IsFillable p kinds.String room) (b : IsEmptyObject old text p h)
       → (r ≡ Ok tt) × StringAt new rest' p h (suc (suc counter)) (i.at p f b).0
   more-appended {E} {new = new} k a p f b =
@@ -218,30 +219,30 @@ module _ {old now : SegmentState} {h room : ℕ} {text rest : List ℕ} {len cou
       let n = suc counter in
       let at = q.4 in
       let read = line-there k p f b in
-      let fits : length (front_bytes bs n ++ piece_of bs n) ≤ at.table.capacity =
-      omega (arith, ap length (front-more bs n), front-few bs (suc n), at.places) in
-      let one = a.appends p.site p.done p.class p.name (front_bytes bs n) at.table p.more n (piece_of bs n)
+      let fits : length (prefix_bytes bs n ++ piece_of bs n) ≤ at.table.capacity =
+      omega (arith, ap length (prefix-more bs n), prefix-few bs (suc n), at.slots) in
+      let one = a.appends p.site p.done p.class p.name (prefix_bytes bs n) at.table p.more n (piece_of bs n)
       at.stands (piece-bytes bs n q.3) (ok-is {E = E} read.0) fits in (
         one.0,
         record {
           table = at.table;
-          places = at.places;
+          slots = at.slots;
           stands = subst (λ w. StandsFilling new p.site p.done (head_of p h) (Bytes w at.table) p.more)
-              (sym (front-more bs n)) one.1;
+              (sym (prefix-more bs n)) one.1;
           left = read.1;
           inside = omega (arith, l, q.2);
         },
       )
 
   -- a piece that was not appended: the string is not filled
-  pub string-no_more : {E F : Type 0} {new : SegmentState} {rest' words final : List ℕ} {e : F}
-      {result : Result (Unit {0}) F} → ReadsLine {E = E} rest rest' (Ok words)
-      → AppendsPiece now new h words (Err e) → FillsNew old new h kinds.String 1 text final room result
+  pub string-no_more : {E F : Type 0} {new : SegmentState} {rest' tokens final : List ℕ} {e : F}
+      {result : Result (Unit {0}) F} → ReadsLine {E = E} rest rest' (Ok tokens)
+      → AppendsPiece now new h tokens (Err e) → FillsNew old new h kinds.String 1 text final room result
   string-no_more k a = record { fills = λ p f c b. absurd (no-ok (more-appended k a p f b).0) }
 
   -- one piece more is appended
-  pub string-more : {E F : Type 0} {new : SegmentState} {rest' words : List ℕ} {u : Unit {0}}
-      → ReadsLine {E = E} rest rest' (Ok words) → AppendsPiece {E = F} now new h words (Ok u)
+  pub string-more : {E F : Type 0} {new : SegmentState} {rest' tokens : List ℕ} {u : Unit {0}}
+      → ReadsLine {E = E} rest rest' (Ok tokens) → AppendsPiece {E = F} now new h tokens (Ok u)
       → InString old new h text rest' room len (counter + 1)
   string-more {new = new} {rest'} k a = record {
     at = λ p f b.
@@ -260,7 +261,7 @@ string-end {now = now} {h} {rest = rest} {len} {counter} i l = record {
       let bs = q.0 in
       let at = q.4 in
       let n : suc counter ≡ pieces_in (length bs) = omega (arith, at.inside, q.2, l) in
-      let all : front_bytes bs (suc counter) ≡ bs = front-all bs (suc counter) n in
+      let all : prefix_bytes bs (suc counter) ≡ bs = prefix-all bs (suc counter) n in
       let stands = subst (λ w. StandsFilling now p.site p.done (head_of p h) (Bytes w at.table) p.more) all
       at.stands in (
         refl,

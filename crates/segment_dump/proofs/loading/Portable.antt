@@ -7,7 +7,7 @@ use Rattle.segment_dump.proofs.Common.{same_kind, Kind, Directory, Numbers, Obje
 use Rattle.segment_dump.proofs.Common.{unique_objects, DenotesCurrent, IsStrict, by_kind-strict, by_name-strict}
 use Rattle.segment_dump.proofs.Common.{index-parts, Needs, AreLeft, AreSortedItems, count_class, has_item_key, item_key}
 use Rattle.segment_dump.proofs.Common.{key_in, kind_less, name_less, of_class, DumpItem, Items, item_of_object}
-use Rattle.segment_dump.proofs.Common.{kind_of_content, portable, all_items, all_needs, both, front_room, item_needs}
+use Rattle.segment_dump.proofs.Common.{kind_of_content, portable, all_items, all_needs, both, prefix_room, item_needs}
 use Rattle.segment_dump.proofs.{Common.items_needs, Common.AreOf, texts.Objects.IsGoodItem, counting.Sums.all-append}
 use Rattle.segment_dump.proofs.{loading.DumpObjects.each-of}
 use Rattle.segment_dump.proofs.{loading.DumpObjects.portable-told, texts.AllElements.AllByRecursion-append}
@@ -215,7 +215,7 @@ all-longest items =
 
 -- the needs of a dump are those of its front and its objects
 pub needs-all : (items : Items) → (items_needs items).room
-    ≡ front_room (length items.named) (length items.unique) + (all_needs item_needs (all_items items)).room
+    ≡ prefix_room (length items.named) (length items.unique) + (all_needs item_needs (all_items items)).room
 needs-all items = omega (arith, all-rooms items)
 
 buildables : (c : Class) (is : List DumpItem) → AllByRecursion (IsGoodItem c) is → AllByRecursion IsBuildable is

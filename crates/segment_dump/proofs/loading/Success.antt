@@ -6,12 +6,13 @@ use Rattle.segment_dump.proofs.Common.{◌++◌, length, map, Option, Some, None
 use Rattle.segment_dump.proofs.Common.{ap, subst, ◌∙◌, arith, IfOk, not, false≢true, ltb-false, eq-eqb, length-append}
 use Rattle.segment_dump.proofs.Common.{is_legal_size, Refusal, CreateError, CreateRefused, Write, Done, Number, IsWhy}
 use Rattle.segment_dump.proofs.Common.{Directory, empty, shrunk, TakesStep, SegmentState, DenotesCurrent, done_answer}
-use Rattle.segment_dump.proofs.Common.{step, Count, Front, LoadError, BadSize, RegionTooSmall, NoSpace, LongText}
-use Rattle.segment_dump.proofs.Common.{LoadRefused, BuildsAllObjects, HasBuiltItems, Site, CountsDump, IsFront, fronted}
+use Rattle.segment_dump.proofs.Common.{step, Count, DumpPrefix, LoadError, BadSize, RegionTooSmall, NoSpace, LongText}
+use Rattle.segment_dump.proofs.Common.{LoadRefused, BuildsAllObjects, HasBuiltItems, Site, CountsDump, IsDumpPrefix}
+use Rattle.segment_dump.proofs.Common.{fronted}
 use Rattle.segment_dump.proofs.Common.{StandsBuilt, DumpItem, Items, item_of_object, portable, IsRequestedSize}
-use Rattle.segment_dump.proofs.Common.{IsRefusalOf, asked_of, refusal_for, all_needs, block_room, front_room}
+use Rattle.segment_dump.proofs.Common.{IsRefusalOf, asked_of, refusal_for, all_needs, block_room, prefix_room}
 use Rattle.segment_dump.proofs.Common.{item_needs, items_needs, all_items, Succeeds, Takes, dump_text, end_text}
-use Rattle.segment_dump.proofs.{Common.items_text, counting.Dumps.is-front, texts.Options.never-ok}
+use Rattle.segment_dump.proofs.{Common.items_text, counting.Dumps.is-prefix, texts.Options.never-ok}
 use Rattle.segment_dump.proofs.{texts.Options.ok-same, texts.Options.none-some}
 use Rattle.segment_dump.proofs.{dumping.ObjectParts.free-is, dumping.ObjectParts.size-is, filling.OneElement.Led}
 use Rattle.segment_dump.proofs.{filling.OneElement.led}
@@ -36,22 +37,22 @@ use Rattle.segment_dump.proofs.building.WholeDump.{built-portable, cut-free, por
 never-done : (why : Refusal) → done_answer (Err why) ≡ Done → ⊥
 never-done why e = cc
 
-module _ (old mid : SegmentState) (front : Front) (text : List ℕ) (most room : ℕ) (r : Result (Unit {0}) Refusal)
-    (moved : TakesStep old mid (asked.ReserveNamed front.named) (done_answer r)) where
+module _ (old mid : SegmentState) (prefix : DumpPrefix) (text : List ℕ) (most room : ℕ) (r : Result (Unit {0}) Refusal)
+    (moved : TakesStep old mid (asked.ReserveNamed prefix.named) (done_answer r)) where
   abbrev Made : {E : Type 0} → SegmentState → Result (Unit {0}) E → Type 0
-  Made new result = MakesObjects old new front text most room result
+  Made new result = MakesObjects old new prefix text most room result
 
   abbrev more : List DumpItem → ℕ
-  more items = block_room (8 * front.unique) + (all_needs item_needs items).room
+  more items = block_room (8 * prefix.unique) + (all_needs item_needs items).room
 
   named-led : (size : ℕ) (items : List DumpItem) → DenotesCurrent old.cut.bytes (empty size) → old.mode ≡ Write
-      → front_room front.named front.unique + (all_needs item_needs items).room ≤ size
-      → Led mid (done_answer r) Done (IsFronted size front.named (more items))
-  unfolding front_room
+      → prefix_room prefix.named prefix.unique + (all_needs item_needs items).room ≤ size
+      → Led mid (done_answer r) Done (IsFronted size prefix.named (more items))
+  unfolding prefix_room
   named-led size items st w fits =
-      led st w _ moved (named-reserved size front.named (more items) st.denotes.directory
-      (empty-built size (block_room (8 * front.named) + more items) (omega (arith, fits)))
-      (rest-both (block_room (8 * front.unique)) (all_needs item_needs items).room (block-rest (8 * front.unique))
+      led st w _ moved (named-reserved size prefix.named (more items) st.denotes.directory
+      (empty-built size (block_room (8 * prefix.named) + more items) (omega (arith, fits)))
+      (rest-both (block_room (8 * prefix.unique)) (all_needs item_needs items).room (block-rest (8 * prefix.unique))
       (items-rest items)))
 
   -- the index of names was not reserved: nothing is made
@@ -64,17 +65,18 @@ module _ (old mid : SegmentState) (front : Front) (text : List ℕ) (most room :
       }
 
   module _ (last : SegmentState) (q : Result (Unit {0}) Refusal)
-      (on : TakesStep mid last (asked.ReserveUnique front.unique) (done_answer q)) where
+      (on : TakesStep mid last (asked.ReserveUnique prefix.unique) (done_answer q)) where
     unique-led : (size : ℕ) (items : List DumpItem) → DenotesCurrent old.cut.bytes (empty size) → old.mode ≡ Write
-        → front_room front.named front.unique + (all_needs item_needs items).room ≤ size
-        → Led last (done_answer q) Done (λ e. HasBuiltItems e (site_of front size) [] (all_needs item_needs items).room)
+        → prefix_room prefix.named prefix.unique + (all_needs item_needs items).room ≤ size
+        → Led last (done_answer q) Done (λ e. HasBuiltItems e (site_of prefix size) [] (all_needs item_needs
+        items).room)
     unique-led size items st w fits =
         let u = named-led size items st w fits in
         let t = u.holds.table in
         let all : ℕ = (all_needs item_needs items).room in
         let stands : DenotesCurrent mid.cut.bytes (with_names size t) =
         subst (DenotesCurrent mid.cut.bytes) u.holds.is u.stands in
-        led stands u.mode _ on (unique-reserved size front.named front.unique all t stands.denotes.directory
+        led stands u.mode _ on (unique-reserved size prefix.named prefix.unique all t stands.denotes.directory
         u.holds.built (items-rest items))
 
     -- the index of kinds was not reserved: nothing is made
@@ -92,9 +94,9 @@ module _ (old mid : SegmentState) (front : Front) (text : List ℕ) (most room :
     all-made new result b = record {
       makes = λ size items st w fits left t l.
           let u = unique-led size items st w fits in
-          let built : StandsBuilt last (site_of front size) [] (all_needs item_needs items).room =
+          let built : StandsBuilt last (site_of prefix size) [] (all_needs item_needs items).room =
           record { directory = u.directory; stands = u.stands; mode = u.mode; built = u.holds } in
-          b.builds (site_of front size) items (record { stands = built; text_is = t }) left l;
+          b.builds (site_of prefix size) items (record { stands = built; text_is = t }) left l;
     }
 
 -- ---- what was made is judged
@@ -171,27 +173,27 @@ module _ (text : List ℕ) (capacity base : ℕ) (size : Option ℕ) (room : ℕ
   abbrev Good : Result SegmentState LoadRefused → Type 0
   Good = SucceedsOf text capacity base size room counted
 
-  abbrev front_of : ℕ → Items → Front
-  front_of n items = record { size = n; named = length items.named; unique = length items.unique }
+  abbrev prefix_of : ℕ → Items → DumpPrefix
+  prefix_of n items = record { size = n; named = length items.named; unique = length items.unique }
 
   abbrev behind : Items → List ℕ
   behind items = items_text (all_items items) ++ end_text
 
-  front-there : {E : Type 0} (left : List ℕ) (r : Result Front E) → Takes fronted IsFront text left r
+  prefix-there : {E : Type 0} (left : List ℕ) (r : Result DumpPrefix E) → Takes fronted IsDumpPrefix text left r
       → (b : List ℕ) (d : Directory) (n : ℕ) → DenotesCurrent b d → n < 2 ^ 64 → text ≡ dump_text n (portable d)
-      → (r ≡ Ok (front_of n (portable d))) × (left ≡ behind (portable d))
-  front-there left r h b d n s l e =
-      h.takes (front_of n (portable d)) (behind (portable d)) (is-front n (portable d) l (portable-countable b d s))
+      → (r ≡ Ok (prefix_of n (portable d))) × (left ≡ behind (portable d))
+  prefix-there left r h b d n s l e =
+      h.takes (prefix_of n (portable d)) (behind (portable d)) (is-prefix n (portable d) l (portable-countable b d s))
       (e ∙ text-behind n (portable d))
 
   -- no front: no segment
-  pub good-no_front : {E : Type 0} (lines left : List ℕ) (r : Result Front E) (e : E)
-      (result : Result SegmentState LoadRefused) → lines ≡ text → Takes fronted IsFront lines left r → r ≡ Err e
+  pub good-no_prefix : {E : Type 0} (lines left : List ℕ) (r : Result DumpPrefix E) (e : E)
+      (result : Result SegmentState LoadRefused) → lines ≡ text → Takes fronted IsDumpPrefix lines left r → r ≡ Err e
       → Good result
-  good-no_front lines left r e result q h w = record {
+  good-no_prefix lines left r e result q h w = record {
     succeeds = λ b d n s l t c f.
-        absurd (never-ok e (front_of n (portable d)) (sym w
-        ∙ (front-there left r (subst (λ x. Takes fronted IsFront x left r) q h) b d n s l t).0));
+        absurd (never-ok e (prefix_of n (portable d)) (sym w
+        ∙ (prefix-there left r (subst (λ x. Takes fronted IsDumpPrefix x left r) q h) b d n s l t).0));
   }
 
   counted-there : (said : ℕ) (count : Count) → IfOk counted (λ (c : Count). said ≡ c.size) → counted ≡ Ok count
@@ -263,17 +265,17 @@ module _ (text : List ℕ) (capacity base : ℕ) (size : Option ℕ) (room : ℕ
       (ends-in region base asked c s.cut l a k h)
   placed region asked c (Err why) h n e l a k = tt
 
-  module _ (E F : Type 0) (region lines left : List ℕ) (front : Front) (asked said : ℕ) (s0 s1 : SegmentState)
-      (r : Result (Unit {0}) F) (found : Result Front E) (cr : Result SegmentState CreateRefused) (q : lines
-      ≡ text) (h : Takes fronted IsFront lines left found) (w : found
-      ≡ Ok front) (k : IfOk counted (λ (c : Count). said ≡ c.size)) (e : asked ≡ asked_of size said)
+  module _ (E F : Type 0) (region lines left : List ℕ) (prefix : DumpPrefix) (asked said : ℕ) (s0 s1 : SegmentState)
+      (r : Result (Unit {0}) F) (found : Result DumpPrefix E) (cr : Result SegmentState CreateRefused) (q : lines
+      ≡ text) (h : Takes fronted IsDumpPrefix lines left found) (w : found
+      ≡ Ok prefix) (k : IfOk counted (λ (c : Count). said ≡ c.size)) (e : asked ≡ asked_of size said)
       (creates : Creates region base asked Write cr) (cw : cr
-      ≡ Ok s0) (makes : MakesObjects s0 s1 front left (length text) room r) where
+      ≡ Ok s0) (makes : MakesObjects s0 s1 prefix left (length text) room r) where
     record Building (d : Directory) (n : ℕ) : Type 0 where
-      front_is : front ≡ front_of n (portable d)
+      prefix_is : prefix ≡ prefix_of n (portable d)
       asked_is : asked ≡ asked_of size n
       done : r ≡ Ok tt
-      built : StandsBuilt s1 (site_of (front_of n (portable d)) asked) (all_items (portable d)) 0
+      built : StandsBuilt s1 (site_of (prefix_of n (portable d)) asked) (all_items (portable d)) 0
 
     building : (b : List ℕ) (d : Directory) (n : ℕ) → DenotesCurrent b d → n < 2 ^ 64
         → text ≡ dump_text n (portable d) → counted ≡ Ok (record { size = n; needs = items_needs (portable d) })
@@ -281,18 +283,18 @@ module _ (text : List ℕ) (capacity base : ℕ) (size : Option ℕ) (room : ℕ
         → Building d n
     building b d n s l t c f =
         let p = portable d in
-        let u0 = front-there left found (subst (λ x. Takes fronted IsFront x left found) q h) b d n s l t in
-        let same : front ≡ front_of n p = ok-same {E = E} front (front_of n p) (sym w ∙ u0.0) in
+        let u0 = prefix-there left found (subst (λ x. Takes fronted IsDumpPrefix x left found) q h) b d n s l t in
+        let same : prefix ≡ prefix_of n p = ok-same {E = E} prefix (prefix_of n p) (sym w ∙ u0.0) in
         let created = subst (Creates region base asked Write) cw creates in
         let wanted : asked ≡ asked_of size n =
         e ∙ ap (asked_of size) (counted-there said (record { size = n; needs = items_needs p }) k c) in
         let u = suffices asked n p wanted f in
-        let m = subst (λ (x : Front). MakesObjects s0 s1 x left (length text) room r) same makes in
-        let long : length text ≡ length (fronted (front_of n p)) + length (behind p) =
-        ap length (t ∙ text-behind n p) ∙ length-append (fronted (front_of n p)) (behind p) in
+        let m = subst (λ (x : DumpPrefix). MakesObjects s0 s1 x left (length text) room r) same makes in
+        let long : length text ≡ length (fronted (prefix_of n p)) + length (behind p) =
+        ap length (t ∙ text-behind n p) ∙ length-append (fronted (prefix_of n p)) (behind p) in
         let v = m.makes asked (all_items p) created.stands created.mode (omega (arith, needs-all p, u.space))
         (portable-left b d s asked room u.longest) u0.1 (omega (arith, long, ap length u0.1)) in
-        record { front_is = same; asked_is = wanted; done = v.0; built = v.1 }
+        record { prefix_is = same; asked_is = wanted; done = v.0; built = v.1 }
 
     -- the objects were not built: no segment
     pub good-unbuilt : (stop : F) (result : Result SegmentState LoadRefused) → r ≡ Err stop → Good result
@@ -301,13 +303,14 @@ module _ (text : List ℕ) (capacity base : ℕ) (size : Option ℕ) (room : ℕ
     }
 
     -- the segment was built and judged
-    pub good-judged : (result : Result SegmentState LoadRefused) → JudgesDump s1 text front.size size result
+    pub good-judged : (result : Result SegmentState LoadRefused) → JudgesDump s1 text prefix.size size result
         → Good result
     good-judged result j = record {
       succeeds = λ b d n s l t c f.
           let v = building b d n s l t c f in
-          j.judges (site_of (front_of n (portable d)) asked) (portable d) v.built (portable-sorted b d s)
-          (asked-by size asked n v.asked_is) (t ∙ ap (λ (x : Front). dump_text x.size (portable d)) (sym v.front_is));
+          j.judges (site_of (prefix_of n (portable d)) asked) (portable d) v.built (portable-sorted b d s)
+          (asked-by size asked n v.asked_is) (t ∙ ap (λ (x : DumpPrefix). dump_text x.size (portable d)) (sym
+          v.prefix_is));
     }
 
     -- the indexes of the segment that was judged have the places that the front says

@@ -1,9 +1,9 @@
 -- The size that a dump says, with notes after it or not.
 use Rattle.segment_dump.proofs.Common.{◌≡◌, ◌≢◌, ℕ, ◌^◌, ◌<◌, List, ◌++◌, length, Option, Some, None, ap, ◌∙◌}
 use Rattle.segment_dump.proofs.Common.{append_assoc, drop, Items, entries_text, without_notes, dump_text, end_text}
-use Rattle.segment_dump.proofs.Common.{front_text, items_text}
+use Rattle.segment_dump.proofs.Common.{prefix_text, items_text}
 use Rattle.segment_dump.specs.Counting.{SaysSize}
-use Rattle.segment_dump.proofs.reading.FrontLines.{NumberReads, before_entries, before_size, number-said}
+use Rattle.segment_dump.proofs.reading.PrefixLines.{NumberReads, before_entries, before_size, number-said}
 use Rattle.segment_dump.proofs.{reading.Notes.notes-are-cut, texts.Options.none-some, texts.Options.some-pair}
 
 -- what stands after the first lines
@@ -12,11 +12,12 @@ objects_of items = items_text items.named ++ (items_text items.unique ++ (items_
 
 -- with its notes a text begins as it does without them
 fronted : (text : List ℕ) (n : ℕ) (items : Items) → without_notes text ≡ dump_text n items
-    → text ≡ front_text n (length items.named) (length items.unique) ++ (objects_of items ++ (notes-are-cut text).notes)
+    → text ≡ prefix_text n (length items.named) (length items.unique) ++ (objects_of items ++ (notes-are-cut
+    text).notes)
 fronted text n items e =
     let cut = notes-are-cut text in
     cut.whole ∙ ap (λ l. l ++ cut.notes) e
-    ∙ append_assoc (front_text n (length items.named) (length items.unique)) (objects_of items) cut.notes
+    ∙ append_assoc (prefix_text n (length items.named) (length items.unique)) (objects_of items) cut.notes
 
 -- a text that does not begin as a dump says no size
 pub no-lead : (text : List ℕ) (o : Option ℕ) → ((rest : List ℕ) → text ≢ before_size ++ rest)
@@ -24,7 +25,8 @@ pub no-lead : (text : List ℕ) (o : Option ℕ) → ((rest : List ℕ) → text
 no-lead text o h = record {
   says = λ n items l e.
       let behind = objects_of items ++ (notes-are-cut text).notes in
-      absurd (h (drop 20 (front_text n (length items.named) (length items.unique) ++ behind)) (fronted text n items e));
+      absurd (h (drop 20 (prefix_text n (length items.named) (length items.unique) ++ behind)) (fronted text n
+      items e));
 }
 
 module _ (text x : List ℕ) (lead : text ≡ before_size ++ x) where

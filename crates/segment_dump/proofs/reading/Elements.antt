@@ -1,33 +1,33 @@
 -- The line of an element is read.
 use Rattle.segment_dump.proofs.Common.{◌≡◌, ℕ, ℤ, true, List, [], ◌∷◌, ◌++◌, Some, Result, Ok, Err, refl, sym, ap, ◌∙◌}
 use Rattle.segment_dump.proofs.Common.{append-nil, option_map, ScalarKind, ScalarValue, is_value, value_text, scalar_of}
-use Rattle.segment_dump.proofs.Common.{WholesAreDecimals, next_word, Bare, ReadsElement, ReadsPair, IsTypedPair}
-use Rattle.segment_dump.proofs.Common.{ReadsEnd, ReadsLine, ReadsWord, value_word, element_line, pair_line}
-use Rattle.segment_dump.proofs.{texts.Elements.pair-no_end, texts.Elements.pair_front, texts.Options.never-ok}
+use Rattle.segment_dump.proofs.Common.{WholesAreDecimals, next_token, Bare, ReadsElement, ReadsPair, IsTypedPair}
+use Rattle.segment_dump.proofs.Common.{ReadsEnd, ReadsLine, ReadsToken, value_token, element_line, pair_line}
+use Rattle.segment_dump.proofs.{texts.Elements.pair-no_end, texts.Elements.pair_prefix, texts.Options.never-ok}
 use Rattle.segment_dump.proofs.{texts.Options.ok-same}
-use Rattle.segment_dump.proofs.texts.Lines.{element-no_end, element-short, element_front, pair-short}
-use Rattle.segment_dump.proofs.reading.NextWords.{blank-next, value-next, value-said}
+use Rattle.segment_dump.proofs.texts.Lines.{element-no_end, element-short, element_prefix, pair-short}
+use Rattle.segment_dump.proofs.reading.NextTokens.{blank-next, value-next, value-said}
 
 value-is : WholesAreDecimals → (k : ScalarKind) (z : ℤ) → is_value k z ≡ true
-    → value_word k (Bare (value_text k z)) ≡ Some (scalar_of k z)
+    → value_token k (Bare (value_text k z)) ≡ Some (scalar_of k z)
 value-is law k z g = ap (option_map (scalar_of k)) (value-said law k z g)
 
-last-value : (k : ScalarKind) (z : ℤ) → next_word (value_text k z) ≡ Some (Bare (value_text k z), [])
-last-value k z = ap next_word (sym (append-nil (value_text k z))) ∙ value-next k z [] refl
+last-value : (k : ScalarKind) (z : ℤ) → next_token (value_text k z) ≡ Some (Bare (value_text k z), [])
+last-value k z = ap next_token (sym (append-nil (value_text k z))) ∙ value-next k z [] refl
 
 -- ---- a scalar
 
-element-word : (kind : ScalarKind) (z : ℤ) → next_word (element_front kind z) ≡ Some (Bare (value_text kind z), [])
-element-word kind z = blank-next (0x20 ∷ value_text kind z) ∙ blank-next (value_text kind z) ∙ last-value kind z
+element-token : (kind : ScalarKind) (z : ℤ) → next_token (element_prefix kind z) ≡ Some (Bare (value_text kind z), [])
+element-token kind z = blank-next (0x20 ∷ value_text kind z) ∙ blank-next (value_text kind z) ∙ last-value kind z
 
 module _ {E : Type 0} (wholes : WholesAreDecimals) (kind : ScalarKind) (text rest : List ℕ) where
   element-there : (line left : List ℕ) (r : Result ScalarValue E) → ReadsLine {E = E} text rest (Ok line)
-      → ReadsWord (value_word kind) line left r → (z : ℤ) (a : List ℕ) → is_value kind z ≡ true
+      → ReadsToken (value_token kind) line left r → (z : ℤ) (a : List ℕ) → is_value kind z ≡ true
       → text ≡ element_line kind z ++ a → (r ≡ Ok (scalar_of kind z)) × (left ≡ []) × (rest ≡ a)
   element-there line left r h w z a g e =
-      let l = h.reads (element_front kind z) a (element-no_end kind z) (element-short kind z) e in
-      let is : line ≡ element_front kind z = ok-same {E = E} line (element_front kind z) l.0 in
-      let v = w.reads (Bare (value_text kind z)) [] (scalar_of kind z) (ap next_word is ∙ element-word kind z)
+      let l = h.reads (element_prefix kind z) a (element-no_end kind z) (element-short kind z) e in
+      let is : line ≡ element_prefix kind z = ok-same {E = E} line (element_prefix kind z) l.0 in
+      let v = w.reads (Bare (value_text kind z)) [] (scalar_of kind z) (ap next_token is ∙ element-token kind z)
       (value-is wholes kind z g) in
       (v.0, v.1, l.1)
 
@@ -36,13 +36,13 @@ module _ {E : Type 0} (wholes : WholesAreDecimals) (kind : ScalarKind) (text res
       → ReadsElement kind text rest result
   element-no_line e result h = record {
     reads = λ z a g t.
-        absurd (never-ok e (element_front kind z)
-        (h.reads (element_front kind z) a (element-no_end kind z) (element-short kind z) t).0);
+        absurd (never-ok e (element_prefix kind z)
+        (h.reads (element_prefix kind z) a (element-no_end kind z) (element-short kind z) t).0);
   }
 
   -- a line without a value: no element is read
   pub element-no_value : (line left : List ℕ) (e : E) (result : Result ScalarValue E)
-      → ReadsLine {E = E} text rest (Ok line) → ReadsWord (value_word kind) line left (Err e)
+      → ReadsLine {E = E} text rest (Ok line) → ReadsToken (value_token kind) line left (Err e)
       → ReadsElement kind text rest result
   element-no_value line left e result h w =
       record {
@@ -52,7 +52,7 @@ module _ {E : Type 0} (wholes : WholesAreDecimals) (kind : ScalarKind) (text res
 
   -- a line with more after the value: no element is read
   pub element-more : (line left : List ℕ) (v : ScalarValue) (e : E) (result : Result ScalarValue E)
-      → ReadsLine {E = E} text rest (Ok line) → ReadsWord {E = E} (value_word kind) line left (Ok v)
+      → ReadsLine {E = E} text rest (Ok line) → ReadsToken {E = E} (value_token kind) line left (Ok v)
       → ReadsEnd left (Err e) → ReadsElement kind text rest result
   element-more line left v e result h w f =
       record {
@@ -62,59 +62,60 @@ module _ {E : Type 0} (wholes : WholesAreDecimals) (kind : ScalarKind) (text res
 
   -- a line with a value: an element is read
   pub element-some : (line left : List ℕ) (v : ScalarValue) → ReadsLine {E = E} text rest (Ok line)
-      → ReadsWord {E = E} (value_word kind) line left (Ok v) → ReadsElement {E = E} kind text rest (Ok v)
+      → ReadsToken {E = E} (value_token kind) line left (Ok v) → ReadsElement {E = E} kind text rest (Ok v)
   element-some line left v h w =
       record { reads = λ z a g t. let q = element-there line left (Ok v) h w z a g t in (q.0, q.2) }
 
 -- ---- a pair
 
-key-word : (k w : ScalarKind) (p : ℤ × ℤ) → next_word (pair_front k w p) ≡ Some
+key-token : (k w : ScalarKind) (p : ℤ × ℤ) → next_token (pair_prefix k w p) ≡ Some
     (Bare (value_text k p.0), 0x20 ∷ value_text w p.1)
-key-word k w p =
+key-token k w p =
     let behind : List ℕ = 0x20 ∷ value_text w p.1 in
     blank-next (0x20 ∷ (value_text k p.0 ++ behind)) ∙ blank-next (value_text k p.0 ++ behind) ∙ value-next k p.0 behind
     refl
 
-second-word : (w : ScalarKind) (p : ℤ × ℤ) → next_word (0x20 ∷ value_text w p.1) ≡ Some (Bare (value_text w p.1), [])
-second-word w p = blank-next (value_text w p.1) ∙ last-value w p.1
+second-token : (w : ScalarKind) (p : ℤ × ℤ) → next_token (0x20 ∷ value_text w p.1) ≡ Some (Bare (value_text w p.1), [])
+second-token w p = blank-next (value_text w p.1) ∙ last-value w p.1
 
 module _ {E : Type 0} (wholes : WholesAreDecimals) (k w : ScalarKind) (text rest : List ℕ) where
   key-there : (line left : List ℕ) (r : Result ScalarValue E) → ReadsLine {E = E} text rest (Ok line)
-      → ReadsWord (value_word k) line left r → (p : ℤ × ℤ) (a : List ℕ) → IsTypedPair k w p
+      → ReadsToken (value_token k) line left r → (p : ℤ × ℤ) (a : List ℕ) → IsTypedPair k w p
       → text ≡ pair_line k w p ++ a → (r ≡ Ok (scalar_of k p.0)) × (left ≡ 0x20 ∷ value_text w p.1) × (rest ≡ a)
   key-there line left r h f p a g e =
-      let l = h.reads (pair_front k w p) a (pair-no_end k w p) (pair-short k w p) e in
-      let is : line ≡ pair_front k w p = ok-same {E = E} line (pair_front k w p) l.0 in
+      let l = h.reads (pair_prefix k w p) a (pair-no_end k w p) (pair-short k w p) e in
+      let is : line ≡ pair_prefix k w p = ok-same {E = E} line (pair_prefix k w p) l.0 in
       let v = f.reads (Bare (value_text k p.0)) (0x20 ∷ value_text w p.1) (scalar_of k p.0)
-      (ap next_word is ∙ key-word k w p) (value-is wholes k p.0 g.0) in
+      (ap next_token is ∙ key-token k w p) (value-is wholes k p.0 g.0) in
       (v.0, v.1, l.1)
 
   value-there : (left last : List ℕ) (r : Result ScalarValue E) (p : ℤ × ℤ) → IsTypedPair k w p
-      → left ≡ 0x20 ∷ value_text w p.1 → ReadsWord (value_word w) left last r → (r ≡ Ok (scalar_of w p.1)) × (last ≡ [])
+      → left ≡ 0x20 ∷ value_text w p.1 → ReadsToken (value_token w) left last r → (r ≡ Ok (scalar_of w p.1)) ×
+      (last ≡ [])
   value-there left last r p g e f = f.reads (Bare (value_text w p.1)) [] (scalar_of w p.1)
-      (ap next_word e ∙ second-word w p) (value-is wholes w p.1 g.1)
+      (ap next_token e ∙ second-token w p) (value-is wholes w p.1 g.1)
 
   -- no line: no pair is read
   pub pair-no_line : (e : E) (result : Result (ScalarValue × ScalarValue) E) → ReadsLine text rest (Err e)
       → ReadsPair k w text rest result
   pair-no_line e result h = record {
     reads = λ p a g t.
-        absurd (never-ok e (pair_front k w p)
-        (h.reads (pair_front k w p) a (pair-no_end k w p) (pair-short k w p) t).0);
+        absurd (never-ok e (pair_prefix k w p)
+        (h.reads (pair_prefix k w p) a (pair-no_end k w p) (pair-short k w p) t).0);
   }
 
   -- a line without a key: no pair is read
   pub pair-no_key : (line left : List ℕ) (e : E) (result : Result (ScalarValue × ScalarValue) E)
-      → ReadsLine {E = E} text rest (Ok line) → ReadsWord (value_word k) line left (Err e)
+      → ReadsLine {E = E} text rest (Ok line) → ReadsToken (value_token k) line left (Err e)
       → ReadsPair k w text rest result
   pair-no_key line left e result h f =
       record { reads = λ p a g t. absurd (never-ok e (scalar_of k p.0) (key-there line left (Err e) h f p a g t).0) }
 
   module _ (line left last : List ℕ) (x : ScalarValue) (h : ReadsLine {E = E} text rest (Ok line))
-      (f : ReadsWord {E = E} (value_word k) line left (Ok x)) where
+      (f : ReadsToken {E = E} (value_token k) line left (Ok x)) where
     -- a line without a value: no pair is read
     pub pair-no_value : (e : E) (result : Result (ScalarValue × ScalarValue) E)
-        → ReadsWord (value_word w) left last (Err e) → ReadsPair k w text rest result
+        → ReadsToken (value_token w) left last (Err e) → ReadsPair k w text rest result
     pair-no_value e result v = record {
       reads = λ p a g t.
           absurd (never-ok e (scalar_of w p.1)
@@ -123,7 +124,7 @@ module _ {E : Type 0} (wholes : WholesAreDecimals) (k w : ScalarKind) (text rest
 
     -- a line with more after the value: no pair is read
     pub pair-more : (y : ScalarValue) (e : E) (result : Result (ScalarValue × ScalarValue) E)
-        → ReadsWord {E = E} (value_word w) left last (Ok y) → ReadsEnd last (Err e) → ReadsPair k w text rest result
+        → ReadsToken {E = E} (value_token w) left last (Ok y) → ReadsEnd last (Err e) → ReadsPair k w text rest result
     pair-more y e result v n = record {
       reads = λ p a g t.
           absurd (never-ok {X = Unit {0}} e tt
@@ -131,7 +132,7 @@ module _ {E : Type 0} (wholes : WholesAreDecimals) (k w : ScalarKind) (text rest
     }
 
     -- a line with a key and a value: a pair is read
-    pub pair-some : (y : ScalarValue) → ReadsWord {E = E} (value_word w) left last (Ok y)
+    pub pair-some : (y : ScalarValue) → ReadsToken {E = E} (value_token w) left last (Ok y)
         → ReadsPair {E = E} k w text rest (Ok (x, y))
     pair-some y v = record {
       reads = λ p a g t.

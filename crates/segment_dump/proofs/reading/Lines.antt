@@ -2,29 +2,30 @@
 use Rattle.segment_dump.proofs.Common.{◌≡◌, ◌≢◌, ℕ, suc, ◌+◌, ◌<◌, ◌==◌, Bool, true, false, List, [], ◌∷◌, ◌++◌, length}
 use Rattle.segment_dump.proofs.Common.{take, drop, cond, not, nat_lt, Option, Some, None, Result, Ok, Err, refl, sym}
 use Rattle.segment_dump.proofs.Common.{ap, ◌∙◌, arith, append_assoc, position, length-append, take-append_seam}
-use Rattle.segment_dump.proofs.Common.{nat_tests, number, next_word, Word, Bare, Text, number_of, ReadsLine, ReadsThis}
-use Rattle.segment_dump.proofs.Common.{ReadsWord, any_word, bare_word, HasNoEnd, ended, lt-ltb}
+use Rattle.segment_dump.proofs.Common.{nat_tests, number, next_token, Token, Bare, Text, number_of, ReadsLine}
+use Rattle.segment_dump.proofs.Common.{ReadsThis}
+use Rattle.segment_dump.proofs.Common.{ReadsToken, any_token, bare_token, HasNoEnd, ended, lt-ltb}
 use Rattle.std.specs.{List.position_or_len, Option.ok_or}
 use Rattle.std.proofs.Math.Seq.{drop-append_seam}
 use Rattle.segment_dump.proofs.texts.Options.{never-ok, none-some, ok-same, same_Some}
 
 -- ---- a word
 
-no-bare : {E : Type 0} (text rest : List ℕ) (e : E) (w : Word) (a : List ℕ) (x : ℕ)
-    → ReadsWord bare_word text rest (Err e) → next_word text ≡ Some (w, a) → number w ≡ Some x → ⊥
+no-bare : {E : Type 0} (text rest : List ℕ) (e : E) (w : Token) (a : List ℕ) (x : ℕ)
+    → ReadsToken bare_token text rest (Err e) → next_token text ≡ Some (w, a) → number w ≡ Some x → ⊥
 no-bare text rest e (Bare v) a x h f g = never-ok e v (h.reads (Bare v) a v f refl).0
 no-bare text rest e (Text v) a x h f g = none-some x g
 
 module _ {E : Type 0} (text rest : List ℕ) where
   -- none was read
-  pub no-word : {X : Type 0} (value : Word → Option X) (e : E) (result : Result X E)
-      → ReadsWord any_word text rest (Err e) → ReadsWord value text rest result
-  no-word value e result h = record { reads = λ w a x f g. absurd (never-ok e w (h.reads w a w f refl).0) }
+  pub no-token : {X : Type 0} (value : Token → Option X) (e : E) (result : Result X E)
+      → ReadsToken any_token text rest (Err e) → ReadsToken value text rest result
+  no-token value e result h = record { reads = λ w a x f g. absurd (never-ok e w (h.reads w a w f refl).0) }
 
   -- this one was
-  pub this-word : {X : Type 0} (value : Word → Option X) (w : Word) (y : X)
-      → ReadsWord {E = E} any_word text rest (Ok w) → value w ≡ Some y → ReadsWord {E = E} value text rest (Ok y)
-  this-word {X} value w y h e = record {
+  pub this-token : {X : Type 0} (value : Token → Option X) (w : Token) (y : X)
+      → ReadsToken {E = E} any_token text rest (Ok w) → value w ≡ Some y → ReadsToken {E = E} value text rest (Ok y)
+  this-token {X} value w y h e = record {
     reads = λ v a x f g.
         let r = h.reads v a v f refl in
         let same : w ≡ v = ok-same {E = E} w v r.0 in
@@ -33,9 +34,9 @@ module _ {E : Type 0} (text rest : List ℕ) where
   }
 
   -- it is none that was wanted
-  pub other-word : {X : Type 0} (value : Word → Option X) (w : Word) (result : Result X E)
-      → ReadsWord {E = E} any_word text rest (Ok w) → value w ≡ None → ReadsWord value text rest result
-  other-word value w result h e = record {
+  pub other-token : {X : Type 0} (value : Token → Option X) (w : Token) (result : Result X E)
+      → ReadsToken {E = E} any_token text rest (Ok w) → value w ≡ None → ReadsToken value text rest result
+  other-token value w result h e = record {
     reads = λ v a x f g.
         let r = h.reads v a v f refl in
         let same : w ≡ v = ok-same {E = E} w v r.0 in
@@ -43,10 +44,10 @@ module _ {E : Type 0} (text rest : List ℕ) where
   }
 
   -- what the word stands for is read, if it stands for anything
-  pub read-word : {X : Type 0} (value : Word → Option X) (w : Word) (o : Option X) (e : E) (result : Result X E)
-      → ReadsWord {E = E} any_word text rest (Ok w) → o ≡ value w → result ≡ ok_or o e
-      → ReadsWord value text rest result
-  read-word value w o e result h q is = record {
+  pub read-token : {X : Type 0} (value : Token → Option X) (w : Token) (o : Option X) (e : E) (result : Result X E)
+      → ReadsToken {E = E} any_token text rest (Ok w) → o ≡ value w → result ≡ ok_or o e
+      → ReadsToken value text rest result
+  read-token value w o e result h q is = record {
     reads = λ v a x f g.
         let r = h.reads v a v f refl in
         let same : w ≡ v = ok-same {E = E} w v r.0 in
@@ -56,12 +57,12 @@ module _ {E : Type 0} (text rest : List ℕ) where
   -- ---- a number
 
   -- no word: no number is read
-  pub no-number : (e : E) (result : Result ℕ E) → ReadsWord bare_word text rest (Err e)
-      → ReadsWord number text rest result
+  pub no-number : (e : E) (result : Result ℕ E) → ReadsToken bare_token text rest (Err e)
+      → ReadsToken number text rest result
   no-number e result h = record { reads = λ w a x f g. absurd (no-bare text rest e w a x h f g) }
 
-  number-in : (bytes : List ℕ) (o : Option ℕ) (w : Word) (a : List ℕ) (x : ℕ)
-      → ReadsWord {E = E} bare_word text rest (Ok bytes) → o ≡ number_of bytes → next_word text ≡ Some (w, a)
+  number-in : (bytes : List ℕ) (o : Option ℕ) (w : Token) (a : List ℕ) (x : ℕ)
+      → ReadsToken {E = E} bare_token text rest (Ok bytes) → o ≡ number_of bytes → next_token text ≡ Some (w, a)
       → number w ≡ Some x → (o ≡ Some x) × (rest ≡ a)
   number-in bytes o (Bare v) a x h q f g =
       let r = h.reads (Bare v) a v f refl in
@@ -71,8 +72,8 @@ module _ {E : Type 0} (text rest : List ℕ) where
 
   -- the number of a word is read, if it is the word of one
   pub read-number : (bytes : List ℕ) (o : Option ℕ) (e : E) (result : Result ℕ E)
-      → ReadsWord {E = E} bare_word text rest (Ok bytes) → o ≡ number_of bytes → result ≡ ok_or o e
-      → ReadsWord number text rest result
+      → ReadsToken {E = E} bare_token text rest (Ok bytes) → o ≡ number_of bytes → result ≡ ok_or o e
+      → ReadsToken number text rest result
   read-number bytes o e result h q is = record {
     reads = λ w a x f g.
         let r = number-in bytes o w a x h q f g in
@@ -82,20 +83,23 @@ module _ {E : Type 0} (text rest : List ℕ) where
   -- ---- this word
 
   -- no word: the word that was wanted is not read
-  pub not-this : (word : List ℕ) (e : E) (result : Result (Unit {0}) E) → ReadsWord bare_word text rest (Err e)
-      → ReadsThis word text rest result
-  not-this word e result h = record { reads = λ a f. absurd (never-ok e word (h.reads (Bare word) a word f refl).0) }
+  pub not-this : (token : List ℕ) (e : E) (result : Result (Unit {0}) E) → ReadsToken bare_token text rest (Err e)
+      → ReadsThis token text rest result
+  not-this token e result h = record {
+    reads = λ a f. absurd (never-ok e token (h.reads (Bare token) a token f
+        refl).0);
+  }
 
   -- the word that was wanted is read
-  pub is-this : (word bytes : List ℕ) → ReadsWord {E = E} bare_word text rest (Ok bytes)
-      → ReadsThis {E = E} word text rest (Ok tt)
-  is-this word bytes h = record { reads = λ a f. (refl, (h.reads (Bare word) a word f refl).1) }
+  pub is-this : (token bytes : List ℕ) → ReadsToken {E = E} bare_token text rest (Ok bytes)
+      → ReadsThis {E = E} token text rest (Ok tt)
+  is-this token bytes h = record { reads = λ a f. (refl, (h.reads (Bare token) a token f refl).1) }
 
   -- another word: the word that was wanted is not read
-  pub other-this : (word bytes : List ℕ) (result : Result (Unit {0}) E)
-      → ReadsWord {E = E} bare_word text rest (Ok bytes) → bytes ≢ word → ReadsThis word text rest result
-  other-this word bytes result h n =
-      record { reads = λ a f. absurd (n (ok-same {E = E} bytes word (h.reads (Bare word) a word f refl).0)) }
+  pub other-this : (token bytes : List ℕ) (result : Result (Unit {0}) E)
+      → ReadsToken {E = E} bare_token text rest (Ok bytes) → bytes ≢ token → ReadsThis token text rest result
+  other-this token bytes result h n =
+      record { reads = λ a f. absurd (n (ok-same {E = E} bytes token (h.reads (Bare token) a token f refl).0)) }
 
 -- ---- a line
 
@@ -119,7 +123,7 @@ ended-apart line a = append_assoc line (0x0A ∷ []) a
 -- where the line is read
 record IsCut (text : List ℕ) (n : ℕ) (line a : List ℕ) : Type 0 where
   long : n ≡ length line
-  front : take n text ≡ line
+  prefix : take n text ≡ line
   behind : drop n text ≡ 0x0A ∷ a
 
 line-end : (text line a : List ℕ) → HasNoEnd line → text ≡ ended line ++ a → position is_end text ≡ Some (length line)
@@ -138,7 +142,7 @@ line-cut text line a n h e p =
     let long : n ≡ length line = same_Some n (length line) (sym p ∙ line-end text line a h e) in
     record {
       long = long;
-      front = (λ i. take (long i) (whole i)) ∙ take-append_seam line (0x0A ∷ a);
+      prefix = (λ i. take (long i) (whole i)) ∙ take-append_seam line (0x0A ∷ a);
       behind = (λ i. drop (long i) (whole i)) ∙ drop-append_seam line (0x0A ∷ a);
     }
 
@@ -152,19 +156,19 @@ module _ {E : Type 0} (text : List ℕ) where
   }
 
   -- a line that is too long is not read
-  pub long-line : (rest front : List ℕ) (o : Option ℕ) (n : ℕ) (result : Result (List ℕ) E)
-      → o ≡ position is_end text → o ≡ Some n → front ≡ take n text → 4096 < length front → ReadsLine text rest result
-  long-line rest front o n result p e f l = record {
+  pub long-line : (rest prefix : List ℕ) (o : Option ℕ) (n : ℕ) (result : Result (List ℕ) E)
+      → o ≡ position is_end text → o ≡ Some n → prefix ≡ take n text → 4096 < length prefix → ReadsLine text rest result
+  long-line rest prefix o n result p e f l = record {
     reads = λ line a h s g.
         let r = line-cut text line a n h g (sym p ∙ e) in
-        absurd (omega (arith, s, l, ap length (f ∙ r.front)));
+        absurd (omega (arith, s, l, ap length (f ∙ r.prefix)));
   }
 
   -- a line with its end is read
-  pub this-line : (rest front behind : List ℕ) (o : Option ℕ) (n : ℕ) → o ≡ position is_end text → o ≡ Some n
-      → front ≡ take n text → behind ≡ drop n text → rest ≡ drop 1 behind → ReadsLine {E = E} text rest (Ok front)
-  this-line rest front behind o n p e f g k = record {
+  pub this-line : (rest prefix behind : List ℕ) (o : Option ℕ) (n : ℕ) → o ≡ position is_end text → o ≡ Some n
+      → prefix ≡ take n text → behind ≡ drop n text → rest ≡ drop 1 behind → ReadsLine {E = E} text rest (Ok prefix)
+  this-line rest prefix behind o n p e f g k = record {
     reads = λ line a h s q.
         let r = line-cut text line a n h q (sym p ∙ e) in
-        (ap Ok (f ∙ r.front), k ∙ ap (drop 1) (g ∙ r.behind));
+        (ap Ok (f ∙ r.prefix), k ∙ ap (drop 1) (g ∙ r.behind));
   }

@@ -153,8 +153,8 @@ module _ (text : List ℕ) (at : ℕ) (h : IsLastLine text at) where
   kept-whole n = kept-if text refl n
 
   -- the last line is one
-  pub cut-last : (front last : List ℕ) → front ≡ take at text → last ≡ drop at text → are_notes true last ≡ true
-      → without_notes front ≡ without_notes text
-  cut-last front last e f n =
+  pub cut-last : (prefix last : List ℕ) → prefix ≡ take at text → last ≡ drop at text → are_notes true last ≡ true
+      → without_notes prefix ≡ without_notes text
+  cut-last prefix last e f n =
       ap without_notes e ∙ sym (cut-notes true (take at text) (drop at text) h.starts (ap (are_notes true) (sym f)
       ∙ n)) ∙ ap without_notes whole

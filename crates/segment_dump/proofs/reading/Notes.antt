@@ -2,17 +2,18 @@
 use Rattle.segment_dump.proofs.Common.{◌≡◌, ◌≢◌, ℕ, suc, ◌-◌, ◌/◌, ◌==◌, Bool, true, false, cond, List, [], ◌∷◌, ◌++◌}
 use Rattle.segment_dump.proofs.Common.{length, refl, sym, ap, subst, ◌∙◌, arith, append_assoc, codes, decimal}
 use Rattle.segment_dump.proofs.Common.{AllByRecursion, flat_map, ne_eqb, Class, Anonymous, Named, Unique, Kind}
-use Rattle.segment_dump.proofs.Common.{kind_text, name_text, quoted_text, value_text, class_words, Capacity, Holds}
+use Rattle.segment_dump.proofs.Common.{kind_text, name_text, quoted_text, value_text, class_tokens, Capacity, Holds}
 use Rattle.segment_dump.proofs.Common.{Kinds, Names, capacities, capacities_text, ValueContent, DumpItem, Items, Map}
 use Rattle.segment_dump.proofs.Common.{Scalars, String, Strings, Vector, count_of_content, kind_of_content, portable}
 use Rattle.segment_dump.proofs.Common.{are_notes, before_notes, ends_line, without_notes, parts_until, HasNoEnd, ended}
-use Rattle.segment_dump.proofs.Common.{lines_text, content_text, dump_text, element_line, end_text, front_text}
+use Rattle.segment_dump.proofs.Common.{lines_text, content_text, dump_text, element_line, end_text, prefix_text}
 use Rattle.segment_dump.proofs.Common.{head_line, item_text, items_text, length_text, pair_line, piece_lead, piece_line}
 use Rattle.segment_dump.proofs.Common.{piece_of, pieces_in, pieces_text, text_lines}
-use Rattle.segment_dump.specs.Capacities.{CapacityHolder, capacity_words, holder_text}
+use Rattle.segment_dump.specs.Capacities.{CapacityHolder, capacity_tokens, holder_text}
 use Rattle.segment_dump.specs.Laws.{CapacitiesAreLeftOut, DumpsHaveNoNotes, IsNote, NotesAreCut, NotesAreLeftOut}
-use Rattle.segment_dump.proofs.{building.Objects.class-no_end, texts.KindWords.kind-word, texts.Words.decimal-word}
-use Rattle.segment_dump.proofs.texts.Elements.{no_end-both, word-no_end, no_end-test}
+use Rattle.segment_dump.proofs.{building.Objects.class-no_end, texts.KindTokens.kind-token}
+use Rattle.segment_dump.proofs.{texts.LineTokens.decimal-token}
+use Rattle.segment_dump.proofs.texts.Elements.{no_end-both, token-no_end, no_end-test}
 use Rattle.segment_dump.proofs.reading.NoteLines.{cut-notes, ends-behind, ends-last, kept}
 
 -- ---- a dump is whole lines
@@ -79,39 +80,39 @@ item-ends i = ends-then (head_line i.class i.name (kind_of_content i.content) (c
 items-end : (is : List DumpItem) → ends_line true (items_text is) ≡ true
 items-end is = all-end item_text item-ends is
 
-front-ends : (s n u : ℕ) → EndsLine (front_text s n u)
-front-ends s n u = ends-both (codes "segment dump 1" ++ 0x0A ∷ codes "size " ++ decimal s ++ 0x0A ∷ codes "indexes "
+prefix-ends : (s n u : ℕ) → EndsLine (prefix_text s n u)
+prefix-ends s n u = ends-both (codes "segment dump 1" ++ 0x0A ∷ codes "size " ++ decimal s ++ 0x0A ∷ codes "indexes "
     ++ decimal n ++ 0x20 ∷ decimal u) (0x0A ∷ []) (λ start. refl)
 
 -- all lines but the last one
-abbrev dump_front : ℕ → Items → List ℕ
-dump_front n items = front_text n (length items.named) (length items.unique)
+abbrev dump_prefix : ℕ → Items → List ℕ
+dump_prefix n items = prefix_text n (length items.named) (length items.unique)
     ++ (items_text items.named ++ (items_text items.unique ++ items_text items.anonymous))
 
 end-apart : (f n u a e : List ℕ) → f ++ (n ++ (u ++ (a ++ e))) ≡ (f ++ (n ++ (u ++ a))) ++ e
 end-apart f n u a e = simp append_assoc
 
-front-is : (n : ℕ) (items : Items) → dump_text n items ≡ dump_front n items ++ end_text
-front-is n items = end-apart (front_text n (length items.named) (length items.unique)) (items_text items.named)
+prefix-is : (n : ℕ) (items : Items) → dump_text n items ≡ dump_prefix n items ++ end_text
+prefix-is n items = end-apart (prefix_text n (length items.named) (length items.unique)) (items_text items.named)
     (items_text items.unique) (items_text items.anonymous) end_text
 
-fronts-end : (n : ℕ) (items : Items) → ends_line true (dump_front n items) ≡ true
-fronts-end n items =
-    ends-then (front_text n (length items.named) (length items.unique)) _
-    (front-ends n (length items.named) (length items.unique))
+prefixes-end : (n : ℕ) (items : Items) → ends_line true (dump_prefix n items) ≡ true
+prefixes-end n items =
+    ends-then (prefix_text n (length items.named) (length items.unique)) _
+    (prefix-ends n (length items.named) (length items.unique))
     (ends-both-true (items_text items.named) _ (items-end items.named)
     (ends-both-true (items_text items.unique) _ (items-end items.unique) (items-end items.anonymous))) true
 
 dump-ends : (n : ℕ) (items : Items) → ends_line true (dump_text n items) ≡ true
-dump-ends n items = ap (ends_line true) (front-is n items)
-    ∙ ends-both-true (dump_front n items) end_text (fronts-end n items) refl
+dump-ends n items = ap (ends_line true) (prefix-is n items)
+    ∙ ends-both-true (dump_prefix n items) end_text (prefixes-end n items) refl
 
 -- ---- the laws
 
 -- law: dumps have no notes
 pub dumps-have-no-notes : DumpsHaveNoNotes
-dumps-have-no-notes n items = ap without_notes (front-is n items)
-    ∙ kept true (dump_front n items) end_text (fronts-end n items) refl refl ∙ sym (front-is n items)
+dumps-have-no-notes n items = ap without_notes (prefix-is n items)
+    ∙ kept true (dump_prefix n items) end_text (prefixes-end n items) refl refl ∙ sym (prefix-is n items)
 
 left-out : (n : ℕ) (items : Items) (notes : List ℕ) → are_notes true notes ≡ true
     → without_notes (dump_text n items ++ notes) ≡ dump_text n items
@@ -120,14 +121,14 @@ left-out n items notes h = cut-notes true (dump_text n items) notes (dump-ends n
 no-end : (c : ℕ) → c ≢ 0x0A → (c == 0x0A) ≡ false
 no-end c n = ne_eqb c 0x0A n
 
-in-note : (words more : List ℕ) → HasNoEnd words → are_notes false (words ++ 0x0A ∷ more) ≡ are_notes true more
+in-note : (tokens more : List ℕ) → HasNoEnd tokens → are_notes false (tokens ++ 0x0A ∷ more) ≡ are_notes true more
 in-note [] more h = refl
 in-note (c ∷ cs) more h = ap (λ b. are_notes b (cs ++ 0x0A ∷ more)) (no-end c h.0) ∙ in-note cs more h.1
 
 note-then : (line more : List ℕ) → IsNote line → are_notes true more ≡ true → are_notes true (ended line ++ more) ≡ true
 note-then line more h e =
     ap (λ l. are_notes true (ended l ++ more)) h.begins
-    ∙ ap (are_notes false) (append_assoc h.words (0x0A ∷ []) more) ∙ in-note h.words more h.one ∙ e
+    ∙ ap (are_notes false) (append_assoc h.tokens (0x0A ∷ []) more) ∙ in-note h.tokens more h.one ∙ e
 
 notes-are : (notes : List (List ℕ)) → AllByRecursion IsNote notes → are_notes true (lines_text notes) ≡ true
 notes-are [] h = refl
@@ -141,23 +142,23 @@ holder-no_end : (h : CapacityHolder) → HasNoEnd (holder_text h)
 holder-no_end Names = no_end-test (codes "names") refl
 holder-no_end Kinds = no_end-test (codes "kinds") refl
 holder-no_end (Holds class name kind) =
-    no_end-both (class_words class name) (kind_text kind) (class-no_end class name)
-    (word-no_end (kind_text kind) (kind-word kind))
+    no_end-both (class_tokens class name) (kind_text kind) (class-no_end class name)
+    (token-no_end (kind_text kind) (kind-token kind))
 
-capacity-note : (c : Capacity) → IsNote (capacity_words c)
+capacity-note : (c : Capacity) → IsNote (capacity_tokens c)
 capacity-note c = record {
-  words = codes " capacity of " ++ (holder_text c.holder ++ (codes ": " ++ decimal c.places));
+  tokens = codes " capacity of " ++ (holder_text c.holder ++ (codes ": " ++ decimal c.slots));
   begins = refl;
   one = no_end-both (codes " capacity of ") _ (no_end-test (codes " capacity of ") refl)
       (no_end-both (holder_text c.holder) _ (holder-no_end c.holder) (
         (λ e. omega arith),
-        ((λ e. omega arith), word-no_end (decimal c.places) (decimal-word c.places)),
+        ((λ e. omega arith), token-no_end (decimal c.slots) (decimal-token c.slots)),
       ));
 }
 
 capacities-are : (cs : List Capacity) → are_notes true (capacities_text cs) ≡ true
 capacities-are [] = refl
-capacities-are (c ∷ cs) = note-then (capacity_words c) (capacities_text cs) (capacity-note c) (capacities-are cs)
+capacities-are (c ∷ cs) = note-then (capacity_tokens c) (capacities_text cs) (capacity-note c) (capacities-are cs)
 
 -- law: capacities are left out
 pub capacities-are-left-out : CapacitiesAreLeftOut

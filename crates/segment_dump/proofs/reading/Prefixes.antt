@@ -2,14 +2,14 @@
 use Rattle.segment_dump.proofs.Common.{◌≡◌, ◌≢◌, ℕ, suc, ◌+◌, ◌-◌, ◌<◌, ◌≤◌, List, [], ◌∷◌, ◌++◌, length, take, drop}
 use Rattle.segment_dump.proofs.Common.{get_or, refl, sym, ap, subst, ◌∙◌, arith, append_assoc, ◌^◌, Option, Some, None}
 use Rattle.segment_dump.proofs.Common.{decimal, flat_map, option_map, take_all, AllByRecursion, kind_text, name_text}
-use Rattle.segment_dump.proofs.Common.{IsSmall, closed_text, Any, AreLines, Breaks, HasNoEnd, IsWord, ParsesPrefix}
+use Rattle.segment_dump.proofs.Common.{IsSmall, closed_text, Any, AreLines, Breaks, HasNoEnd, IsToken, ParsesPrefix}
 use Rattle.segment_dump.proofs.Common.{Skips, ended, itself, lines_text, seen, seen_rest, current, Kind, whole_language}
 use Rattle.segment_dump.proofs.Common.{NumbersAreDecimals, kind_named, number_text, number_of}
 use Rattle.std.specs.Borrow.{Bor}
 use Rattle.seg_types.specs.Texts.{item_text}
-use Rattle.segment_dump.proofs.{texts.OneReading.heads, texts.OneReading.tails, texts.OneReading.words-read}
-use Rattle.segment_dump.proofs.{texts.Words.decimal-word}
-use Rattle.segment_dump.proofs.texts.KindWords.{kind-named, kind-word}
+use Rattle.segment_dump.proofs.{texts.OneReading.heads, texts.OneReading.tails, texts.OneReading.tokens-read}
+use Rattle.segment_dump.proofs.{texts.LineTokens.decimal-token}
+use Rattle.segment_dump.proofs.texts.KindTokens.{kind-named, kind-token}
 use Rattle.segment_dump.proofs.texts.QuotedTexts.{IsName, bare, item-is, item-opens, name-is, quoted}
 
 -- ---- equal results
@@ -44,42 +44,42 @@ line-goes f tail (c ∷ cs) a n h e = (cs, h.1, tails e)
 -- ---- a word
 
 -- the bytes of `text` before `rest` are bytes of a word
-pub record InWord (text rest : List ℕ) : Type 0 where
-  pub word : List ℕ
-  pub high : IsWord word
-  pub whole : text ≡ word ++ rest
+pub record InToken (text rest : List ℕ) : Type 0 where
+  pub token : List ℕ
+  pub high : IsToken token
+  pub whole : text ≡ token ++ rest
 
-word-append : (w : List ℕ) (c : ℕ) → IsWord w → 0x20 < c → IsWord (w ++ c ∷ [])
-word-append [] c h l = (l, tt)
-word-append (d ∷ w) c h l = (h.0, word-append w c h.1 l)
+token-append : (w : List ℕ) (c : ℕ) → IsToken w → 0x20 < c → IsToken (w ++ c ∷ [])
+token-append [] c h l = (l, tt)
+token-append (d ∷ w) c h l = (h.0, token-append w c h.1 l)
 
 -- taking one byte less than the whole length takes all of the tail
 pub tail-all : (c : ℕ) (tail : List ℕ) → take (length (c ∷ tail) - 1) tail ≡ tail
 tail-all c tail = take_all (length (c ∷ tail) - 1) tail (omega arith)
 
 -- a byte that ends no word
-pub word-goes : (text rest : List ℕ) → 1 ≤ length rest → 0x20 < get_or rest 0 0 → InWord text rest
-    → InWord text (take (length rest - 1) (drop 1 rest))
-word-goes text [] l g h = absurd (omega arith)
-word-goes text (c ∷ tail) l g h =
-    subst (InWord text) (sym (tail-all c tail))
+pub token-goes : (text rest : List ℕ) → 1 ≤ length rest → 0x20 < get_or rest 0 0 → InToken text rest
+    → InToken text (take (length rest - 1) (drop 1 rest))
+token-goes text [] l g h = absurd (omega arith)
+token-goes text (c ∷ tail) l g h =
+    subst (InToken text) (sym (tail-all c tail))
     (record {
-      word = h.word ++ c ∷ [];
-      high = word-append h.word c h.high g;
-      whole = h.whole ∙ sym (append_assoc h.word (c ∷ []) tail);
+      token = h.token ++ c ∷ [];
+      high = token-append h.token c h.high g;
+      whole = h.whole ∙ sym (append_assoc h.token (c ∷ []) tail);
     })
 
 -- ---- numbers
 
 -- `text` begins with a word, and the word ends before `rest`
-pub record IsSplit (text word rest : List ℕ) : Type 0 where
-  pub whole : text ≡ word ++ rest
-  pub high : IsWord word
+pub record IsSplit (text token rest : List ℕ) : Type 0 where
+  pub whole : text ≡ token ++ rest
+  pub high : IsToken token
   pub breaks : Breaks rest
 
-pub split-read : (text w rest v a : List ℕ) → IsSplit text w rest → IsWord v → Breaks a → text ≡ v ++ a
+pub split-read : (text w rest v a : List ℕ) → IsSplit text w rest → IsToken v → Breaks a → text ≡ v ++ a
     → (w ≡ v) × (rest ≡ a)
-split-read text w rest v a s h b e = words-read w v rest a s.high h s.breaks b (sym s.whole ∙ e)
+split-read text w rest v a s h b e = tokens-read w v rest a s.high h s.breaks b (sym s.whole ∙ e)
 
 abbrev pub NumberReads : List ℕ → Option (ℕ × List ℕ) → Type 0
 NumberReads = ParsesPrefix number_text (λ n. n < 2 ^ 64) Breaks itself
@@ -89,7 +89,7 @@ pub number-reads : NumbersAreDecimals → (text w rest : List ℕ) (o : Option �
     → IsSplit text w rest → NumberReads text (option_map (λ n. (n, rest)) o)
 number-reads law text w rest o f s = record {
   reads = λ n a small b e.
-      let r = split-read text w rest (decimal n) a s (decimal-word n) b e in
+      let r = split-read text w rest (decimal n) a s (decimal-token n) b e in
       let said : number_of (decimal n) ≡ Some n = (law (decimal n) n).1 (small, refl) in
       let found : o ≡ Some n = f ∙ ap number_of r.0 ∙ said in
       ap (option_map (λ m. (m, rest))) found ∙ ap (λ l. Some (n, l)) r.1;
@@ -112,7 +112,7 @@ pub kind-reads : (text w rest : List ℕ) (o : Option Kind) → o ≡ kind_named
     → KindReads text (option_map (λ k. (k, rest)) o)
 kind-reads text w rest o f s = record {
   reads = λ k a said b e.
-      let r = split-read text w rest (kind_text k) a s (kind-word k) b e in
+      let r = split-read text w rest (kind_text k) a s (kind-token k) b e in
       let found : o ≡ Some k = f ∙ ap (kind_named (whole_language current)) r.0 ∙ kind-named k in
       ap (option_map (λ j. (j, rest))) found ∙ ap (λ l. Some (k, l)) r.1;
 }
@@ -269,17 +269,17 @@ quotes-cut text rest len o q h s f = record {
 abbrev pub NameReads : List ℕ → Option (ℕ × List ℕ) → Type 0
 NameReads = ParsesPrefix name_text IsShort Breaks length
 
-name-word : (text w rest name a t : List ℕ) → ((x : List ℕ) → text ≢ 0x22 ∷ x) → IsSplit text w rest → Breaks a
+name-token : (text w rest name a t : List ℕ) → ((x : List ℕ) → text ≢ 0x22 ∷ x) → IsSplit text w rest → Breaks a
     → IsName name t → text ≡ t ++ a → (w ≡ name) × (rest ≡ a)
-name-word text w rest name a t q s b (bare c cs f n h g) e =
+name-token text w rest name a t q s b (bare c cs f n h g) e =
     split-read text w rest name a s h b (e ∙ ap (λ l. l ++ a) g)
-name-word text w rest name a t q s b (quoted g) e = absurd (q (closed_text name ++ a) (e ∙ ap (λ l. l ++ a) g))
+name-token text w rest name a t q s b (quoted g) e = absurd (q (closed_text name ++ a) (e ∙ ap (λ l. l ++ a) g))
 
 -- a name without quotes is a word
 pub name-bare : (text w rest : List ℕ) → ((x : List ℕ) → text ≢ 0x22 ∷ x) → IsSplit text w rest
     → NameReads text (Some (length w, rest))
 name-bare text w rest q s = record {
-  reads = λ name a g b e. let r = name-word text w rest name a (name_text name) q s b (name-is name) e
+  reads = λ name a g b e. let r = name-token text w rest name a (name_text name) q s b (name-is name) e
       in λ i. Some (length (r.0 i), r.1 i);
 }
 
@@ -287,6 +287,6 @@ name-bare text w rest q s = record {
 pub name-long : (text w rest : List ℕ) → ((x : List ℕ) → text ≢ 0x22 ∷ x) → IsSplit text w rest
     → 1073741824 < length w → NameReads text None
 name-long text w rest q s l = record {
-  reads = λ name a g b e. let r = name-word text w rest name a (name_text name) q s b (name-is name) e
+  reads = λ name a g b e. let r = name-token text w rest name a (name_text name) q s b (name-is name) e
       in absurd (omega (arith, ap length r.0));
 }

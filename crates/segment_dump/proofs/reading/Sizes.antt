@@ -145,7 +145,7 @@ measured-by text r0 r1 r2 rest kind count k e f g = record {
   is = joined text k.bytes (0x20 ∷ (number_text count ++ 0x0A ∷ [])) r0 rest k.is
       (e ∙ ap (λ l. 0x20 ∷ l) (f ∙ ap (λ l. number_text count ++ l) g
       ∙ sym (append_assoc (number_text count) (0x0A ∷ []) rest)));
-  says = record { word = k.bytes; kind_is = k.says; is = refl };
+  says = record { token = k.bytes; kind_is = k.says; is = refl };
 }
 
 -- ---- a text

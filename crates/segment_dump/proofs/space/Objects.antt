@@ -14,7 +14,7 @@ use Rattle.segment_dump.proofs.Common.{named_objects, object_len, padded, sorted
 use Rattle.segment_dump.proofs.Common.{value_extents, value_len, head_len, AllByRecursion-behind, AllByRecursion-front}
 use Rattle.segment_dump.proofs.Common.{index-parts, live-extents, live-size, bytes_in, content_of, count_of_content}
 use Rattle.segment_dump.proofs.Common.{item_of_object, kind_of_content, all_needs, block_room, body_len, elements_room}
-use Rattle.segment_dump.proofs.Common.{front_room, item_needs, object_room, text_needs, texts_needs}
+use Rattle.segment_dump.proofs.Common.{prefix_room, item_needs, object_room, text_needs, texts_needs}
 use Rattle.std.proofs.Math.Nat.{one-mul}
 use Rattle.block_tags.specs.declared.tile.Role.TheVariants.{Object as ObjectRole}
 use Rattle.best_fit.specs.Table.{same_role}
@@ -50,17 +50,17 @@ none-needed = refl
 
 -- ---- a table
 
-no-places : (each n capacity : ℕ) → n ≤ capacity → (capacity == 0) ≡ true → each * n ≡ 0
-no-places each n capacity h e = let z : n ≡ 0 = grind (arith, nat_tests) in ap (λ k. each * k) z ∙ mul-zero each
+no-slots : (each n capacity : ℕ) → n ≤ capacity → (capacity == 0) ≡ true → each * n ≡ 0
+no-slots each n capacity h e = let z : n ≡ 0 = grind (arith, nat_tests) in ap (λ k. each * k) z ∙ mul-zero each
 
-abbrev of_places : ℕ → Option Extent → BackingArray
-of_places n o = record { capacity = n; extent = o }
+abbrev of_slots : ℕ → Option Extent → BackingArray
+of_slots n o = record { capacity = n; extent = o }
 
-places-room : (role : Role) (each n capacity : ℕ) (o : Option Extent) → has_backing role each (of_places capacity o)
+slots-room : (role : Role) (each n capacity : ℕ) (o : Option Extent) → has_backing role each (of_slots capacity o)
     ≡ true → n ≤ capacity → AreLong (option_to_list o) → block_room (each * n) ≤ total (option_to_list o)
 unfolding total
-places-room role each n capacity None e h l = omega (arith, ap block_room (no-places each n capacity h e), none-needed)
-places-room role each n capacity (Some x) e h l =
+slots-room role each n capacity None e h l = omega (arith, ap block_room (no-slots each n capacity h e), none-needed)
+slots-room role each n capacity (Some x) e h l =
     omega (
       arith,
       block-serves x role (each * n) (each * capacity) l.0 (mul-le-mul_left each h)
@@ -69,7 +69,7 @@ places-room role each n capacity (Some x) e h l =
 
 table-room : (role : Role) (each n : ℕ) (t : BackingArray) → has_backing role each t ≡ true → n ≤ t.capacity
     → AreLong (table_extents t) → block_room (each * n) ≤ total (table_extents t)
-table-room role each n t e h l = places-room role each n t.capacity t.extent e h l
+table-room role each n t e h l = slots-room role each n t.capacity t.extent e h l
 
 -- ---- a text in a block of its own
 
@@ -266,7 +266,7 @@ proper-room d h =
 
 -- law: a segment has room for the objects of its dump
 pub segments-have-room : SegmentsHaveRoom
-unfolding front_room
+unfolding prefix_room
 segments-have-room b d s =
     let h = s.denotes.directory in
     let p = proper-room d h.proper in

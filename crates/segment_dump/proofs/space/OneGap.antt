@@ -77,13 +77,13 @@ gap-some e to h = let t : nat_lt e to ≡ true = grind (arith, nat_tests)
 pub record IsTaken (o : Option Extent) (e rest size : ℕ) : Type 0 where
   pub extent : Extent
   pub is : o ≡ Some extent
-  pub front : extent.offset ≡ e
+  pub prefix : extent.offset ≡ e
   pub fits : end_of extent + 16 + rest ≤ size
 
-place-front : (l : LiveSet) (n : ℕ) (role : Role) (e rest : ℕ) → gaps l ≡ gap_between e (l.size - 16)
+place-prefix : (l : LiveSet) (n : ℕ) (role : Role) (e rest : ℕ) → gaps l ≡ gap_between e (l.size - 16)
     → e + 16 + (room n + rest) ≤ l.size → IsRest rest → 0 < room n → IsTaken (place l n role) e rest l.size
 unfolding place fit gaps
-place-front l n role e rest g h r p =
+place-prefix l n role e rest g h r p =
     let to = l.size - 16 in
     let one : gaps l ≡ last_gap e to ∷ [] = g ∙ gap-some e to (omega arith) in
     let found : fit l n ≡ Some (last_gap e to) =
@@ -94,7 +94,7 @@ place-front l n role e rest g h r p =
       extent = record { offset = e; len = len; role = role };
       is = ap (λ o. option_map (λ (g : Gap). record { offset = g.offset; len = share g.len (room n); role = role })
           o) found;
-      front = refl;
+      prefix = refl;
       fits = omega (arith, fits);
     }
 
@@ -124,7 +124,7 @@ pub room-taken : (d : Directory) (n : ℕ) (role : Role) (rest : ℕ) → IsTrue
 room-taken d n role rest p h r =
     let gap = room-gaps d (room n + rest) p h in
     subst (IsTaken (place (live d) n role) h.end rest) (live-size d)
-    (place-front (live d) n role h.end rest gap (omega (arith, h.room, live-size d)) r (room-long n))
+    (place-prefix (live d) n role h.end rest gap (omega (arith, h.room, live-size d)) r (room-long n))
 
 -- ---- one block more
 

@@ -5,12 +5,12 @@ use Rattle.segment_dump.proofs.{Common.Writes, Common.writes-cut, Common.writes-
 use Rattle.segment_dump.specs.Json.{base64_text}
 
 -- the first three bytes
-pub group-front : (bs : List ℕ) → 3 ≤ length bs
+pub group-prefix : (bs : List ℕ) → 3 ≤ length bs
     → bs ≡ get_or bs 0 0 ∷ get_or bs 1 0 ∷ get_or bs 2 0 ∷ take (length bs - 3) (drop 3 bs)
-group-front [] h = absurd (omega (arith, h))
-group-front (a ∷ []) h = absurd (omega (arith, h))
-group-front (a ∷ b ∷ []) h = absurd (omega (arith, h))
-group-front (a ∷ b ∷ c ∷ bs) h =
+group-prefix [] h = absurd (omega (arith, h))
+group-prefix (a ∷ []) h = absurd (omega (arith, h))
+group-prefix (a ∷ b ∷ []) h = absurd (omega (arith, h))
+group-prefix (a ∷ b ∷ c ∷ bs) h =
     ap (λ l. a ∷ b ∷ c ∷ l) (sym (take_all (length (a ∷ b ∷ c ∷ bs) - 3) bs (omega arith)))
 
 -- so much has gone out, and this is left

@@ -2,31 +2,31 @@
 use Rattle.segment_dump.proofs.Common.{◌≡◌, ◌≢◌, ◌⊎◌, inl, inr, ℕ, ◌<◌, ◌^◌, List, [], ◌∷◌, ◌++◌, drop, length, refl}
 use Rattle.segment_dump.proofs.Common.{sym, ap, subst, ◌∙◌, arith, append_assoc, codes, decimal, AllByRecursion}
 use Rattle.segment_dump.proofs.Common.{decimal_injective, Class, Anonymous, Named, Unique, DumpItem, Items, dump_text}
-use Rattle.segment_dump.proofs.Common.{end_text, front_text, item_text, items_text}
+use Rattle.segment_dump.proofs.Common.{end_text, prefix_text, item_text, items_text}
 use Rattle.segment_dump.proofs.{texts.OneReading.Stops, texts.OneReading.row-reads, texts.OneReading.tails}
-use Rattle.segment_dump.proofs.{texts.OneReading.words-read, texts.Words.decimal-word}
+use Rattle.segment_dump.proofs.{texts.OneReading.tokens-read, texts.LineTokens.decimal-token}
 use Rattle.segment_dump.proofs.texts.Objects.{IsFirst, IsGoodItem, IsNoLine, ends-line, first-no_line, item-first}
-use Rattle.segment_dump.proofs.texts.Objects.{items-row, letter, never-first, parts-word}
+use Rattle.segment_dump.proofs.texts.Objects.{items-row, letter, never-first, parts-token}
 
 -- ---- the first lines
 
-front-apart : (s i p q l x : List ℕ) → s ++ i ++ p ++ q ++ l ++ x ≡ s ++ (i ++ (p ++ (q ++ (l ++ x))))
-front-apart s i p q l x = simp append_assoc
+prefix-apart : (s i p q l x : List ℕ) → s ++ i ++ p ++ q ++ l ++ x ≡ s ++ (i ++ (p ++ (q ++ (l ++ x))))
+prefix-apart s i p q l x = simp append_assoc
 
-fronts-read : (s t p q m n : ℕ) (a b : List ℕ) → front_text s p m ++ a ≡ front_text t q n ++ b
+prefixes-read : (s t p q m n : ℕ) (a b : List ℕ) → prefix_text s p m ++ a ≡ prefix_text t q n ++ b
     → (decimal s ≡ decimal t) × (a ≡ b)
-fronts-read s t p q m n a b e =
+prefixes-read s t p q m n a b e =
     let indexes : List ℕ = 0x0A ∷ codes "indexes " in
     let x : List ℕ = 0x20 ∷ (decimal m ++ 0x0A ∷ a) in
     let y : List ℕ = 0x20 ∷ (decimal n ++ 0x0A ∷ b) in
-    let sizes = words-read (decimal s) (decimal t) (indexes ++ (decimal p ++ x)) (indexes ++ (decimal q ++ y))
-    (decimal-word s) (decimal-word t)
+    let sizes = tokens-read (decimal s) (decimal t) (indexes ++ (decimal p ++ x)) (indexes ++ (decimal q ++ y))
+    (decimal-token s) (decimal-token t)
     (ends-line (codes "indexes " ++ (decimal p ++ x))) (ends-line (codes "indexes " ++ (decimal q ++ y)))
-    (sym (front-apart (decimal s) indexes (decimal p) (0x20 ∷ decimal m) (0x0A ∷ []) a) ∙ ap (drop 20) e
-    ∙ front-apart (decimal t) indexes (decimal q) (0x20 ∷ decimal n) (0x0A ∷ []) b) in
-    let named = words-read (decimal p) (decimal q) x y (decimal-word p) (decimal-word q)
-    (parts-word (decimal m ++ 0x0A ∷ a)) (parts-word (decimal n ++ 0x0A ∷ b)) (ap (drop 9) sizes.1) in
-    let unique = words-read (decimal m) (decimal n) (0x0A ∷ a) (0x0A ∷ b) (decimal-word m) (decimal-word n)
+    (sym (prefix-apart (decimal s) indexes (decimal p) (0x20 ∷ decimal m) (0x0A ∷ []) a) ∙ ap (drop 20) e
+    ∙ prefix-apart (decimal t) indexes (decimal q) (0x20 ∷ decimal n) (0x0A ∷ []) b) in
+    let named = tokens-read (decimal p) (decimal q) x y (decimal-token p) (decimal-token q)
+    (parts-token (decimal m ++ 0x0A ∷ a)) (parts-token (decimal n ++ 0x0A ∷ b)) (ap (drop 9) sizes.1) in
+    let unique = tokens-read (decimal m) (decimal n) (0x0A ∷ a) (0x0A ∷ b) (decimal-token m) (decimal-token n)
     (ends-line a) (ends-line b) (tails named.1) in
     (sizes.0, tails unique.1)
 
@@ -143,12 +143,12 @@ pub dumps-read : (m n : ℕ) (is js : Items) → AreItems is → AreItems js →
 dumps-read m n is js p q e =
     let x : List ℕ = items_text is.anonymous ++ end_text in
     let y : List ℕ = items_text js.anonymous ++ end_text in
-    let front : items_text is.named ++ (items_text is.unique ++ x)
+    let prefix : items_text is.named ++ (items_text is.unique ++ x)
     ≡ items_text js.named ++ (items_text js.unique ++ y) =
-    (fronts-read m n (length is.named) (length js.named) (length is.unique) (length js.unique) _ _ e).1 in
+    (prefixes-read m n (length is.named) (length js.named) (length is.unique) (length js.unique) _ _ e).1 in
     let named = class-read Named is.named js.named (items_text is.unique ++ x) (items_text js.unique ++ y) p.named
     q.named (named-behind (items_text is.unique ++ x) (unique-late is.unique is.anonymous p.unique p.anonymous))
-    (named-behind (items_text js.unique ++ y) (unique-late js.unique js.anonymous q.unique q.anonymous)) front in
+    (named-behind (items_text js.unique ++ y) (unique-late js.unique js.anonymous q.unique q.anonymous)) prefix in
     let unique = class-read Unique is.unique js.unique x y p.unique q.unique
     (unique-behind x (anonymous-late 1 is.anonymous p.anonymous))
     (unique-behind y (anonymous-late 1 js.anonymous q.anonymous)) named.1 in
@@ -159,4 +159,4 @@ dumps-read m n is js p q e =
 -- and the size that is said
 pub sizes-read : (m n : ℕ) (is js : Items) → m < 2 ^ 64 → n < 2 ^ 64 → dump_text m is ≡ dump_text n js → m ≡ n
 sizes-read m n is js p q e = decimal_injective m n p q
-    (fronts-read m n (length is.named) (length js.named) (length is.unique) (length js.unique) _ _ e).0
+    (prefixes-read m n (length is.named) (length js.named) (length is.unique) (length js.unique) _ _ e).0

@@ -3,9 +3,9 @@ use Rattle.segment_dump.proofs.Common.{◌≡◌, ◌≢◌, ℕ, zero, suc, ◌
 use Rattle.segment_dump.proofs.Common.{[], ◌∷◌, ◌++◌, length, map, refl, sym, ap, ◌∙◌, arith, append_assoc, append-nil}
 use Rattle.segment_dump.proofs.Common.{length-append, ◌<◌, nat_lt, flat_map, codes, AllByRecursion, list_all, nat_tests}
 use Rattle.segment_dump.proofs.Common.{flat_map-append, length-map, ScalarKind, between, digit_text, escape_text}
-use Rattle.segment_dump.proofs.Common.{quoted_text, value_text, parts_until, AreLines, HasNoEnd, IsWord, lines_text}
+use Rattle.segment_dump.proofs.Common.{quoted_text, value_text, parts_until, AreLines, HasNoEnd, IsToken, lines_text}
 use Rattle.segment_dump.proofs.Common.{element_line, pair_line, piece_lead, piece_line, piece_of, pieces_in}
-use Rattle.segment_dump.proofs.{Common.pieces_text, Common.ltb-true, texts.Words.value-word}
+use Rattle.segment_dump.proofs.{Common.pieces_text, Common.ltb-true, texts.LineTokens.value-token}
 use Rattle.seg_types.specs.Texts.{item_text}
 use Rattle.segment_dump.proofs.texts.AllElements.{AllByRecursion-append, all-any, all-by, all-mapped, all-tested}
 
@@ -23,8 +23,8 @@ pub no_end-both : (a b : List ℕ) → HasNoEnd a → HasNoEnd b → HasNoEnd (a
 no_end-both a b p q = AllByRecursion-append no_end a b p q
 
 -- a word has no line end
-pub word-no_end : (w : List ℕ) → IsWord w → HasNoEnd w
-word-no_end w h = all-by (λ c. 0x20 < c) no_end w h (λ c l e. omega (arith, l))
+pub token-no_end : (w : List ℕ) → IsToken w → HasNoEnd w
+token-no_end w h = all-by (λ c. 0x20 < c) no_end w h (λ c l e. omega (arith, l))
 
 quote-no_end : (c : ℕ) → ((c == 0x22) || (c == 0x5C)) ≡ true → c ≢ 0x0A
 quote-no_end c e f = grind (arith, nat_tests)
@@ -89,22 +89,22 @@ module _ {X : Type 0} (say line : X → List ℕ) (good : (x : X) → HasNoEnd (
 pub element-lines : (k : ScalarKind) (zs : List ℤ) → IsLines (length zs) (flat_map (element_line k) zs)
 element-lines k zs =
     each-line (element_line k) (λ z. 0x20 ∷ 0x20 ∷ value_text k z) (λ z.
-    blanks-no_end (value_text k z) (word-no_end (value_text k z) (value-word k z))) (λ z. refl) zs
+    blanks-no_end (value_text k z) (token-no_end (value_text k z) (value-token k z))) (λ z. refl) zs
 
 -- the line of a pair, without its end
-abbrev pub pair_front : ScalarKind → ScalarKind → ℤ × ℤ → List ℕ
-pair_front k v p = 0x20 ∷ 0x20 ∷ value_text k p.0 ++ 0x20 ∷ value_text v p.1
+abbrev pub pair_prefix : ScalarKind → ScalarKind → ℤ × ℤ → List ℕ
+pair_prefix k v p = 0x20 ∷ 0x20 ∷ value_text k p.0 ++ 0x20 ∷ value_text v p.1
 
 -- the line of a pair has no line end
-pub pair-no_end : (k v : ScalarKind) (p : ℤ × ℤ) → HasNoEnd (pair_front k v p)
+pub pair-no_end : (k v : ScalarKind) (p : ℤ × ℤ) → HasNoEnd (pair_prefix k v p)
 pair-no_end k v p =
     no_end-both (0x20 ∷ 0x20 ∷ value_text k p.0) (0x20 ∷ value_text v p.1)
-    (blanks-no_end (value_text k p.0) (word-no_end (value_text k p.0) (value-word k p.0)))
-    ((λ e. omega arith), word-no_end (value_text v p.1) (value-word v p.1))
+    (blanks-no_end (value_text k p.0) (token-no_end (value_text k p.0) (value-token k p.0)))
+    ((λ e. omega arith), token-no_end (value_text v p.1) (value-token v p.1))
 
 -- the pairs of a map are lines
 pub pair-lines : (k v : ScalarKind) (ps : List (ℤ × ℤ)) → IsLines (length ps) (flat_map (pair_line k v) ps)
-pair-lines k v ps = each-line (pair_line k v) (pair_front k v) (pair-no_end k v) (λ p. refl) ps
+pair-lines k v ps = each-line (pair_line k v) (pair_prefix k v) (pair-no_end k v) (λ p. refl) ps
 
 -- ---- pieces of a text
 
@@ -114,35 +114,39 @@ lead-no_end zero = no_end-test (codes " ") refl
 lead-no_end (suc i) = no_end-test (codes "    ") refl
 
 -- the line of a piece, without its end
-abbrev pub piece_front : List ℕ → ℕ → List ℕ
-piece_front bs i = piece_lead i ++ quoted_text (piece_of bs i)
+abbrev pub piece_prefix : List ℕ → ℕ → List ℕ
+piece_prefix bs i = piece_lead i ++ quoted_text (piece_of bs i)
 
-abbrev piece_fronts : List ℕ → ℕ → List (List ℕ)
-piece_fronts bs zero = []
-piece_fronts bs (suc n) = piece_fronts bs n ++ piece_front bs n ∷ []
+abbrev piece_prefixes : List ℕ → ℕ → List (List ℕ)
+piece_prefixes bs zero = []
+piece_prefixes bs (suc n) = piece_prefixes bs n ++ piece_prefix bs n ∷ []
 
-fronts-good : (bs : List ℕ) (n : ℕ) → AllByRecursion HasNoEnd (piece_fronts bs n)
-fronts-good bs zero = tt
-fronts-good bs (suc n) =
-    AllByRecursion-append HasNoEnd (piece_fronts bs n) (piece_front bs n ∷ []) (fronts-good bs n)
+prefixes-good : (bs : List ℕ) (n : ℕ) → AllByRecursion HasNoEnd (piece_prefixes bs n)
+prefixes-good bs zero = tt
+prefixes-good bs (suc n) =
+    AllByRecursion-append HasNoEnd (piece_prefixes bs n) (piece_prefix bs n ∷ []) (prefixes-good bs n)
     (no_end-both (piece_lead n) (quoted_text (piece_of bs n)) (lead-no_end n) (quoted-no_end (piece_of bs n)), tt)
 
-fronts-many : (bs : List ℕ) (n : ℕ) → length (piece_fronts bs n) ≡ n
-fronts-many bs zero = refl
-fronts-many bs (suc n) = omega (arith, length-append (piece_fronts bs n) (piece_front bs n ∷ []), fronts-many bs n)
+prefixes-many : (bs : List ℕ) (n : ℕ) → length (piece_prefixes bs n) ≡ n
+prefixes-many bs zero = refl
+prefixes-many bs (suc n) = omega (
+  arith,
+  length-append (piece_prefixes bs n) (piece_prefix bs n ∷ []),
+  prefixes-many bs n,
+)
 
 last-line : (l : List ℕ) → lines_text (l ∷ []) ≡ l ++ 0x0A ∷ []
 last-line l = append-nil (l ++ 0x0A ∷ [])
 
-fronts-whole : (bs : List ℕ) (n : ℕ) → parts_until (piece_line bs) n ≡ lines_text (piece_fronts bs n)
-fronts-whole bs zero = refl
-fronts-whole bs (suc n) =
-    ap (λ l. l ++ piece_line bs n) (fronts-whole bs n) ∙ ap (λ l. lines_text (piece_fronts bs n) ++ l)
-    (sym (append_assoc (piece_lead n) (quoted_text (piece_of bs n)) (0x0A ∷ [])) ∙ sym (last-line (piece_front bs n)))
-    ∙ sym (flat_map-append (λ l. l ++ 0x0A ∷ []) (piece_fronts bs n) (piece_front bs n ∷ []))
+prefixes-whole : (bs : List ℕ) (n : ℕ) → parts_until (piece_line bs) n ≡ lines_text (piece_prefixes bs n)
+prefixes-whole bs zero = refl
+prefixes-whole bs (suc n) =
+    ap (λ l. l ++ piece_line bs n) (prefixes-whole bs n) ∙ ap (λ l. lines_text (piece_prefixes bs n) ++ l)
+    (sym (append_assoc (piece_lead n) (quoted_text (piece_of bs n)) (0x0A ∷ [])) ∙ sym (last-line (piece_prefix bs n)))
+    ∙ sym (flat_map-append (λ l. l ++ 0x0A ∷ []) (piece_prefixes bs n) (piece_prefix bs n ∷ []))
 
 -- the pieces of a string are lines
 pub piece-lines : (bs : List ℕ) → IsLines (pieces_in (length bs)) (pieces_text bs)
 piece-lines bs =
     let n = pieces_in (length bs) in
-    record { lines = piece_fronts bs n; are = (fronts-good bs n, fronts-many bs n); whole = fronts-whole bs n }
+    record { lines = piece_prefixes bs n; are = (prefixes-good bs n, prefixes-many bs n); whole = prefixes-whole bs n }

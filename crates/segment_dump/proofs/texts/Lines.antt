@@ -5,12 +5,13 @@ use Rattle.segment_dump.proofs.Common.{true, false, nat_lt, List, [], ◌∷◌,
 use Rattle.segment_dump.proofs.Common.{arith, append_assoc, codes, decimal, flat_map, nat_abs, digit_glyph, digits}
 use Rattle.segment_dump.proofs.Common.{digits_onto, signed_decimal, length-append, length-take, Kind, ScalarKind}
 use Rattle.segment_dump.proofs.Common.{between, escape_text, is_bare_name, kind_text, name_text, quoted_text}
-use Rattle.segment_dump.proofs.Common.{scalar_text, value_text, measure_words, IsShortLine, HasNoEnd, ended}
+use Rattle.segment_dump.proofs.Common.{scalar_text, value_text, measure_tokens, IsShortLine, HasNoEnd, ended}
 use Rattle.segment_dump.proofs.Common.{length_text, piece_lead, piece_line, piece_of}
 use Rattle.seg_types.specs.{declared.kinds.ScalarKind.TheVariants.Bool as BoolKind, Texts.item_text}
-use Rattle.segment_dump.proofs.texts.Elements.{blanks-no_end, lead-no_end, no_end-both, pair_front, piece_front}
-use Rattle.segment_dump.proofs.texts.Elements.{quoted-no_end, word-no_end}
-use Rattle.segment_dump.proofs.{texts.KindWords.kind-word, texts.Words.decimal-word, texts.Words.value-word}
+use Rattle.segment_dump.proofs.texts.Elements.{blanks-no_end, lead-no_end, no_end-both, pair_prefix, piece_prefix}
+use Rattle.segment_dump.proofs.texts.Elements.{quoted-no_end, token-no_end}
+use Rattle.segment_dump.proofs.{texts.KindTokens.kind-token, texts.LineTokens.decimal-token}
+use Rattle.segment_dump.proofs.{texts.LineTokens.value-token}
 
 -- ---- how long
 
@@ -95,19 +96,19 @@ name-short name = name-if (is_bare_name name) name
 -- ---- elements
 
 -- the line of an element, without its end
-abbrev pub element_front : ScalarKind → ℤ → List ℕ
-element_front k z = 0x20 ∷ 0x20 ∷ value_text k z
+abbrev pub element_prefix : ScalarKind → ℤ → List ℕ
+element_prefix k z = 0x20 ∷ 0x20 ∷ value_text k z
 
 -- the line of an element has no line end
-pub element-no_end : (k : ScalarKind) (z : ℤ) → HasNoEnd (element_front k z)
-element-no_end k z = blanks-no_end (value_text k z) (word-no_end (value_text k z) (value-word k z))
+pub element-no_end : (k : ScalarKind) (z : ℤ) → HasNoEnd (element_prefix k z)
+element-no_end k z = blanks-no_end (value_text k z) (token-no_end (value_text k z) (value-token k z))
 
 -- the line of an element is short
-pub element-short : (k : ScalarKind) (z : ℤ) → IsShortLine (element_front k z)
+pub element-short : (k : ScalarKind) (z : ℤ) → IsShortLine (element_prefix k z)
 element-short k z = omega (arith, value-short k z)
 
 -- the line of a pair is short
-pub pair-short : (k v : ScalarKind) (p : ℤ × ℤ) → IsShortLine (pair_front k v p)
+pub pair-short : (k v : ScalarKind) (p : ℤ × ℤ) → IsShortLine (pair_prefix k v p)
 pair-short k v p = omega (
   arith,
   value-short k p.0,
@@ -125,12 +126,12 @@ lead-short zero = omega arith
 lead-short (suc i) = omega arith
 
 -- the line of a piece has no line end
-pub piece-no_end : (bs : List ℕ) (i : ℕ) → HasNoEnd (piece_front bs i)
+pub piece-no_end : (bs : List ℕ) (i : ℕ) → HasNoEnd (piece_prefix bs i)
 piece-no_end bs i = no_end-both (piece_lead i) (quoted_text (piece_of bs i)) (lead-no_end i)
     (quoted-no_end (piece_of bs i))
 
 -- the line of a piece is short
-pub piece-short : (bs : List ℕ) (i : ℕ) → IsShortLine (piece_front bs i)
+pub piece-short : (bs : List ℕ) (i : ℕ) → IsShortLine (piece_prefix bs i)
 piece-short bs i = omega (
   arith,
   lead-short i,
@@ -140,38 +141,38 @@ piece-short bs i = omega (
 )
 
 -- the line of a piece ends with a line end
-pub piece-ended : (bs : List ℕ) (i : ℕ) (a : List ℕ) → piece_line bs i ++ a ≡ ended (piece_front bs i) ++ a
+pub piece-ended : (bs : List ℕ) (i : ℕ) (a : List ℕ) → piece_line bs i ++ a ≡ ended (piece_prefix bs i) ++ a
 piece-ended bs i a = ap (λ l. l ++ a) (sym (append_assoc (piece_lead i) (quoted_text (piece_of bs i)) (0x0A ∷ [])))
 
 -- the first line, with the length in front
-abbrev pub first_front : List ℕ → List ℕ
-first_front bs = length_text (length bs) ++ piece_front bs 0
+abbrev pub first_prefix : List ℕ → List ℕ
+first_prefix bs = length_text (length bs) ++ piece_prefix bs 0
 
 -- the first line of a string has no line end
-pub first-no_end : (bs : List ℕ) → HasNoEnd (first_front bs)
-first-no_end bs = no_end-both (length_text (length bs)) (piece_front bs 0)
-    (blanks-no_end (decimal (length bs)) (word-no_end (decimal (length bs)) (decimal-word (length bs))))
+pub first-no_end : (bs : List ℕ) → HasNoEnd (first_prefix bs)
+first-no_end bs = no_end-both (length_text (length bs)) (piece_prefix bs 0)
+    (blanks-no_end (decimal (length bs)) (token-no_end (decimal (length bs)) (decimal-token (length bs))))
     (piece-no_end bs 0)
 
 -- the first line of a string is short
-pub first-short : (bs : List ℕ) → IsShortLine (first_front bs)
+pub first-short : (bs : List ℕ) → IsShortLine (first_prefix bs)
 first-short bs = omega (
   arith,
   decimal-short (length bs),
   quoted-short (piece_of bs 0),
   piece-few bs 0,
-  length-append (length_text (length bs)) (piece_front bs 0),
+  length-append (length_text (length bs)) (piece_prefix bs 0),
 )
 
 -- ---- the line of an object
 
 -- the words of a measure have no line end
-pub measure-no_end : (kind : Kind) (n : ℕ) → HasNoEnd (measure_words kind n)
+pub measure-no_end : (kind : Kind) (n : ℕ) → HasNoEnd (measure_tokens kind n)
 measure-no_end kind n = no_end-both (kind_text kind) (0x20 ∷ decimal n)
-    (word-no_end (kind_text kind) (kind-word kind)) ((λ e. omega arith), word-no_end (decimal n) (decimal-word n))
+    (token-no_end (kind_text kind) (kind-token kind)) ((λ e. omega arith), token-no_end (decimal n) (decimal-token n))
 
 -- the words of a measure are short
-pub measure-short : (kind : Kind) (n : ℕ) → length (measure_words kind n) ≤ 85
+pub measure-short : (kind : Kind) (n : ℕ) → length (measure_tokens kind n) ≤ 85
 measure-short kind n = omega (
   arith,
   kind-short kind,

@@ -8,9 +8,9 @@ use Rattle.segment_dump.proofs.Common.{item_text, kind_and_count_text, pair_line
 use Rattle.segment_dump.proofs.Common.{IsBuildableContent}
 use Rattle.segment_dump.proofs.{Common.IsNameIn, Common.IsTypedPair, texts.QuotedTexts.Any}
 use Rattle.segment_dump.proofs.{texts.QuotedTexts.names-read}
-use Rattle.segment_dump.proofs.{texts.Pieces.texts-read, texts.Words.decimal-word, texts.Words.values-read}
-use Rattle.segment_dump.proofs.{texts.KindWords.kinds-read}
-use Rattle.segment_dump.proofs.texts.OneReading.{Breaks, IsRow, Stops, heads, row-reads, tails, words-read}
+use Rattle.segment_dump.proofs.{texts.Pieces.texts-read, texts.LineTokens.decimal-token, texts.LineTokens.values-read}
+use Rattle.segment_dump.proofs.{texts.KindTokens.kinds-read}
+use Rattle.segment_dump.proofs.texts.OneReading.{Breaks, IsRow, Stops, heads, row-reads, tails, tokens-read}
 
 -- ---- what a text begins with
 
@@ -39,8 +39,8 @@ pub ends-line : (a : List ℕ) → Breaks (0x0A ∷ a)
 ends-line a = low-breaks 0x0A a (omega arith)
 
 -- a blank breaks a word
-pub parts-word : (a : List ℕ) → Breaks (0x20 ∷ a)
-parts-word a = low-breaks 0x20 a (omega arith)
+pub parts-token : (a : List ℕ) → Breaks (0x20 ∷ a)
+parts-token a = low-breaks 0x20 a (omega arith)
 
 -- ---- lines of elements
 
@@ -67,7 +67,7 @@ pairs-read : (k v : ScalarKind) (p q : ℤ × ℤ) (a b : List ℕ) → IsTypedP
     → pair_line k v p ++ a ≡ pair_line k v q ++ b → (p ≡ q) × (a ≡ b)
 pairs-read k v (x, y) (z, w) a b p q e =
     let r = values-read k x z (0x20 ∷ (value_text v y ++ 0x0A ∷ a)) (0x20 ∷ (value_text v w ++ 0x0A ∷ b)) p.0 q.0
-    (parts-word (value_text v y ++ 0x0A ∷ a)) (parts-word (value_text v w ++ 0x0A ∷ b))
+    (parts-token (value_text v y ++ 0x0A ∷ a)) (parts-token (value_text v w ++ 0x0A ∷ b))
     (sym (pair-apart (value_text k x) (value_text v y) a) ∙ ap (drop 2) e
     ∙ pair-apart (value_text k z) (value_text v w) b) in
     let s = values-read v y w (0x0A ∷ a) (0x0A ∷ b) p.1 q.1 (ends-line a) (ends-line b) (tails r.1) in
@@ -143,9 +143,9 @@ measures-read : (k l : Kind) (m n : ℕ) (a b : List ℕ) → kind_and_count_tex
     → (k ≡ l) × (a ≡ b)
 measures-read k l m n a b e =
     let r = kinds-read k l (0x20 ∷ (decimal m ++ 0x0A ∷ a)) (0x20 ∷ (decimal n ++ 0x0A ∷ b))
-    (parts-word (decimal m ++ 0x0A ∷ a)) (parts-word (decimal n ++ 0x0A ∷ b))
+    (parts-token (decimal m ++ 0x0A ∷ a)) (parts-token (decimal n ++ 0x0A ∷ b))
     (sym (measure-apart (kind_text k) (decimal m) a) ∙ e ∙ measure-apart (kind_text l) (decimal n) b) in
-    let s = words-read (decimal m) (decimal n) (0x0A ∷ a) (0x0A ∷ b) (decimal-word m) (decimal-word n) (ends-line a)
+    let s = tokens-read (decimal m) (decimal n) (0x0A ∷ a) (0x0A ∷ b) (decimal-token m) (decimal-token n) (ends-line a)
     (ends-line b) (tails r.1) in
     (r.0, tails s.1)
 
@@ -194,8 +194,8 @@ texts-told : (c : Class) (i j : DumpItem) (a b : List ℕ) → IsBuildableConten
 texts-told Named i j a b p q f g e =
     let r = names-read i.name j.name (0x20 ∷ (measure_in i.content ++ content_text i.content ++ a))
     (0x20 ∷ (measure_in j.content ++ content_text j.content ++ b))
-    (parts-word (measure_in i.content ++ content_text i.content ++ a))
-    (parts-word (measure_in j.content ++ content_text j.content ++ b))
+    (parts-token (measure_in i.content ++ content_text i.content ++ a))
+    (parts-token (measure_in j.content ++ content_text j.content ++ b))
     (sym (named-apart (name_text i.name) (measure_in i.content) (content_text i.content) a) ∙ ap (drop 6) e
     ∙ named-apart (name_text j.name) (measure_in j.content) (content_text j.content) b) in
     let s = bodies-read i.content j.content a b p q f g (tails r.1) in

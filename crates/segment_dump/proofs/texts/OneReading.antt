@@ -1,7 +1,7 @@
 -- Texts that are read in one way: what a text begins with tells what was written, and so what follows.
 use Rattle.segment_dump.proofs.Common.{◌≡◌, ℕ, List, [], ◌∷◌, ◌++◌, refl, sym, ap, subst, ◌∙◌, arith, append_assoc}
 use Rattle.segment_dump.proofs.Common.{drop, get_or, AllByRecursion, flat_map}
-pub use Rattle.segment_dump.specs.Reads.{Breaks, IsWord}
+pub use Rattle.segment_dump.specs.Reads.{Breaks, IsToken}
 
 -- ---- two texts that are the same, byte by byte
 
@@ -62,10 +62,10 @@ module _ {X : Type 0} (say : X → List ℕ) (IsSaid : X → Type 0) (Follows Be
 -- ---- words
 
 -- two words that begin equal texts are one
-pub words-read : (w v a b : List ℕ) → IsWord w → IsWord v → Breaks a → Breaks b → w ++ a ≡ v ++ b → (w ≡ v) × (a ≡ b)
-words-read [] [] a b p q f g e = (refl, e)
-words-read [] (d ∷ v) a b p q f g e = absurd (omega (arith, f.low d (v ++ b) e, q.0))
-words-read (c ∷ w) [] a b p q f g e = absurd (omega (arith, g.low c (w ++ a) (sym e), p.0))
-words-read (c ∷ w) (d ∷ v) a b p q f g e =
-    let others = words-read w v a b p.1 q.1 f g (tails e) in
+pub tokens-read : (w v a b : List ℕ) → IsToken w → IsToken v → Breaks a → Breaks b → w ++ a ≡ v ++ b → (w ≡ v) × (a ≡ b)
+tokens-read [] [] a b p q f g e = (refl, e)
+tokens-read [] (d ∷ v) a b p q f g e = absurd (omega (arith, f.low d (v ++ b) e, q.0))
+tokens-read (c ∷ w) [] a b p q f g e = absurd (omega (arith, g.low c (w ++ a) (sym e), p.0))
+tokens-read (c ∷ w) (d ∷ v) a b p q f g e =
+    let others = tokens-read w v a b p.1 q.1 f g (tails e) in
     (λ i. heads e i ∷ others.0 i, others.1)

@@ -4,7 +4,8 @@ use Rattle.segment_dump.proofs.Common.{sym, ap, ◌∙◌, arith, append_assoc, 
 use Rattle.segment_dump.proofs.Common.{number_text, parts_until, piece_line, piece_of, pieces_in, pieces_text}
 use Rattle.segment_dump.proofs.{Common.text_lines, Common.decimal_injective, texts.OneReading.Breaks}
 use Rattle.segment_dump.proofs.{texts.OneReading.heads, texts.OneReading.tails}
-use Rattle.segment_dump.proofs.{texts.OneReading.words-read, texts.QuotedTexts.quoted-read, texts.Words.decimal-word}
+use Rattle.segment_dump.proofs.{texts.OneReading.tokens-read, texts.QuotedTexts.quoted-read}
+use Rattle.segment_dump.proofs.{texts.LineTokens.decimal-token}
 use Rattle.segment_dump.proofs.{texts.Parts.split}
 
 -- ---- the pieces of a text are its bytes
@@ -67,8 +68,8 @@ pieces-break bs a =
 pub texts-read : (bs cs a b : List ℕ) → length bs < 2 ^ 64 → length cs < 2 ^ 64
     → text_lines bs ++ a ≡ text_lines cs ++ b → (bs ≡ cs) × (a ≡ b)
 texts-read bs cs a b p q e =
-    let r = words-read (number_text (length bs)) (number_text (length cs)) (pieces_text bs ++ a) (pieces_text cs
-    ++ b) (decimal-word (length bs)) (decimal-word (length cs)) (pieces-break bs a) (pieces-break cs b)
+    let r = tokens-read (number_text (length bs)) (number_text (length cs)) (pieces_text bs ++ a) (pieces_text cs
+    ++ b) (decimal-token (length bs)) (decimal-token (length cs)) (pieces-break bs a) (pieces-break cs b)
     (sym (append_assoc (number_text (length bs)) (pieces_text bs) a) ∙ ap (drop 2) e
     ∙ append_assoc (number_text (length cs)) (pieces_text cs) b) in
     pieces-read bs cs a b (decimal_injective (length bs) (length cs) p q r.0) r.1

@@ -4,7 +4,7 @@ use Rattle.segment_dump.proofs.Common.{◌++◌, refl, sym, ap, ◌∙◌, arith
 use Rattle.segment_dump.proofs.Common.{nat_tests, between, digit_text, escape_text, is_bare_name, is_letter}
 use Rattle.segment_dump.proofs.Common.{is_name_byte, name_text, quoted_text}
 use Rattle.seg_types.specs.Texts.{item_text}
-use Rattle.segment_dump.proofs.texts.OneReading.{Breaks, IsRow, IsWord, Stops, heads, row-reads, tails, words-read}
+use Rattle.segment_dump.proofs.texts.OneReading.{Breaks, IsRow, IsToken, Stops, heads, row-reads, tails, tokens-read}
 use Rattle.segment_dump.proofs.texts.AllElements.{all-any, all-tested}
 
 -- ---- a byte in quotes
@@ -115,7 +115,7 @@ quoted-read bs cs a b e =
 -- a text is a name, bare or in quotes
 pub data IsName (name t : List ℕ) : Type 0 where
   -- a name that is a word
-  bare : (c : ℕ) (cs : List ℕ) → name ≡ c ∷ cs → c ≢ 0x22 → IsWord name → t ≡ name → IsName name t
+  bare : (c : ℕ) (cs : List ℕ) → name ≡ c ∷ cs → c ≢ 0x22 → IsToken name → t ≡ name → IsName name t
   -- a name in quotes
   quoted : t ≡ quoted_text name → IsName name t
 
@@ -140,7 +140,7 @@ name-is name = name-by name (is_bare_name name) refl
 names-read-by : (n m s t a b : List ℕ) → IsName n s → IsName m t → Breaks a → Breaks b → s ++ a ≡ t ++ b
     → (n ≡ m) × (a ≡ b)
 names-read-by n m s t a b (bare c cs h k w f) (bare d ds i l v g) p q e =
-    words-read n m a b w v p q (ap (λ u. u ++ a) (sym f) ∙ e ∙ ap (λ u. u ++ b) g)
+    tokens-read n m a b w v p q (ap (λ u. u ++ a) (sym f) ∙ e ∙ ap (λ u. u ++ b) g)
 names-read-by n m s t a b (bare c cs h k w f) (quoted g) p q e =
     absurd (k (heads (ap (λ u. u ++ a) (sym (f ∙ h)) ∙ e ∙ ap (λ u. u ++ b) g)))
 names-read-by n m s t a b (quoted f) (bare d ds i l v g) p q e =

@@ -22,7 +22,7 @@ use Rattle.image_check.specs.EarlyTests.{has_front, has_magic, has_size, has_ver
 use Rattle.image_check.specs.Deciding.{decided, decided_by}
 use Rattle.image_check.specs.Classes.{class_of, classes, holds}
 use Rattle.image_check.specs.Formats.{format_in}
-use Rattle.image_check.specs.HeaderPlaces.{shown_size}
+use Rattle.image_check.specs.HeaderOffsets.{shown_size}
 use Rattle.image_check.specs.Opening.{IsImage, IsTooSmallFor}
 use Rattle.segment_file.specs.ReadingOn.{Says, said_by, size_or_0}
 

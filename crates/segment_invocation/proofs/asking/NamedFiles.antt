@@ -9,7 +9,7 @@ use Rattle.clap.specs.Matches.{matched_of, raw_values}
 use Rattle.clap.specs.Walk.{Row, Text, first_of, rows_of}
 use Rattle.clap.specs.declared.parser.matches.Found.{Found}
 use Rattle.clap.proofs.WalkLemmas.{raw_values-rows}
-use Rattle.segment_lang.specs.Words.{number_of}
+use Rattle.segment_lang.specs.Lexing.{number_of}
 use Rattle.segment_invocation.specs.Invocations.{asked_as, asked_in, command_called, language, lint, list_of}
 use Rattle.segment_invocation.specs.Invocations.{size_of}
 
@@ -62,16 +62,17 @@ not_none None h = cc
 not_none (Some m) h = cc
 
 -- a number that was given is read
-pub number_read : (word : Option Text) (n : ℕ) → size_of word ≡ Some (Some n) → option_and_then number_of word ≡ Some n
+pub number_read : (argument : Option Text) (n : ℕ) → size_of argument ≡ Some (Some n) → option_and_then number_of
+    argument ≡ Some n
 number_read None n h = cc
 number_read (Some w) n h = some_of (number_of w) n h
 
 -- no number was given: none is read
-pub no_number_read : (word : Option Text) → size_of word ≡ Some None → option_and_then number_of word ≡ None
+pub no_number_read : (argument : Option Text) → size_of argument ≡ Some None → option_and_then number_of argument ≡ None
 no_number_read None h = refl
 no_number_read (Some w) h = absurd (not_none (number_of w) h)
 
 -- a word that is no number is not read
-pub number_unread : (word : Option Text) → size_of word ≡ None → option_and_then number_of word ≡ None
+pub number_unread : (argument : Option Text) → size_of argument ≡ None → option_and_then number_of argument ≡ None
 number_unread None h = cc
 number_unread (Some w) h = none_of (number_of w) h

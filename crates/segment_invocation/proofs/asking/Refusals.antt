@@ -24,7 +24,8 @@ use Rattle.segment_invocation.specs.Invocations.{request_by, requested_in, reque
 use Rattle.segment_invocation.specs.declared.invocations.Request.{Request}
 use Rattle.segment_invocation.specs.declared.usage.InvocationFault.{InvocationFault}
 use Rattle.segment_invocation.specs.declared.usage.UsageError.{UsageError}
-use Rattle.segment_invocation.specs.declared.usage.UsageError.TheVariants.{Words, Command as NoCommand, File, Number}
+use Rattle.segment_invocation.specs.declared.usage.UsageError.TheVariants.{Arguments, Command as NoCommand, File}
+use Rattle.segment_invocation.specs.declared.usage.UsageError.TheVariants.{Number}
 use Rattle.segment_invocation.specs.declared.usage.UsageError.TheVariants.{Key, Mode, Modes, Size, Script, Files}
 use Rattle.segment_invocation.specs.declared.usage.UsageError.TheVariants.{Capacities}
 use Rattle.segment_invocation.specs.declared.usage.InvocationFault.TheVariants.{OutOfMemory, Usage}
@@ -127,7 +128,7 @@ module _ (words : List Text) (command : Command) (is : app_of command ≡ comman
   -- what is wrong with words of which a parse made an error
   pub unread_wrong : (other : Error)
       → (is_simple_and_free (app_of command) ≡ true → HasKind (fault_of (app_of command) words) other)
-      → (w : UsageError) → (w ≡ Words other) × (kind_of other ≡ NoMemory → ⊥) → IsWrongBy words w
+      → (w : UsageError) → (w ≡ Arguments other) × (kind_of other ≡ NoMemory → ⊥) → IsWrongBy words w
   unread_wrong other kinds w h =
       subst (IsWrongBy words) (sym h.0)
       (subst (IsAmong (kind_of other)) same-faults (among (fault_of (app_of command) words) other (kinds simple) h.1))
@@ -136,7 +137,7 @@ module _ (words : List Text) (command : Command) (is : app_of command ≡ comman
 wrong_if : (words : List Text) → fault_of command_line words ≡ []
     → requested_of (subcommand_of command_line words) ≡ None
     → (w : UsageError) → wrong_by w ≡ Some (wrong_of (subcommand_of command_line words)) → IsWrongBy words w
-wrong_if words f n (Words misread) e = absurd (none-some _ e)
+wrong_if words f n (Arguments misread) e = absurd (none-some _ e)
 wrong_if words f n NoCommand e = (f, n, e)
 wrong_if words f n File e = (f, n, e)
 wrong_if words f n Number e = (f, n, e)

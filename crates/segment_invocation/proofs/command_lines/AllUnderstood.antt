@@ -14,15 +14,16 @@ use Rattle.clap.specs.Takes.{built_takes, default_passes, entered_passes, is_val
 use Rattle.clap.specs.Takes.{turn_passes, walk_passes}
 use Rattle.clap.specs.Faults.{built_fault, fault_of, is_simple_and_free}
 use Rattle.clap.specs.declared.error.kind.ErrorKind.TheVariants.{DisplayVersion}
-use Rattle.segment_lang.specs.Words.{between, is_digit, is_numeral, number_after, number_of}
+use Rattle.segment_lang.specs.Lexing.{between, is_digit, is_numeral, number_after, number_of}
 use Rattle.segment_invocation.specs.Invocations.{InvocationValue, OptionValues, Origin, RequestValue, create, run}
 use Rattle.segment_invocation.specs.Invocations.{check, get, grow, shrink, migrate, tell, names, load, lint, language}
 use Rattle.segment_invocation.specs.Invocations.{version, input, from_file, from_lines}
 use Rattle.segment_invocation.specs.Invocations.{IsKeptWritten, IsModePart, IsNumberPart, IsOriginPart}
 use Rattle.segment_invocation.specs.Invocations.{IsPart, IsRequestWritten, IsRunWritten, IsSizePart, IsWaitPart}
-use Rattle.segment_invocation.specs.Invocations.{IsWrittenWith, check_options, check_words, command_line, flag_words}
-use Rattle.segment_invocation.specs.Invocations.{index_words, is_index, report_words}
-use Rattle.segment_invocation.specs.Invocations.{is_path, kept_options, lacks_size, mode_called, mode_of, mode_word}
+use Rattle.segment_invocation.specs.Invocations.{IsWrittenWith, check_options, check_arguments, command_line}
+use Rattle.segment_invocation.specs.Invocations.{flag_arguments}
+use Rattle.segment_invocation.specs.Invocations.{index_arguments, is_index, report_arguments}
+use Rattle.segment_invocation.specs.Invocations.{is_path, kept_options, lacks_size, mode_called, mode_of, mode_argument}
 use Rattle.segment_invocation.specs.Invocations.{no_options, of_version, plain_options, requested, requested_in}
 use Rattle.segment_invocation.specs.Invocations.{requested_of, run_of, options_of_run, run_sized, saving_part}
 use Rattle.segment_invocation.specs.Invocations.{seconds_of}
@@ -35,9 +36,9 @@ use Rattle.segment_invocation.specs.declared.invocations.ModeName.TheVariants.{C
 use Rattle.segment_invocation.specs.declared.invocations.ModeName.TheVariants.{OpenReadOnly, OpenCopyOnWrite}
 use Rattle.segment_disk.specs.declared.presence.SaveMode.{SaveMode}
 use Rattle.segment_disk.specs.declared.presence.SaveMode.TheVariants.{InPlace}
-use Rattle.segment_invocation.proofs.command_lines.PlainWords.{IsPlain}
+use Rattle.segment_invocation.proofs.command_lines.PlainArguments.{IsPlain}
 use Rattle.segment_invocation.proofs.command_lines.Subcommands.{ArePlain, Asking, IsAsk, IsPlainIn, asking, kept_in}
-use Rattle.segment_invocation.proofs.command_lines.Subcommands.{option_words}
+use Rattle.segment_invocation.proofs.command_lines.Subcommands.{option_arguments}
 use Rattle.segment_invocation.proofs.command_lines.Subcommands.{check_leaf, grow_leaf, load_leaf, migrate_leaf}
 use Rattle.segment_invocation.proofs.command_lines.Subcommands.{names_leaf}
 use Rattle.segment_invocation.proofs.command_lines.Subcommands.{run_leaf, shrink_leaf}
@@ -83,14 +84,14 @@ number-plain : (w : Text) (n : ℕ) → number_of w ≡ Some n → IsPlain w
 number-plain w n h = numeral-plain w
     (and_parts (is_numeral w) (nat_le (number_after 0 w) 18446744073709551615) (some-if _ _ n h)).0
 
-mode-plain : (mode : ModeName) → IsPlain (mode_word mode)
+mode-plain : (mode : ModeName) → IsPlain (mode_argument mode)
 mode-plain CreateOnly = (_, _, refl, refl)
 mode-plain OpenOnly = (_, _, refl, refl)
 mode-plain OpenOrCreate = (_, _, refl, refl)
 mode-plain OpenReadOnly = (_, _, refl, refl)
 mode-plain OpenCopyOnWrite = (_, _, refl, refl)
 
-called : (mode : ModeName) → mode_called (mode_word mode) ≡ Some mode
+called : (mode : ModeName) → mode_called (mode_argument mode) ≡ Some mode
 called CreateOnly = refl
 called OpenOnly = refl
 called OpenOrCreate = refl
@@ -101,22 +102,22 @@ called OpenCopyOnWrite = refl
 
 -- words are an option or nothing, whose value is no option and is read as this
 record IsOption {A : Type 0} (name : Text) (reading : Option Text → Option A) (words : List Text) (a : A) : Type 0 where
-  word : Option Text
-  spelled : words ≡ option_words name word
-  value : reading word ≡ Some a
-  plain : IsPlainIn word
+  argument : Option Text
+  spelled : words ≡ option_arguments name argument
+  value : reading argument ≡ Some a
+  plain : IsPlainIn argument
 
 number-option : (name : Text) (words : List Text) (n : Option ℕ) → IsNumberPart name words n
     → IsOption name size_of words n
-number-option name words None h = record { word = None; spelled = h; value = refl; plain = tt }
+number-option name words None h = record { argument = None; spelled = h; value = refl; plain = tt }
 number-option name words (Some n) (d, h, e) =
-    record { word = Some d; spelled = e; value = ap (option_map Some) h; plain = number-plain d n h }
+    record { argument = Some d; spelled = e; value = ap (option_map Some) h; plain = number-plain d n h }
 
 wait-option : (words : List Text) (wait : ℕ) → IsWaitPart words wait → IsOption (codes "--wait") seconds_of words wait
 wait-option words wait (n, h, e) =
     let o = number-option (codes "--wait") words n h in
     record {
-      word = o.word;
+      argument = o.argument;
       spelled = o.spelled;
       value = ap (option_map (λ (n : Option ℕ). unwrap_or n 0)) o.value
           ∙ ap Some (sym e);
@@ -126,14 +127,14 @@ wait-option words wait (n, h, e) =
 mode-option : (words : List Text) (mode : ModeName) → IsModePart words mode
     → IsOption (codes "--mode") (mode_of false) words mode
 mode-option words mode (inl e) =
-    record { word = Some (mode_word mode); spelled = e; value = called mode; plain = mode-plain mode }
-mode-option words mode (inr (e, o)) = record { word = None; spelled = e; value = ap Some (sym o); plain = tt }
+    record { argument = Some (mode_argument mode); spelled = e; value = called mode; plain = mode-plain mode }
+mode-option words mode (inr (e, o)) = record { argument = None; spelled = e; value = ap Some (sym o); plain = tt }
 
 prefix-option : (words : List Text) (prefix : Text) → IsPart (codes "--prefix") words prefix
-    → IsOption (codes "--prefix") (λ word. Some (unwrap_or word [])) words prefix
-prefix-option words [] e = record { word = None; spelled = e; value = refl; plain = tt }
+    → IsOption (codes "--prefix") (λ argument. Some (unwrap_or argument [])) words prefix
+prefix-option words [] e = record { argument = None; spelled = e; value = refl; plain = tt }
 prefix-option words (c ∷ cs) (t, e) =
-    record { word = Some (c ∷ cs); spelled = e; value = refl; plain = path-plain (c ∷ cs) t }
+    record { argument = Some (c ∷ cs); spelled = e; value = refl; plain = path-plain (c ∷ cs) t }
 
 -- ---- the words after the program's name
 
@@ -181,7 +182,7 @@ behind-get_at f k i p q r = record {
 }
 
 behind-value : (f k : Text) (index : Option Text) → IsPlain f → IsPlain k → IsTrue (is_index index)
-    → Behind (codes "get" ∷ f ∷ k ∷ index_words index) (plain_request f (get f k index))
+    → Behind (codes "get" ∷ f ∷ k ∷ index_arguments index) (plain_request f (get f k index))
 behind-value f k None p q h = behind-get f k p q
 behind-value f k (Some i) p q h = behind-get_at f k i p q (path-plain i h)
 
@@ -255,8 +256,8 @@ at_name name words = record (walk_from nothing_held) { stopped = Some (name, wor
 
 -- the tests of the program's own level, after those of its words
 abbrev takes_at : Walk → Bool → Bool
-takes_at end words_pass = entered_passes app end.stopped
-    && (words_pass && (settle_passes app.top.rules app.top.args_override_self end.held
+takes_at end arguments_pass = entered_passes app end.stopped
+    && (arguments_pass && (settle_passes app.top.rules app.top.args_override_self end.held
     && (list_all default_passes app.top.rules
     && is_valid app.top (finished app.top.rules end.held) (is_some (entered app end.stopped)))))
 
@@ -298,7 +299,7 @@ unfolding clap_on_literals
 check-behind = behind-name (codes "check") check_leaf refl refl (λ words. refl) (λ words. refl)
 
 behind-check : (f : Text) (explains quiet : Bool) → IsPlain f
-    → Behind (check_words f explains quiet) (with_options (check f) (check_options f explains quiet))
+    → Behind (check_arguments f explains quiet) (with_options (check f) (check_options f explains quiet))
 behind-check f explains quiet p = check-behind _ _ _ _ (check-asks f explains quiet p) refl refl
 
 grow-behind : (words : List Text) (wanted : Asking) (a : InvocationValue) (o : OptionValues)
@@ -334,14 +335,15 @@ names-behind = behind-name (codes "names") names_leaf refl refl (λ words. refl)
 -- ---- commands that write a file
 
 -- the seconds are read
-kept-read : (f : Text) (word : Option Text) (saving : SaveMode) (wait : ℕ) → seconds_of word ≡ Some wait
-    → kept_in f word saving ≡ Some (kept_options f saving wait)
-kept-read f word saving wait v = ap (option_and_then (λ w. Some (kept_options f saving w))) v
+kept-read : (f : Text) (argument : Option Text) (saving : SaveMode) (wait : ℕ) → seconds_of argument ≡ Some wait
+    → kept_in f argument saving ≡ Some (kept_options f saving wait)
+kept-read f argument saving wait v = ap (option_and_then (λ w. Some (kept_options f saving w))) v
 
 -- options of ours after words that are requested with them
-module _ (a : InvocationValue) (f : Text) (begun : List Text) (each : (word : Option Text) (saving : SaveMode)
-    (wait : ℕ) → IsPlain f → IsPlainIn word → seconds_of word ≡ Some wait
-    → Behind (begun ++ (option_words (codes "--wait") word ++ saving_part saving)) (with_options a (kept_options f
+module _ (a : InvocationValue) (f : Text) (begun : List Text) (each : (argument : Option Text) (saving : SaveMode)
+    (wait : ℕ) → IsPlain f → IsPlainIn argument → seconds_of argument ≡ Some wait
+    → Behind (begun ++ (option_arguments (codes "--wait") argument ++ saving_part saving)) (with_options a
+    (kept_options f
     saving
     wait))) where
   behind-kept : (how : OptionValues) (words : List Text) → IsKeptWritten begun f how words
@@ -351,34 +353,34 @@ module _ (a : InvocationValue) (f : Text) (begun : List Text) (each : (word : Op
       let spelled = e ∙ ap (λ (ws : List Text). begun ++ (ws ++ saving_part how.saving)) o.spelled in
       subst (λ (r : OptionValues). Behind words (with_options a r)) (sym h)
       (subst (λ (ws : List Text). Behind ws (with_options a (kept_options f how.saving how.wait))) (sym spelled)
-      (each o.word how.saving how.wait (path-plain f p) o.plain o.value))
+      (each o.argument how.saving how.wait (path-plain f p) o.plain o.value))
 
 behind-grow : (f d : Text) (n : ℕ) (how : OptionValues) (words : List Text) → number_of d ≡ Some n
     → IsKeptWritten (codes "grow" ∷ f ∷ d ∷ []) f how words → Behind words (with_options (grow f n) how)
-behind-grow f d n how words h = behind-kept (grow f n) f (codes "grow" ∷ f ∷ d ∷ []) (λ word saving wait p q v.
-    grow-behind _ _ _ _ (grow-asks f d word saving p (number-plain d n h) q) (ap (option_map (grow f)) h)
-    (kept-read f word saving wait v)) how words
+behind-grow f d n how words h = behind-kept (grow f n) f (codes "grow" ∷ f ∷ d ∷ []) (λ argument saving wait p q v.
+    grow-behind _ _ _ _ (grow-asks f d argument saving p (number-plain d n h) q) (ap (option_map (grow f)) h)
+    (kept-read f argument saving wait v)) how words
 
 behind-shrink : (f : Text) (how : OptionValues) (words : List Text)
     → IsKeptWritten (codes "shrink" ∷ f ∷ []) f how words
     → Behind words (with_options (shrink f) how)
-behind-shrink f = behind-kept (shrink f) f (codes "shrink" ∷ f ∷ []) (λ word saving wait p q v.
-    shrink-behind _ _ _ _ (shrink-asks f word saving p q) refl (kept-read f word saving wait v))
+behind-shrink f = behind-kept (shrink f) f (codes "shrink" ∷ f ∷ []) (λ argument saving wait p q v.
+    shrink-behind _ _ _ _ (shrink-asks f argument saving p q) refl (kept-read f argument saving wait v))
 
 behind-migrate : (f : Text) (how : OptionValues) (words : List Text)
     → IsKeptWritten (codes "migrate" ∷ f ∷ []) f how words → Behind words (with_options (migrate f) how)
-behind-migrate f = behind-kept (migrate f) f (codes "migrate" ∷ f ∷ []) (λ word saving wait p q v.
-    migrate-behind _ _ _ _ (migrate-asks f word saving p q) refl (kept-read f word saving wait v))
+behind-migrate f = behind-kept (migrate f) f (codes "migrate" ∷ f ∷ []) (λ argument saving wait p q v.
+    migrate-behind _ _ _ _ (migrate-asks f argument saving p q) refl (kept-read f argument saving wait v))
 
 behind-load : (f : Text) (size : Option ℕ) (how : OptionValues) (sizes words : List Text)
     → IsNumberPart (codes "--size") sizes size → IsKeptWritten (codes "load" ∷ f ∷ sizes) f how words
     → Behind words (with_options (load f size) how)
 behind-load f size how sizes words s = behind-kept (load f size) f (codes "load" ∷ f ∷ sizes)
-    (λ word saving wait p q v. let o = number-option (codes "--size") sizes size s in
-    subst (λ (ws : List Text). Behind (codes "load" ∷ f ∷ ws ++ (option_words (codes "--wait") word
+    (λ argument saving wait p q v. let o = number-option (codes "--size") sizes size s in
+    subst (λ (ws : List Text). Behind (codes "load" ∷ f ∷ ws ++ (option_arguments (codes "--wait") argument
     ++ saving_part saving)) (with_options (load f size) (kept_options f saving wait))) (sym o.spelled)
-    (load-behind _ _ _ _ (load-asks f o.word word saving p o.plain q) (ap (option_map (load f)) o.value)
-    (kept-read f word saving wait v))) how words
+    (load-behind _ _ _ _ (load-asks f o.argument argument saving p o.plain q) (ap (option_map (load f)) o.value)
+    (kept-read f argument saving wait v))) how words
 
 behind-names : (f : Text) (prefix : Text) (most : Option ℕ) (prefixes mosts : List Text) → IsPlain f
     → IsPart (codes "--prefix") prefixes prefix → IsNumberPart (codes "--most") mosts most
@@ -388,8 +390,9 @@ behind-names f prefix most prefixes mosts p a m =
     let u = number-option (codes "--most") mosts most m in
     subst (λ (ws : List Text). Behind (codes "names" ∷ f ∷ ws) (plain_request f (names f prefix most)))
     (sym (ap₂ ◌++◌ o.spelled u.spelled))
-    (names-behind _ _ _ _ (names-asks f o.word u.word p o.plain u.plain)
-    (ap (option_map (names f (unwrap_or o.word []))) u.value ∙ ap (option_map (λ (t : Text). names f t most)) o.value)
+    (names-behind _ _ _ _ (names-asks f o.argument u.argument p o.plain u.plain)
+    (ap (option_map (names f (unwrap_or o.argument []))) u.value ∙ ap (option_map (λ (t : Text). names f t most))
+    o.value)
     refl)
 
 -- ---- runs
@@ -404,7 +407,7 @@ sized f mode size m n hm hn hl =
 behind-options : (f : Text) (modes sizes waits : List Text) (mode : ModeName) (size : Option ℕ) (wait : ℕ)
     (saving : SaveMode) (strict numbered : Bool) → IsPlain f
     → IsModePart modes mode → IsSizePart sizes mode size → IsWaitPart waits wait
-    → Behind (codes "run" ∷ f ∷ modes ++ (sizes ++ (waits ++ flag_words saving strict numbered)))
+    → Behind (codes "run" ∷ f ∷ modes ++ (sizes ++ (waits ++ flag_arguments saving strict numbered)))
     (with_options (run f mode size) (options_of_run f input saving wait strict numbered))
 behind-options f modes sizes waits mode size wait v t n p m (s, l) w =
     let a = mode-option modes mode m in
@@ -412,9 +415,9 @@ behind-options f modes sizes waits mode size wait v t n p m (s, l) w =
     let u = wait-option waits wait w in
     subst (λ (ws : List Text). Behind (codes "run" ∷ f ∷ ws)
     (with_options (run f mode size) (options_of_run f input v wait t n)))
-    (sym (ap₂ ◌++◌ a.spelled (ap₂ ◌++◌ o.spelled (ap (λ (ws : List Text). ws ++ flag_words v t n) u.spelled))))
-    (run-behind _ _ _ _ (run-asks f a.word o.word u.word v t n p a.plain o.plain u.plain)
-    (sized f (mode_of false a.word) o.word mode size a.value o.value l)
+    (sym (ap₂ ◌++◌ a.spelled (ap₂ ◌++◌ o.spelled (ap (λ (ws : List Text). ws ++ flag_arguments v t n) u.spelled))))
+    (run-behind _ _ _ _ (run-asks f a.argument o.argument u.argument v t n p a.plain o.plain u.plain)
+    (sized f (mode_of false a.argument) o.argument mode size a.value o.value l)
     (ap (option_and_then (λ w. Some (options_of_run f input v w t n))) u.value))
 
 -- a run of a script that the command line names or has
@@ -465,7 +468,8 @@ unfolding clap_on_literals
 asks-version = record { is = refl; fault = refl }
 
 -- a report of a file
-behind-report : (f : Text) (what : Report) → IsPlain f → Behind (report_words what f) (plain_request f (tell f what))
+behind-report : (f : Text) (what : Report) → IsPlain f → Behind (report_arguments what f) (plain_request f (tell
+    f what))
 behind-report f Figures p = behind-stat f p
 behind-report f Picture p = behind-draw f p
 behind-report f Page p = behind-page f p

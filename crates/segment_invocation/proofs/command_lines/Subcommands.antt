@@ -6,20 +6,21 @@ use Rattle.std.specs.Prelude.{⊤, option_and_then, option_map, unwrap_or}
 use Rattle.std.proofs.lemmas.Bool.{and_parts}
 use Rattle.std.proofs.lemmas.List.{append_assoc}
 use Rattle.clap.proofs.OnLiterals.{clap_on_literals}
-use Rattle.clap.specs.Walk.{Held, Row, Text, Waiting, Walk, finished, idle, option as waits, nothing_held, plain_word}
+use Rattle.clap.specs.Walk.{Held, Row, Text, Waiting, Walk, finished, idle, option as waits, nothing_held}
+use Rattle.clap.specs.Walk.{plain_argument}
 use Rattle.clap.specs.Walk.{rows_after, settled, walk_from, walked}
 use Rattle.clap.specs.Simple.{Shape, built_leaf, inherited}
 use Rattle.clap.specs.Takes.{default_passes, is_valid, level_passes, settle_passes, step_passes, turn_passes}
 use Rattle.clap.specs.Takes.{walk_passes}
 use Rattle.clap.specs.declared.builder.value_parser.Reading.TheVariants as reading
 use Rattle.clap.specs.declared.parser.matches.ValueSource.TheVariants.{CommandLine}
-use Rattle.segment_lang.specs.Words.{number_of}
+use Rattle.segment_lang.specs.Lexing.{number_of}
 use Rattle.segment_invocation.specs.Invocations.{mode_of}
 use Rattle.segment_invocation.specs.Invocations.{InvocationValue, OptionValues, Origin, asked_in, check, check_command}
 use Rattle.segment_invocation.specs.Invocations.{check_options, create, create_command, draw_command, dump_command}
-use Rattle.segment_invocation.specs.Invocations.{file_command, flag_part, flag_words, from_file, from_lines, get}
+use Rattle.segment_invocation.specs.Invocations.{file_command, flag_part, flag_arguments, from_file, from_lines, get}
 use Rattle.segment_invocation.specs.Invocations.{get_command, grow}
-use Rattle.segment_invocation.specs.Invocations.{grow_command, input, kept_command, kept_options, line_words, load}
+use Rattle.segment_invocation.specs.Invocations.{grow_command, input, kept_command, kept_options, line_arguments, load}
 use Rattle.segment_invocation.specs.Invocations.{load_command, migrate, names, names_command, options_of}
 use Rattle.segment_invocation.specs.Invocations.{plain_options, program, run_command, run_of, options_of_run}
 use Rattle.segment_invocation.specs.Invocations.{saving_part}
@@ -29,7 +30,7 @@ use Rattle.segment_invocation.specs.declared.invocations.Report.TheVariants.{Fig
 use Rattle.segment_invocation.specs.declared.invocations.Report.TheVariants.{Json}
 use Rattle.segment_disk.specs.declared.presence.SaveMode.{SaveMode}
 use Rattle.segment_disk.specs.declared.presence.SaveMode.TheVariants.{InPlace, Replacing}
-use Rattle.segment_invocation.proofs.command_lines.PlainWords.{IsPlain, plain_step, turn-plain, walked-plain}
+use Rattle.segment_invocation.proofs.command_lines.PlainArguments.{IsPlain, plain_step, turn-plain, walked-plain}
 
 -- a command as it is built
 abbrev pub leaf : Shape → Shape
@@ -37,8 +38,8 @@ leaf s = built_leaf (inherited program.top s)
 
 -- the last tests of a level, after the test of its words
 abbrev passes_at : Shape → Bool → Walk → Bool
-passes_at s words_pass end =
-    words_pass && (settle_passes s.rules s.args_override_self end.held
+passes_at s arguments_pass end =
+    arguments_pass && (settle_passes s.rules s.args_override_self end.held
     && (list_all default_passes s.rules && is_valid s (finished s.rules end.held) false))
 
 -- ---- a walk over some of the words
@@ -71,8 +72,8 @@ after_file s f = plain_step s.rules (walk_from nothing_held) f
 
 -- the word passes that is a value, or goes to its place
 abbrev IsTaken : Shape → Held → Waiting → ℕ → Text → Type 0
-IsTaken s h waiting position word =
-    (let met = plain_word s.rules waiting word h in step_passes s position met.0 met.1) ≡ true
+IsTaken s h waiting position argument =
+    (let met = plain_argument s.rules waiting argument h in step_passes s position met.0 met.1) ≡ true
 
 module _ (s : Shape) where
   walk-behind : (words : List Text) (w : Walk) (more : List Text)
@@ -97,24 +98,25 @@ module _ (s : Shape) where
   }
 
   -- one word that is no option
-  plain : (h : Held) (waiting : Waiting) (position : ℕ) (word : Text) → IsPlain word → IsTaken s h waiting position word
-      → IsSteps s (at h waiting position) (word ∷ []) (plain_step s.rules (at h waiting position) word)
+  plain : (h : Held) (waiting : Waiting) (position : ℕ) (argument : Text) → IsPlain argument → IsTaken s h
+      waiting position argument
+      → IsSteps s (at h waiting position) (argument ∷ []) (plain_step s.rules (at h waiting position) argument)
   unfolding walk_passes
-  plain h waiting position word p t = record {
-    walk = walked-plain s.rules h waiting position word p;
-    passes = ap (λ b. b && true) (turn-plain s h waiting position word p ∙ t);
+  plain h waiting position argument p t = record {
+    walk = walked-plain s.rules h waiting position argument p;
+    passes = ap (λ b. b && true) (turn-plain s h waiting position argument p ∙ t);
   }
 
   -- an option and its value
-  option-steps : (h : Held) (waiting : Waiting) (position : ℕ) (word id v : Text) → IsPlain v
-      → walked s.rules [] (at h waiting position) word ≡ at_option s id (at h waiting position)
-      → turn_passes s [] (at h waiting position) word ≡ true
+  option-steps : (h : Held) (waiting : Waiting) (position : ℕ) (argument id v : Text) → IsPlain v
+      → walked s.rules [] (at h waiting position) argument ≡ at_option s id (at h waiting position)
+      → turn_passes s [] (at h waiting position) argument ≡ true
       → IsTaken s (at_option s id (at h waiting position)).held (waits id) position v
-      → IsSteps s (at h waiting position) (word ∷ v ∷ []) (after_option s id v (at h waiting position))
+      → IsSteps s (at h waiting position) (argument ∷ v ∷ []) (after_option s id v (at h waiting position))
   unfolding walk_passes
-  option-steps h waiting position word id v p e t u =
+  option-steps h waiting position argument id v p e t u =
       steps (at h waiting position) (at_option s id (at h waiting position))
-      (after_option s id v (at h waiting position)) (word ∷ []) (v ∷ [])
+      (after_option s id v (at h waiting position)) (argument ∷ []) (v ∷ [])
       (record { walk = e; passes = ap (λ b. b && true) t })
       (plain (at_option s id (at h waiting position)).held (waits id) position v p u)
 
@@ -285,9 +287,9 @@ get_at-asks f k i p q r =
 -- ---- options that may be left out
 
 -- `NAME VALUE`, or nothing
-abbrev pub option_words : Text → Option Text → List Text
-option_words name None = []
-option_words name (Some v) = name ∷ v ∷ []
+abbrev pub option_arguments : Text → Option Text → List Text
+option_arguments name None = []
+option_arguments name (Some v) = name ∷ v ∷ []
 
 -- the value is no option
 abbrev pub IsPlainIn : Option Text → Type 0
@@ -299,14 +301,14 @@ abbrev with_option : Shape → Text → Text → Text → Walk
 with_option s f id v = after_option s id v (after_file s f)
 
 -- an option after words that lead to a place
-module _ (s : Shape) (from : Walk) (words : List Text) (h : Held) (position : ℕ) (word id v : Text) where
+module _ (s : Shape) (from : Walk) (words : List Text) (h : Held) (position : ℕ) (argument id v : Text) where
   optioned : IsPlain v → IsSteps s from words (at h idle position)
-      → walked s.rules [] (at h idle position) word ≡ at_option s id (at h idle position)
-      → turn_passes s [] (at h idle position) word ≡ true
+      → walked s.rules [] (at h idle position) argument ≡ at_option s id (at h idle position)
+      → turn_passes s [] (at h idle position) argument ≡ true
       → IsTaken s (at_option s id (at h idle position)).held (waits id) position v
-      → IsSteps s from (words ++ word ∷ v ∷ []) (after_option s id v (at h idle position))
+      → IsSteps s from (words ++ argument ∷ v ∷ []) (after_option s id v (at h idle position))
   optioned q w e t u = steps s from (at h idle position) (after_option s id v (at h idle position)) words
-      (word ∷ v ∷ []) w (option-steps s h idle position word id v q e t u)
+      (argument ∷ v ∷ []) w (option-steps s h idle position argument id v q e t u)
 
 -- a place, with how a file is saved after it
 abbrev IsSaved : {A : Type 0} → Shape → (List Row → A) → Walk → SaveMode → A → Type 0
@@ -334,7 +336,7 @@ shrink_leaf = leaf (kept_command (codes "shrink"))
 
 -- `shrink` asks for a smaller file
 pub shrink-asks : (f : Text) (wait : Option Text) (saving : SaveMode) → IsPlain f → IsPlainIn wait
-    → IsAsk shrink_leaf (asking (codes "shrink")) (f ∷ option_words (codes "--wait") wait ++ saving_part saving)
+    → IsAsk shrink_leaf (asking (codes "shrink")) (f ∷ option_arguments (codes "--wait") wait ++ saving_part saving)
     (Some (shrink f), kept_in f wait saving)
 unfolding clap_on_literals
 shrink-asks f None saving p q =
@@ -353,7 +355,7 @@ migrate_leaf = leaf (kept_command (codes "migrate"))
 
 -- `migrate` asks for the current format
 pub migrate-asks : (f : Text) (wait : Option Text) (saving : SaveMode) → IsPlain f → IsPlainIn wait
-    → IsAsk migrate_leaf (asking (codes "migrate")) (f ∷ option_words (codes "--wait") wait ++ saving_part saving)
+    → IsAsk migrate_leaf (asking (codes "migrate")) (f ∷ option_arguments (codes "--wait") wait ++ saving_part saving)
     (Some (migrate f), kept_in f wait saving)
 unfolding clap_on_literals
 migrate-asks f None saving p q =
@@ -376,7 +378,7 @@ at_bytes f d = plain_step grow_leaf.rules (after_file grow_leaf f) d
 
 -- `grow` asks for a larger file
 pub grow-asks : (f d : Text) (wait : Option Text) (saving : SaveMode) → IsPlain f → IsPlain d → IsPlainIn wait
-    → IsAsk grow_leaf (asking (codes "grow")) (f ∷ d ∷ option_words (codes "--wait") wait ++ saving_part saving)
+    → IsAsk grow_leaf (asking (codes "grow")) (f ∷ d ∷ option_arguments (codes "--wait") wait ++ saving_part saving)
     (option_map (grow f) (number_of d), kept_in f wait saving)
 unfolding clap_on_literals
 grow-asks f d None saving p q r = saved grow_leaf (asking (codes "grow")) f (d ∷ []) (at_bytes f d)
@@ -407,8 +409,8 @@ size-steps f d q = option-steps load_leaf (after_file load_leaf f).held idle 2 (
 
 -- `load` asks for a load
 pub load-asks : (f : Text) (size wait : Option Text) (saving : SaveMode) → IsPlain f → IsPlainIn size → IsPlainIn wait
-    → IsAsk load_leaf (asking (codes "load")) (f ∷ option_words (codes "--size") size
-    ++ (option_words (codes "--wait") wait ++ saving_part saving)) (loaded f size wait saving)
+    → IsAsk load_leaf (asking (codes "load")) (f ∷ option_arguments (codes "--size") size
+    ++ (option_arguments (codes "--wait") wait ++ saving_part saving)) (loaded f size wait saving)
 unfolding clap_on_literals
 load-asks f None None saving p q r =
     saved load_leaf (asking (codes "load")) f [] (after_file load_leaf f) (loaded f None None) saving p refl
@@ -449,8 +451,8 @@ prefix-steps f t q = option-steps names_leaf (after_file names_leaf f).held idle
 
 -- `names` asks for names
 pub names-asks : (f : Text) (prefix most : Option Text) → IsPlain f → IsPlainIn prefix → IsPlainIn most
-    → IsAsk names_leaf (asking (codes "names")) (f ∷ option_words (codes "--prefix") prefix
-    ++ option_words (codes "--most") most) (listed f prefix most)
+    → IsAsk names_leaf (asking (codes "names")) (f ∷ option_arguments (codes "--prefix") prefix
+    ++ option_arguments (codes "--most") most) (listed f prefix most)
 unfolding clap_on_literals
 names-asks f None None p q r =
     flagged names_leaf (asking (codes "names")) f [] (listed f None None) p refl refl refl refl
@@ -486,10 +488,10 @@ said f mode size wait saving strict numbered = (
 
 -- a place, with the flags of a run after it
 abbrev IsFlagged : Walk → (SaveMode → Bool → Bool → Asking) → SaveMode → Bool → Bool → Type 0
-IsFlagged to a saving strict numbered = (walk_passes run_leaf [] to (flag_words saving strict numbered) ≡ true)
+IsFlagged to a saving strict numbered = (walk_passes run_leaf [] to (flag_arguments saving strict numbered) ≡ true)
     × (run_asking (finished run_leaf.rules
-    (fold (walked run_leaf.rules []) to (flag_words saving strict numbered)).held) ≡ a saving strict numbered)
-    × (passes_at run_leaf true (fold (walked run_leaf.rules []) to (flag_words saving strict numbered)) ≡ true)
+    (fold (walked run_leaf.rules []) to (flag_arguments saving strict numbered)).held) ≡ a saving strict numbered)
+    × (passes_at run_leaf true (fold (walked run_leaf.rules []) to (flag_arguments saving strict numbered)) ≡ true)
 
 all-flags : (P : SaveMode → Bool → Bool → Type 0) → P InPlace false false → P InPlace false true
     → P InPlace true false → P InPlace true true
@@ -511,10 +513,10 @@ record IsRunPart (f : Text) (words : List Text) (to : Walk) (a : SaveMode → Bo
 
 run-flagged : (f : Text) (words : List Text) (to : Walk) (a : SaveMode → Bool → Bool → Asking) → IsPlain f
     → IsRunPart f words to a → (saving : SaveMode) (strict numbered : Bool)
-    → IsAsk run_leaf run_asking (f ∷ words ++ flag_words saving strict numbered) (a saving strict numbered)
+    → IsAsk run_leaf run_asking (f ∷ words ++ flag_arguments saving strict numbered) (a saving strict numbered)
 run-flagged f words to a p w saving strict numbered =
     let h = w.flagged saving strict numbered in
-    behind run_leaf run_asking f words (flag_words saving strict numbered) to (a saving strict numbered) p refl
+    behind run_leaf run_asking f words (flag_arguments saving strict numbered) to (a saving strict numbered) p refl
     w.path h.0 h.1 h.2
 
 -- `--mode M` and `--size N` right after the file, and both
@@ -631,9 +633,9 @@ all-part f m d w q r t = record {
 -- `run` asks for a run
 pub run-asks : (f : Text) (mode size wait : Option Text) (saving : SaveMode) (strict numbered : Bool) → IsPlain f
     → IsPlainIn mode → IsPlainIn size → IsPlainIn wait
-    → IsAsk run_leaf run_asking (f ∷ option_words (codes "--mode") mode
-    ++ (option_words (codes "--size") size
-    ++ (option_words (codes "--wait") wait ++ flag_words saving strict numbered)))
+    → IsAsk run_leaf run_asking (f ∷ option_arguments (codes "--mode") mode
+    ++ (option_arguments (codes "--size") size
+    ++ (option_arguments (codes "--wait") wait ++ flag_arguments saving strict numbered)))
     (said f mode size wait saving strict numbered)
 run-asks f None None None saving strict numbered p q r t = run-flagged _ _ _ _ p (file-part f) saving strict numbered
 run-asks f (Some m) None None saving strict numbered p q r t =
@@ -666,8 +668,8 @@ script-asks f t p q = behind run_leaf run_asking f (t ∷ []) [] (plain_step run
     (number run_leaf (after_file run_leaf f).held t q refl) refl refl refl
 
 -- the row of a word, which may have more than one value
-abbrev word_row : Text → List Text → Row
-word_row id words = record {
+abbrev argument_row : Text → List Text → Row
+argument_row id words = record {
   id = id;
   values = words;
   count = None;
@@ -677,8 +679,8 @@ word_row id words = record {
 
 -- the rows with these lines
 abbrev line_rows : Text → List Text → List Row
-line_rows f [] = word_row (codes "file") (f ∷ []) ∷ []
-line_rows f (l ∷ ls) = word_row (codes "file") (f ∷ []) ∷ word_row (codes "line") (l ∷ ls) ∷ []
+line_rows f [] = argument_row (codes "file") (f ∷ []) ∷ []
+line_rows f (l ∷ ls) = argument_row (codes "file") (f ∷ []) ∷ argument_row (codes "line") (l ∷ ls) ∷ []
 
 -- after the last line, with those before it
 abbrev at_line : Text → List Text → Text → Walk
@@ -706,7 +708,7 @@ ArePlain (l ∷ ls) = IsPlain l × ArePlain ls
 record IsLined (f : Text) (done : List Text) (last : Text) (words : List Text) : Type 0 where
   before : List Text
   final : Text
-  path : IsSteps run_leaf (at_line f done last) (line_words words) (at_line f before final)
+  path : IsSteps run_leaf (at_line f done last) (line_arguments words) (at_line f before final)
   all : before ++ final ∷ [] ≡ done ++ last ∷ words
 
 lined : (f : Text) (done : List Text) (last : Text) (words : List Text) → ArePlain words → IsLined f done last words
@@ -723,7 +725,7 @@ lined f done last (l ∷ ls) (q, qs) =
       before = rest.before;
       final = rest.final;
       path = steps run_leaf (at_line f done last) (at_line f (done ++ last ∷ []) l)
-          (at_line f rest.before rest.final) (codes "-c" ∷ l ∷ []) (line_words ls) (next-line f done last l q)
+          (at_line f rest.before rest.final) (codes "-c" ∷ l ∷ []) (line_arguments ls) (next-line f done last l q)
           rest.path;
       all = rest.all ∙ append_assoc done (last ∷ []) (l ∷ ls);
     }
@@ -742,14 +744,14 @@ lines-pass f (x ∷ xs) final = refl
 
 -- `run` with lines asks for a run of them
 pub lines-ask : (f l : Text) (ls : List Text) → IsPlain f → IsPlain l → ArePlain ls
-    → IsAsk run_leaf run_asking (f ∷ line_words (l ∷ ls)) (said_with f (from_lines (l ∷ ls)))
+    → IsAsk run_leaf run_asking (f ∷ line_arguments (l ∷ ls)) (said_with f (from_lines (l ∷ ls)))
 lines-ask f l ls p q qs =
     let more = lined f [] l ls qs in
-    asks run_leaf run_asking (f ∷ line_words (l ∷ ls)) (at_line f more.before more.final) (said_with f (from_lines
+    asks run_leaf run_asking (f ∷ line_arguments (l ∷ ls)) (at_line f more.before more.final) (said_with f (from_lines
     (l ∷ ls)))
     (steps run_leaf (walk_from nothing_held) (after_file run_leaf f) (at_line f more.before more.final) (f ∷ [])
-    (line_words (l ∷ ls)) (plain run_leaf nothing_held idle 1 f p refl)
+    (line_arguments (l ∷ ls)) (plain run_leaf nothing_held idle 1 f p refl)
     (steps run_leaf (after_file run_leaf f) (at_line f [] l) (at_line f more.before more.final)
-    (codes "-c" ∷ l ∷ []) (line_words ls) (first-line f l q) more.path))
+    (codes "-c" ∷ l ∷ []) (line_arguments ls) (first-line f l q) more.path))
     (lines-found f more.before more.final ∙ ap (λ t. said_with f (from_lines t)) more.all) (lines-pass f more.before
     more.final)

@@ -6,12 +6,12 @@ use Rattle.std.specs.Cmp.Lexicographic.{same_text}
 use Rattle.std.specs.List.{filter, find, list_all}
 use Rattle.std.proofs.lemmas.Bool.{eq-eqb}
 use denote.Ref.{Bor}
-use Rattle.segment_lang.specs.Words.{is_word, is_blank}
+use Rattle.segment_lang.specs.Lexing.{is_token, is_blank}
 use Rattle.segment_lang.specs.Reading.{Form, Reader, form_of, forms}
-use Rattle.segment_lang.specs.Seen.{KeywordRow, place_of, reader_of, found_in, with_rest}
+use Rattle.segment_lang.specs.Seen.{KeywordRow, slot_of, reader_of, found_in, with_rest}
 use Rattle.segment_lang.specs.Tokens.{up_to_blank}
 use Rattle.segment_lang.specs.declared.forms.CommandForm.{CommandForm}
-use Rattle.segment_lang.proofs.words.FirstWords.{first_cons}
+use Rattle.segment_lang.proofs.tokens.FirstTokens.{first_cons}
 
 -- ---- rows that are lent
 
@@ -28,13 +28,13 @@ lent_first true row x y h = refl
 lent_first false row x y h = h
 
 lent_row_of : {A : Type 0} (rows : List (LentRow A)) (w : List ℕ)
-    → option_map lent_row (find (λ (row : LentRow A). is_word w row.0.now) rows)
-    ≡ find (λ (row : KeywordRow A). is_word w row.0)
+    → option_map lent_row (find (λ (row : LentRow A). is_token w row.0.now) rows)
+    ≡ find (λ (row : KeywordRow A). is_token w row.0)
     (map lent_row rows)
 lent_row_of [] w = refl
 lent_row_of {A} (row ∷ rows) w =
-    lent_first (is_word w row.0.now) row (find (λ (row : LentRow A). is_word w row.0.now) rows)
-    (find (λ (row : KeywordRow A). is_word w row.0) (map lent_row rows)) (lent_row_of rows w)
+    lent_first (is_token w row.0.now) row (find (λ (row : LentRow A). is_token w row.0.now) rows)
+    (find (λ (row : KeywordRow A). is_token w row.0) (map lent_row rows)) (lent_row_of rows w)
 
 row_value : {A : Type 0} (x : Option (Bor (LentRow A)))
     → option_map (λ (row : KeywordRow A). row.1) (option_map lent_row (option_map (λ (y : Bor (LentRow A)). y.now) x))
@@ -44,7 +44,7 @@ row_value (Some y) = refl
 
 -- the row that is found is the word's
 pub found_row : {A : Type 0} (rows : List (LentRow A)) (w : List ℕ) (x : Option (Bor (LentRow A))) (value : Option A)
-    → option_map (λ (y : Bor (LentRow A)). y.now) x ≡ find (λ (row : LentRow A). is_word w row.0.now) rows
+    → option_map (λ (y : Bor (LentRow A)). y.now) x ≡ find (λ (row : LentRow A). is_token w row.0.now) rows
     → value ≡ option_map (λ (y : Bor (LentRow A)). y.now.1) x → value ≡ found_in (map lent_row rows) w
 found_row {A} rows w x value h e =
     e ∙ sym (row_value x) ∙ ap (λ (x : Option (LentRow A)).
@@ -69,36 +69,36 @@ first_row false row x y h = h
 
 form_in_rows : (rows : List FormRow) (w : List ℕ)
     → option_map reader_of (found_in rows w)
-    ≡ option_map (λ (f : Form). f.1) (find (λ (f : Form). is_word w f.0) (map form_row rows))
+    ≡ option_map (λ (f : Form). f.1) (find (λ (f : Form). is_token w f.0) (map form_row rows))
 form_in_rows [] w = refl
-form_in_rows (row ∷ rows) w = first_row (is_word w row.0) row (find (λ (row : FormRow). is_word w row.0) rows)
-    (find (λ (f : Form). is_word w f.0) (map form_row rows)) (form_in_rows rows w)
+form_in_rows (row ∷ rows) w = first_row (is_token w row.0) row (find (λ (row : FormRow). is_token w row.0) rows)
+    (find (λ (f : Form). is_token w f.0) (map form_row rows)) (form_in_rows rows w)
 
 -- ---- the words at one place
 
 -- the place of a word is below 32
-pub place_of-lt : (w : List ℕ) → place_of w < 32
-place_of-lt [] = omega arith
-place_of-lt (a ∷ []) = omega arith
-place_of-lt (a ∷ b ∷ []) = omega arith
-place_of-lt (a ∷ b ∷ c ∷ w) = omega arith
+pub slot_of-lt : (w : List ℕ) → slot_of w < 32
+slot_of-lt [] = omega arith
+slot_of-lt (a ∷ []) = omega arith
+slot_of-lt (a ∷ b ∷ []) = omega arith
+slot_of-lt (a ∷ b ∷ c ∷ w) = omega arith
 
 unless_true : (b : Bool) → (b ≡ true → false ≡ true) → b ≡ false
 unless_true true f = sym (f refl)
 unless_true false f = refl
 
 -- a long word that has another place than a long word of this place is not that word
-other_place : (w v : List ℕ) (n : ℕ) → (3 ≤ length w → place_of w ≡ n) → nat_le 3 (length v) ≡ true
-    → (place_of v == n) ≡ false → is_word w v ≡ false
-other_place w v n p l h = unless_true (is_word w v) (λ e.
+other_place : (w v : List ℕ) (n : ℕ) → (3 ≤ length w → slot_of w ≡ n) → nat_le 3 (length v) ≡ true
+    → (slot_of v == n) ≡ false → is_token w v ≡ false
+other_place w v n p l h = unless_true (is_token w v) (λ e.
     let same : w ≡ v = same_text w v (sym e) in
     let long : 3 ≤ length w = rw same (grind arith) in
-    sym h ∙ eq-eqb (place_of v) n (ap place_of (sym same) ∙ p long))
+    sym h ∙ eq-eqb (slot_of v) n (ap slot_of (sym same) ∙ p long))
 
-of_place : (c b : Bool) (w : List ℕ) (f : Form) (kept all : List Form) → is_word w f.0 ≡ b → (c ≡ false → b ≡ false)
-    → find (λ (f : Form). is_word w f.0) kept ≡ find (λ (f : Form). is_word w f.0) all
-    → find (λ (f : Form). is_word w f.0) (cond c (f ∷ kept) kept)
-    ≡ cond b (Some f) (find (λ (f : Form). is_word w f.0) all)
+of_place : (c b : Bool) (w : List ℕ) (f : Form) (kept all : List Form) → is_token w f.0 ≡ b → (c ≡ false → b ≡ false)
+    → find (λ (f : Form). is_token w f.0) kept ≡ find (λ (f : Form). is_token w f.0) all
+    → find (λ (f : Form). is_token w f.0) (cond c (f ∷ kept) kept)
+    ≡ cond b (Some f) (find (λ (f : Form). is_token w f.0) all)
 of_place true b w f kept all e k h = rw (e, h) refl
 of_place false true w f kept all e k h = cc (k refl)
 of_place false false w f kept all e k h = h
@@ -113,18 +113,18 @@ both true false h = cc
 both false b h = cc
 
 -- of long words those at a place alone can be a word that has this place if it is long
-found_by_place : (fs : List Form) (w : List ℕ) (n : ℕ) → (3 ≤ length w → place_of w ≡ n) → are_long fs ≡ true
-    → find (λ (f : Form). is_word w f.0) (filter (λ (f : Form). place_of f.0 == n) fs)
-    ≡ find (λ (f : Form). is_word w f.0) fs
+found_by_place : (fs : List Form) (w : List ℕ) (n : ℕ) → (3 ≤ length w → slot_of w ≡ n) → are_long fs ≡ true
+    → find (λ (f : Form). is_token w f.0) (filter (λ (f : Form). slot_of f.0 == n) fs)
+    ≡ find (λ (f : Form). is_token w f.0) fs
 found_by_place [] w n p l = refl
 found_by_place (f ∷ fs) w n p l =
     let long = both (nat_le 3 (length f.0)) (are_long fs) l in
-    of_place (place_of f.0 == n) (is_word w f.0) w f (filter (λ (f : Form). place_of f.0 == n) fs) fs refl
+    of_place (slot_of f.0 == n) (is_token w f.0) w f (filter (λ (f : Form). slot_of f.0 == n) fs) fs refl
     (other_place w f.0 n p long.0) (found_by_place fs w n p long.1)
 
 -- the words at a place, each with what stands after it
 abbrev pub forms_of : ℕ → List Form
-forms_of n = filter (λ (f : Form). place_of f.0 == n) forms
+forms_of n = filter (λ (f : Form). slot_of f.0 == n) forms
 
 -- Tables of the command words, each with its form: of those at place k, of those at the next, and so on.
 abbrev pub AreForms : ℕ → List (List FormRow) → Type 0
@@ -139,44 +139,44 @@ forms_at (rows ∷ tables) k (suc n) h b = let e : suc k + n ≡ k + suc n = ome
     forms_at tables (suc k) n h.1 (omega arith) ∙ ap forms_of e
 
 -- a long first word has the place of its line
-place_of_front : (line : List ℕ) → 3 ≤ length (up_to_blank line) → place_of (up_to_blank line) ≡ place_of line
-place_of_front [] h = refl
-place_of_front (a ∷ []) h = ap place_of (first_cons a []) ∙ one (is_blank a) a
+place_of_prefix : (line : List ℕ) → 3 ≤ length (up_to_blank line) → slot_of (up_to_blank line) ≡ slot_of line
+place_of_prefix [] h = refl
+place_of_prefix (a ∷ []) h = ap slot_of (first_cons a []) ∙ one (is_blank a) a
   where
-    one : (x : Bool) (a : ℕ) → place_of (cond (not x) (a ∷ []) []) ≡ 0
+    one : (x : Bool) (a : ℕ) → slot_of (cond (not x) (a ∷ []) []) ≡ 0
     one true a = refl
     one false a = refl
-place_of_front (a ∷ b ∷ []) h = ap place_of (first_cons a (b ∷ []) ∙ ap (λ w. cond (not (is_blank a)) (a ∷ w) [])
+place_of_prefix (a ∷ b ∷ []) h = ap slot_of (first_cons a (b ∷ []) ∙ ap (λ w. cond (not (is_blank a)) (a ∷ w) [])
     (first_cons b [])) ∙ two (is_blank a) (is_blank b) a b
   where
-    two : (x y : Bool) (a b : ℕ) → place_of (cond (not x) (a ∷ cond (not y) (b ∷ []) []) []) ≡ 0
+    two : (x y : Bool) (a b : ℕ) → slot_of (cond (not x) (a ∷ cond (not y) (b ∷ []) []) []) ≡ 0
     two true y a b = refl
     two false true a b = refl
     two false false a b = refl
-place_of_front (a ∷ b ∷ c ∷ w) h =
+place_of_prefix (a ∷ b ∷ c ∷ w) h =
     let e = first_cons a (b ∷ c ∷ w) ∙ ap (λ v. cond (not (is_blank a)) (a ∷ v) []) (first_cons b (c ∷ w)
     ∙ ap (λ v. cond (not (is_blank b)) (b ∷ v) []) (first_cons c w)) in
-    ap place_of e ∙ three (is_blank a) (is_blank b) (is_blank c) a b c (up_to_blank w) w (subst (λ v. 3 ≤ length v) e h)
+    ap slot_of e ∙ three (is_blank a) (is_blank b) (is_blank c) a b c (up_to_blank w) w (subst (λ v. 3 ≤ length v) e h)
   where
     three : (x y z : Bool) (a b c : ℕ) (v w : List ℕ)
         → 3 ≤ length (cond (not x) (a ∷ cond (not y) (b ∷ cond (not z) (c ∷ v) []) []) [])
-        → place_of (cond (not x) (a ∷ cond (not y) (b ∷ cond (not z) (c ∷ v) []) []) []) ≡ place_of (a ∷ b ∷ c ∷ w)
+        → slot_of (cond (not x) (a ∷ cond (not y) (b ∷ cond (not z) (c ∷ v) []) []) []) ≡ slot_of (a ∷ b ∷ c ∷ w)
     three true y z a b c v w h = absurd (omega arith)
     three false true z a b c v w h = absurd (omega arith)
     three false false true a b c v w h = absurd (omega arith)
     three false false false a b c v w h = refl
 
 -- The table of a line's place has for its first word the form that the language has for it.
-pub form_in_tables : (tables : List (List FormRow)) (line : List ℕ) → AreForms 0 tables → place_of line < length tables
-    → option_map reader_of (found_in (get_or tables (place_of line) []) (up_to_blank line))
+pub form_in_tables : (tables : List (List FormRow)) (line : List ℕ) → AreForms 0 tables → slot_of line < length tables
+    → option_map reader_of (found_in (get_or tables (slot_of line) []) (up_to_blank line))
     ≡ option_map (λ (f : Form). f.1) (form_of (up_to_blank line))
 form_in_tables tables line h b =
-    let e : 0 + place_of line ≡ place_of line = omega arith in
+    let e : 0 + slot_of line ≡ slot_of line = omega arith in
     let w : List ℕ = up_to_blank line in
-    form_in_rows (get_or tables (place_of line) []) w
-    ∙ ap (λ (fs : List Form). option_map (λ (f : Form). f.1) (find (λ (f : Form). is_word w f.0) fs))
-    (forms_at tables 0 (place_of line) h b ∙ ap forms_of e)
-    ∙ ap (option_map (λ (f : Form). f.1)) (found_by_place forms w (place_of line) (place_of_front line) refl)
+    form_in_rows (get_or tables (slot_of line) []) w
+    ∙ ap (λ (fs : List Form). option_map (λ (f : Form). f.1) (find (λ (f : Form). is_token w f.0) fs))
+    (forms_at tables 0 (slot_of line) h b ∙ ap forms_of e)
+    ∙ ap (option_map (λ (f : Form). f.1)) (found_by_place forms w (slot_of line) (place_of_prefix line) refl)
 
 -- a form with its rest, and the reader of the form with it
 abbrev pub form_seen : CommandForm × Bor (List ℕ) → CommandForm × List ℕ

@@ -7,11 +7,11 @@ use Rattle.std.specs.Option.{option_map, option_and_then, unwrap_or, IsSome}
 use Rattle.std.proofs.lemmas.Bool.Decides.{nat_tests}
 use Rattle.std.proofs.lemmas.List.{take_all}
 use Rattle.std.proofs.lemmas.List.Sums.{take_while-cons}
-use Rattle.segment_lang.specs.Words.{is_plain, byte_of_digits}
+use Rattle.segment_lang.specs.Lexing.{is_plain, byte_of_digits}
 use Rattle.segment_lang.specs.Tokens.{text_at, escaped_at, high_digit_at, item_at, escape_at, digits_at, longer}
-use Rattle.segment_lang.specs.Tokens.{closed_at, quote_at, behind_quote, ends_word, behind_opening, behind_text}
+use Rattle.segment_lang.specs.Tokens.{closed_at, quote_at, behind_quote, ends_token, behind_opening, behind_text}
 use Rattle.segment_lang.specs.Tokens.{spelled_bytes, text_in}
-use Rattle.segment_lang.proofs.words.LineFronts.{kept_more}
+use Rattle.segment_lang.proofs.tokens.LinePrefixes.{kept_more}
 
 -- ---- an item in front
 
@@ -113,7 +113,7 @@ quote_behind false e cs = refl
 
 quote_at-behind : (bytes : List ℕ) → option_map (λ x. x.1) (quote_at bytes) ≡ behind_quote bytes
 quote_at-behind [] = refl
-quote_at-behind (c ∷ cs) = quote_behind (c == 0x22) (ends_word cs) cs
+quote_at-behind (c ∷ cs) = quote_behind (c == 0x22) (ends_token cs) cs
 
 -- a text without an item ends at its quote
 pub behind_text-end : (bytes : List ℕ) → item_at bytes ≡ None → behind_text bytes ≡ behind_quote bytes
@@ -157,7 +157,7 @@ quote_empty false e cs = refl
 
 quote_at-empty : (bytes : List ℕ) → bytes_in (quote_at bytes) ≡ []
 quote_at-empty [] = refl
-quote_at-empty (c ∷ cs) = quote_empty (c == 0x22) (ends_word cs) cs
+quote_at-empty (c ∷ cs) = quote_empty (c == 0x22) (ends_token cs) cs
 
 -- a text without an item has no byte
 pub text_in-end : (bytes : List ℕ) → item_at bytes ≡ None → text_in bytes ≡ []
@@ -229,14 +229,14 @@ plain_step : (p : Bool) (c : ℕ) (cs r : List ℕ) → is_plain c ≡ p
     → text_at (c ∷ cs) ≡ Some (cond p (c ∷ take_while is_plain cs) [], r)
 plain_step true c cs r p f h = text_at-item (c ∷ cs) cs c (plain_first c cs p) ∙ ap (longer c) (f h)
 plain_step false c cs r p f h = text_step c cs
-    ∙ quote_there (c == 0x22) (ends_word cs) cs r (after (item_at (c ∷ cs))) h
+    ∙ quote_there (c == 0x22) (ends_token cs) cs r (after (item_at (c ∷ cs))) h
 
 -- where a quote that ends a text stands after plain bytes, the text stands for these very bytes
 pub plain_text : (bytes r : List ℕ) → behind_quote (drop (length (take_while is_plain bytes)) bytes) ≡ Some r
     → text_at bytes ≡ Some (take_while is_plain bytes, r)
 plain_text [] r h = cc
 plain_text (c ∷ cs) r h =
-    let front = take_while-cons is_plain c cs in
+    let prefix = take_while-cons is_plain c cs in
     plain_step (is_plain c) c cs r refl (plain_text cs r)
-    (subst (λ front. behind_quote (drop (length front) (c ∷ cs)) ≡ Some r) front h)
-    ∙ ap (λ front. Some (front, r)) (sym front)
+    (subst (λ prefix. behind_quote (drop (length prefix) (c ∷ cs)) ≡ Some r) prefix h)
+    ∙ ap (λ prefix. Some (prefix, r)) (sym prefix)

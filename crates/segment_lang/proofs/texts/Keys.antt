@@ -12,8 +12,9 @@ use Rattle.seg_types.specs.declared.kinds.ScalarKind.{ScalarKind}
 use Rattle.seg_types.specs.declared.kinds.ScalarKind.TheVariants.{Bool as BoolKind, U8, I32, I64, U64}
 use Rattle.seg_types.specs.Kinds.{kinds}
 use Rattle.seg_types.specs.Names.{ByKind, ByName, Key, is_name}
-use Rattle.segment_lang.specs.Words.{Bare, Text, bare_word, in_bare, in_text, is_word, is_bare, is_bare_name, is_blank}
-use Rattle.segment_lang.specs.Words.{is_digit, is_letter, text_word, words}
+use Rattle.segment_lang.specs.Lexing.{Bare, Text, bare_token, in_bare, in_text, is_token, is_bare, is_bare_name}
+use Rattle.segment_lang.specs.Lexing.{is_blank}
+use Rattle.segment_lang.specs.Lexing.{is_digit, is_letter, text_token, tokens}
 use Rattle.segment_lang.specs.Texts.{kind_text, quoted_text}
 use Rattle.segment_lang.specs.Language.{Language}
 use Rattle.segment_lang.specs.Reading.{kind_named, name_key}
@@ -23,7 +24,7 @@ use Rattle.segment_lang.proofs.texts.Spelling.{printed_texts_are_read}
 -- ---- kinds
 
 abbrev among : List Kind → Kind → Option Kind
-among ks k = find (λ j. is_word (kind_text k) (kind_text j)) ks
+among ks k = find (λ j. is_token (kind_text k) (kind_text j)) ks
 
 read-map : (k v : ScalarKind) → among kinds (Map k v) ≡ Some (Map k v)
 read-map BoolKind BoolKind = refl
@@ -43,7 +44,7 @@ read-kind k = refl
 printed-one : (k j : Kind) → kind_text k ≡ kind_text j → k ≡ j
 printed-one k j e =
     let same : ◌≡◌ {A = Option Kind} (Some k) (Some j) = sym (read-kind k)
-    ∙ ap (λ w. find (λ j. is_word w (kind_text j)) kinds) e ∙ read-kind j in
+    ∙ ap (λ w. find (λ j. is_token w (kind_text j)) kinds) e ∙ read-kind j in
     cc
 
 found-first : (b : Bool) (k j : Kind) (x : Option Kind) → (b ≡ true → j ≡ k) → (b ≡ false → x ≡ Some k)
@@ -51,18 +52,19 @@ found-first : (b : Bool) (k j : Kind) (x : Option Kind) → (b ≡ true → j �
 found-first true k j x f g = ap Some (f refl)
 found-first false k j x f g = g refl
 
-same-kind : (k j : Kind) → is_word (kind_text k) (kind_text j) ≡ true → j ≡ k
+same-kind : (k j : Kind) → is_token (kind_text k) (kind_text j) ≡ true → j ≡ k
 same-kind k j e = sym (printed-one k j (same_text (kind_text k) (kind_text j) (sym e)))
 
-other-kind : (k j : Kind) → j ≡ k → is_word (kind_text k) (kind_text j) ≡ false → ⊥
+other-kind : (k j : Kind) → j ≡ k → is_token (kind_text k) (kind_text j) ≡ false → ⊥
 other-kind k j e f = other_text (kind_text k) (kind_text j) (sym f) (ap kind_text (sym e))
 
 found-among : (ks : List Kind) (k : Kind) → Contains ks k → among ks k ≡ Some k
 found-among [] k h = absurd (omega (arith, h.1))
-found-among (j ∷ ks) k (zero, l, h) = found-first (is_word (kind_text k) (kind_text j)) k j (among ks k) (same-kind k j)
+found-among (j ∷ ks) k (zero, l, h) = found-first (is_token (kind_text k) (kind_text j)) k j (among ks k)
+    (same-kind k j)
     (λ e. absurd (other-kind k j h e))
 found-among (j ∷ ks) k (suc i, l, h) =
-    found-first (is_word (kind_text k) (kind_text j)) k j (among ks k) (same-kind k j)
+    found-first (is_token (kind_text k) (kind_text j)) k j (among ks k) (same-kind k j)
     (λ e. found-among ks k (i, omega (arith, l), h))
 
 -- law: printed kinds are read
@@ -104,12 +106,13 @@ third : {A : Type 0} (b q f : Bool) (x y z w : A) → b ≡ false → q ≡ fals
     → cond b x (cond q y (cond f z w)) ≡ z
 third b q f x y z w e g h = rw (e, g, h) refl
 
-bare-word : (c : ℕ) (cs : List ℕ) → is_bare_name (c ∷ cs) ≡ true → words (c ∷ cs) ≡ Some (Bare (c ∷ cs) ∷ [])
-bare-word c cs h =
+bare-token : (c : ℕ) (cs : List ℕ) → is_bare_name (c ∷ cs) ≡ true → tokens (c ∷ cs) ≡ Some (Bare (c ∷ cs) ∷ [])
+bare-token c cs h =
     let p = and_parts (is_first c) (list_all is_name_byte cs) h in
     let f = first-byte c p.0 in
-    third (is_blank c) (c == 0x22) (is_bare c) (words cs) (text_word (in_text cs)) (bare_word c (in_bare cs)) None f.0
-    f.1 f.2 ∙ ap (bare_word c) (bare-bytes cs p.1)
+    third (is_blank c) (c == 0x22) (is_bare c) (tokens cs) (text_token (in_text cs)) (bare_token c (in_bare cs))
+    None f.0
+    f.1 f.2 ∙ ap (bare_token c) (bare-bytes cs p.1)
 
 named : (b bare name : Bool) (x : Option Key) (key : Key) → b ≡ false → bare ≡ true → name ≡ true
     → cond b x (cond (bare && name) (Some key) None) ≡ Some key
@@ -127,22 +130,22 @@ read-bare : (l : Language) (name : List ℕ) → is_name l.format name ≡ true 
     → IsReadAsName l name name
 read-bare l [] name bare = absurd (false≢true bare)
 read-bare l (c ∷ cs) name bare = record {
-  word = Bare (c ∷ cs);
-  words = bare-word c cs bare;
+  token = Bare (c ∷ cs);
+  tokens = bare-token c cs bare;
   key = key-of-bare l c cs
       name bare;
 }
 
 read-quoted : (l : Language) (name : List ℕ) → AllByRecursion (λ b. b < 256) name → is_name l.format name ≡ true
     → IsReadAsName l name (quoted_text name)
-read-quoted l name small is_word =
-    record { word = Text name; words = printed_texts_are_read name small; key = rw is_word refl }
+read-quoted l name small is_token =
+    record { token = Text name; tokens = printed_texts_are_read name small; key = rw is_token refl }
 
 read-name : (b : Bool) (l : Language) (name : List ℕ) → AllByRecursion (λ b. b < 256) name
     → is_name l.format name ≡ true → is_bare_name name ≡ b → IsReadAsName l name (cond b name (quoted_text name))
-read-name true l name small is_word bare = read-bare l name is_word bare
-read-name false l name small is_word bare = read-quoted l name small is_word
+read-name true l name small is_token bare = read-bare l name is_token bare
+read-name false l name small is_token bare = read-quoted l name small is_token
 
 -- law: printed names are read
 pub printed_names_are_read : PrintedNamesAreRead
-printed_names_are_read l name small is_word = read-name (is_bare_name name) l name small is_word refl
+printed_names_are_read l name small is_token = read-name (is_bare_name name) l name small is_token refl

@@ -7,13 +7,13 @@ use Rattle.std.specs.Option.{option_map}
 use Rattle.std.specs.List.{AllByRecursion}
 use Rattle.std.proofs.lemmas.Bool.Decides.{nat_tests}
 use Rattle.std.proofs.lemmas.Option.{some_pair_parts}
-use Rattle.segment_lang.specs.Words.{Word, Text, is_plain, byte_of_digits, digit_of, between}
+use Rattle.segment_lang.specs.Lexing.{Token, Text, is_plain, byte_of_digits, digit_of, between}
 use Rattle.segment_lang.specs.Texts.{digit_text, item_text, quoted_text}
-use Rattle.segment_lang.specs.Tokens.{digits_at, ends_word, escape_at, item_at, longer, next_word, quote_at, text_at}
-use Rattle.segment_lang.specs.Tokens.{word_at}
+use Rattle.segment_lang.specs.Tokens.{digits_at, ends_token, escape_at, item_at, longer, next_token, quote_at, text_at}
+use Rattle.segment_lang.specs.Tokens.{token_at}
 use Rattle.segment_lang.specs.Laws.{IsItem, Spells, TextsAreSpelled, PrintedTextsAreRead}
 use Rattle.segment_lang.proofs.texts.Items.{no_backslash, plain_item, text_at-end, text_at-item}
-use Rattle.segment_lang.proofs.words.AllWords.{words_some}
+use Rattle.segment_lang.proofs.tokens.AllTokens.{tokens_some}
 
 -- ---- an item that is read is spelled so
 
@@ -88,22 +88,22 @@ item_again item rest b (inr (inr (h, l, d, e))) = ap (λ item. item_at (item ++ 
 -- ---- texts
 
 abbrev IsSpelled : List ℕ → List ℕ → List ℕ → Type 0
-IsSpelled bytes bs rest = (items : List ℕ) × Spells items bs × (bytes ≡ items ++ 0x22 ∷ rest) × (ends_word rest ≡ true)
+IsSpelled bytes bs rest = (items : List ℕ) × Spells items bs × (bytes ≡ items ++ 0x22 ∷ rest) × (ends_token rest ≡ true)
 
 abbrev no_bytes : List ℕ → Option (List ℕ × List ℕ)
 no_bytes cs = Some ([], cs)
 
-closed : (q e : Bool) (c : ℕ) (cs bs rest : List ℕ) → (q ≡ true → c ≡ 0x22) → ends_word cs ≡ e
+closed : (q e : Bool) (c : ℕ) (cs bs rest : List ℕ) → (q ≡ true → c ≡ 0x22) → ends_token cs ≡ e
     → cond q (cond e (no_bytes cs) None) None ≡ Some (bs, rest) → (bs ≡ []) × IsSpelled (c ∷ cs) [] rest
 closed true true c cs bs rest f g h =
     let p : ([] ≡ bs) × (cs ≡ rest) = some_pair_parts [] bs cs rest h in
-    (sym p.0, ([], refl, cc (f refl, p.1), sym (ap ends_word p.1) ∙ g))
+    (sym p.0, ([], refl, cc (f refl, p.1), sym (ap ends_token p.1) ∙ g))
 closed true false c cs bs rest f g h = cc
 closed false e c cs bs rest f g h = cc
 
 quote_spelled : (bytes bs rest : List ℕ) → quote_at bytes ≡ Some (bs, rest) → (bs ≡ []) × IsSpelled bytes [] rest
 quote_spelled [] bs rest h = cc
-quote_spelled (c ∷ cs) bs rest h = closed (c == 0x22) (ends_word cs) c cs bs rest (is_byte c 0x22) refl h
+quote_spelled (c ∷ cs) bs rest h = closed (c == 0x22) (ends_token cs) c cs bs rest (is_byte c 0x22) refl h
 
 -- a byte in front, and a text after it
 longer_parts : (b : ℕ) (t : Option (List ℕ × List ℕ)) (bs rest : List ℕ) → longer b t ≡ Some (bs, rest)
@@ -142,11 +142,11 @@ spelled : (bytes bs rest : List ℕ) → text_at bytes ≡ Some (bs, rest) → I
 spelled bytes [] rest h = spelled_none bytes rest (item_at bytes) refl h
 spelled bytes (b ∷ bs) rest h = spelled_more bytes bs rest b (item_at bytes) refl h (λ r. spelled r bs rest)
 
-read_closed : (rest : List ℕ) → ends_word rest ≡ true → text_at (0x22 ∷ rest) ≡ Some ([], rest)
+read_closed : (rest : List ℕ) → ends_token rest ≡ true → text_at (0x22 ∷ rest) ≡ Some ([], rest)
 unfolding text_at
 read_closed rest h = rw h refl
 
-read_again : (items bs rest : List ℕ) → Spells items bs → ends_word rest ≡ true
+read_again : (items bs rest : List ℕ) → Spells items bs → ends_token rest ≡ true
     → text_at (items ++ 0x22 ∷ rest) ≡ Some (bs, rest)
 read_again items [] rest s h = ap (λ items. text_at (items ++ 0x22 ∷ rest)) s ∙ read_closed rest h
 read_again items (b ∷ bs) rest (item, more, i, s, e) h =
@@ -199,18 +199,18 @@ printed_text (b ∷ bs) h = (
   refl,
 )
 
-quote_first : (text : List ℕ) → next_word (0x22 ∷ text) ≡ option_map (λ (bs, rest). (Text bs, rest)) (text_at text)
-unfolding next_word word_at
+quote_first : (text : List ℕ) → next_token (0x22 ∷ text) ≡ option_map (λ (bs, rest). (Text bs, rest)) (text_at text)
+unfolding next_token token_at
 quote_first text = refl
 
-next_printed : (bs : List ℕ) → AllByRecursion (λ b. b < 256) bs → next_word (quoted_text bs) ≡ Some (Text bs, [])
+next_printed : (bs : List ℕ) → AllByRecursion (λ b. b < 256) bs → next_token (quoted_text bs) ≡ Some (Text bs, [])
 next_printed bs h = quote_first (flat_map item_text bs ++ 0x22 ∷ [])
-    ∙ ap (option_map {U = Word × List ℕ} (λ (bs, rest). (Text bs, rest)))
+    ∙ ap (option_map {U = Token × List ℕ} (λ (bs, rest). (Text bs, rest)))
     (read_again (flat_map item_text bs) bs [] (printed_text bs h) refl)
 
 -- law: printed texts are read
 pub printed_texts_are_read : PrintedTextsAreRead
-printed_texts_are_read bs h = words_some (quoted_text bs) [] (Text bs) (next_printed bs h)
+printed_texts_are_read bs h = tokens_some (quoted_text bs) [] (Text bs) (next_printed bs h)
 
 -- ---- a text is longer than what it stands for
 

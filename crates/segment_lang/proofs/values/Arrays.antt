@@ -12,11 +12,12 @@ use Rattle.seg_types.specs.declared.refusals.Refusal.TheVariants.{OutOfRange}
 use Rattle.seg_types.specs.Kinds.{is_value}
 use Rattle.seg_types.specs.Values.{scalar_of}
 use Rattle.seg_types.specs.Commands.{Literal, Integer, Boolean, value_of_literal}
-use Rattle.segment_lang.specs.Words.{Word, words, literal_of_word}
+use Rattle.segment_lang.specs.Lexing.{Token, tokens, literal_of_token}
 use Rattle.segment_lang.specs.Reading.{all, value_for}
-use Rattle.segment_lang.specs.Tokens.{at_end, next_word}
+use Rattle.segment_lang.specs.Tokens.{at_end, next_token}
 use Rattle.segment_lang.specs.Arguments.{TypedNumbers, numbers_at, scalars_in, values_in}
-use Rattle.segment_lang.proofs.words.EachWord.{Held, each_end, each_first, each_last, each_more, each_stays, first_and}
+use Rattle.segment_lang.proofs.tokens.EachToken.{Held, each_end, each_first, each_last, each_more, each_stays}
+use Rattle.segment_lang.proofs.tokens.EachToken.{first_and}
 
 -- ---- a value is in the range of its kind
 
@@ -35,10 +36,10 @@ literal-value U64 (Integer w) z h = in_range (is_value U64 w) w z U64 refl h
 literal-value k l z h = cc
 
 -- a word that is a value of a kind
-pub word-value : (k : ScalarKind) (o : Option Literal) (z : ℤ)
+pub token-value : (k : ScalarKind) (o : Option Literal) (z : ℤ)
     → option_and_then (λ l. result_ok (value_of_literal k l)) o ≡ Some z → is_value k z ≡ true
-word-value k None z h = cc
-word-value k (Some l) z h = literal-value k l z h
+token-value k None z h = cc
+token-value k (Some l) z h = literal-value k l z h
 
 abbrev AreValues : ScalarKind → List ℤ → Type 0
 AreValues k zs = AllByRecursion (λ z. IsTrue (is_value k z)) zs
@@ -50,18 +51,18 @@ first_and_more k None m zs f g h = cc
 first_and_more k (Some z) None zs f g h = cc
 first_and_more k (Some z) (Some ys) zs f g h =
     let e : (z ∷ ys) ≡ zs = cc in
-    let front : IsTrue (is_value k z) = f z refl in
-    subst (AreValues k) e (front, g ys refl)
+    let prefix : IsTrue (is_value k z) = f z refl in
+    subst (AreValues k) e (prefix, g ys refl)
 
-all_in_range : (k : ScalarKind) (ws : List Word) (zs : List ℤ) → all (value_for k) ws ≡ Some zs → AreValues k zs
+all_in_range : (k : ScalarKind) (ws : List Token) (zs : List ℤ) → all (value_for k) ws ≡ Some zs → AreValues k zs
 all_in_range k [] zs h = let e : ◌≡◌ {A = List ℤ} [] zs = cc in subst (AreValues k) e tt
 all_in_range k (w ∷ ws) zs h = first_and_more k (value_for k w) (all (value_for k) ws) zs
-    (word-value k (literal_of_word w)) (all_in_range k ws) h
+    (token-value k (literal_of_token w)) (all_in_range k ws) h
 
-words_in_range : (k : ScalarKind) (ws : Option (List Word))
+tokens_in_range : (k : ScalarKind) (ws : Option (List Token))
     → AreValues k (unwrap_or (option_and_then (all (value_for k)) ws) [])
-words_in_range k None = tt
-words_in_range k (Some ws) = given (all (value_for k) ws) (all_in_range k ws)
+tokens_in_range k None = tt
+tokens_in_range k (Some ws) = given (all (value_for k) ws) (all_in_range k ws)
   where
     given : (o : Option (List ℤ)) → ((zs : List ℤ) → o ≡ Some zs → AreValues k zs) → AreValues k (unwrap_or o [])
     given None f = tt
@@ -70,7 +71,7 @@ words_in_range k (Some ws) = given (all (value_for k) ws) (all_in_range k ws)
 -- the values of an array are in the range of their kind
 pub values_in_range : (k : ScalarKind) (bytes : List ℕ) → AreValues k (values_in k bytes).numbers
 unfolding numbers_at
-values_in_range k bytes = words_in_range k (words bytes)
+values_in_range k bytes = tokens_in_range k (tokens bytes)
 
 -- ---- how many they are
 
@@ -85,8 +86,8 @@ some_counted k c n m None v h e = cc
 some_counted k c n m (Some z) v h e = sym (ap (option_map (λ zs. c + length zs)) h ∙ counted_more c m z)
 
 -- one value more is counted
-pub count-more : (k : ScalarKind) (c : ℕ) (bytes r : List ℕ) (w : Word) (v : ScalarValue)
-    → next_word bytes ≡ Some (w, r) → Some v ≡ option_map (scalar_of k) (value_for k w)
+pub count-more : (k : ScalarKind) (c : ℕ) (bytes r : List ℕ) (w : Token) (v : ScalarValue)
+    → next_token bytes ≡ Some (w, r) → Some v ≡ option_map (scalar_of k) (value_for k w)
     → option_map (λ zs. c + 1 + length zs) (numbers_at k r) ≡ option_map (λ zs. c + length zs) (numbers_at k bytes)
 unfolding numbers_at
 count-more k c bytes r w v h e = some_counted k c (numbers_at k bytes) (numbers_at k r) (value_for k w) v
@@ -98,7 +99,7 @@ no_value k c n m None h e = ap (option_map (λ zs. c + length zs)) h
 no_value k c n m (Some z) h e = cc
 
 -- a word that is no value: none are counted
-pub count-none : (k : ScalarKind) (c : ℕ) (bytes r : List ℕ) (w : Word) → next_word bytes ≡ Some (w, r)
+pub count-none : (k : ScalarKind) (c : ℕ) (bytes r : List ℕ) (w : Token) → next_token bytes ≡ Some (w, r)
     → None ≡ option_map (scalar_of k) (value_for k w) → option_map (λ zs. c + length zs) (numbers_at k bytes) ≡ None
 unfolding numbers_at
 count-none k c bytes r w h e = no_value k c (numbers_at k bytes) (numbers_at k r) (value_for k w)
@@ -110,7 +111,7 @@ counted_end c n true h = let e : c + 0 ≡ c = omega arith in ap (option_map (λ
 counted_end c n false h = ap (option_map (λ zs. c + length zs)) h
 
 -- the end of the line: all values are counted
-pub count-end : (k : ScalarKind) (c : ℕ) (bytes : List ℕ) → next_word bytes ≡ None
+pub count-end : (k : ScalarKind) (c : ℕ) (bytes : List ℕ) → next_token bytes ≡ None
     → option_map (λ zs. c + length zs) (numbers_at k bytes) ≡ cond (at_end bytes) (Some c) None
 unfolding numbers_at
 count-end k c bytes h = counted_end c (numbers_at k bytes) (at_end bytes) (each_end (value_for k) bytes h)
@@ -128,21 +129,21 @@ numbers k = record {
 
 -- no word is left: no value is left
 pub none_left : (k : ScalarKind) (bytes : List ℕ) (w : TypedNumbers) (v : Option ScalarValue) → values_in k bytes ≡ w
-    → next_word bytes ≡ None → v ≡ None → YieldsFirst scalars_in w v w
+    → next_token bytes ≡ None → v ≡ None → YieldsFirst scalars_in w v w
 unfolding numbers_at
 none_left k bytes w v is h e =
     subst (λ (w : TypedNumbers). YieldsFirst scalars_in w v w) is (each_last (numbers k) bytes _ v refl h e)
 
 -- the next word is the next value
-pub first_left : (k : ScalarKind) (bytes r : List ℕ) (word : Word) (w : TypedNumbers) (v : Option ScalarValue)
-    → values_in k bytes ≡ w → next_word bytes ≡ Some (word, r) → IsSome (numbers_at k bytes)
-    → v ≡ option_map (scalar_of k) (value_for k word) → YieldsFirst scalars_in w v (values_in k r)
+pub first_left : (k : ScalarKind) (bytes r : List ℕ) (token : Token) (w : TypedNumbers) (v : Option ScalarValue)
+    → values_in k bytes ≡ w → next_token bytes ≡ Some (token, r) → IsSome (numbers_at k bytes)
+    → v ≡ option_map (scalar_of k) (value_for k token) → YieldsFirst scalars_in w v (values_in k r)
 unfolding numbers_at
-first_left k bytes r word w v is h s e = subst (λ (w : TypedNumbers). YieldsFirst scalars_in w v (values_in k r)) is
-    (each_first (numbers k) bytes r word _ v refl h s e)
+first_left k bytes r token w v is h s e = subst (λ (w : TypedNumbers). YieldsFirst scalars_in w v (values_in k r)) is
+    (each_first (numbers k) bytes r token _ v refl h s e)
 
 -- the rest of a line of values is one
-pub stays_good : (k : ScalarKind) (bytes r : List ℕ) (w : Word) → next_word bytes ≡ Some (w, r)
+pub stays_good : (k : ScalarKind) (bytes r : List ℕ) (w : Token) → next_token bytes ≡ Some (w, r)
     → IsSome (numbers_at k bytes) → IsSome (numbers_at k r)
 unfolding numbers_at
 stays_good k bytes r w h s = each_stays (value_for k) bytes r w h s

@@ -13,7 +13,7 @@ use Rattle.std.proofs.lemmas.Option.{cond_some}
 use Rattle.std.proofs.lemmas.Str.Parse.{IsNumeralModel, numerals_by_fold}
 use Rattle.std.proofs.lemmas.Fmt.{decimal-digits_value, decimal_digit, decimal_nonempty, digits_decimal}
 use Rattle.std.proofs.lemmas.Fmt.{digits_value-decimal, first_decimal}
-use Rattle.segment_lang.specs.Words.{number_after, is_numeral, is_digit, between, number_of, negative_of, whole_of}
+use Rattle.segment_lang.specs.Lexing.{number_after, is_numeral, is_digit, between, number_of, negative_of, whole_of}
 use Rattle.segment_lang.specs.Laws.{NumbersAreDecimals, WholesAreDecimals}
 
 -- further digits make no number smaller

@@ -29,7 +29,7 @@ no_record = recovered_shut 4096 (zeros 4096) (λ is. absurd (omega (arith, is, g
 
 ends_shut : EndsShut 4096 (zeros 4096) 0
 ends_shut = record {
-  front = λ tail. ap (λ (ps : List (List ℕ)). ps ++ recovered_at 4096 tail) (sym no_record);
+  prefix = λ tail. ap (λ (ps : List (List ℕ)). ps ++ recovered_at 4096 tail) (sym no_record);
   room = omega (arith, length-zeros 4096);
   shut = λ is. absurd (omega (arith, is, gate_zero));
   marked = λ some. absurd (omega arith);

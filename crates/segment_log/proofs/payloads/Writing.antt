@@ -97,8 +97,8 @@ zeros_change (suc k) n image few = elim (cases_lt n 16) [
 
 -- ---- parts of a list
 
-cut_front : (xs : List ℕ) (at end : ℕ) → at ≤ end → take end xs ≡ take at xs ++ take (end - at) (drop at xs)
-cut_front xs at end le =
+cut_prefix : (xs : List ℕ) (at end : ℕ) → at ≤ end → take end xs ≡ take at xs ++ take (end - at) (drop at xs)
+cut_prefix xs at end le =
     let sum : at + (end - at) ≡ end = omega arith in
     sym (take-append-drop at (take end xs))
     ∙ (λ i. take-take at end xs le i ++ (ap (λ (k : ℕ). drop at (take k xs)) (sym sum) ∙ drop-take at (end - at) xs) i)
@@ -142,20 +142,20 @@ module _ (old new : List ℕ) where
       let bytes : List ℕ = take (end - at) (drop at new) in
       let size : length bytes ≡ end - at =
       length-take-le (end - at) (drop at new) (omega (arith, length-drop at new)) in
-      let front_len : length (take at new) ≡ at = length-take-le at new (omega arith) in
+      let prefix_len : length (take at new) ≡ at = length-take-le at new (omega arith) in
       let sum : at + length bytes ≡ end = omega (arith, size) in
-      let front : take at (midway old new at) ≡ take at new = take_at (take at new) (drop at first) at front_len in
+      let prefix : take at (midway old new at) ≡ take at new = take_at (take at new) (drop at first) at prefix_len in
       let back : drop end (midway old new at) ≡ drop end first =
       ap (λ (k : ℕ). drop k (midway old new at)) (let s : end ≡ at + (end - at) = omega arith in s)
       ∙ sym (drop-drop (end - at) at (midway old new at))
-      ∙ ap (λ (l : List ℕ). drop (end - at) l) (drop_at (take at new) (drop at first) at front_len)
+      ∙ ap (λ (l : List ℕ). drop (end - at) l) (drop_at (take at new) (drop at first) at prefix_len)
       ∙ drop-drop (end - at) at first
       ∙ ap (λ (k : ℕ). drop k first) (let s : at + (end - at) ≡ end = omega arith in s) in
       put_in at bytes (midway old new at) (omega (arith, sum, length-midway at (omega arith)))
-      ∙ (λ i. front i ++ (bytes ++ drop (sum i) (midway old new at)))
+      ∙ (λ i. prefix i ++ (bytes ++ drop (sum i) (midway old new at)))
       ∙ ap (λ (l : List ℕ). take at new ++ (bytes ++ l)) back
       ∙ sym (append_assoc (take at new) bytes (drop end first))
-      ∙ ap (λ (l : List ℕ). l ++ drop end first) (sym (cut_front new at end le))
+      ∙ ap (λ (l : List ℕ). l ++ drop end first) (sym (cut_prefix new at end le))
 
   -- a part that is the same
   pub same_part : (at end : ℕ) → at ≤ end → end ≤ length new → end ≤ length old
@@ -168,7 +168,7 @@ module _ (old new : List ℕ) where
       ∙ same in
       ap (λ (l : List ℕ). take at new ++ l) (cut_back first at end le ∙ ap (λ (l : List ℕ). l ++ drop end first) part)
       ∙ sym (append_assoc (take at new) (take (end - at) (drop at new)) (drop end first))
-      ∙ ap (λ (l : List ℕ). l ++ drop end first) (sym (cut_front new at end le))
+      ∙ ap (λ (l : List ℕ). l ++ drop end first) (sym (cut_prefix new at end le))
 
   pub midway_starts : midway old new 0 ≡ first
   midway_starts = refl

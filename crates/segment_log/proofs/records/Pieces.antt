@@ -7,8 +7,8 @@ use Rattle.segment_log.specs.Crashes.{WritesAt}
 use Rattle.segment_log.specs.Records.{zeros}
 
 module _ (old : List ℕ) (at : ℕ) (bytes new : List ℕ) (room : at ≤ length old) (holds : WritesAt old at bytes new) where
-  front_len : length (take at old) ≡ at
-  front_len = length-take-le at old room
+  prefix_len : length (take at old) ≡ at
+  prefix_len = length-take-le at old room
 
   split : new ≡ take at old ++ (bytes ++ drop (at + length bytes) old)
   split = holds ∙ append_assoc (take at old) bytes (drop (at + length bytes) old)
@@ -16,19 +16,19 @@ module _ (old : List ℕ) (at : ℕ) (bytes new : List ℕ) (room : at ≤ lengt
   -- what stands before the bytes that were written
   pub held_before : take at new ≡ take at old
   held_before = ap (λ (l : List ℕ). take at l) split
-      ∙ take_at (take at old) (bytes ++ drop (at + length bytes) old) at front_len
+      ∙ take_at (take at old) (bytes ++ drop (at + length bytes) old) at prefix_len
 
   -- the bytes that were written, and what stands behind them
   pub held_at : drop at new ≡ bytes ++ drop (at + length bytes) old
   held_at = ap (λ (l : List ℕ). drop at l) split
-      ∙ drop_at (take at old) (bytes ++ drop (at + length bytes) old) at front_len
+      ∙ drop_at (take at old) (bytes ++ drop (at + length bytes) old) at prefix_len
 
   -- what stands behind the bytes that were written
   pub held_after : drop (at + length bytes) new ≡ drop (at + length bytes) old
   held_after =
       ap (λ (l : List ℕ). drop (at + length bytes) l) holds
       ∙ drop_at (take at old ++ bytes) (drop (at + length bytes) old) (at + length bytes)
-      (omega (arith, length-append (take at old) bytes, front_len))
+      (omega (arith, length-append (take at old) bytes, prefix_len))
 
   -- the bytes that were written lie within
   pub held_len : at + length bytes ≤ length new
@@ -39,7 +39,7 @@ module _ (old : List ℕ) (at : ℕ) (bytes new : List ℕ) (room : at ≤ lengt
         length-append (take at old ++ bytes) (drop (at + length bytes) old),
         length-append
             (take at old) bytes,
-        front_len,
+        prefix_len,
       )
 
 -- what two logs have alike in front

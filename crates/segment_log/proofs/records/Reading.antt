@@ -24,11 +24,11 @@ unfolding number_bytes number_of
 number_back n rest small = little_number-reads_back 8 n rest small
 
 -- a text that is not too short has a payload
-pub next_if : (short : Bool) (n : ℕ) (behind front back : List ℕ) → short ≡ false → take n behind ≡ front
+pub next_if : (short : Bool) (n : ℕ) (behind prefix back : List ℕ) → short ≡ false → take n behind ≡ prefix
     → drop n behind ≡ back
-    → cond {A = Option (List ℕ × List ℕ)} short None (Some (take n behind, drop n behind)) ≡ Some (front, back)
-next_if true n behind front back not_short a b = absurd (cc (not_short))
-next_if false n behind front back not_short a b = λ i. Some (a i, b i)
+    → cond {A = Option (List ℕ × List ℕ)} short None (Some (take n behind, drop n behind)) ≡ Some (prefix, back)
+next_if true n behind prefix back not_short a b = absurd (cc (not_short))
+next_if false n behind prefix back not_short a b = λ i. Some (a i, b i)
 
 -- a payload is read back from its frame
 pub next_framed : (payload tail : List ℕ) → length payload < 256 ^ 8
@@ -51,9 +51,9 @@ next_framed payload tail small =
     ((λ i. take (number i) (behind i)) ∙ take_at payload tail (length payload) refl)
     ((λ i. drop (number i) (behind i)) ∙ drop_at payload tail (length payload) refl)
 
-same_back : (front back : List ℕ) (r : List ℕ × List ℕ) → Some (front, back) ≡ Some r → back ≡ r.1
-same_back front back r is =
-    let p : (front, back) ≡ r = cc in
+same_back : (prefix back : List ℕ) (r : List ℕ × List ℕ) → Some (prefix, back) ≡ Some r → back ≡ r.1
+same_back prefix back r is =
+    let p : (prefix, back) ≡ r = cc in
     ap (λ (q : List ℕ × List ℕ). q.1) p
 
 shorter_if : (short : Bool) (n : ℕ) (text : List ℕ) (r : List ℕ × List ℕ) → (short ≡ false → 8 + n ≤ length text)

@@ -8,9 +8,9 @@ use Rattle.byteorder.specs.Numbers.{little_from-append, little_from-take}
 use Rattle.segment_log.specs.Records.{number_of, next_behind, next_at, recovered_at, IsEndOfLog, IsReadTo}
 use Rattle.segment_log.proofs.records.Reading.{next_if, next_open, next_or_none, recovered_none, recovered_some}
 
-pub number_front : (head rest : List ℕ) → 8 ≤ length head → number_of (head ++ rest) ≡ number_of head
+pub number_prefix : (head rest : List ℕ) → 8 ≤ length head → number_of (head ++ rest) ≡ number_of head
 unfolding number_of
-number_front head rest room = little_from-append 8 head rest room
+number_prefix head rest room = little_from-append 8 head rest room
 
 number_take : (text : List ℕ) → number_of (take 8 text) ≡ number_of text
 unfolding number_of
@@ -20,7 +20,7 @@ next_text : (head payload tail : List ℕ) → length head ≡ 8 → number_of h
     → next_behind (head ++ (payload ++ tail)) ≡ Some (payload, tail)
 next_text head payload tail eight is =
     let number : number_of (head ++ (payload ++ tail)) ≡ length payload =
-    number_front head (payload ++ tail) (omega (arith, eight)) ∙ is in
+    number_prefix head (payload ++ tail) (omega (arith, eight)) ∙ is in
     let behind : drop 8 (head ++ (payload ++ tail)) ≡ payload ++ tail = drop_at head (payload ++ tail) 8 eight in
     let len : length (head ++ (payload ++ tail)) ≡ 8 + (length payload + length tail) =
     omega (arith, length-append head (payload ++ tail), length-append payload tail, eight) in
@@ -44,14 +44,14 @@ parts_if true text payload rest long is = absurd (cc (is))
 parts_if false text payload rest long is =
     let whole = long refl in
     let pair : (take (number_of text) (drop 8 text), drop (number_of text) (drop 8 text)) ≡ (payload, rest) = cc in
-    let front : take (number_of text) (drop 8 text) ≡ payload = ap (λ (q : List ℕ × List ℕ). q.0) pair in
+    let prefix : take (number_of text) (drop 8 text) ≡ payload = ap (λ (q : List ℕ × List ℕ). q.0) pair in
     let back : drop (number_of text) (drop 8 text) ≡ rest = ap (λ (q : List ℕ × List ℕ). q.1) pair in
-    let len : length payload ≡ number_of text = sym (ap length front)
+    let len : length payload ≡ number_of text = sym (ap length prefix)
     ∙ length-take-le (number_of text) (drop 8 text) (omega (arith, length-drop 8 text)) in
     record {
       room = omega (arith, len);
       number = sym len;
-      split = sym (take-append-drop (number_of text) (drop 8 text)) ∙ (λ i. front i ++ back i);
+      split = sym (take-append-drop (number_of text) (drop 8 text)) ∙ (λ i. prefix i ++ back i);
     }
 
 parts : (text payload rest : List ℕ) → next_behind text ≡ Some (payload, rest) → Parts text payload rest
@@ -108,11 +108,17 @@ found gap log payload rest is = elim (next_or_none (suc gap) log) [
 
 -- a reading begins with no payload
 pub run_starts : (gate : ℕ) (log : List ℕ) → IsReadTo gate log log []
-run_starts gate log = record { front = []; split = refl; fronts = λ tail. refl; marked = λ some. absurd (omega arith) }
+run_starts gate log = record {
+  prefix = [];
+  split = refl;
+  prefixes = λ tail. refl;
+  marked = λ some. absurd (omega
+      arith);
+}
 
-nil_front : (front rest : List ℕ) → length front ≤ 0 → front ++ rest ≡ rest
-nil_front [] rest none = refl
-nil_front (x ∷ front) rest none = absurd (omega arith)
+nil_prefix : (prefix rest : List ℕ) → length prefix ≤ 0 → prefix ++ rest ≡ rest
+nil_prefix [] rest none = refl
+nil_prefix (x ∷ prefix) rest none = absurd (omega arith)
 
 -- a reading goes on by a record
 pub run_goes_on : (gap : ℕ) (log here : List ℕ) (payloads : List (List ℕ)) (payload rest : List ℕ)
@@ -121,16 +127,16 @@ pub run_goes_on : (gap : ℕ) (log here : List ℕ) (payloads : List (List ℕ))
 run_goes_on gap log here payloads payload rest run is =
     let f = found gap here payload rest is in
     record {
-      front = run.front ++ f.block;
-      split = run.split ∙ ap (λ (l : List ℕ). run.front ++ l) f.split ∙ sym (append_assoc run.front f.block rest);
-      fronts = λ tail.
-          ap (recovered_at (suc gap)) (append_assoc run.front f.block tail) ∙ run.fronts (f.block ++ tail)
+      prefix = run.prefix ++ f.block;
+      split = run.split ∙ ap (λ (l : List ℕ). run.prefix ++ l) f.split ∙ sym (append_assoc run.prefix f.block rest);
+      prefixes = λ tail.
+          ap (recovered_at (suc gap)) (append_assoc run.prefix f.block tail) ∙ run.prefixes (f.block ++ tail)
           ∙ ap (λ (ps : List (List ℕ)). payloads ++ ps)
           (recovered_some (suc gap) (f.block ++ tail) payload tail (f.alike tail))
           ∙ sym (append_assoc payloads (payload ∷ []) (recovered_at (suc gap) tail));
-      marked = λ some. elim (cases_lt 0 (length run.front)) [
+      marked = λ some. elim (cases_lt 0 (length run.prefix)) [
         | inl more ↦ run.marked more
-        | inr none ↦ ap (λ (l : List ℕ). get_or l 0 0) (run.split ∙ nil_front run.front here none) ∙ f.marked
+        | inr none ↦ ap (λ (l : List ℕ). get_or l 0 0) (run.split ∙ nil_prefix run.prefix here none) ∙ f.marked
       ];
     }
 
@@ -138,20 +144,20 @@ run_goes_on gap log here payloads payload rest run is =
 pub run_ends : (gate : ℕ) (log rest : List ℕ) (payloads : List (List ℕ)) → IsReadTo gate log rest payloads
     → next_at gate rest ≡ None → recovered_at gate log ≡ payloads
 run_ends gate log rest payloads run none =
-    ap (recovered_at gate) run.split ∙ run.fronts rest
+    ap (recovered_at gate) run.split ∙ run.prefixes rest
     ∙ ap (λ (ps : List (List ℕ)). payloads ++ ps) (recovered_none gate rest none) ∙ append-nil payloads
 
 -- and stands at the end of the log
 pub end_of_run : (gate : ℕ) (log rest : List ℕ) (payloads : List (List ℕ)) (end : ℕ) → IsReadTo gate log rest payloads
     → next_at gate rest ≡ None → end ≡ length log - length rest → IsEndOfLog gate log end
 end_of_run gate log rest payloads end run none is =
-    let len : length log ≡ length run.front + length rest = ap length run.split ∙ length-append run.front rest in
-    let here : length run.front ≡ end = omega (arith, is, len) in
-    let front_is : take end log ≡ run.front = ap (λ (l : List ℕ). take end l) run.split
-    ∙ take_at run.front rest end here in
-    let rest_is : drop end log ≡ rest = ap (λ (l : List ℕ). drop end l) run.split ∙ drop_at run.front rest end here in
+    let len : length log ≡ length run.prefix + length rest = ap length run.split ∙ length-append run.prefix rest in
+    let here : length run.prefix ≡ end = omega (arith, is, len) in
+    let prefix_is : take end log ≡ run.prefix = ap (λ (l : List ℕ). take end l) run.split
+    ∙ take_at run.prefix rest end here in
+    let rest_is : drop end log ≡ rest = ap (λ (l : List ℕ). drop end l) run.split ∙ drop_at run.prefix rest end here in
     record {
-      front = λ tail. ap (λ (l : List ℕ). recovered_at gate (l ++ tail)) front_is ∙ run.fronts tail
+      prefix = λ tail. ap (λ (l : List ℕ). recovered_at gate (l ++ tail)) prefix_is ∙ run.prefixes tail
           ∙ ap (λ (ps : List (List ℕ)). ps ++ recovered_at gate tail) (sym (run_ends gate log rest payloads run none));
       within = omega (arith, len, here);
       none = ap (next_at gate) rest_is ∙ none;

@@ -11,8 +11,8 @@ or_true : (a : Bool) → (a || true) ≡ true
 or_true true = refl
 or_true false = refl
 
-or_front : (a b : Bool) → a ≡ true → (a || b) ≡ true
-or_front a b is = ap (λ x. x || b) is
+or_prefix : (a b : Bool) → a ≡ true → (a || b) ≡ true
+or_prefix a b is = ap (λ x. x || b) is
 
 -- a choice whose second part holds, holds
 pub or_back : (a b : Bool) → b ≡ true → (a || b) ≡ true
@@ -25,7 +25,7 @@ or_more false b c more is = more is
 -- a payload that names an image does so as the last one
 pub last_named : (id : ℕ) (payloads : List (List ℕ)) (payload : List ℕ) → names_image id payload ≡ true
     → names_after id (payloads ++ payload ∷ []) ≡ true
-last_named id [] payload is = or_front (names_image id payload) false is
+last_named id [] payload is = or_prefix (names_image id payload) false is
 last_named id (q ∷ qs) payload is =
     or_back (names_image id q) (names_after id (qs ++ payload ∷ [])) (last_named id qs payload is)
 
@@ -37,7 +37,7 @@ still_named id (q ∷ qs) payload is =
 
 -- a log belongs to its file after a commit
 pub commit_keeps_own : CommitKeepsOwn
-commit_keeps_own id [] payload is first = or_front (names_base id payload) (names_after id (payload ∷ [])) (first refl)
+commit_keeps_own id [] payload is first = or_prefix (names_base id payload) (names_after id (payload ∷ [])) (first refl)
 commit_keeps_own id (q ∷ qs) payload is first =
     or_more (names_base id q) (names_after id (q ∷ qs)) (names_after id ((q ∷ qs) ++ payload ∷ []))
     (still_named id (q ∷ qs) payload) is

@@ -19,7 +19,7 @@ module _ (gap : ℕ) (log : List ℕ) (end : ℕ) (ends : EndsShut (suc gap) log
       → recovered_at (suc gap) c ≡ payloads ++ recovered_at (suc gap) (drop end c)
   from_end c same =
       ap (recovered_at (suc gap)) (sym (take-append-drop end c) ∙ ap (λ (l : List ℕ). l ++ drop end c) same)
-      ∙ ends.front (drop end c)
+      ∙ ends.prefix (drop end c)
 
   pub nothing_more : (c : List ℕ) → take end c ≡ take end log → recovered_at (suc gap) (drop end c) ≡ []
       → recovered_at (suc gap) c ≡ payloads
@@ -115,19 +115,19 @@ module _ (gap : ℕ) (log : List ℕ) (end : ℕ) (ends : EndsShut (suc gap) log
       added = one_more done done_before done_after now_open
 
       -- all of it, in pieces
-      abbrev new_front : List ℕ
-      new_front = take end log ++ (block ++ (number_bytes (length payload) ++ payload))
+      abbrev new_prefix : List ℕ
+      new_prefix = take end log ++ (block ++ (number_bytes (length payload) ++ payload))
 
       regroup : (f b n p t : List ℕ) → (f ++ (b ++ (n ++ p))) ++ t ≡ f ++ (b ++ (n ++ (p ++ t)))
       regroup f b n p t = simp append_assoc
 
-      done_is : done ≡ new_front ++ (zeros (suc gap) ++ rest)
+      done_is : done ≡ new_prefix ++ (zeros (suc gap) ++ rest)
       done_is =
           sym (take-append-drop end done)
           ∙ (λ i. (done_before ∙ staged_before) i ++ (at_end ∙ ap (λ (l : List ℕ). block ++ l) staged_behind) i)
           ∙ sym (regroup (take end log) block (number_bytes (length payload)) payload (zeros (suc gap) ++ rest))
 
-      new_len : length new_front ≡ end + suc gap + 8 + length payload
+      new_len : length new_prefix ≡ end + suc gap + 8 + length payload
       new_len =
           omega (
             arith,
@@ -140,26 +140,26 @@ module _ (gap : ℕ) (log : List ℕ) (end : ℕ) (ends : EndsShut (suc gap) log
             size,
           )
 
-      front_is : take (end + suc gap + 8 + length payload) done ≡ new_front
-      front_is = ap (λ (l : List ℕ). take (end + suc gap + 8 + length payload) l) done_is
-          ∙ take_at new_front (zeros (suc gap) ++ rest) _ new_len
+      prefix_is : take (end + suc gap + 8 + length payload) done ≡ new_prefix
+      prefix_is = ap (λ (l : List ℕ). take (end + suc gap + 8 + length payload) l) done_is
+          ∙ take_at new_prefix (zeros (suc gap) ++ rest) _ new_len
 
-      fronts : (tail : List ℕ)
-          → recovered_at (suc gap) (new_front ++ tail) ≡ (payloads ++ payload ∷ []) ++ recovered_at (suc gap) tail
-      fronts tail =
+      prefixes : (tail : List ℕ)
+          → recovered_at (suc gap) (new_prefix ++ tail) ≡ (payloads ++ payload ∷ []) ++ recovered_at (suc gap) tail
+      prefixes tail =
           let text : List ℕ = block ++ framed payload tail in
           let behind : drop (suc gap) text ≡ framed payload tail = drop_at block (framed payload tail) (suc gap) size in
           let opened : get_or text 0 0 ≡ 1 = gate_of block (framed payload tail) (omega (arith, size)) ∙ is_open in
           let step : next_at (suc gap) text ≡ Some (payload, tail) = next_open (suc gap) text opened
           ∙ ap next_behind behind ∙ next_framed payload tail small in
           ap (recovered_at (suc gap)) (regroup (take end log) block (number_bytes (length payload)) payload tail)
-          ∙ ends.front text
+          ∙ ends.prefix text
           ∙ ap (λ (ps : List (List ℕ)). payloads ++ ps) (recovered_some (suc gap) text payload tail step)
           ∙ sym (append_assoc payloads (payload ∷ []) (recovered_at (suc gap) tail))
 
       at_new_end : drop (end + suc gap + 8 + length payload) done ≡ zeros (suc gap) ++ rest
       at_new_end = ap (λ (l : List ℕ). drop (end + suc gap + 8 + length payload) l) done_is
-          ∙ drop_at new_front (zeros (suc gap) ++ rest) _ new_len
+          ∙ drop_at new_prefix (zeros (suc gap) ++ rest) _ new_len
 
       first_of_done : (e : ℕ) → e ≡ end → get_or done 0 0 ≡ 1
       first_of_done zero is = sym (get_dropped zero done) ∙ ap (λ (n : ℕ). get_or (drop n done) 0 0) is ∙ now_open
@@ -168,13 +168,13 @@ module _ (gap : ℕ) (log : List ℕ) (end : ℕ) (ends : EndsShut (suc gap) log
 
       pub ends_now : EndsShut (suc gap) done (end + suc gap + 8 + length payload)
       ends_now = record {
-        front = λ tail. ap (λ (l : List ℕ). recovered_at (suc gap) (l ++ tail)) front_is ∙ fronts tail
+        prefix = λ tail. ap (λ (l : List ℕ). recovered_at (suc gap) (l ++ tail)) prefix_is ∙ prefixes tail
             ∙ ap (λ (ps : List (List ℕ)). ps ++ recovered_at (suc gap) tail) (sym added);
         room =
             omega (
               arith,
               ap length done_is,
-              length-append new_front (zeros (suc gap) ++ rest),
+              length-append new_prefix (zeros (suc gap) ++ rest),
               length-append
                   (zeros (suc gap)) rest,
               length-zeros (suc gap),

@@ -19,7 +19,7 @@ module _ (gap : ℕ) (log : List ℕ) (end : ℕ) (ends : IsEndOfLog (suc gap) l
       → recovered_at (suc gap) c ≡ recovered_at (suc gap) log
   same_records c same nothing =
       ap (recovered_at (suc gap)) (sym (take-append-drop end c) ∙ ap (λ (l : List ℕ). l ++ drop end c) same)
-      ∙ ends.front (drop end c)
+      ∙ ends.prefix (drop end c)
       ∙ ap (λ (ps : List (List ℕ)). recovered_at (suc gap) log ++ ps) nothing ∙ append-nil (recovered_at (suc gap) log)
 
   none_there : IsAjar (suc gap) log end → next_behind (drop (suc gap) (drop end log)) ≡ None
@@ -41,7 +41,7 @@ module _ (gap : ℕ) (log : List ℕ) (end : ℕ) (ends : IsEndOfLog (suc gap) l
   -- a log whose gate is shut ends there
   pub shut_already : suc gap ≤ length log - end → get_or log end 0 ≢ 1 → EndsShut (suc gap) log end
   shut_already long shut =
-      record { front = ends.front; room = omega (arith, ends.within); shut = shut; marked = ends.marked }
+      record { prefix = ends.prefix; room = omega (arith, ends.within); shut = shut; marked = ends.marked }
 
   module _ (new : List ℕ) (holds : WritesAt log end (zeros (suc gap)) new) where
     at_end : drop end new ≡ zeros (suc gap) ++ drop (end + length (zeros (suc gap))) log
@@ -60,9 +60,9 @@ module _ (gap : ℕ) (log : List ℕ) (end : ℕ) (ends : IsEndOfLog (suc gap) l
     -- a log whose gate was shut ends there
     pub repaired : EndsShut (suc gap) new end
     repaired = record {
-      front =
+      prefix =
           λ tail. ap (λ (l : List ℕ). recovered_at (suc gap) (l ++ tail))
-          (held_before log end (zeros (suc gap)) new ends.within holds) ∙ ends.front tail
+          (held_before log end (zeros (suc gap)) new ends.within holds) ∙ ends.prefix tail
           ∙ ap (λ (ps : List (List ℕ)). ps ++ recovered_at (suc gap) tail) (sym repaired_same);
       room = omega (arith, held_len log end (zeros (suc gap)) new ends.within holds, length-zeros (suc gap));
       shut = λ is. absurd (omega (arith, is, gate_is));
@@ -96,7 +96,7 @@ module _ (gap : ℕ) (log new : List ℕ) (holds : WritesAt log 0 (zeros (suc ga
   -- a log whose first gate was shut ends at its front
   pub emptied_ends : EndsShut (suc gap) new 0
   emptied_ends = record {
-    front = λ tail. ap (λ (ps : List (List ℕ)). ps ++ recovered_at (suc gap) tail) (sym emptied);
+    prefix = λ tail. ap (λ (ps : List (List ℕ)). ps ++ recovered_at (suc gap) tail) (sym emptied);
     room = omega (arith, held_len log 0 (zeros (suc gap)) new (omega arith) holds, length-zeros (suc gap));
     shut = λ is. absurd (omega (arith, is, gate_now));
     marked = λ some. absurd (omega arith);

@@ -13,7 +13,7 @@ use Rattle.segment_manager.specs.{objects.Located.located, objects.Located.locat
 use Rattle.segment_manager.proofs.objects.Standings.{standing-room, standing-short}
 use Rattle.segment_manager.proofs.{containers.Contained.contents-stand, directory.HeapCalls.denotes-heap}
 use Rattle.segment_manager.proofs.{directory.Frame.object-roomy}
-use Rattle.segment_manager.proofs.{blocks.Blocks.spelling-length, objects.Rows.HasBytesAt-element}
+use Rattle.segment_manager.proofs.{blocks.Blocks.spelling-length, objects.Slices.HasBytesAt-element}
 use Rattle.raw_region.proofs.Facts.{first, second}
 use Rattle.best_fit.proofs.Laws.{block_aligned}
 use Rattle.best_fit.specs.Table.{table_link}
@@ -275,29 +275,30 @@ element-in m at k zs i {z} good h e = record {
 }
 
 -- an array or a vector of scalars of a kind
-pub data IsRowOfKind (k : ScalarKind) (v : Value) : Type 0 where
+pub data IsSliceOfKind (k : ScalarKind) (v : Value) : Type 0 where
   -- an array is a row of its kind
-  AnArray : kind_of v ≡ Scalar k → IsRowOfKind k v
+  AnArray : kind_of v ≡ Scalar k → IsSliceOfKind k v
   -- a vector is a row of its kind
-  AVector : kind_of v ≡ Vector k → IsRowOfKind k v
+  AVector : kind_of v ≡ Vector k → IsSliceOfKind k v
 
-row-if : (m : Memory) (at : ℕ) (k : ScalarKind) (v : Value) (i : ℕ) {z : ℤ} → IsRowOfKind k v → IsTrue (is_good_value v)
+series-if : (m : Memory) (at : ℕ) (k : ScalarKind) (v : Value) (i : ℕ) {z : ℤ} → IsSliceOfKind k v → IsTrue
+    (is_good_value v)
     → HasBytesAt m at (spelled_in v) → slice_get (numbers_in v) i ≡ Some z → IsElementAt m (at + size_of k * i) k z
-row-if m at k (Numbers j zs) i {z} (AnArray e) good h f =
+series-if m at k (Numbers j zs) i {z} (AnArray e) good h f =
     let same : j ≡ k = cc in
     subst (λ k. IsElementAt m (at + size_of k * i) k z) same (element-in m at j zs i (second _ _ good) h f)
-row-if m at k (Elements j zs t) i {z} (AVector e) good h f =
+series-if m at k (Elements j zs t) i {z} (AVector e) good h f =
     let same : j ≡ k = cc in
     subst (λ k. IsElementAt m (at + size_of k * i) k z) same (element-in m at j zs i (second _ _ good) h f)
-row-if m at k v i (AnArray e) good h f = absurd (cc)
-row-if m at k v i (AVector e) good h f = absurd (cc)
+series-if m at k v i (AnArray e) good h f = absurd (cc)
+series-if m at k v i (AVector e) good h f = absurd (cc)
 
 -- the elements of a key's object are in its run
-pub row-element : (s : SegmentState) (key : Key) (run : ElementRun) (k : ScalarKind) → IsRunOf s key run
+pub series-element : (s : SegmentState) (key : Key) (run : ElementRun) (k : ScalarKind) → IsRunOf s key run
     → (d : Directory)
-    → DenotesCurrent s.cut.bytes d → (o : Object) → object_at d key ≡ Some o → IsRowOfKind k o.value → (i : ℕ) {z : ℤ}
+    → DenotesCurrent s.cut.bytes d → (o : Object) → object_at d key ≡ Some o → IsSliceOfKind k o.value → (i : ℕ) {z : ℤ}
     → slice_get (numbers_in o.value) i ≡ Some z → IsElementAt (bytes_of s.cut.bytes) (run.offset + size_of k * i) k z
-row-element s key run k r d l o is row i e = row-if (bytes_of s.cut.bytes) run.offset k o.value i row
+series-element s key run k r d l o is series i e = series-if (bytes_of s.cut.bytes) run.offset k o.value i series
     (object-roomy current o (standing s.cut.bytes d key o l.denotes is).good).value
     (subst (λ (bs : List ℕ). HasBytesAt (bytes_of s.cut.bytes) run.offset bs) (ap (λ (q : Option Object).
     elim q as (λ _. List ℕ) [ None ↦ [] | Some p ↦ spelled_in p.value ]) is) (r.spells d l)) e
@@ -305,10 +306,10 @@ row-element s key run k r d l o is row i e = row-if (bytes_of s.cut.bytes) run.o
 -- and the run has their kind
 pub run-kind : (s : SegmentState) (key : Key) (run : ElementRun) (k : ScalarKind)
     → AnswersWith s (λ d. run_at d key) (Ok run) → (d : Directory) → DenotesCurrent s.cut.bytes d → (o : Object)
-    → object_at d key ≡ Some o → IsRowOfKind k o.value → (run.kind ≡ k) × (run.count ≡ length (numbers_in o.value))
-run-kind s key run k a d l o is row = kind-if o.value row (a.answers d l ∙ ap run_if is)
+    → object_at d key ≡ Some o → IsSliceOfKind k o.value → (run.kind ≡ k) × (run.count ≡ length (numbers_in o.value))
+run-kind s key run k a d l o is series = kind-if o.value series (a.answers d l ∙ ap run_if is)
   where
-    kind-if : (v : Value) → IsRowOfKind k v → Ok run ≡ run_in (handle o.extent + head_len + padded (length o.name)) v
+    kind-if : (v : Value) → IsSliceOfKind k v → Ok run ≡ run_in (handle o.extent + head_len + padded (length o.name)) v
         → (run.kind ≡ k) × (run.count ≡ length (numbers_in v))
     kind-if (Numbers j zs) (AnArray e) f = (cc, cc)
     kind-if (Elements j zs t) (AVector e) f = (cc, cc)

@@ -3,7 +3,7 @@ use Rattle.segment_manager.proofs.Common.{◌≡◌, sym, ap, subst, ◌∙◌, 
 use Rattle.segment_manager.proofs.Common.{Err, List, [], MatchOption, int_lt, none-some, WindowState, ScalarKind}
 use Rattle.segment_manager.proofs.Common.{StringsKind, Plain, Refusal, NotFound, Key, Map, ErasesKey, pair_at}
 use Rattle.segment_manager.proofs.Common.{NumberPair, Place, container_at, sizes_of, Object, Directory, object_at}
-use Rattle.segment_manager.proofs.Common.{HasPlaces, UnchangedWhere, AnswersWith, SegmentState, DenotesCurrent}
+use Rattle.segment_manager.proofs.Common.{HasCapacity, UnchangedWhere, AnswersWith, SegmentState, DenotesCurrent}
 use Rattle.segment_manager.proofs.Common.{pairs_of, Change, HasEnough, Reserve, PutsPair}
 use Rattle.segment_manager.proofs.containers.TextsHeld.{HoldsTexts, holds-texts}
 use Rattle.segment_manager.proofs.containers.PairNumbers.{IsScalarOf, erases-numbers, puts-numbers}
@@ -25,7 +25,7 @@ places_in (Err r) = 0
 
 -- the length and the capacity of the key's object
 pub enough-places : (d : Directory) (key : Key) (o : Object) (n len capacity : ℕ) → object_at d key ≡ Some o
-    → sizes_of o.value ≡ Ok (len, capacity) → HasPlaces key n d → n ≤ capacity
+    → sizes_of o.value ≡ Ok (len, capacity) → HasCapacity key n d → n ≤ capacity
 enough-places d key o n len capacity is sizes has =
     let same : Ok (has.len, has.capacity) ≡ Ok (len, capacity) = sym has.says ∙ ap (λ (r : Option Object). elim r as
     (λ _. Result (ℕ × ℕ) Refusal) [ None ↦ Err NotFound | Some p ↦ sizes_of p.value ]) is ∙ sizes in

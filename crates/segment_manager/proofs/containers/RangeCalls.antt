@@ -30,7 +30,8 @@ use Rattle.best_fit.proofs.Laws.{gaps-payload}
 use Rattle.seg_vector.proofs.storage.TypedVectors.{all-both, flat-replaced}
 use Rattle.segment_manager.specs.containers.Ranges.{ChangesRange, WritesRange, numbers_if, range_at, range_in, replaced}
 use Rattle.segment_manager.specs.containers.Ranges.{with_range, written, written_if}
-use Rattle.segment_manager.specs.{objects.ElementLists.numbers_in, objects.Standing.place_at, objects.Standing.place_in}
+use Rattle.segment_manager.specs.{objects.ElementLists.numbers_in, objects.Standing.place_at}
+use Rattle.segment_manager.specs.{objects.Standing.offset_in}
 use Rattle.segment_manager.proofs.objects.Stored.{numbers-good, ElementAt, element-found}
 use Rattle.segment_manager.proofs.blocks.Blocks.{spelling-length, spelled-length}
 use Rattle.segment_manager.proofs.directory.CommandSteps.{IsMove, by_moves, by_same, moves-same, stays-refl}
@@ -72,8 +73,8 @@ whole-replaced w xs i ys =
 -- ---- the result
 
 -- the numbers of an object that has a row of the kind, or its error
-abbrev pub row_in : ScalarKind → Option Object → Result (List ℤ) Refusal
-row_in k r =
+abbrev pub slice_in : ScalarKind → Option Object → Result (List ℤ) Refusal
+slice_in k r =
     elim r as (λ _. Result (List ℤ) Refusal) [ None ↦ Err NotFound | Some o ↦ numbers_if k o.value ]
 
 -- the directory with a range of an object written
@@ -84,7 +85,7 @@ range_with d first zs r = elim r as (λ _. Directory) [
 ]
 
 module _ (mode : Mode) (d : Directory) (key : Key) (k : ScalarKind) (first : ℕ) (zs : List ℤ) where
-  open-for : is_read_only mode ≡ false → (q : Result (List ℤ) Refusal) → row_in k (object_at d key) ≡ q
+  open-for : is_read_only mode ≡ false → (q : Result (List ℤ) Refusal) → slice_in k (object_at d key) ≡ q
       → written mode d key k first zs ≡ written_if (range_in q first (length zs)) d (with_range d key first zs)
   open-for e q f = λ i.
       if e i then (Refused ReadOnly, d)
@@ -98,17 +99,17 @@ module _ (mode : Mode) (d : Directory) (key : Key) (k : ScalarKind) (first : ℕ
   -- writing a range of an object that does not exist fails
   pub range-nowhere : is_read_only mode ≡ false → object_at d key ≡ None
       → written mode d key k first zs ≡ (Refused NotFound, d)
-  range-nowhere e f = open-for e (Err NotFound) (ap (row_in k) f)
+  range-nowhere e f = open-for e (Err NotFound) (ap (slice_in k) f)
 
   pub range-other : is_read_only mode ≡ false → (o : Object) → object_at d key ≡ Some o
       → numbers_if k o.value ≡ Err WrongKind → written mode d key k first zs ≡ (Refused WrongKind, d)
-  range-other e o f g = open-for e (Err WrongKind) (ap (row_in k) f ∙ g)
+  range-other e o f g = open-for e (Err WrongKind) (ap (slice_in k) f ∙ g)
 
   module _ (e : is_read_only mode ≡ false) (o : Object) (f : object_at d key ≡ Some o) (ns : List ℤ)
       (g : numbers_if k o.value ≡ Ok ns) where
     range-if : (b : Bool) → nat_le (first + length zs) (length ns) ≡ b → written mode d key k first zs
         ≡ written_if (if b then Ok (take (length zs) (drop first ns)) else Err OutOfRange) d (with_range d key first zs)
-    range-if b h = open-for e (Ok ns) (ap (row_in k) f ∙ g)
+    range-if b h = open-for e (Ok ns) (ap (slice_in k) f ∙ g)
         ∙ ap (λ c. written_if (if c then Ok (take (length zs) (drop first ns)) else Err OutOfRange) d
         (with_range d key first zs)) h
 
@@ -169,7 +170,7 @@ range-by_key s t key o l k first zs answer m =
     let same : (d : Directory) → DenotesCurrent s.cut.bytes d
     → written s.mode d (ByHandle o.handle) k first zs ≡ written s.mode d key k first zs = λ d st.
     ap (λ (r : Option Object). if is_read_only s.mode then (Refused ReadOnly, d)
-    else written_if (range_in (row_in k r) first (length zs)) d (range_with d first zs r))
+    else written_if (range_in (slice_in k r) first (length zs)) d (range_with d first zs r))
     (sym (same-object s key o l d st)) in
     moves-same s t answer (λ d. written s.mode d (ByHandle o.handle) k first zs)
     (λ d. written s.mode d key k first zs) same m
@@ -182,21 +183,21 @@ no-same a b n = ne_eqb (code_of a) (code_of b)
     (λ e. n (same_Some a b (sym (code-read a) ∙ ap kind_of_code e ∙ code-read b)))
 
 -- a vector of another kind has no such row, nor has an object that is no array of the kind
-pub row-none : (k : ScalarKind) (v : Value) → same_kind (Vector k) (kind_of v) ≡ false
+pub series-none : (k : ScalarKind) (v : Value) → same_kind (Vector k) (kind_of v) ≡ false
     → same_kind (Scalar k) (kind_of v) ≡ false → numbers_if k v ≡ Err WrongKind
-row-none k v e f = λ i. if e i || f i then Ok (numbers_in v) else Err WrongKind
+series-none k v e f = λ i. if e i || f i then Ok (numbers_in v) else Err WrongKind
 
 -- the numbers of a vector are its elements
-pub row-elements : (k : ScalarKind) (ns : List ℤ) (t : BackingArray) → numbers_if k (Elements k ns t) ≡ Ok ns
-row-elements k ns t = ap (λ b. if b || same_kind (Scalar k) (Vector k) then Ok ns else Err WrongKind)
+pub series-elements : (k : ScalarKind) (ns : List ℤ) (t : BackingArray) → numbers_if k (Elements k ns t) ≡ Ok ns
+series-elements k ns t = ap (λ b. if b || same_kind (Scalar k) (Vector k) then Ok ns else Err WrongKind)
     (eq-eqb (code_of (Vector k)) (code_of (Vector k)) refl)
 
 or-true : (b : Bool) → (b || true) ≡ true
 or-true true = refl
 or-true false = refl
 
-pub row-numbers : (k : ScalarKind) (ns : List ℤ) → numbers_if k (Numbers k ns) ≡ Ok ns
-row-numbers k ns =
+pub series-numbers : (k : ScalarKind) (ns : List ℤ) → numbers_if k (Numbers k ns) ≡ Ok ns
+series-numbers k ns =
     ap (λ b. if same_kind (Vector k) (Scalar k) || b then Ok ns else Err WrongKind)
     (eq-eqb (code_of (Scalar k)) (code_of (Scalar k)) refl)
     ∙ ap (λ b. if b then Ok ns else Err WrongKind) (or-true (same_kind (Vector k) (Scalar k)))
@@ -254,7 +255,7 @@ module _ (s : SegmentState) (o : Located) (l : IsLocated s (ByHandle o.handle) o
   array-other writing never other = range-stays s (ByHandle o.handle) k first zs WrongKind (λ d st.
       let p = said-at s (ByHandle o.handle) o l d st in
       let kind : o.kind ≡ kind_of p.object.value = ap (λ (q : Located). q.kind) p.said in
-      range-other s.mode d (ByHandle o.handle) k first zs writing p.object p.is (row-none k p.object.value
+      range-other s.mode d (ByHandle o.handle) k first zs writing p.object p.is (series-none k p.object.value
       (no-same (Vector k) (kind_of p.object.value) (λ e. never k (kind ∙ sym e))) (sym (ap (same_kind (Scalar k)) kind)
       ∙ other)))
 
@@ -270,30 +271,30 @@ module _ (s : SegmentState) (o : Located) (l : IsLocated s (ByHandle o.handle) o
     many : {d : Directory} (h : HasNumbers d o k) → o.count ≡ length h.numbers
     many h = ap (λ (q : Located). q.count) h.said ∙ ap count_of h.value
 
-    row-of : {d : Directory} (h : HasNumbers d o k) → numbers_if k h.object.value ≡ Ok h.numbers
-    row-of h = ap (numbers_if k) h.value ∙ row-numbers k h.numbers
+    series-of : {d : Directory} (h : HasNumbers d o k) → numbers_if k h.object.value ≡ Ok h.numbers
+    series-of h = ap (numbers_if k) h.value ∙ series-numbers k h.numbers
 
     -- there are too few elements
     pub array-short : is_read_only s.mode ≡ false → nat_le (first + length zs) o.count ≡ false
         → WritesRange s s (ByHandle o.handle) k first zs (Refused OutOfRange)
     array-short writing f = range-stays s (ByHandle o.handle) k first zs OutOfRange (λ d st.
         let h = numbers-of d st in
-        range-short s.mode d (ByHandle o.handle) k first zs writing h.object h.is h.numbers (row-of h)
+        range-short s.mode d (ByHandle o.handle) k first zs writing h.object h.is h.numbers (series-of h)
         (let l = leb-false (first + length zs) o.count f in omega (arith, l, many h)))
 
     -- the offset of the elements
-    abbrev pub row_spot : ℕ
-    row_spot = o.handle + (value_offset o + size_of k * first)
+    abbrev pub slice_spot : ℕ
+    slice_spot = o.handle + (value_offset o + size_of k * first)
 
     module _ (t : SegmentState) (view : s ≡ t) (b : IsSegment s.cut.bytes) (new : WindowState)
         (writing : is_read_only t.mode ≡ false)
         (fits : nat_le (first + length zs) o.count ≡ true) (good : IsTrue (list_all (is_value k) zs))
-        (c : ChangesBytes current s.cut new row_spot (size_of k * length zs))
-        (w : HasBytesAt (bytes_of new.bytes) row_spot (spelled k zs)) where
+        (c : ChangesBytes current s.cut new slice_spot (size_of k * length zs))
+        (w : HasBytesAt (bytes_of new.bytes) slice_spot (spelled k zs)) where
       inside : {d : Directory} (h : HasNumbers d o k) → first + length zs ≤ length h.numbers
       inside h = let l = leb-true (first + length zs) o.count fits in omega (arith, l, many h)
 
-      same-spot : {d : Directory} (h : HasNumbers d o k) → row_spot ≡ value_start h.object + size_of k * first
+      same-spot : {d : Directory} (h : HasNumbers d o k) → slice_spot ≡ value_start h.object + size_of k * first
       same-spot h = ap (λ (q : Located). q.handle + (value_offset q + size_of k * first)) h.said
           ∙ (let e : handle h.object.extent + (head_len + padded (length h.object.name) + size_of k * first)
           ≡ value_start h.object + size_of k * first = omega arith in e)
@@ -305,7 +306,7 @@ module _ (s : SegmentState) (o : Located) (l : IsLocated s (ByHandle o.handle) o
           let h = numbers-of d st in
           range-moves s (ByHandle o.handle) k first zs new d (range-done s.mode d (ByHandle o.handle) k first zs
           (subst (λ (u : SegmentState). is_read_only u.mode ≡ false) (sym view) writing) h.object h.is h.numbers
-          (row-of h) (inside h)) (subst (Denotes current new.bytes)
+          (series-of h) (inside h)) (subst (Denotes current new.bytes)
           (sym (range-numbers d (ByHandle o.handle) h.object k h.numbers first zs h.is h.value))
           (array-denotes s.cut new d (ByHandle o.handle) h.object k h.numbers first zs st.denotes h.is h.value
           (inside h) good (subst (λ at. ChangesBytes current s.cut new at (size_of k * length zs)) (same-spot h) c)
@@ -342,10 +343,10 @@ module _ (s t : SegmentState) (o : Located) (l : IsLocated s (ByHandle o.handle)
       ∙ ap kind_of x.value in
       absurd (cc)) (place_at d (ByHandle o.handle) k first) refl
 
-abbrev place_of : Option Object → ScalarKind → ℕ → Result Place Refusal
-place_of r k i = elim r as (λ _. Result Place Refusal) [
+abbrev index_at : Option Object → ScalarKind → ℕ → Result Place Refusal
+index_at r k i = elim r as (λ _. Result Place Refusal) [
   | None ↦ Err NotFound
-  | Some o ↦ elim (place_in o k i) as (λ _. Result Place Refusal)
+  | Some o ↦ elim (offset_in o k i) as (λ _. Result Place Refusal)
       [ Ok at ↦ Ok (record { handle = handle o.extent; at = at }) | Err r ↦ Err r ]
 ]
 
@@ -353,7 +354,7 @@ place_of r k i = elim r as (λ _. Result Place Refusal) [
 pub but-by_key : (s t : SegmentState) (key : Key) (o : Located) → IsLocated s key o → (k : ScalarKind) (first n : ℕ)
     → ChangesRange s t (ByHandle o.handle) k first n → ChangesRange s t key k first n
 but-by_key s t key o l k first n m = λ d st.
-    subst (λ (r : Option Object). But s t (size_of k * n) (place_of r k first)) (sym (same-object s key o l d st))
+    subst (λ (r : Option Object). But s t (size_of k * n) (index_at r k first)) (sym (same-object s key o l d st))
     (m d st)
 
 -- a property of a success implies another
@@ -381,9 +382,9 @@ array-unlike o {k} e f g h = ne_eqb (code_of (Scalar k)) (code_of o.kind)
     (λ i. h (f ∙ ap (λ (j : ScalarKind). code_of (Scalar j)) e ∙ i ∙ sym g))
 
 -- whether a range is within the elements, as it is tested
-pub row-test : {T : Type 0} (w : T → ℤ) (xs : List T) (first : ℕ) {count n : ℕ} {r b : Bool} → n ≡ count
+pub series-test : {T : Type 0} (w : T → ℤ) (xs : List T) (first : ℕ) {count n : ℕ} {r b : Bool} → n ≡ count
     → r ≡ nat_le (first + length xs) n → r ≡ b → nat_le (first + length (map w xs)) count ≡ b
-row-test w xs first e f g = (λ i. nat_le (first + length-map xs w i) (sym e i)) ∙ sym f ∙ g
+series-test w xs first e f g = (λ i. nat_le (first + length-map xs w i) (sym e i)) ∙ sym f ∙ g
 
 -- there was nothing to write
 pub array-empty : (s : SegmentState) (o : Located) → IsLocated s (ByHandle o.handle) o → (k : ScalarKind) (first : ℕ)
@@ -397,7 +398,7 @@ array-empty s o l k first zs is writing fits none =
     let inside : first + length zs ≤ length h.numbers = omega (arith, f, many s o l k first zs is h) in
     range-moves s (ByHandle o.handle) k first zs s.cut d
     (range-done s.mode d (ByHandle o.handle) k first zs writing h.object h.is h.numbers
-    (row-of s o l k first zs is h) inside) (subst (Denotes current s.cut.bytes)
+    (series-of s o l k first zs is h) inside) (subst (Denotes current s.cut.bytes)
     (sym (range-numbers d (ByHandle o.handle) h.object k h.numbers first zs h.is h.value))
     (array-denotes s.cut s.cut d (ByHandle o.handle) h.object k h.numbers first zs st.denotes h.is h.value inside
     (subst (λ ys. IsTrue (list_all (is_value k) ys)) (sym nothing) refl) (record {
@@ -492,7 +493,7 @@ vector-other s o l k first zs {m} same j is writing {why} e =
         (range-stays s (ByHandle o.handle) k first zs WrongKind (λ d st.
         let p = said-at s (ByHandle o.handle) o l d st in
         let kind : o.kind ≡ kind_of p.object.value = ap (λ (q : Located). q.kind) p.said in
-        range-other s.mode d (ByHandle o.handle) k first zs writing p.object p.is (row-none k p.object.value
+        range-other s.mode d (ByHandle o.handle) k first zs writing p.object p.is (series-none k p.object.value
         (sym (λ i. same_kind (Vector (same i)) (kind i)) ∙ f)
         (no-same (Scalar k) (kind_of p.object.value) (λ h. let not : Scalar k ≡ Vector j = h ∙ sym kind ∙ is in
         absurd (cc))))))

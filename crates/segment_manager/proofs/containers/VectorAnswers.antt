@@ -12,7 +12,7 @@ use common.{ℕ, IsSomeVector, GrowsVectorOk, container_at, is_good_value, with_
 use common.{ℤ, list_all, flat_map, size_of, Refusal, NoSpace, Assigns, Element, Refused, Elements, kind_of, perform}
 use common.{grown_backing, current, Denotes, Option, Plan, DenotesCurrent}
 use Rattle.segment_manager.proofs.containers.RangeCalls.{RangeWritten, range-done, range-elements, range-moves}
-use Rattle.segment_manager.proofs.containers.RangeCalls.{range-short, row-elements, whole-replaced}
+use Rattle.segment_manager.proofs.containers.RangeCalls.{range-short, series-elements, whole-replaced}
 use Rattle.segment_manager.proofs.containers.Extending.{VectorExtended, extended-found, extended-room}
 use Rattle.segment_manager.proofs.{containers.Refilled.then_room, Common.live_of, objects.WholeNumbers.whole-values}
 use Rattle.segment_manager.proofs.{containers.ToChange.seen-found, directory.CommandSteps.open-reading}
@@ -311,7 +311,7 @@ module _ {T : Type 0} {k : ScalarKind} {w : T → ℤ} {size : ℕ} {test : T �
           let inside = r.0 in
           range-moves s key k first (map w ys) new d
           (range-done s.mode d key k first (map w ys) writing h.object h.is (map w h.items)
-          (ap (numbers_if k) h.value ∙ row-elements k (map w h.items) h.table)
+          (ap (numbers_if k) h.value ∙ series-elements k (map w h.items) h.table)
           (omega (arith, inside, length-map ys w, length-map h.items w))) (subst (Denotes current new.bytes)
           (ap (λ zs. changed d h.object (Elements k zs h.table)) (whole-replaced w h.items first ys)
           ∙ sym (range-elements d key h.object k (map w h.items) h.table first (map w ys) h.is h.value))
@@ -322,7 +322,7 @@ module _ {T : Type 0} {k : ScalarKind} {w : T → ℤ} {size : ℕ} {test : T �
           out.same (λ d l.
           let h = found-items typed s key p b found d l in
           range-short s.mode d key k first (map w ys) writing h.object h.is (map w h.items)
-          (ap (numbers_if k) h.value ∙ row-elements k (map w h.items) h.table)
+          (ap (numbers_if k) h.value ∙ series-elements k (map w h.items) h.table)
           (let outside = (a h.items h.table (vector d h)).outside in
           omega (arith, outside, length-map ys w, length-map h.items w)))
 

@@ -1,6 +1,6 @@
 -- The calls that keep the directory, for each directory of the bytes: zeroing the gaps, and reading the segment.
 use Rattle.seg_types.specs.Commands as asked
-use Rattle.segment_manager.proofs.Common.{◌≡◌, bytes_of, gap_front, SameBlock, ZeroesFree, Directory, tiles_of}
+use Rattle.segment_manager.proofs.Common.{◌≡◌, bytes_of, gap_head, SameBlock, ZeroesFree, Directory, tiles_of}
 use Rattle.segment_manager.proofs.Common.{slice_get, refl, ap, subst, true, false, ◌==◌, spans, KeepsBlocks, Boolean}
 use Rattle.segment_manager.proofs.Common.{SegmentState, KeepsModeAndPlace, Option, sym, ◌∙◌, ℕ, ◌+◌, List, WindowState}
 use Rattle.segment_manager.proofs.Common.{gaps, live, Done, step, Mode, Tile, length, word_at, current, LiveSet}
@@ -55,7 +55,7 @@ zeroes {old} s e z = by_step asked.ZeroFree s (λ d h. lands d (zeroed old.mode 
 pub zeroed-gaps : {old : WindowState} {new : SegmentState} → ZeroesFree current old new.cut → HasZeroGaps new
 zeroed-gaps {old} {new} z = record {
   zeros = λ d h. subst (λ (l : LiveSet). AllByRecursion (λ (g : Gap). AreZero (bytes_of new.cut.bytes)
-      (g.offset + gap_front current) (g.offset + g.len)) (gaps l)) (sym (lay_out_one current new.cut.bytes
+      (g.offset + gap_head current) (g.offset + g.len)) (gaps l)) (sym (lay_out_one current new.cut.bytes
       (live_of old.bytes) z.live) ∙ denotes-live current new.cut.bytes d h.denotes) z.zero;
 }
 

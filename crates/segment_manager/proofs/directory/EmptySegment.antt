@@ -1,5 +1,5 @@
 -- A segment with nothing in it: bytes that are 0, then the tags of a heap with no block, then the header.
-use Rattle.segment_manager.proofs.Common.{◌≡◌, SameSurroundings, bytes_of, gap_front, no_backing, IsIndexAt, IsHeader}
+use Rattle.segment_manager.proofs.Common.{◌≡◌, SameSurroundings, bytes_of, gap_head, no_backing, IsIndexAt, IsHeader}
 use Rattle.segment_manager.proofs.Common.{DenotesCurrent, refl, subst, List, arith, true, false, Memory, SameBytes}
 use Rattle.segment_manager.proofs.Common.{gaps, Mode, empty, live, sym, ap, ◌∙◌, ℕ, ◌+◌, ◌-◌, ◌%◌, ◌<◌, ◌≤◌, ◌⊎◌, inl}
 use Rattle.segment_manager.proofs.Common.{inr, [], ◌∷◌, WindowState, length, IsTrue, nat_lt, AreZero, SameBytesExcept}
@@ -104,7 +104,7 @@ stands-empty old {new} {size} l h header named unique =
 
 -- the one gap, if there is one, has null links
 null-links : (m : Memory) (size : ℕ) → AllByRecursion (HasNullLinks current m) (gaps (no_blocks size)) → (at : ℕ)
-    → at % 8 ≡ 0 → 144 ≤ at → at < 128 + gap_front current → at < size - 16 → word_at m at ≡ 1
+    → at % 8 ≡ 0 → 144 ≤ at → at < 128 + gap_head current → at < size - 16 → word_at m at ≡ 1
 unfolding gaps
 null-links m size all at even low high below = by_test (cases_Bool (nat_lt 128 (size - 16))) all
   where
@@ -125,10 +125,10 @@ module _ (region : List ℕ) (base : ℕ) {size : ℕ} {window fresh : WindowSta
   cleared = subst (λ (c : WindowState). AreZero (bytes_of c.bytes) 0 size) (sym is_window) (zeros-AreZero size)
 
   -- each byte of the gap's free bytes is still 0
-  zero-gap : AreZero (bytes_of fresh.bytes) (128 + gap_front current) (size - 16)
+  zero-gap : AreZero (bytes_of fresh.bytes) (128 + gap_head current) (size - 16)
   zero-gap =
-      let rest : SameBytes (bytes_of window.bytes) (bytes_of fresh.bytes) (128 + gap_front current) (size - 16) =
-      subst (λ n. SameBytes (bytes_of window.bytes) (bytes_of fresh.bytes) (128 + gap_front current) (n - 16)) long
+      let rest : SameBytes (bytes_of window.bytes) (bytes_of fresh.bytes) (128 + gap_head current) (size - 16) =
+      subst (λ n. SameBytes (bytes_of window.bytes) (bytes_of fresh.bytes) (128 + gap_head current) (n - 16)) long
       f.rest in
       record { at = λ k low high. rest.at k low high ∙ cleared.at k (omega arith) (omega arith) }
 
@@ -138,7 +138,7 @@ module _ (region : List ℕ) (base : ℕ) {size : ℕ} {window fresh : WindowSta
     at = λ k low high. f.behind.at k low high ∙ cleared.at k (omega arith) (omega (arith, (legal_size size legal).low));
   }
 
-  null-gap : (at : ℕ) → at % 8 ≡ 0 → 144 ≤ at → at < 128 + gap_front current → at < size - 16
+  null-gap : (at : ℕ) → at % 8 ≡ 0 → 144 ≤ at → at < 128 + gap_head current → at < size - 16
       → word_at (bytes_of fresh.bytes) at ≡ 1
   null-gap = null-links (bytes_of fresh.bytes) size
       (subst (λ n. AllByRecursion (HasNullLinks current (bytes_of fresh.bytes)) (gaps (no_blocks n))) long f.links)

@@ -11,7 +11,7 @@ use common.{pair_values, remove_pair, ◌++◌, ◌-◌, U8, Element, capacity_f
 use common.{remove, nat_abs, Value, Bytes, Pairs, Texts, Refuse, Reply, found, map_of, effect, int_lt, handle, List}
 use common.{Some, None, ◌==◌, ◌&&◌, take, Kind, Mode, live, bare, Need, Plan, with, step, plan, Done, Boolean}
 use common.{replicate}
-use common.{WrongKind, OutOfRange, Anonymous, same_kind, with_place, with_entry, with_value, refusal_of, ReadOnly}
+use common.{WrongKind, OutOfRange, Anonymous, same_kind, with_spare_entry, with_entry, with_value, refusal_of, ReadOnly}
 use common.{ScalarKind, Vector, ByHandle, OwnedText, Elements, Directory, object_at, class_of, found_at, cons_values}
 use common.{count_of}
 use Rattle.seg_types.specs.declared.kinds.Class.TheVariants.{Named, Unique}
@@ -103,7 +103,7 @@ module _ (m w : Bool) (d : Directory) where
       if-leaves m w d (nat_le capacity t.capacity) _ _ (k t) (by_request (λ x. k _))
 
   place-leaves : (t : BackingArray) (count : ℕ) (next : BackingArray → Plan)
-      → ((u : BackingArray) → Leaves d m w (next u)) → Leaves d m w (with_place t count next)
+      → ((u : BackingArray) → Leaves d m w (next u)) → Leaves d m w (with_spare_entry t count next)
   place-leaves t count next k = if-leaves m w d (nat_lt count t.capacity) _ _ (k t) (by_request (λ x. k _))
 
   index-leaves : (n : ℕ) (next : BackingArray → Plan) → ((u : BackingArray) → Leaves d m w (next u))

@@ -3,7 +3,7 @@ use Rattle.segment_manager.proofs.Common as common
 use common.{◌≡◌, refl, sym, ap, subst, ◌∙◌, suc, ◌+◌, ◌<◌, ◌≤◌, true, false, ◌==◌, None, length, arith, IsTrue}
 use common.{flat_map, AllByRecursion, Memory, SameBytes, SameBytes-part, IndexRole, Extent, SameBlock, BackingArray}
 use common.{has_backing, no_backing}
-use common.{class_code, Key, ByKind, ByName, Index, place_of, IsIndexAt, Object, Directory, extents_of, is_class}
+use common.{class_code, Key, ByKind, ByName, Index, index_at, IsIndexAt, Object, Directory, extents_of, is_class}
 use common.{is_index, kind_of, live, object_at, table_extents, with_object, handles, class_of_index, entries_of}
 use common.{objects_of, order_of, table_of, with_table_of, by_name, by_kind, NamedClass, UniqueClass}
 use Rattle.segment_manager.proofs.indexes.Indexes.{named-more, unique-more, ordered-more, new-name, new-kind}
@@ -23,7 +23,7 @@ other index.Unique = index.Named
 -- a directory's index is a legal index, and the bytes encode it
 pub record HasOne (i : Index) (m : Memory) (d : Directory) : Type 0 where
   pub is : IsTrue (is_index (table_of i d) (objects_of i d) (order_of i))
-  pub at : IsIndexAt m (place_of i) (table_of i d) (entries_of i d)
+  pub at : IsIndexAt m (index_at i) (table_of i d) (entries_of i d)
 
 -- a property of one index and of the other is a property of both
 pub has_both : (i : Index) {m : Memory} {d : Directory} → HasOne i m d → HasOne (other i) m d → HasIndexes m d
@@ -71,7 +71,7 @@ more-index index.Unique d t o c n h a b =
 
 own-with : (i : Index) {m : Memory} (d : Directory) {t : BackingArray} (o : Object)
     → IsTrue (is_index t (objects_of i (with_object d o)) (order_of i))
-    → IsIndexAt m (place_of i) t (entries_of i (with_object d o)) → HasOne i m (with_object (with_table_of i d t) o)
+    → IsIndexAt m (index_at i) t (entries_of i (with_object d o)) → HasOne i m (with_object (with_table_of i d t) o)
 own-with index.Named d o a b = record { is = a; at = b }
 own-with index.Unique d o a b = record { is = a; at = b }
 
@@ -79,7 +79,7 @@ own-with index.Unique d o a b = record { is = a; at = b }
 pub entered-own : {i : Index} {m : Memory} (d : Directory) {t : BackingArray} (o : Object) → o.class ≡ class_of_index i
     → object_at d (key_in i o) ≡ None → IsTrue (is_index (table_of i d) (objects_of i d) (order_of i))
     → IsTrue (has_backing IndexRole 8 t) → length (entries_of i (with_object d o)) ≤ t.capacity
-    → IsIndexAt m (place_of i) t (entries_of i (with_object d o)) → HasOne i m (with_object (with_table_of i d t) o)
+    → IsIndexAt m (index_at i) t (entries_of i (with_object d o)) → HasOne i m (with_object (with_table_of i d t) o)
 entered-own {i} d {t} o c n h a few at =
     let long = handles-length (objects_of i (with_object d o)) ∙ more-length i d o (has_class i o c) n in
     own-with i d o (more-index i d t o (has_class i o c) n h a (omega (arith, long, few))) at
@@ -91,7 +91,7 @@ other-with index.Unique d o e = ordered-with NamedClass by_name d o e
 
 other-one : (i : Index) {m : Memory} (d : Directory) (t : BackingArray) (o : Object)
     → IsTrue (is_index (table_of (other i) d) (objects_of (other i) (with_object d o)) (order_of (other i)))
-    → IsIndexAt m (place_of (other i)) (table_of (other i) d) (entries_of (other i) (with_object d o))
+    → IsIndexAt m (index_at (other i)) (table_of (other i) d) (entries_of (other i) (with_object d o))
     → HasOne (other i) m (with_object (with_table_of i d t) o)
 other-one index.Named d t o a b = record { is = a; at = b }
 other-one index.Unique d t o a b = record { is = a; at = b }
@@ -102,7 +102,7 @@ pub entered-other : (i : Index) {m : Memory} {d : Directory} (t : BackingArray) 
 entered-other i {m} {d} t o c h =
     let e = sym (other-with i d o (other_class i o c)) in
     other-one i d t o (subst (λ os. IsTrue (is_index (table_of (other i) d) os (order_of (other i)))) e h.is)
-    (subst (λ os. IsIndexAt m (place_of (other i)) (table_of (other i) d) (handles os)) e h.at)
+    (subst (λ os. IsIndexAt m (index_at (other i)) (table_of (other i) d) (handles os)) e h.at)
 
 -- ---- the blocks outside an index
 
@@ -125,14 +125,14 @@ of_all index.Named P {d} h = let e = of_each P h in record { objects = e.objects
 of_all index.Unique P {d} h = let e = of_each P h in record { objects = e.objects; other_table = e.named }
 
 -- the three words of the other index
-pub other-words : (i : Index) {m m' : Memory} → SameBytes m m' 32 (place_of i) → SameBytes m m' (place_of i + 24) 128
-    → SameBytes m m' (place_of (other i)) (place_of (other i) + 24)
+pub other-words : (i : Index) {m m' : Memory} → SameBytes m m' 32 (index_at i) → SameBytes m m' (index_at i + 24) 128
+    → SameBytes m m' (index_at (other i)) (index_at (other i) + 24)
 other-words index.Named {m} {m'} before behind = SameBytes-part m m' 56 128 56 80 behind (omega arith) (omega arith)
 other-words index.Unique before behind = before
 
 -- the other index stays
 pub other-stays : (i : Index) {m m' : Memory} {d : Directory} → HasOne (other i) m d
-    → SameBytes m m' (place_of (other i)) (place_of (other i) + 24)
+    → SameBytes m m' (index_at (other i)) (index_at (other i) + 24)
     → AllByRecursion (SameBlock m m') (table_extents (table_of (other i) d)) → HasOne (other i) m' d
 other-stays i {d} h s b = record {
   is = h.is;

@@ -2,7 +2,7 @@
 -- rising keys.
 use Rattle.segment_manager.proofs.Common.{◌≡◌, sym, ◌∙◌, ℕ, ◌+◌, ◌≤◌, ◌%◌, [], ◌∷◌, Less, WindowState, live, subst}
 use Rattle.segment_manager.proofs.Common.{true, Some, List, arith, Memory, handle, Index, Named, Unique, Object, length}
-use Rattle.segment_manager.proofs.Common.{bytes_of, place_of, is_class, is_index, is_object, order_of, IsTrue, IfSome}
+use Rattle.segment_manager.proofs.Common.{bytes_of, index_at, is_class, is_index, is_object, order_of, IsTrue, IfSome}
 use Rattle.segment_manager.proofs.Common.{le-leb, current, Denotes, handles, IsEntry, table_of, AllByRecursion, nat_cmp}
 use Rattle.segment_manager.proofs.Common.{IsDirectory, IsObjectAt, class_of_index, slice_cmp, extent_at, IsIndexOf}
 use Rattle.segment_manager.proofs.Common.{IsIndexAt, Directory, entries_of, objects_of, ObjectRole, and_from, and_parts}
@@ -62,17 +62,17 @@ in_use-some Named {d} h = named-in_use d h.proper
 in_use-some Unique {d} h = unique-in_use d h.proper
 
 stands-in : (i : Index) (c : WindowState) {d : Directory} → Denotes current c.bytes d
-    → IsIndexAt (bytes_of c.bytes) (place_of i) (table_of i d) (entries_of i d)
+    → IsIndexAt (bytes_of c.bytes) (index_at i) (table_of i d) (entries_of i d)
 stands-in Named c k = k.named
 stands-in Unique c k = k.unique
 
 -- the index is in its heap
 pub denotes-index : (i : Index) (c : WindowState) {d : Directory} → Denotes current c.bytes d
-    → IsIndexOf c (place_of i) (table_of i d) (entries_of i d)
+    → IsIndexOf c (index_at i) (table_of i d) (entries_of i d)
 denotes-index i c {d} k = record {
   heap = denotes-heap current c.bytes d k;
   stands = stands-in i c k;
-  places = (index-parts (table_of i d) (objects_of i d) (order_of i) (directory-index i k.directory)).0;
+  slots = (index-parts (table_of i d) (objects_of i d) (order_of i) (directory-index i k.directory)).0;
   few = entries-few i k.directory;
   held = subst (λ l. IfSome (table_of i d).extent (λ x. extent_at l (handle x) ≡ Some x))
       (sym (denotes-live current c.bytes d k)) (in_use-some i k.directory);

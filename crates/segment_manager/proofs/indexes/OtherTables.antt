@@ -8,7 +8,7 @@ use common.{◌==◌, [], ◌||◌, place, ◌∷◌, ap, subst, arith, added, K
 use common.{length, nat_le, nat_lt, eq-eqb, serves, ℕ, flat_map, bytes_of, no_backing, without_index_block, IsIndexOf}
 use common.{Directory}
 use common.{is_object, shrunk_backing, KeepsOutsideIndex, IsIndexAt, AllByRecursion, class_of_index, with_table_of}
-use common.{if◌then◌else◌, placed_is_proper, lay_out_one, without_object, current, place_of, table_of, list_all}
+use common.{if◌then◌else◌, placed_is_proper, lay_out_one, without_object, current, index_at, table_of, list_all}
 use common.{eqb-true, released, has_backing, ShrinksIndex, IsHeader, is_index, order_of, SameBytes-trans, blocks-trans}
 use common.{beside_table, without_link, extents_of, IsObjectAt, remove_object, table_extents}
 use Rattle.segment_manager.proofs.indexes.Entered.{HasOne, has_both, of_rest, other, other-stays, other-words}
@@ -32,12 +32,12 @@ use Rattle.seg_index.specs.Capacities.{with_cut}
 -- the index has this table in its words and its block, and all else stays
 pub record IsTabled (i : Index) (old new : WindowState) (d : Directory) (t : BackingArray) : Type 0 where
   pub laid : EncodesLiveSet current new.bytes (live (with_table_of i d t))
-  pub stands : IsIndexOf new (place_of i) t (entries_of i d)
-  pub keeps : KeepsOutsideIndex old new (place_of i) (live (with_table_of i d no_backing)).extents
+  pub stands : IsIndexOf new (index_at i) t (entries_of i d)
+  pub keeps : KeepsOutsideIndex old new (index_at i) (live (with_table_of i d no_backing)).extents
 
 own-table : (i : Index) {m : Memory} (d : Directory) {t : BackingArray}
     → IsTrue (is_index t (objects_of i d) (order_of i))
-    → IsIndexAt m (place_of i) t (entries_of i d) → HasOne i m (with_table_of i d t)
+    → IsIndexAt m (index_at i) t (entries_of i d) → HasOne i m (with_table_of i d t)
 own-table index.Named d a b = record { is = a; at = b }
 own-table index.Unique d a b = record { is = a; at = b }
 
@@ -54,12 +54,12 @@ tabled-denotes {i} {a} {c} {d} {t} k e =
     let high = place-high i in let rest = of_rest i (SameBlock A C) e.keeps.blocks in
     let one = other-stays i (has-one (other i) k) (other-words i e.keeps.before e.keeps.behind) rest.other_table in
     let few : length (objects_of i d) ≤ t.capacity = omega (arith, e.stands.few, handles-length (objects_of i d)) in
-    let is = index-from t (objects_of i d) (order_of i) e.stands.places few
+    let is = index-from t (objects_of i d) (order_of i) e.stands.slots few
     (index-parts (table_of i d) (objects_of i d) (order_of i) (has-one i k).is).2 in
     let both = has_both i (own-table i d is e.stands.stands) (other-table i t one) in
     let front : KeepsFront A C = record {
       front = e.keeps.front;
-      zeros = SameBytes-part A C (place_of i + 24) 128 80 128 e.keeps.behind (omega arith) (omega arith);
+      zeros = SameBytes-part A C (index_at i + 24) 128 80 128 e.keeps.behind (omega arith) (omega arith);
     } in
     record {
       directory = record {
@@ -89,20 +89,20 @@ places_in n x = record { capacity = n; extent = Some x }
 
 -- the index has more places, and all else stays
 pub reserved-tabled : {i : Index} {a c : WindowState} {d : Directory} {n : ℕ} → Denotes current a.bytes d
-    → (r : ReservesIndexOk a c (place_of i) n) → IsTabled i a c d (places_in n r.extent)
+    → (r : ReservesIndexOk a c (index_at i) n) → IsTabled i a c d (places_in n r.extent)
 reserved-tabled {i} {a} {c} {d} {n} k r =
     let x = denotes-index i a k in let now = denotes-live current a.bytes d k in
-    let moved : without_link (added (live_of a.bytes) r.extent) (link_at (bytes_of a.bytes) (place_of i)) ≡ live
+    let moved : without_link (added (live_of a.bytes) r.extent) (link_at (bytes_of a.bytes) (index_at i)) ≡ live
     (with_table_of i d (places_in n r.extent)) = (λ j. without_link (added (now j) r.extent) (x.stands.link j))
     ∙ live-moved_index i d (places_in n r.extent) r.extent [] refl (placed_is_proper (live d) (8 * n) IndexRole
     r.extent k.directory.proper (sym (ap (λ l. place l (8 * n) IndexRole) now) ∙ r.placed)) in
-    let left : (without_index_block a (place_of i)).extents ≡ (live (with_table_of i d no_backing)).extents =
+    let left : (without_index_block a (index_at i)).extents ≡ (live (with_table_of i d no_backing)).extents =
     (λ j. (without_link (now j) (x.stands.link j)).extents) ∙ left-link (live d) (table_of i d).extent
     ∙ index-left_out i d [] (live-rises (live d) k.directory.proper) in
     record {
       laid = subst (EncodesLiveSet current c.bytes) moved r.live;
       stands = r.index (table_of i d) (entries_of i d) x;
-      keeps = subst (KeepsOutsideIndex a c (place_of i)) left r.keeps;
+      keeps = subst (KeepsOutsideIndex a c (index_at i)) left r.keeps;
     }
 
 -- ---- shrunk
@@ -157,7 +157,7 @@ no-places t n h few e = eq-eqb n 0 (omega (
 
 -- the index has fewer places, and all else stays
 pub shrunk-tabled : {i : Index} {a c : WindowState} {d : Directory}
-    → Denotes current a.bytes d → ShrinksIndex a c (place_of i) (table_of i d) (entries_of i d)
+    → Denotes current a.bytes d → ShrinksIndex a c (index_at i) (table_of i d) (entries_of i d)
     → IsTabled i a c d (shrunk_backing (live d) 8 (length (objects_of i d)) (table_of i d))
 shrunk-tabled {i} {a} {c} {d} k r =
     let x = denotes-index i a k in let now = denotes-live current a.bytes d k in
@@ -166,10 +166,10 @@ shrunk-tabled {i} {a} {c} {d} k r =
     subst (EncodesLiveSet current c.bytes) (λ j. with_cut (now j) (len j) (table_of i d)) r.live in
     record {
       laid = subst (EncodesLiveSet current c.bytes) (cut-live i d (length (objects_of i d)) k.directory.proper
-          (no-places (table_of i d) (length (objects_of i d)) x.places (omega (arith, x.few, len)))) laid;
-      stands = subst (λ (t : BackingArray). IsIndexOf c (place_of i) t (entries_of i d))
+          (no-places (table_of i d) (length (objects_of i d)) x.slots (omega (arith, x.few, len)))) laid;
+      stands = subst (λ (t : BackingArray). IsIndexOf c (index_at i) t (entries_of i d))
           (λ j. shrunk_backing (now j) 8 (len j) (table_of i d)) r.index;
-      keeps = subst (KeepsOutsideIndex a c (place_of i))
+      keeps = subst (KeepsOutsideIndex a c (index_at i))
           (ap (λ (l : LiveSet). beside_table (table_of i d) l.extents) now
           ∙ index-left_out i d [] (live-rises (live d) k.directory.proper)) r.keeps;
     }
@@ -184,8 +184,8 @@ pub record IsGone (old new : WindowState) (xs : List Extent) : Type 0 where
 -- The entries of an index have become these, in the table that it had. Nothing else changed.
 pub record IsLeft (i : Index) (old new : WindowState) (t : BackingArray) (hs : List ℕ) : Type 0 where
   pub live : EncodesLiveSet current new.bytes (live_of old.bytes)
-  pub stands : IsIndexOf new (place_of i) t hs
-  pub keeps : KeepsOutsideIndex old new (place_of i) (beside_table t (live_of old.bytes).extents)
+  pub stands : IsIndexOf new (index_at i) t hs
+  pub keeps : KeepsOutsideIndex old new (index_at i) (beside_table t (live_of old.bytes).extents)
 
 less-if : (P : Extent → Type 0) (b : Bool) (p : Object) (ps qs : List Object)
     → AllByRecursion P (flat_map extents_of (p ∷ ps)) → AllByRecursion P (flat_map extents_of qs)
@@ -209,8 +209,8 @@ record BothAt (m : Memory) (d : Directory) (o : Object) : Type 0 where
   pub unique : IsIndexAt m 56 d.unique (handles (objects_of index.Unique (without_object d o)))
 
 both-at : (i : Index) {m : Memory} {d : Directory} (o : Object)
-    → IsIndexAt m (place_of i) (table_of i d) (entries_of i (without_object d o))
-    → IsIndexAt m (place_of (other i)) (table_of (other i) d) (entries_of (other i) (without_object d o)) → BothAt m d o
+    → IsIndexAt m (index_at i) (table_of i d) (entries_of i (without_object d o))
+    → IsIndexAt m (index_at (other i)) (table_of (other i) d) (entries_of (other i) (without_object d o)) → BothAt m d o
 both-at index.Named o a b = record { named = a; unique = b }
 both-at index.Unique o a b = record { named = b; unique = a }
 
@@ -240,18 +240,18 @@ removed-denotes {i} {a} {b} {c} {d} o k f class e g =
     ∙ index-left_out i d [] (live-rises (live d) k.directory.proper)) e.keeps.blocks) in
     let blocks = blocks-trans A B C (flat_map extents_of (remove_object (handle o.extent) d.objects))
     (all-less (SameBlock A B) (handle o.extent) d.objects before.objects) after.objects in
-    let one = other-stays i (has-one (other i) k) (other-words i (SameBytes-trans A B C 32 (place_of i) e.keeps.before
-    (SameBytes-part B C 32 128 32 (place_of i) g.keeps.behind (omega arith) (omega arith))) (SameBytes-trans A B C
-    (place_of i + 24) 128 e.keeps.behind (SameBytes-part B C 32 128 (place_of i + 24) 128 g.keeps.behind (omega arith)
+    let one = other-stays i (has-one (other i) k) (other-words i (SameBytes-trans A B C 32 (index_at i) e.keeps.before
+    (SameBytes-part B C 32 128 32 (index_at i) g.keeps.behind (omega arith) (omega arith))) (SameBytes-trans A B C
+    (index_at i + 24) 128 e.keeps.behind (SameBytes-part B C 32 128 (index_at i + 24) 128 g.keeps.behind (omega arith)
     (omega arith)))) (blocks-trans A B C (table_extents (table_of (other i) d)) before.other_table
     (table-in (other i) (SameBlock B C) d o after)) in
-    let both = both-at i o (any_index-same e.stands.places e.stands.few (SameBytes-part B C 32 128 (place_of i)
-    (place_of i + 24) g.keeps.behind low (omega arith)) (table-in i (SameBlock B C) d o after) e.stands.stands)
-    (subst (IsIndexAt C (place_of (other i)) (table_of (other i) d)) (sym (no-entry-removed (other i) d f.is
+    let both = both-at i o (any_index-same e.stands.slots e.stands.few (SameBytes-part B C 32 128 (index_at i)
+    (index_at i + 24) g.keeps.behind low (omega arith)) (table-in i (SameBlock B C) d o after) e.stands.stands)
+    (subst (IsIndexAt C (index_at (other i)) (table_of (other i) d)) (sym (no-entry-removed (other i) d f.is
     (other_class i o class))) one.at) in
     let front : KeepsFront A C = record {
       front = SameBytes-trans A B C 0 24 e.keeps.front g.keeps.front;
-      zeros = SameBytes-trans A B C 80 128 (SameBytes-part A B (place_of i + 24) 128 80 128 e.keeps.behind (omega arith)
+      zeros = SameBytes-trans A B C 80 128 (SameBytes-part A B (index_at i + 24) 128 80 128 e.keeps.behind (omega arith)
           (omega arith)) (SameBytes-part B C 32 128 80 128 g.keeps.behind (omega arith) (omega arith));
     } in
     denotes-taken o k f laid front blocks both.named both.unique

@@ -6,7 +6,7 @@ use common.{◌≡◌, cases_lt, IndexRole, AllocatesNoSpace, shrunk_backing, Is
 use common.{IsSegment, refl, if◌then◌else◌, SameSurroundings-trans, is_changing, capacity_at, entries_of, with_table_of}
 use common.{is_read_only, sym, ap, ◌∙◌, ◌*◌, ◌<◌, ◌≤◌, ◌⊎◌, inl, inr, List, WindowState, Done, live, Plan, New, Bool}
 use common.{subst, true, false, arith, nat_le, le-leb, lt-leb, place, BackingArray, Index, Reply, TakesStep}
-use common.{SegmentState, effect, ℕ, length, current, NoSpace, KeepsRoomyIndex, ShrinksIndex, HasIndex, place_of}
+use common.{SegmentState, effect, ℕ, length, current, NoSpace, KeepsRoomyIndex, ShrinksIndex, HasIndex, index_at}
 use common.{Refused, Denotes, table_of, Request}
 use Rattle.segment_manager.proofs.indexes.OtherTables.{places_in, reserved-tabled, shrunk-tabled, tabled-denotes}
 use Rattle.segment_manager.proofs.directory.CommandSteps.{by_no_change, by_step, lands, open-writing, perform-new}
@@ -32,11 +32,11 @@ reserve-effect index.Unique d n {b} e = ap (λ b. if b then Reply Done d else ta
 
 -- the capacity suffices, or a larger block is allocated
 pub reserves : {s t : SegmentState} (view : s ≡ t) (b : IsSegment s.cut.bytes) {c : WindowState} (i : Index) {n : ℕ}
-    → is_read_only t.mode ≡ false → KeepsRoomyIndex s.cut c (place_of i) n → Stepped s t c (reserve_of i n) Done
+    → is_read_only t.mode ≡ false → KeepsRoomyIndex s.cut c (index_at i) n → Stepped s t c (reserve_of i n) Done
 reserves {s} {t} view b {c} i {n} may r = stepped s t view b c (reserve_of i n) Done may
-    (λ writing. by_case writing (cases_lt (capacity_at s.cut (place_of i)) n))
+    (λ writing. by_case writing (cases_lt (capacity_at s.cut (index_at i)) n))
   where
-    by_case : is_read_only s.mode ≡ false → (capacity_at s.cut (place_of i) < n) ⊎ (n ≤ capacity_at s.cut (place_of i))
+    by_case : is_read_only s.mode ≡ false → (capacity_at s.cut (index_at i) < n) ⊎ (n ≤ capacity_at s.cut (index_at i))
         → TakesStep s (record s { cut = c }) (reserve_of i n) Done
     by_case writing (inr h) = subst (λ (x : WindowState). TakesStep s (record s { cut = x }) (reserve_of i n) Done)
         (sym (r.same h)) (by_no_change s (reserve_of i n) Done (λ d k.
@@ -56,7 +56,7 @@ reserves {s} {t} view b {c} i {n} may r = stepped s t view b c (reserve_of i n) 
 
 -- or their block is refused
 pub reserves-none : {s t : SegmentState} (view : s ≡ t) (b : IsSegment s.cut.bytes) {c : WindowState} (i : Index)
-    (n : ℕ) → is_read_only t.mode ≡ false → capacity_at s.cut (place_of i) < n
+    (n : ℕ) → is_read_only t.mode ≡ false → capacity_at s.cut (index_at i) < n
     → AllocatesNoSpace s.cut c (8 * n) IndexRole → Stepped s t c (reserve_of i n) (Refused NoSpace)
 reserves-none {s} {t} view b {c} i n may h r = stepped s t view b c (reserve_of i n) (Refused NoSpace) may (λ writing.
     subst (λ (x : WindowState). TakesStep s (record s { cut = x }) (reserve_of i n) (Refused NoSpace)) (sym r.same)
@@ -71,7 +71,7 @@ reserves-none {s} {t} view b {c} i n may h r = stepped s t view b c (reserve_of 
 
 -- an index is shrunk, whichever directory the bytes denote
 abbrev pub Shrinks : Index → WindowState → WindowState → Type 0
-Shrinks i a c = (t : BackingArray) (hs : List ℕ) → IsIndexOf a (place_of i) t hs → ShrinksIndex a c (place_of i) t hs
+Shrinks i a c = (t : BackingArray) (hs : List ℕ) → IsIndexOf a (index_at i) t hs → ShrinksIndex a c (index_at i) t hs
 
 -- an index of a directory with no more places than entries
 abbrev shrunk : Index → Directory → Directory
@@ -100,7 +100,7 @@ shrinks {s} {t} view g {b} {c} may n u =
 
 -- the other index stays if one is shrunk
 pub shrunk-index : {a b : WindowState} → IsSegment a.bytes → Shrinks index.Named a b
-    → HasIndex b (place_of index.Unique)
+    → HasIndex b (index_at index.Unique)
 shrunk-index {b} g n =
     let e = shrunk index.Named g.0 in
     record {

@@ -5,7 +5,7 @@ use common.{◌≡◌, refl, sym, ap, subst, ◌∙◌, ℕ, ◌+◌, ◌≤◌,
 use common.{AllByRecursion, WindowState, SameBytes, SameSurroundings, bytes_of, current, SameBytes-part}
 use common.{SameBytes-trans, IndexRole, Extent, LiveSet, handle, is_proper, added, others, AllocatesOk, KeepsBlocks}
 use common.{EncodesLiveSet, SameBlock, extent_at, live_of, BackingArray, no_backing, allocated-live, blocks-trans}
-use common.{Index, AddKeeps, AddsEntry, beside_table, without_index_block, without_link, IsIndexOf, place_of}
+use common.{Index, AddKeeps, AddsEntry, beside_table, without_index_block, without_link, IsIndexOf, index_at}
 use common.{grown_capacity}
 use common.{Object, Directory, extents_of, is_object, live, object_at, with_object, Denotes, IsObjectAt, class_of_index}
 use common.{entries_of, table_of, with_table_of}
@@ -29,9 +29,9 @@ pub record IsEntered (i : Index) (old new : WindowState) (d : Directory) (t : Ba
       (inserted (extents_of o) (live (with_table_of i d no_backing)).extents)
   pub place : SameSurroundings old new
   pub front : SameBytes (bytes_of old.bytes) (bytes_of new.bytes) 0 24
-  pub before : SameBytes (bytes_of old.bytes) (bytes_of new.bytes) 32 (place_of i)
-  pub behind : SameBytes (bytes_of old.bytes) (bytes_of new.bytes) (place_of i + 24) 128
-  pub stands : IsIndexOf new (place_of i) t (entries_of i (with_object d o))
+  pub before : SameBytes (bytes_of old.bytes) (bytes_of new.bytes) 32 (index_at i)
+  pub behind : SameBytes (bytes_of old.bytes) (bytes_of new.bytes) (index_at i + 24) 128
+  pub stands : IsIndexOf new (index_at i) t (entries_of i (with_object d o))
 
 -- the size stays with another table
 pub same-size : (i : Index) (d : Directory) (t : BackingArray) → (with_table_of i d t).size ≡ d.size
@@ -49,7 +49,7 @@ has-one index.Named k = record { is = k.directory.named; at = k.named }
 has-one index.Unique k = record { is = k.directory.unique; at = k.unique }
 
 -- the words of an index are below offset 80
-pub place-high : (i : Index) → place_of i + 24 ≤ 80
+pub place-high : (i : Index) → index_at i + 24 ≤ 80
 place-high index.Named = omega arith
 place-high index.Unique = omega arith
 
@@ -68,29 +68,29 @@ entered-denotes {i} a {b} {c} {d} {t} {o} k keeps good at class none e =
       objects = blocks-trans A B C (flat_map extents_of d.objects) before.objects after.objects;
       other_table = blocks-trans A B C _ before.other_table after.other_table;
     } in
-    let one = other-stays i (has-one (other i) k) (other-words i (SameBytes-trans A B C 32 (place_of i)
-    (SameBytes-part A B 32 128 32 (place_of i) keeps.behind (omega arith) (omega arith)) e.before)
-    (SameBytes-trans A B C (place_of i + 24) 128
-    (SameBytes-part A B 32 128 (place_of i + 24) 128 keeps.behind (omega arith) (omega arith)) e.behind))
+    let one = other-stays i (has-one (other i) k) (other-words i (SameBytes-trans A B C 32 (index_at i)
+    (SameBytes-part A B 32 128 32 (index_at i) keeps.behind (omega arith) (omega arith)) e.before)
+    (SameBytes-trans A B C (index_at i + 24) 128
+    (SameBytes-part A B 32 128 (index_at i + 24) 128 keeps.behind (omega arith) (omega arith)) e.behind))
     all.other_table in
     let front : KeepsFront A C = record {
       front = SameBytes-trans A B C 0 24 keeps.front e.front;
       zeros = SameBytes-trans A B C 80 128 (SameBytes-part A B 32 128 80 128 keeps.behind (omega arith) (omega arith))
-          (SameBytes-part B C (place_of i + 24) 128 80 128 e.behind (omega arith) (omega arith));
+          (SameBytes-part B C (index_at i + 24) 128 80 128 e.behind (omega arith) (omega arith));
     } in
     denotes-put (with_table_of i d t) k (same-size i d t) (same-objects i d t) good e.laid front all.objects
-    (has_both i (entered-own d o class none (has-one i k).is e.stands.places e.stands.few e.stands.stands)
+    (has_both i (entered-own d o class none (has-one i k).is e.stands.slots e.stands.few e.stands.stands)
     (entered-other i t o class one)) (any_object-same current good parts.0 at)
 
 -- ---- after `prepare`, the making of an object, and `add`
 
 -- the index had a place left
 pub entered-none : {i : Index} (a : WindowState) {b : WindowState} {c : WindowState} {d : Directory} {o : Object}
-    (at : ℕ) → Denotes current a.bytes d → IsMade a b o → IsIndexOf b (place_of i) (table_of i d) (entries_of i d)
+    (at : ℕ) → Denotes current a.bytes d → IsMade a b o → IsIndexOf b (index_at i) (table_of i d) (entries_of i d)
     → insert (entries_of i d) at (handle o.extent) ≡ entries_of i (with_object d o)
-    → AddsEntry b c (place_of i) (table_of i d) (insert (entries_of i d) at (handle o.extent)) None
+    → AddsEntry b c (index_at i) (table_of i d) (insert (entries_of i d) at (handle o.extent)) None
     → EncodesLiveSet current c.bytes (live_of b.bytes)
-    → AddKeeps b c (place_of i) (table_of i d) None → IsEntered i b c d (table_of i d) o
+    → AddKeeps b c (index_at i) (table_of i d) None → IsEntered i b c d (table_of i d) o
 entered-none {i} a {b} {c} {d} {o} at k m x e adds laid keeps =
     let ys = extents_of o in
     let same = taken-live a b (extents_of o) m.taken ∙ ap (λ l. adding l ys) (denotes-live current a.bytes d k) in
@@ -105,7 +105,7 @@ entered-none {i} a {b} {c} {d} {o} at k m x e adds laid keeps =
       front = keeps.front;
       before = keeps.before;
       behind = keeps.behind;
-      stands = subst (IsIndexOf c (place_of i) (table_of i d)) e adds;
+      stands = subst (IsIndexOf c (index_at i) (table_of i d)) e adds;
     }
 
 -- the table of an index that has grown into a block
@@ -114,23 +114,23 @@ grown_into i d x = record { capacity = grown_capacity (table_of i d).capacity; e
 
 -- the index grew into a new block
 pub entered-some : {i : Index} {a m b : WindowState} {c : WindowState} {d : Directory} {o : Object} (at : ℕ) {n h : ℕ}
-    → Denotes current a.bytes d → (g : AllocatesOk current a m n IndexRole h) → IsMade m b o → IsIndexOf b (place_of i)
+    → Denotes current a.bytes d → (g : AllocatesOk current a m n IndexRole h) → IsMade m b o → IsIndexOf b (index_at i)
     (table_of i d) (entries_of i d) → insert (entries_of i d) at (handle o.extent) ≡ entries_of i (with_object d o)
-    → AddsEntry b c (place_of i) (table_of i d) (insert (entries_of i d) at (handle o.extent)) (Some h)
-    → EncodesLiveSet current c.bytes (without_index_block b (place_of i))
-    → AddKeeps b c (place_of i) (table_of i d) (Some h)
+    → AddsEntry b c (index_at i) (table_of i d) (insert (entries_of i d) at (handle o.extent)) (Some h)
+    → EncodesLiveSet current c.bytes (without_index_block b (index_at i))
+    → AddKeeps b c (index_at i) (table_of i d) (Some h)
     → IsEntered i b c d (grown_into i d g.extent) o
 entered-some {i} {a} {m} {b} {c} {d} {o} at {n} {h} k g made x e adds laid keeps =
     let ys = extents_of o in let t = grown_into i d g.extent in
     let mid =
     allocated-live current a m n IndexRole h g ∙ ap (λ l. added l g.extent) (denotes-live current a.bytes d k) in
-    let left : without_index_block b (place_of i) ≡ adding (live (with_table_of i d t)) ys =
+    let left : without_index_block b (index_at i) ≡ adding (live (with_table_of i d t)) ys =
     (λ j. without_link ((taken-live m b (extents_of o) made.taken ∙ ap (λ l. adding l ys) mid) j) (x.stands.link j))
     ∙ live-moved_index i d t g.extent ys refl
     (subst (λ l. IsTrue (is_proper (adding l ys))) mid made.taken.live.proper) in
     let laid' : EncodesLiveSet current c.bytes (adding (live (with_table_of i d t)) ys) =
     subst (EncodesLiveSet current c.bytes) left laid in
-    let all : others h (without_index_block b (place_of i)).extents
+    let all : others h (without_index_block b (index_at i)).extents
     ≡ inserted ys (live (with_table_of i d no_backing)).extents =
     (λ j. others (g.at j) (left j).extents)
     ∙ (ap (λ (u : BackingArray). left_out u.extent (inserted ys (live (with_table_of i d t)).extents))
@@ -145,9 +145,9 @@ entered-some {i} {a} {m} {b} {c} {d} {o} at {n} {h} k g made x e adds laid keeps
       front = keeps.front;
       before = keeps.before;
       behind = keeps.behind;
-      stands = subst (IsIndexOf c (place_of i) t) e (subst (λ (y : Option Extent). IsIndexOf c (place_of i)
+      stands = subst (IsIndexOf c (index_at i) t) e (subst (λ (y : Option Extent). IsIndexOf c (index_at i)
           (record { capacity = grown_capacity (table_of i d).capacity; extent = y })
-          (insert (entries_of i d) at (handle o.extent))) found (subst (λ (n : ℕ). IsIndexOf c (place_of i)
+          (insert (entries_of i d) at (handle o.extent))) found (subst (λ (n : ℕ). IsIndexOf c (index_at i)
           (record { capacity = grown_capacity n; extent = extent_at (live_of b.bytes) h })
           (insert (entries_of i d) at (handle o.extent))) x.stands.capacity adds));
     }

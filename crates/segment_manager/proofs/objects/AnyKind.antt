@@ -10,7 +10,7 @@ use common.{AnswersWith, AnswersQuery, AnswersQueryOfKind, TakesStep, SegmentSta
 use common.{element_at, get, is_read_only, set, step, with_items, ne_eqb, scalar_code, size_of, same_kind, handle}
 use common.{arith, bytes_of, ◌+◌, ◌≤◌, ◌==◌, SameBytesExcept, Place}
 use Rattle.std.specs.Prelude.{IfOk, OnOk}
-use Rattle.segment_manager.specs.{Keeping.ChangesElement, objects.Standing.place_in, Calls.scalar_reply}
+use Rattle.segment_manager.specs.{Keeping.ChangesElement, objects.Standing.offset_in, Calls.scalar_reply}
 use Rattle.segment_manager.proofs.objects.Locating.{kind-by_key, reply_of_kind-by_key, same-object}
 use Rattle.segment_manager.proofs.{objects.Heads.scalar-small, objects.Stored.literal-read}
 use Rattle.segment_manager.proofs.containers.Refilled.{refused-steps, same_plan-steps}
@@ -211,21 +211,21 @@ place_by o r = elim r as (λ _. Result Place Refusal) [
   | Err why ↦ Err why
 ]
 
-abbrev place_of : Option Object → ScalarKind → ℕ → Result Place Refusal
-place_of r k i =
-    elim r as (λ _. Result Place Refusal) [ None ↦ Err NotFound | Some o ↦ place_by o (place_in o k i) ]
+abbrev index_at : Option Object → ScalarKind → ℕ → Result Place Refusal
+index_at r k i =
+    elim r as (λ _. Result Place Refusal) [ None ↦ Err NotFound | Some o ↦ place_by o (offset_in o k i) ]
 
 -- a code above those of scalars is no code of a scalar kind
 above-scalars : (k : ScalarKind) (n : ℕ) → 6 ≤ n → (scalar_code k == n) ≡ false
 above-scalars k n high = ne_eqb (scalar_code k) n (λ e. let small = scalar-small k in omega arith)
 
 no-place : (P : Place → Type 0) (r : Option Object) (k : ScalarKind) (i : ℕ) (n : Kind)
-    → same_kind (ScalarOf k) n ≡ false → Ok n ≡ told r → IfOk (place_of r k i) P
+    → same_kind (ScalarOf k) n ≡ false → Ok n ≡ told r → IfOk (index_at r k i) P
 no-place P None k i n e f = absurd (cc)
 no-place P (Some o) k i n e f =
     let same : n ≡ kind_of o.value = cc in
     let other : same_kind (ScalarOf k) (kind_of o.value) ≡ false = ap (same_kind (ScalarOf k)) (sym same) ∙ e in
-    let none : place_in o k i ≡ Err WrongKind = rw (other, place_in) refl in
+    let none : offset_in o k i ≡ Err WrongKind = rw (other, offset_in) refl in
     subst (λ (r : Result ℕ Refusal). IfOk (place_by o r) P) (sym none) tt
 
 -- an object of another kind has no element of scalars
@@ -251,7 +251,7 @@ element-of_vector old new key k l i a =
 pub element-by_key : (old new : SegmentState) (key : Key) (o : Located) → IsLocated old key o → (k : ScalarKind) (i : ℕ)
     → ChangesElement old new (ByHandle o.handle) k i → ChangesElement old new key k i
 element-by_key old new key o l k i m = λ d w.
-    subst (λ (r : Option Object). IfOk (place_of r k i) (λ (p : Place). SameBytesExcept (bytes_of old.cut.bytes)
+    subst (λ (r : Option Object). IfOk (index_at r k i) (λ (p : Place). SameBytesExcept (bytes_of old.cut.bytes)
     (bytes_of new.cut.bytes) (p.handle + p.at) (size_of k))) (sym (same-object old key o l d w)) (m d w)
 
 -- a property that always holds holds after a success

@@ -4,7 +4,7 @@ use Rattle.seg_types.specs.Names as names
 use Rattle.seg_types.specs.Commands as asked
 use common.{◌≡◌, sym, ◌∙◌, ◌*◌, ◌<◌, ◌≤◌, inl, inr, Some, None, List, WindowState, Kind, AddsEntry, Value, live, Plan}
 use common.{New, bare, refl, IndexRole, AddKeeps, IsIndexOf, Directory, objects_of, IsNewKeyOf, RestoresBlocks}
-use common.{with_entry, with_value, ap, current, LiveSet, resized, EncodesLiveSet, live_of, PreparesOk, place_of}
+use common.{with_entry, with_value, ap, current, LiveSet, resized, EncodesLiveSet, live_of, PreparesOk, index_at}
 use common.{count_of, IsDenied, table_of, class_of, subst, ℤ, length, arith, insert, Extent, handle, added, place}
 use common.{KeepsBlocks, BackingArray, Scalar, Index, Absent, Object, ℕ, allocated-live, keeps-trans, grown_bytes}
 use common.{grown_capacity, class_of_index, with_table_of, with_new_object, Option, Content, FindsPosition, Refused}
@@ -60,17 +60,17 @@ restored-denotes a c d said r =
 -- ---- the index grows, or not
 
 -- the directory after its index grew
-abbrev pub grown : (i : Index) (d : Directory) (a b : WindowState) (g : Option ℕ) → PreparesOk a b (place_of i) g
+abbrev pub grown : (i : Index) (d : Directory) (a b : WindowState) (g : Option ℕ) → PreparesOk a b (index_at i) g
     → Directory
 grown i d a b None h = d
 grown i d a b (Some g) h = with_table_of i d (grown_into i d h.1.extent)
 
-count-is : (i : Index) {a : WindowState} (d : Directory) → IsIndexOf a (place_of i) (table_of i d) (entries_of i d)
-    → entry_count a (place_of i) ≡ length (objects_of i d)
+count-is : (i : Index) {a : WindowState} (d : Directory) → IsIndexOf a (index_at i) (table_of i d) (entries_of i d)
+    → entry_count a (index_at i) ≡ length (objects_of i d)
 count-is i d x = x.stands.count ∙ handles-length (objects_of i d)
 
 pub grows-performs : (i : Index) (a b : WindowState) {d : Directory} (g : Option ℕ) (next : Directory → Plan)
-    → Denotes current a.bytes d → (h : PreparesOk a b (place_of i) g)
+    → Denotes current a.bytes d → (h : PreparesOk a b (index_at i) g)
     → perform d (live d) (with_entry d (class_of_index i) next) ≡ perform d (live_of b.bytes) (next (grown i d a b g h))
 grows-performs i a b {d} None next k h =
     let x = denotes-index i a k in
@@ -86,7 +86,7 @@ grows-performs i a b {d} (Some g) next k h =
     (sym (λ j. place (denotes-live current a.bytes d k j) (8 * grown_capacity (x.stands.capacity j)) IndexRole)
     ∙ h.1.placed) ∙ ap (λ l. perform d l (next (with_table_of i d (grown_into i d h.1.extent))))
     (ap (λ l. added l h.1.extent) (sym (denotes-live current a.bytes d k))
-    ∙ sym (allocated-live current a b (grown_bytes a (place_of i)) IndexRole g h.1))
+    ∙ sym (allocated-live current a b (grown_bytes a (index_at i)) IndexRole g h.1))
 
 -- the blocks of the directory stay while the index gets its block and the object is made
 pub keeps-front : (b c : WindowState) (x : Extent) (l : LiveSet) → KeepsBlocks b c (added l x).extents
@@ -99,7 +99,7 @@ keeps-front b c x l k = record {
 }
 
 pub grows-keeps : (i : Index) (a b c : WindowState) {d : Directory} (g : Option ℕ) → Denotes current a.bytes d
-    → PreparesOk a b (place_of i) g → KeepsBlocks b c (live_of b.bytes).extents → KeepsBlocks a c (live d).extents
+    → PreparesOk a b (index_at i) g → KeepsBlocks b c (live_of b.bytes).extents → KeepsBlocks a c (live d).extents
 grows-keeps i a b c {d} None k h keeps =
     subst (λ (l : LiveSet). KeepsBlocks a c l.extents) (denotes-live current a.bytes d k)
     (subst (λ (x : WindowState). KeepsBlocks x c (live_of x.bytes).extents) h.1 keeps)
@@ -107,28 +107,28 @@ grows-keeps i a b c {d} (Some g) k h keeps =
     subst (λ (l : LiveSet). KeepsBlocks a c l.extents) (denotes-live current a.bytes
     d k) (keeps-trans a b c (live_of a.bytes).extents h.1.keeps (keeps-front b c h.1.extent (live_of a.bytes)
     (subst (λ (l : LiveSet). KeepsBlocks b c l.extents)
-    (allocated-live current a b (grown_bytes a (place_of i)) IndexRole g h.1) keeps)))
+    (allocated-live current a b (grown_bytes a (index_at i)) IndexRole g h.1) keeps)))
 
 -- ---- the entry is added
 
 -- the table that the index has then
-abbrev table_then : (i : Index) (d : Directory) (a b : WindowState) (g : Option ℕ) → PreparesOk a b (place_of i) g
+abbrev table_then : (i : Index) (d : Directory) (a b : WindowState) (g : Option ℕ) → PreparesOk a b (index_at i) g
     → BackingArray
 table_then i d a b None h = table_of i d
 table_then i d a b (Some g) h = grown_into i d h.1.extent
 
-grown-is : (i : Index) (d : Directory) (a b : WindowState) (g : Option ℕ) (h : PreparesOk a b (place_of i) g)
+grown-is : (i : Index) (d : Directory) (a b : WindowState) (g : Option ℕ) (h : PreparesOk a b (index_at i) g)
     → grown i d a b g h ≡ with_table_of i d (table_then i d a b g h)
 grown-is i d a b None h = sym (same-table i)
 grown-is i d a b (Some g) h = refl
 
 entered : {i : Index} (a b : WindowState) {c : WindowState} {e : WindowState} {d : Directory} {o : Object} (at : ℕ)
     (g : Option ℕ) → Denotes current a.bytes d
-    → (h : PreparesOk a b (place_of i) g) → IsMade b c o → IsIndexOf c (place_of i) (table_of i d) (entries_of i d)
+    → (h : PreparesOk a b (index_at i) g) → IsMade b c o → IsIndexOf c (index_at i) (table_of i d) (entries_of i d)
     → insert (entries_of i d) at (handle o.extent) ≡ entries_of i (with_object d o)
-    → AddsEntry c e (place_of i) (table_of i d) (insert (entries_of i d) at (handle o.extent)) g
-    → EncodesLiveSet current e.bytes (grown_live c (place_of i) g)
-    → AddKeeps c e (place_of i) (table_of i d) g → IsEntered i c e d (table_then i d a b g h) o
+    → AddsEntry c e (index_at i) (table_of i d) (insert (entries_of i d) at (handle o.extent)) g
+    → EncodesLiveSet current e.bytes (grown_live c (index_at i) g)
+    → AddKeeps c e (index_at i) (table_of i d) g → IsEntered i c e d (table_then i d a b g h) o
 entered a b {c} {o} at None k h made x same adds laid keeps =
     entered-none a at k (subst (λ (s : WindowState). IsMade s c o) h.1 made) x same adds laid keeps
 entered a b at (Some g) k h made x same adds laid keeps = entered-some at k h.1 made x same adds laid keeps
@@ -158,10 +158,10 @@ content-plan i d key {name} content next e f = λ j.
 
 -- an entry that leads to a handle was added to an index
 pub record IsLed (i : Index) (w c : WindowState) (at h : ℕ) (g : Option ℕ) : Type 0 where
-  pub adds : (t : BackingArray) (hs : List ℕ) → IsIndexOf w (place_of i) t hs
-      → AddsEntry w c (place_of i) t (insert hs at h) g
-  pub live : EncodesLiveSet current c.bytes (grown_live w (place_of i) g)
-  pub keeps : (t : BackingArray) (hs : List ℕ) → IsIndexOf w (place_of i) t hs → AddKeeps w c (place_of i) t g
+  pub adds : (t : BackingArray) (hs : List ℕ) → IsIndexOf w (index_at i) t hs
+      → AddsEntry w c (index_at i) t (insert hs at h) g
+  pub live : EncodesLiveSet current c.bytes (grown_live w (index_at i) g)
+  pub keeps : (t : BackingArray) (hs : List ℕ) → IsIndexOf w (index_at i) t hs → AddKeeps w c (index_at i) t g
 
 module _ (i : Index) (a : WindowState) (d : Directory) (e : Entry) (key : names.Key) (name : List ℕ) (kind : Kind)
     (content : Content) (said : Denotes current a.bytes d) (new : IsNewKeyOf i e key name kind) where
@@ -171,7 +171,7 @@ module _ (i : Index) (a : WindowState) (d : Directory) (e : Entry) (key : names.
 
   -- the requests are met
   pub content-met : (b : WindowState) {x : Extent} (v : Value) (left : LiveSet) (g : Option ℕ)
-      → (grows : PreparesOk a b (place_of i) g) → place (live_of b.bytes) (object_len name (bare content))
+      → (grows : PreparesOk a b (index_at i) g) → place (live_of b.bytes) (object_len name (bare content))
       ObjectRole ≡ Some x → IsGiven d (resized (live_of b.bytes) x) content v left → (next : Object → Directory → Plan)
       → perform d (live d) (with_new_object d key content next) ≡ perform d left
       (next (object_of i name v x) (with_object (grown i d a b g grows) (object_of i name v x)))
@@ -182,7 +182,7 @@ module _ (i : Index) (a : WindowState) (d : Directory) (e : Entry) (key : names.
       then) x placed ∙ given.met (λ v. next (object_of i name v x) (with_object then (object_of i name v x)))
 
   -- the value's are refused
-  pub content-denied : (b : WindowState) {x : Extent} (g : Option ℕ) → (grows : PreparesOk a b (place_of i) g)
+  pub content-denied : (b : WindowState) {x : Extent} (g : Option ℕ) → (grows : PreparesOk a b (index_at i) g)
       → place (live_of b.bytes) (object_len name (bare content)) ObjectRole ≡ Some x
       → IsDenied d (resized (live_of b.bytes) x) content → (next : Object → Directory → Plan)
       → perform d (live d) (with_new_object d key content next) ≡ (Refused NoSpace, d)
@@ -194,7 +194,7 @@ module _ (i : Index) (a : WindowState) (d : Directory) (e : Entry) (key : names.
 
   -- the index's or the object's are
   pub content-none : (next : Object → Directory → Plan) (n : ℕ) → n ≡ object_len name (bare content)
-      → FindsNone a (place_of i) n → perform d (live d) (with_new_object d key content next) ≡ (Refused NoSpace, d)
+      → FindsNone a (index_at i) n → perform d (live d) (with_new_object d key content next) ≡ (Refused NoSpace, d)
   content-none next n len (inl full) =
       let x = denotes-index i a said in
       ap (perform d (live d)) (plan-of next) ∙ entry-refused i d (object_plan i name content next)
@@ -208,7 +208,7 @@ module _ (i : Index) (a : WindowState) (d : Directory) (e : Entry) (key : names.
   -- the object is made, and its entry is added
   pub content-entered : (b w : WindowState) {c : WindowState} {x : Extent} {v : Value} {left : LiveSet} (at : ℕ)
       {h : ℕ} (g : Option ℕ)
-      → PreparesOk a b (place_of i) g → place (live_of b.bytes) (object_len name (bare content)) ObjectRole ≡ Some x
+      → PreparesOk a b (index_at i) g → place (live_of b.bytes) (object_len name (bare content)) ObjectRole ≡ Some x
       → IsGiven d (resized (live_of b.bytes) x) content v left → kind_of v ≡ kind → count_of v ≡ count_of (bare content)
       → IsMade b w (object_of i name v x) → h ≡ handle x
       → FindsPosition (bytes_of a.bytes) e (entries_of i d) (Absent at)
@@ -220,7 +220,7 @@ module _ (i : Index) (a : WindowState) (d : Directory) (e : Entry) (key : names.
       (growth-index i g grows (denotes-index i a said)) in
       let there = entered a b at g said grows made index
       (entry-added i a e key at o said (key-seeks i e key name kind new) away (key-has i e key name v x new'))
-      (subst (λ n. AddsEntry w c (place_of i) (table_of i d) (insert (entries_of i d) at n) g) is
+      (subst (λ n. AddsEntry w c (index_at i) (table_of i d) (insert (entries_of i d) at n) g) is
       (led.adds (table_of i d) (entries_of i d) index)) led.live (led.keeps (table_of i d) (entries_of i d) index) in
       let none = (lookup-absent i a e key said (key-seeks i e key name kind new) away).none in
       record {
@@ -241,7 +241,7 @@ module _ (i : Index) {a : WindowState} {d : Directory} (e : Entry) {key : names.
     (zs : List ℤ) (said : Denotes current a.bytes d) (new : IsNewKeyOf i e key name (Scalar k)) where
   -- its requests are met
   pub numbers-met : {m : WindowState} {n h : ℕ} {g : Option ℕ} → n ≡ object_len name (Numbers k zs)
-      → RequestsBlocksOk a m (place_of i) n g h → IsMet d key (asked.Numbers k zs)
+      → RequestsBlocksOk a m (index_at i) n g h → IsMet d key (asked.Numbers k zs)
   numbers-met {g} len r =
       let x : Extent = r.takes.extent in
       record {

@@ -9,7 +9,7 @@ use common.{Boolean, Seeks, Plan, Reply, subst, Directory, Deallocates, is_live_
 use common.{ℕ, Option, handle, Class, Index, Absent, Object, SegmentState, arith, remove, TakesStep, false}
 use common.{EncodesLiveSet, live_of, Refused, Denotes, Becomes, Empties, emptied, changed, bytes_of, IsAnonymousAt}
 use common.{lay_out_one, beside_table, entry_count, is_read_only, current, FindsPosition, is_class, NotFound, HasIndex}
-use common.{place_of, order_of, table_of, class_code, slice_get_within, SameSurroundings-trans, without_object}
+use common.{index_at, order_of, table_of, class_code, slice_get_within, SameSurroundings-trans, without_object}
 use common.{class_of_index, object_at, IsSegment, DenotesCurrent, slice_get, same_Some, KeepsOutsideIndex, IsIndexOf}
 use Rattle.segment_manager.proofs.indexes.Bridge.{lookup-absent, IsEntryFor, entry-removed, in-handles, lookup-found}
 use Rattle.segment_manager.proofs.containers.Emptied.{changed-entries, changed-in, changed-others, emptied-is}
@@ -41,7 +41,7 @@ entry-class i d at {o} e = class-is i o.class (all-at (λ p. is_class (class_of_
     (of-class (class_of_index i) d.objects)) e)
 
 -- the index is in the heap with the other entries
-pub entry-index : {c : WindowState} {i : Index} {at : ℕ} → HoldsEntry c.bytes i at → HasIndex c (place_of i)
+pub entry-index : {c : WindowState} {i : Index} {at : ℕ} → HoldsEntry c.bytes i at → HasIndex c (index_at i)
 entry-index {c} {i} x = record {
   table = table_of i x.directory;
   handles = entries_of i x.directory;
@@ -49,7 +49,7 @@ entry-index {c} {i} x = record {
 }
 
 -- an entry is below the count
-pub entry-below : (c : WindowState) {i : Index} {at : ℕ} → HoldsEntry c.bytes i at → at < entry_count c (place_of i)
+pub entry-below : (c : WindowState) {i : Index} {at : ℕ} → HoldsEntry c.bytes i at → at < entry_count c (index_at i)
 entry-below c {i} {at} x =
     let d : Directory = x.directory in
     omega (
@@ -60,7 +60,7 @@ entry-below c {i} {at} x =
 
 -- the handle of the entry
 abbrev pub LeadsTo : WindowState → Index → ℕ → ℕ → Type 0
-LeadsTo c i at h = (t : BackingArray) (hs : List ℕ) → IsIndexOf c (place_of i) t hs → slice_get hs at ≡ Some h
+LeadsTo c i at h = (t : BackingArray) (hs : List ℕ) → IsIndexOf c (index_at i) t hs → slice_get hs at ≡ Some h
 
 module _ {a : WindowState} (i : Index) (at : ℕ) {h : ℕ} (leads : LeadsTo a i at h) where
   entry-found : {d : Directory} {o : Object} → Denotes current a.bytes d → slice_get (objects_of i d) at ≡ Some o
@@ -81,11 +81,11 @@ module _ {a : WindowState} (i : Index) (at : ℕ) {h : ℕ} (leads : LeadsTo a i
 
 -- The entry at a place was removed. Its block stays, and so does all else.
 pub record IsUnlisted (i : Index) (old new : WindowState) (at : ℕ) : Type 0 where
-  pub removes : (t : BackingArray) (hs : List ℕ) → IsIndexOf old (place_of i) t hs
-      → IsIndexOf new (place_of i) t (remove hs at)
+  pub removes : (t : BackingArray) (hs : List ℕ) → IsIndexOf old (index_at i) t hs
+      → IsIndexOf new (index_at i) t (remove hs at)
   pub live : EncodesLiveSet current new.bytes (live_of old.bytes)
-  pub keeps : (t : BackingArray) (hs : List ℕ) → IsIndexOf old (place_of i) t hs
-      → KeepsOutsideIndex old new (place_of i) (beside_table t (live_of old.bytes).extents)
+  pub keeps : (t : BackingArray) (hs : List ℕ) → IsIndexOf old (index_at i) t hs
+      → KeepsOutsideIndex old new (index_at i) (beside_table t (live_of old.bytes).extents)
 
 -- ---- once its contents are released
 
@@ -115,8 +115,8 @@ module _ {a b : WindowState} (h : ℕ) (empties : Empties a b h) {d : Directory}
       ∙ object-live emptied_directory emptied_object emptied-in emptied-denotes.directory.proper
 
   -- an index has the entries that it had
-  emptied-index : (i : Index) → IsIndexOf b (place_of i) (table_of i emptied_directory) (entries_of i d)
-  emptied-index i = subst (IsIndexOf b (place_of i) (table_of i emptied_directory))
+  emptied-index : (i : Index) → IsIndexOf b (index_at i) (table_of i emptied_directory) (entries_of i d)
+  emptied-index i = subst (IsIndexOf b (index_at i) (table_of i emptied_directory))
       (changed-entries d o is-in i (emptied o.value) (emptied-is o.value).kind) (denotes-index i b emptied-denotes)
 
   -- only the object's own block was freed, and it is anonymous
@@ -140,7 +140,7 @@ module _ {a b : WindowState} (h : ℕ) (empties : Empties a b h) {d : Directory}
       let less = entry-removed i at k.denotes.directory there ∙ ap (entries_of i) (sym rest) in
       let left : IsLeft i b c t (entries_of i (without_object emptied_directory emptied_object)) = record {
         live = u.live;
-        stands = subst (IsIndexOf c (place_of i) t) less (u.removes t (entries_of i d) before);
+        stands = subst (IsIndexOf c (index_at i) t) less (u.removes t (entries_of i d) before);
         keeps = u.keeps t (entries_of i d) before;
       } in
       let none : IsGone c f (o.extent ∷ []) = record { live = released.live; keeps = released.keeps } in
@@ -159,7 +159,7 @@ module _ {a b : WindowState} {i : Index} {at h : ℕ} (leads : LeadsTo a i at h)
     held = entry-found i at leads x.stands.denotes x.is
 
     -- the index stays
-    pub index-still : HasIndex b (place_of i)
+    pub index-still : HasIndex b (index_at i)
     index-still = record {
       table = table_of i (changed x.directory x.object (emptied x.object.value));
       handles = entries_of i x.directory;
@@ -167,7 +167,7 @@ module _ {a b : WindowState} {i : Index} {at h : ℕ} (leads : LeadsTo a i at h)
     }
 
     -- the entry is still below the count
-    pub below-still : at < entry_count b (place_of i)
+    pub below-still : at < entry_count b (index_at i)
     below-still = omega (
       arith,
       (slice_get_within (entries_of i x.directory) at (handle x.object.extent)
@@ -189,7 +189,7 @@ module _ {a b : WindowState} {i : Index} {at h : ℕ} (leads : LeadsTo a i at h)
 
 -- the result of a look-up in the index of a heap
 abbrev pub Ends : WindowState → Index → Entry → Lookup → Type 0
-Ends c i e r = (t : BackingArray) (hs : List ℕ) → IsIndexOf c (place_of i) t hs
+Ends c i e r = (t : BackingArray) (hs : List ℕ) → IsIndexOf c (index_at i) t hs
     → FindsPosition (bytes_of c.bytes) e hs r
 
 found-for : (c : WindowState) {i : Index} (e : Entry) {key : names.Key} {at : ℕ} {d : Directory}

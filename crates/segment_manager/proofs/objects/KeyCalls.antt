@@ -7,7 +7,7 @@ use common.{IsSegment, sym, ◌∙◌, ℕ, ◌+◌, ◌<◌, [], ◌∷◌, Win
 use common.{Bool, true, ◌&&◌, ◌||◌, ◌==◌, Some, None, List, cond, find, Role, SegmentState, subst, Named, Reply, found}
 use common.{false, arith, BackingArray, Index, Entry, Found, Seeks, Answer, Number, Refuse, Result, effect, SaysAt}
 use common.{SaysOf, is_some, option_map, slice_get, ObjectRole, is_live_in, entries_of, objects_of, found_object_answer}
-use common.{IsInstance, list_any, eqb-true, bytes_of, ByHandle, HasIndex, place_of, DenotesCurrent, WrongKind}
+use common.{IsInstance, list_any, eqb-true, bytes_of, ByHandle, HasIndex, index_at, DenotesCurrent, WrongKind}
 use common.{same_kind, HasObject, slice_get_within, entry_count, is_object_at, if◌then◌else◌, named_objects}
 use common.{unique_objects, pair_of_kind, current, live_of, FindsPosition, has_key, Denotes, table_of, AnswersWith}
 use common.{kind_of, IsObjectInBlock, count_of, Instance}
@@ -107,13 +107,13 @@ dead-answers {s} h e f = record {
 -- ---- an entry of an index
 
 -- a segment has an index
-pub segment-index : {c : WindowState} (i : Index) → IsSegment c.bytes → HasIndex c (place_of i)
+pub segment-index : {c : WindowState} (i : Index) → IsSegment c.bytes → HasIndex c (index_at i)
 segment-index {c} i s =
     record { table = table_of i s.0; handles = entries_of i s.0; index = denotes-index i c s.1.denotes }
 
 -- a property of each table and handles of an index
 abbrev pub ForIndex : WindowState → Index → (List ℕ → Type 0) → Type 0
-ForIndex c i P = (t : BackingArray) (hs : List ℕ) → IsIndexOf c (place_of i) t hs → P hs
+ForIndex c i P = (t : BackingArray) (hs : List ℕ) → IsIndexOf c (index_at i) t hs → P hs
 
 -- a property of an index holds for the directory's entries
 pub of-directory : (s : SegmentState) (i : Index) (P : List ℕ → Type 0) {d : Directory} → DenotesCurrent s.cut.bytes d
@@ -122,7 +122,7 @@ of-directory s i P {d} k f = f (table_of i d) (entries_of i d) (denotes-index i 
 
 -- an entry that was found is an entry of the index
 pub place-below : {c : WindowState} (i : Index) (e : Entry) (place : ℕ) → IsSegment c.bytes
-    → ForIndex c i (λ hs. FindsPosition (bytes_of c.bytes) e hs (Found place)) → place < entry_count c (place_of i)
+    → ForIndex c i (λ hs. FindsPosition (bytes_of c.bytes) e hs (Found place)) → place < entry_count c (index_at i)
 place-below {c} i e place s f =
     let stands = denotes-index i c s.1.denotes in let at = f (table_of i s.0) (entries_of i s.0) stands in
     omega (arith, slice_get_within (entries_of i s.0) place at.0 at.1, stands.stands.count)
@@ -249,7 +249,7 @@ num-replies {s} i n f = record {
 
 -- a number below their count is a place
 pub below-count : {s t : SegmentState} (view : s ≡ t) (i : Index) {n : ℕ} → IsSegment s.cut.bytes
-    → IsBelow t (λ d. length (objects_of i d)) n → n < entry_count s.cut (place_of i)
+    → IsBelow t (λ d. length (objects_of i d)) n → n < entry_count s.cut (index_at i)
 below-count {s} view i {n} g b =
     let stands = denotes-index i s.cut g.1.denotes in
     let below = subst (λ (u : SegmentState). IsBelow u (λ d. length (objects_of i d)) n) (sym view) b in

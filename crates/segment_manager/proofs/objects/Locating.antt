@@ -3,7 +3,8 @@ use Rattle.segment_manager.proofs.Common as common
 use common.{◌≡◌, refl, sym, ap, subst, ◌∙◌, ℕ, ◌&&◌, Option, Some, None, Result, Ok, Err, if◌then◌else◌}
 use common.{option_map, same_Some, Kind, Refusal, NotFound, ReadOnly, WrongKind, same_kind, Key, ByHandle, Command}
 use common.{is_changing, Change, Clear, Reserve, Shrink, Located, Answer, kind_at, sizes_at, sizes_at_kind, handle}
-use common.{sizes_of, sizes_of_kind, Object, Directory, kind_of, live, object_at, handle_at, HasPlaces, UnchangedWhere}
+use common.{sizes_of, sizes_of_kind, Object, Directory, kind_of, live, object_at, handle_at, HasCapacity}
+use common.{UnchangedWhere}
 use common.{IsLocated, IsSegment, Plan, Refuse, perform, with, IsObjectInBlock, AnswersWith, AnswersQueryOfKind}
 use common.{TakesStep, TakesStepOfKind}
 use common.{SegmentState, DenotesCurrent, effect, is_read_only, step, step_of_kind, HasEnough, command_of}
@@ -200,8 +201,8 @@ module _ (old : SegmentState) (key : Key) (o : Located) (l : IsLocated old key o
       [ None ↦ Err NotFound | Some p ↦ sizes_of_kind p kind ]) r m)
 
   -- nothing changes if the capacity suffices
-  places-by_key : {new : SegmentState} (n : ℕ) → UnchangedWhere old new (HasPlaces (ByHandle o.handle) n)
-      → UnchangedWhere old new (HasPlaces key n)
+  places-by_key : {new : SegmentState} (n : ℕ) → UnchangedWhere old new (HasCapacity (ByHandle o.handle) n)
+      → UnchangedWhere old new (HasCapacity key n)
   places-by_key n m = λ d k p. m d k (record {
     len = p.len;
     capacity = p.capacity;

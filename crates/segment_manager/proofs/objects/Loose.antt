@@ -3,7 +3,7 @@ use Rattle.segment_manager.proofs.Common.{sym, subst, ◌+◌, Some, None, List,
 use Rattle.segment_manager.proofs.Common.{Class, Key, Role, ℕ, Option, IfSome, current, LiveSet, live_of}
 use Rattle.segment_manager.proofs.Common.{BeginsObjectOk, WritesObjectHeader, WritesUnindexedObject, room_for}
 use Rattle.segment_manager.proofs.Common.{PreparesOk, []}
-use Rattle.segment_manager.proofs.Common.{ObjectRole, Deallocates, has_room, is_live_in, FreesGrowth, place_of}
+use Rattle.segment_manager.proofs.Common.{ObjectRole, Deallocates, has_room, is_live_in, FreesGrowth, index_at}
 use Rattle.segment_manager.proofs.Common.{PendingEntry, RestoresBlocks, AllocatesOk, allocated-is_live, allocated-room}
 use Rattle.segment_manager.proofs.Common.{changed-room, lay_out_one, WritesUnindexedAlone, WritesUnindexedForEntry}
 use Rattle.segment_manager.proofs.objects.Taking.{growth-held, restored-taken, written-taken}
@@ -80,11 +80,11 @@ module _ {old now new : WindowState} {h : ℕ} {e : PendingEntry} (l : WritesUni
       let mid : WindowState = l.requested.between in
       subst (λ (s : LiveSet). IfSome e.growth.block (λ g. IsTrue (is_live_in s g)))
       (sym (lay_out_one current new.bytes (live_of mid.bytes) (object-back).laid))
-      (growth-held old mid (place_of e.index) e.growth.block l.requested.grows)
+      (growth-held old mid (index_at e.index) e.growth.block l.requested.grows)
 
 -- an object and the growth of its index are deallocated: all is as before
 pub entry-back : {old now mid : WindowState} {new : WindowState} {h : ℕ} {e : PendingEntry}
     → WritesUnindexedForEntry old now h e
     → Deallocates current now mid h → FreesGrowth mid new e.growth.block → RestoresBlocks old new
 entry-back {old} {e} l gone back =
-    growth-back (place_of e.index) e.growth.block l.requested.grows (object-back l gone) back
+    growth-back (index_at e.index) e.growth.block l.requested.grows (object-back l gone) back

@@ -5,7 +5,8 @@ use common.{◌≡◌, ◌&&◌, refl, sym, ap, ◌∙◌, ℕ, ◌==◌, Bool, 
 use common.{nat_lt, Exists, if◌then◌else◌, is_some, eq-eqb, Extent, handle, LiveSet, resized, Refusal, NoSpace}
 use common.{BackingArray, OwnedText, Class, Anonymous, size_of, Key, ByHandle, Mode, Content, Answer, Made, Refused}
 use common.{Directory, Object, Value, live, has_key, object_at, put_object, Elements, Bytes, Texts, Plan, Refuse, Reply}
-use common.{Request, perform, met, with_place, with_entry, with_storage, with_owned_text, with_owned_texts, with_value}
+use common.{Request, perform, met, with_spare_entry, with_entry, with_storage, with_owned_text, with_owned_texts}
+use common.{with_value}
 use common.{with_new_object, class_of, name_of, Need, is_read_only, plan, step, is_object_at, AnswersWith, IsSegment}
 use common.{TakesStep, SegmentState, find}
 use Rattle.segment_manager.proofs.objects.KeyCalls.{object-passes}
@@ -45,7 +46,7 @@ if-here true p q h k = h
 if-here false p q h k = k
 
 place-here : (t : BackingArray) (count : ℕ) (next : BackingArray → Plan) → ((u : BackingArray) → MakesHere (next u))
-    → MakesHere (with_place t count next)
+    → MakesHere (with_spare_entry t count next)
 place-here t count next k = if-here (nat_lt count t.capacity) _ _ (k t) (by_request (λ x. k _))
 
 entry-here : (d : Directory) (c : Class) (next : Directory → Plan) → ((e : Directory) → MakesHere (next e))

@@ -7,7 +7,7 @@ use Rattle.segment_manager.proofs.Common.{ExchangesBlocks, SameBlockExcept, Exte
 use Rattle.segment_manager.proofs.Common.{EncodesLiveSet, live_of, laid-heap, ScalarKind, Plain, is_value, size_of}
 use Rattle.segment_manager.proofs.Common.{spelling, Place, place_at, spelled, Numbers, Pairs, MakesValueOk, repeated}
 use Rattle.segment_manager.proofs.{Common.is_good_value, objects.NewKeys.equal-good, blocks.Blocks.spelling-length}
-use Rattle.segment_manager.proofs.objects.Rows.{repeated-spelled}
+use Rattle.segment_manager.proofs.objects.Slices.{repeated-spelled}
 use Rattle.link_tree.specs.Tree.{IsTree}
 use Rattle.seg_map.specs.Changing.{InitsMap}
 

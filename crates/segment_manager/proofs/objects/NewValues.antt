@@ -8,7 +8,7 @@ use common.{BackingArray, serves, Class, Index, Absent, Object, padded, subst, I
 use common.{extents_of, object_len, entries_of, ◌∙◌, ℕ, ◌+◌, [], ◌∷◌, WindowState, Option, length, IsTrue}
 use common.{BeginsObjectOk, WritesUnindexedObject, Denotes, has_key, kind_of, IsGiven, and_from, SameSurroundings}
 use common.{ChangesBytes, laid-heap, IsNewKeyOf, RestoresBlocks, with_value, current, PendingEntry, WritesObjectHeader}
-use common.{IsReadyForEntry, count_of, IsDenied, table_of, head_len, bytes_of, added, place_of, AddKeeps, PreparesOk}
+use common.{IsReadyForEntry, count_of, IsDenied, table_of, head_len, bytes_of, added, index_at, AddKeeps, PreparesOk}
 use common.{prepared, IsSegment, DenotesCurrent, SameSurroundings-trans, BeginsAnonymous, is_good_value, value_extents}
 use common.{class_of_index, ObjectRole, AllocatesOk, is_kind_of, BeginsEntryOk, with_object, MakesValueOk, Anonymous}
 use common.{IsIndexOf, Directory, is_object, object_at, value_len, MakesValueErr, handle}
@@ -221,10 +221,10 @@ module _ (content : Content) where
         let took = block mid g.taken m w (class_of_index i) g.name h at g.requested.takes g.headed r in
         let taken = entry-taken g r in
         let grown =
-        prepared a mid (place_of i) e.growth.block t hs x g.requested.grows (place_behind i) (place_small i) in
-        let index : IsIndexOf w (place_of i) t hs =
+        prepared a mid (index_at i) e.growth.block t hs x g.requested.grows (place_behind i) (place_small i) in
+        let index : IsIndexOf w (index_at i) t hs =
         taken-index _ taken (place_behind i) (place_small i) (growth-index i e.growth.block g.requested.grows x) in
-        let stay : (n : ℕ) → ObjectStays a w n = stays-trans {b = mid} (growth-stays (place_of i) e.growth.block
+        let stay : (n : ℕ) → ObjectStays a w n = stays-trans {b = mid} (growth-stays (index_at i) e.growth.block
         g.requested.grows) (made-stays _ taken) in
         let sorted = denotes-sorted i a b.1.denotes in
         let new = subst (IsNewKeyOf i g.entry key g.name) (sym r.is_kind) g.is in
@@ -244,7 +244,7 @@ module _ (content : Content) where
             index = record { index = index; sorted = keeps-sorted stay i hs sorted };
             belongs = subst (BelongsAt w i hs e.place) (sym took.at) belongs;
           };
-          growth = taken-growth mid w _ (place_of i) e.growth.block taken (place_behind i) (place_small i) grown;
+          growth = taken-growth mid w _ (index_at i) e.growth.block taken (place_behind i) (place_small i) grown;
         }
 
     -- a made value: the object is ready
@@ -282,9 +282,9 @@ module _ (content : Content) where
       entry-place r added =
           let i : Index = e.index in let mid : WindowState = g.requested.between in
           let q = (entry-wanted g r).entry in
-          SameSurroundings-trans a mid c (growth-place (place_of i) e.growth.block g.requested.grows)
+          SameSurroundings-trans a mid c (growth-place (index_at i) e.growth.block g.requested.grows)
           (SameSurroundings-trans mid w c (entry-taken g r).keeps.place
-          (keeps-place (place_of i) q.table e.growth.block (added.keeps q.table q.handles q.index.index)))
+          (keeps-place (index_at i) q.table e.growth.block (added.keeps q.table q.handles q.index.index)))
 
       -- the value is made
       value-made : MakesValueOk content m w (record { handle = h; at = at }) → AddsPendingEntry w c h e

@@ -7,8 +7,8 @@ use Rattle.segment_manager.proofs.Common.{EncodesLiveSet, has_room, is_live_in, 
 use Rattle.segment_manager.proofs.Common.{SameBytes-word, SameBytesExcept-SameBytes}
 use Rattle.segment_manager.proofs.Common.{changed-live, room_block, ◌*◌, ◌<◌, ◌++◌, replicate, take, mul-le-mul_left}
 use Rattle.segment_manager.proofs.Common.{length-replicate, Kind, Class, class_code, code_of, padded, padded_name}
-use Rattle.segment_manager.proofs.{Common.two_halves, Common.IsHeadAt, Common.repeated, objects.Rows.repeated-more}
-use Rattle.segment_manager.proofs.{Common.changed-room, blocks.NewBlocks.changed-trans, objects.Rows.repeated-length}
+use Rattle.segment_manager.proofs.{Common.two_halves, Common.IsHeadAt, Common.repeated, objects.Slices.repeated-more}
+use Rattle.segment_manager.proofs.{Common.changed-room, blocks.NewBlocks.changed-trans, objects.Slices.repeated-length}
 use Rattle.best_fit.specs.Heap.{payload_at}
 use Rattle.raw_region.proofs.{Laws.length-part, Laws.part-part, Laws.read-part, Bytes.HasBytesAt-append}
 use Rattle.best_fit.proofs.Laws.{block_payload, room-less}

@@ -3,7 +3,7 @@ use Rattle.segment_manager.proofs.Common.{◌≡◌, refl, ap, ◌∙◌, ℕ, �
 use Rattle.segment_manager.proofs.Common.{IsTrue, lt-ltb, le-ltb, Role, IndexRole, Extent, LiveSet, is_proper, added}
 use Rattle.segment_manager.proofs.Common.{place, resized, placed_is_proper, NoSpace, Index, grown_capacity, Refused}
 use Rattle.segment_manager.proofs.Common.{Directory, live, class_of_index, objects_of, table_of, with_table_of, Plan}
-use Rattle.segment_manager.proofs.Common.{perform, with_entry, with_new_index, with_place}
+use Rattle.segment_manager.proofs.Common.{perform, with_entry, with_new_index, with_spare_entry}
 use Rattle.segment_manager.proofs.{indexes.Tabled.grown_into, directory.CommandSteps.perform-no_space}
 use Rattle.segment_manager.proofs.{indexes.Tables.same-table}
 use Rattle.segment_manager.proofs.{directory.CommandSteps.perform-new, directory.ExtentOrder.live-rises}
@@ -13,7 +13,7 @@ use Rattle.seg_index.specs.declared.index.Index.TheVariants as index
 -- ---- a place in an index
 
 abbrev with_table : Index → Directory → (Directory → Plan) → Plan
-with_table i d next = with_place (table_of i d) (length (objects_of i d)) (λ t. next (with_table_of i d t))
+with_table i d next = with_spare_entry (table_of i d) (length (objects_of i d)) (λ t. next (with_table_of i d t))
 
 entry-of : (i : Index) (d : Directory) (next : Directory → Plan)
     → with_entry d (class_of_index i) next ≡ with_table i d next

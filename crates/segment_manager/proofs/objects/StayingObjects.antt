@@ -9,8 +9,8 @@ use common.{ReadOnly, WrongKind, changed, count_of, kind_of, is_read_only, with_
 use common.{Located, object_at, is_object_at, handle_at, same_Some}
 use Rattle.segment_manager.proofs.directory.Refusals.{IsAnother, Leaves, by_change, by_other, by_refusal, by_request}
 use Rattle.segment_manager.proofs.directory.Refusals.{by_same, extended-leaves, plan-leaves, plan_of_kind-leaves}
-use Rattle.segment_manager.proofs.containers.RangeCalls.{range_with, replaced-length, row_in}
-use Rattle.segment_manager.specs.containers.Ranges.{ExtendsVector, WritesRange, extended, is_row, range_at, range_in}
+use Rattle.segment_manager.proofs.containers.RangeCalls.{range_with, replaced-length, slice_in}
+use Rattle.segment_manager.specs.containers.Ranges.{ExtendsVector, WritesRange, extended, is_slice, range_at, range_in}
 use Rattle.segment_manager.specs.containers.Ranges.{replaced as replaced_range, with_range, written, written_if}
 use Rattle.segment_manager.specs.{objects.ElementLists.numbers_in, Staying.KeepsObjects, Staying.ObjectsStay}
 use Rattle.segment_manager.proofs.{indexes.Bridge.by-handle, objects.Here.here, objects.Standings.alike}
@@ -119,10 +119,10 @@ module _ {format : ℕ} (d : Directory) (is : IsDirectory format d) (h : ℕ) (q
     })
 
     range-keeps : (k : ScalarKind) (r : Option Object) → object_at d key ≡ r
-        → located_at (written_if (range_in (row_in k r) first (length zs)) d (range_with d first zs r)).1 (ByHandle h)
+        → located_at (written_if (range_in (slice_in k r) first (length zs)) d (range_with d first zs r)).1 (ByHandle h)
         ≡ Some q
     range-keeps k None e = here
-    range-keeps k (Some o) e = row-if (is_row k (kind_of o.value))
+    range-keeps k (Some o) e = series-if (is_slice k (kind_of o.value))
       where
         fits-if : (b : Bool) → nat_le (first + length zs) (length (numbers_in o.value)) ≡ b
             → located_at (written_if (if b then Ok (take (length zs) (drop first (numbers_in o.value)))
@@ -130,10 +130,10 @@ module _ {format : ℕ} (d : Directory) (is : IsDirectory format d) (h : ℕ) (q
         fits-if true f = over-keeps o e (leb-true (first + length zs) (length (numbers_in o.value)) f)
         fits-if false f = here
 
-        row-if : (b : Bool) → located_at (written_if (range_in (if b then Ok (numbers_in o.value) else Err WrongKind)
+        series-if : (b : Bool) → located_at (written_if (range_in (if b then Ok (numbers_in o.value) else Err WrongKind)
             first (length zs)) d (changed d o (over o.value))).1 (ByHandle h) ≡ Some q
-        row-if true = fits-if (nat_le (first + length zs) (length (numbers_in o.value))) refl
-        row-if false = here
+        series-if true = fits-if (nat_le (first + length zs) (length (numbers_in o.value))) refl
+        series-if false = here
 
     written-keeps : (mode : Mode) (k : ScalarKind) → located_at (written mode d key k first zs).1 (ByHandle h) ≡ Some q
     written-keeps mode k = reading-if (is_read_only mode)

@@ -17,11 +17,11 @@ use Rattle.segment_manager.proofs.{objects.KindCodes.numbers-only, directory.Fra
 use Rattle.segment_manager.proofs.{directory.CommandSteps.with-found}
 use Rattle.segment_manager.proofs.{directory.CommandSteps.IsOpenFor, blocks.Blocks.spelling-length}
 use Rattle.segment_manager.proofs.{objects.Standings.standing-room}
-use Rattle.segment_manager.proofs.{objects.Rows.HasBytesAt-element, containers.ContentPlans.of_slice}
+use Rattle.segment_manager.proofs.{objects.Slices.HasBytesAt-element, containers.ContentPlans.of_slice}
 use Rattle.raw_region.proofs.Facts.{first, second}
 use Rattle.best_fit.specs.declared.places.Place.{Place}
 use Rattle.segment_manager.specs.objects.Located.{element_in, located, located_at}
-use Rattle.segment_manager.specs.objects.Standing.{element_at, place_at, place_in}
+use Rattle.segment_manager.specs.objects.Standing.{element_at, place_at, offset_in}
 use Rattle.std.specs.Option.{ok_or}
 use Rattle.byteorder.specs.Endian.{little_number}
 use Rattle.seg_types.specs.Kinds.{is_spelling, value_of}
@@ -38,7 +38,7 @@ abbrev in_object : Object → Result ℕ Refusal → Result Place Refusal
 in_object o q = placed (handle o.extent) q
 
 abbrev in_any : ScalarKind → ℕ → Option Object → Result Place Refusal
-in_any k i r = elim r as (λ _. Result Place Refusal) [ None ↦ Err NotFound | Some o ↦ in_object o (place_in o k i) ]
+in_any k i r = elim r as (λ _. Result Place Refusal) [ None ↦ Err NotFound | Some o ↦ in_object o (offset_in o k i) ]
 
 -- the place, or the error
 placed-if : (s t : Bool) {at : ℕ} (n : ℕ) → Ok at ≡ (if s then (if t then Ok n else Err OutOfRange) else Err WrongKind)
@@ -84,7 +84,7 @@ numbers-good o k zs good e =
     second _ (list_all (is_value k) zs) (subst (λ v. IsTrue (is_good_value v)) e (object-roomy current o good).value)
 
 module _ {b : List ℕ} {d : Directory} {key : Key} {k : ScalarKind} {i : ℕ} {p : Place} where
-  element-of : {o : Object} → object_at d key ≡ Some o → IsObjectInBlock b p.handle o → Ok p.at ≡ place_in o k i
+  element-of : {o : Object} → object_at d key ≡ Some o → IsObjectInBlock b p.handle o → Ok p.at ≡ offset_in o k i
       → ElementAt b d key k i p
   element-of {o} e s f =
       let parts =
@@ -104,7 +104,7 @@ module _ {b : List ℕ} {d : Directory} {key : Key} {k : ScalarKind} {i : ℕ} {
         in_range = all-at (is_value k) n.0 i (numbers-good o k n.0 s.good n.1) there;
       }
 
-  found-if : {o : Object} (q : Result ℕ Refusal) → Denotes current b d → object_at d key ≡ Some o → place_in o k i ≡ q
+  found-if : {o : Object} (q : Result ℕ Refusal) → Denotes current b d → object_at d key ≡ Some o → offset_in o k i ≡ q
       → Ok p ≡ in_object o q → ElementAt b d key k i p
   found-if {o} (Ok at) h e f g =
       let same : p ≡ record { handle = handle o.extent; at = at } = cc in
@@ -115,7 +115,7 @@ module _ {b : List ℕ} {d : Directory} {key : Key} {k : ScalarKind} {i : ℕ} {
   element-if : (r : Option Object) → Denotes current b d → object_at d key ≡ r → Ok p ≡ in_any k i r
       → ElementAt b d key k i p
   element-if None h e f = absurd (cc)
-  element-if (Some o) h e f = found-if (place_in o k i) h e refl f
+  element-if (Some o) h e f = found-if (offset_in o k i) h e refl f
 
   -- the place of an element is that of one
   pub element-found : Denotes current b d → Ok p ≡ place_at d key k i → ElementAt b d key k i p
@@ -128,7 +128,7 @@ pub data Missing (d : Directory) (key : Key) (k : ScalarKind) (i : ℕ) (r : Ref
   Nowhere : object_at d key ≡ None → r ≡ NotFound → Missing d key k i r
   Within : (o : Object) → object_at d key ≡ Some o → Lacks o k i r → Missing d key k i r
 
-within-if : (o : Object) (k : ScalarKind) (i : ℕ) {r : Refusal} (q : Result ℕ Refusal) → place_in o k i ≡ q
+within-if : (o : Object) (k : ScalarKind) (i : ℕ) {r : Refusal} (q : Result ℕ Refusal) → offset_in o k i ≡ q
     → Err r ≡ in_object o q → Lacks o k i r
 within-if o k i (Ok at) e f = absurd (cc)
 within-if o k i {r} (Err q) e f =
@@ -139,7 +139,7 @@ within-if o k i {r} (Err q) e f =
 missing-if : {d : Directory} {key : Key} {k : ScalarKind} {i : ℕ} {r : Refusal} (p : Option Object)
     → object_at d key ≡ p → Err r ≡ in_any k i p → Missing d key k i r
 missing-if None e f = Nowhere e (cc)
-missing-if {k} {i} (Some o) e f = Within o e (within-if o k i (place_in o k i) refl f)
+missing-if {k} {i} (Some o) e f = Within o e (within-if o k i (offset_in o k i) refl f)
 
 -- an element that does not exist, and the error
 pub element-missing : {d : Directory} {key : Key} {k : ScalarKind} {i : ℕ} {r : Refusal} → Err r ≡ place_at d key k i

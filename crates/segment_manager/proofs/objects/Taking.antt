@@ -5,7 +5,7 @@ use common.{◌≡◌, sym, ap, subst, ◌∙◌, ℕ, ◌+◌, ◌-◌, ◌/◌
 use common.{SameBlock, allocated-live, bytes_of, keeps-trans, word_at, IfSome, IsTrue, WindowState, current, ObjectRole}
 use common.{IndexRole, AllocatesOk, ChangesBytes, IsHeap, AllocatesNoSpace, KeepsBlocks, EncodesLiveSet, is_live_in}
 use common.{live_of, BackingArray, added, allocated-is_live, allocated-room, keeps-refl, laid-heap, Index, CanGrow}
-use common.{FreesGrowth, PreparesOk, grown_bytes, IsIndexOf, place_of, RequestsBlocksOk, RestoresBlocks}
+use common.{FreesGrowth, PreparesOk, grown_bytes, IsIndexOf, index_at, RequestsBlocksOk, RestoresBlocks}
 use common.{RequestsBlocksErr, ◌≤◌, Bool, [], ◌∷◌, find, SameBytes-part, SameBytes-word, SameBytes-link, Extent, handle}
 use common.{extent_at, lay_out_one, grown_capacity, Object, extents_of, is_object, IsObjectAt, value_extents}
 use Rattle.segment_manager.proofs.directory.ExtentOrder.{all_of-insert, live-rises, rising-insert, inserted}
@@ -123,8 +123,8 @@ request-unmet a b c d at n (Some h) heap grows refused back restored =
 
 -- the index stays while it can grow
 pub growth-index : (i : Index) {a : WindowState} {b : WindowState} (g : Option ℕ) {t : BackingArray} {hs : List ℕ}
-    → PreparesOk a b (place_of i) g → IsIndexOf a (place_of i) t hs → IsIndexOf b (place_of i) t hs
-growth-index i None {t} {hs} g x = subst (λ (c : WindowState). IsIndexOf c (place_of i) t hs) (sym g.1) x
+    → PreparesOk a b (index_at i) g → IsIndexOf a (index_at i) t hs → IsIndexOf b (index_at i) t hs
+growth-index i None {t} {hs} g x = subst (λ (c : WindowState). IsIndexOf c (index_at i) t hs) (sym g.1) x
 growth-index i (Some h) g x = taken-index _ (requested-taken g.1) (place_behind i) (place_small i) x
 
 -- the block is allocated and written

@@ -16,7 +16,7 @@ use Rattle.segment_manager.proofs.objects.Stored.{ElementAt, numbers-good, eleme
 use Rattle.segment_manager.proofs.objects.Stored.{numbers-stand, set-effect, element-kind, missing-steps, literal-read}
 use Rattle.segment_manager.proofs.containers.Safely.{Answered, answered, done-so}
 use Rattle.segment_manager.proofs.objects.Rewritten.{value_start, with_value}
-use Rattle.segment_manager.proofs.{objects.Rows.HasBytesAt-set, directory.Frame.object-roomy}
+use Rattle.segment_manager.proofs.{objects.Slices.HasBytesAt-set, directory.Frame.object-roomy}
 use Rattle.segment_manager.proofs.{blocks.Blocks.spelling-length}
 use Rattle.segment_manager.proofs.{objects.ObjectLists.key-found, objects.Exchanged.denotes-rewritten}
 use Rattle.raw_region.proofs.Facts.{second, first}

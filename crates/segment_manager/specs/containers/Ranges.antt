@@ -19,12 +19,12 @@ pub use Rattle.seg_vector.specs.VectorCalls.{replaced}
 -- ---- reading
 
 -- whether objects of a kind are arrays or vectors of this scalar kind
-abbrev pub is_row : ScalarKind → Kind → Bool
-is_row k kind = same_kind (Vector k) kind || same_kind (Scalar k) kind
+abbrev pub is_slice : ScalarKind → Kind → Bool
+is_slice k kind = same_kind (Vector k) kind || same_kind (Scalar k) kind
 
 -- the numbers of a value that is an array or a vector of scalars of a kind
 abbrev pub numbers_if : ScalarKind → Value → Result (List ℤ) Refusal
-numbers_if k v = if is_row k (kind_of v) then Ok (numbers_in v) else Err WrongKind
+numbers_if k v = if is_slice k (kind_of v) then Ok (numbers_in v) else Err WrongKind
 
 -- this many elements of a list, from an index on, if it has them
 abbrev pub range_of : List ℤ → ℕ → ℕ → Result (List ℤ) Refusal

@@ -11,7 +11,7 @@ use Rattle.seg_vector.specs.Containers.{ReservesStorage, IsStanding}
 use Rattle.seg_vector.specs.TextsCalls.{ClearsTexts, ReservesNoTexts, ReservesTexts, ShrinksTexts}
 use Rattle.segment_manager.specs.declared.containers.storages.Change.{Change}
 use Rattle.segment_manager.specs.declared.containers.storages.Change.TheVariants.{Clear, Reserve, Shrink}
-use Rattle.segment_manager.specs.{Answers.Answer, Directory.Directory, Keeping.HasPlaces}
+use Rattle.segment_manager.specs.{Answers.Answer, Directory.Directory, Keeping.HasCapacity}
 use Rattle.segment_manager.specs.State.{TakesStepOfKind, SegmentState, done_answer}
 
 -- A call that changes a container is one step of the machine, and if it fails nothing changes.
@@ -35,7 +35,7 @@ command_of Clear key = asked.Clear key
 
 -- the change is a reservation, and the vector or string of the key already has this capacity
 abbrev pub HasEnough : Change → Key → Directory → Type 0
-HasEnough (Reserve n) key d = HasPlaces key n d
+HasEnough (Reserve n) key d = HasCapacity key n d
 HasEnough Shrink key d = ⊥
 HasEnough Clear key d = ⊥
 

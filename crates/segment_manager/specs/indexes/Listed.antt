@@ -4,7 +4,7 @@ use Rattle.std.specs.Prelude.{◌≡◌, ℕ, Option, Some, None, List}
 use Rattle.raw_region.specs.Memory.{bytes_of}
 use Rattle.best_fit.specs.Table.{BackingArray}
 use Rattle.seg_types.specs.declared.kinds.Class.TheVariants.{Anonymous}
-use Rattle.seg_index.specs.{Lookups.FindsPosition, Held.IsIndexOf, Held.place_of, declared.keys.Entry.Entry}
+use Rattle.seg_index.specs.{Lookups.FindsPosition, Held.IsIndexOf, Held.index_at, declared.keys.Entry.Entry}
 use Rattle.seg_index.specs.{declared.index.Index.Index, declared.keys.Lookup.TheVariants.Found}
 use Rattle.segment_manager.specs.{declared.objects.destroying.Listed.Listed, Directory.Object, Directory.Directory}
 use Rattle.segment_manager.specs.{Directory.object_at, indexes.Indexed.Seeks, State.DenotesCurrent, State.SegmentState}
@@ -25,7 +25,7 @@ HasEntries s i e h = (d : Directory) → DenotesCurrent s.cut.bytes d → HasInd
 pub record IsEntryAt (s : SegmentState) (h : ℕ) (i : Index) (at : ℕ) : Type 0 where
   pub entry : Entry
   pub leads : HasEntries s i entry h
-  pub found : (t : BackingArray) (handles : List ℕ) → IsIndexOf s.cut (place_of i) t handles
+  pub found : (t : BackingArray) (handles : List ℕ) → IsIndexOf s.cut (index_at i) t handles
       → FindsPosition (bytes_of s.cut.bytes) entry handles (Found at)
 
 -- the object has no entry, since it is anonymous

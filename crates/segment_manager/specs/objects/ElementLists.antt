@@ -46,7 +46,7 @@ texts_at d key = list_at texts_in d key StringsKind
 
 -- the length of a container, from its length and capacity
 abbrev pub first_size : Result (ℕ × ℕ) Refusal → Result ℕ Refusal
-first_size (Ok (n, places)) = Ok n
+first_size (Ok (n, capacity)) = Ok n
 first_size (Err why) = Err why
 
 -- the length of a key's object of a kind

@@ -12,7 +12,7 @@ use Rattle.seg_types.specs.{declared.kinds.ScalarKind.ScalarKind, declared.kinds
 use Rattle.seg_types.specs.{declared.refusals.Refusal.Refusal, Kinds.is_value, Kinds.size_of, Kinds.spelling}
 use Rattle.seg_types.specs.declared.kinds.Class.TheVariants.{Anonymous}
 use Rattle.seg_types.specs.declared.refusals.Refusal.TheVariants.{Exists, NoSpace, OutOfRange}
-use Rattle.seg_index.specs.{declared.index.Index.Index, declared.keys.Entry.Entry, Held.IsIndexOf, Held.place_of}
+use Rattle.seg_index.specs.{declared.index.Index.Index, declared.keys.Entry.Entry, Held.IsIndexOf, Held.index_at}
 use Rattle.seg_index.specs.{Lookups.FindsPosition, Sorted.CanAdd}
 use Rattle.seg_index.specs.declared.keys.Lookup.TheVariants.{Absent, Found}
 use Rattle.seg_index.specs.Growth.{AddKeeps, AddsEntry, CanGrow, grown_live}
@@ -28,12 +28,12 @@ use Rattle.segment_manager.specs.objects.Standing.{IsHeadAt, room_for}
 -- the key is absent from the index, and belongs at this place
 abbrev pub IsAbsentAt : WindowState → Index → Entry → ℕ → Type 0
 IsAbsentAt c i e at =
-    (t : BackingArray) (hs : List ℕ) → IsIndexOf c (place_of i) t hs → FindsPosition (bytes_of c.bytes) e hs (Absent at)
+    (t : BackingArray) (hs : List ℕ) → IsIndexOf c (index_at i) t hs → FindsPosition (bytes_of c.bytes) e hs (Absent at)
 
 -- the index has the key at this place
 abbrev pub IsFoundAt : WindowState → Index → Entry → ℕ → Type 0
 IsFoundAt c i e at =
-    (t : BackingArray) (hs : List ℕ) → IsIndexOf c (place_of i) t hs → FindsPosition (bytes_of c.bytes) e hs (Found at)
+    (t : BackingArray) (hs : List ℕ) → IsIndexOf c (index_at i) t hs → FindsPosition (bytes_of c.bytes) e hs (Found at)
 
 -- A head is written in an allocated block, and the elements follow it.
 pub record WritesObjectHeader (taken new : WindowState) (kind : Kind) (class : Class) (name : List ℕ)
@@ -50,7 +50,7 @@ pub record BeginsEntryOk (old new : WindowState) (key : names.Key) (kind : Kind)
   pub is : IsNewKeyOf e.index entry key name kind
   pub absent : IsAbsentAt old e.index entry e.place
   pub taken : WindowState
-  pub requested : RequestsBlocksOk old taken (place_of e.index) (room_for name body) e.growth.block h
+  pub requested : RequestsBlocksOk old taken (index_at e.index) (room_for name body) e.growth.block h
   pub headed : WritesObjectHeader taken new kind (class_of_index e.index) name count h at
 
 -- an anonymous object is pending
@@ -83,7 +83,7 @@ pub record BeginsEntryErr (old new : WindowState) (key : names.Key) (kind : Kind
   pub is : IsNewKeyOf index entry key name kind
   pub place : ℕ
   pub absent : IsAbsentAt old index entry place
-  pub unmet : RequestsBlocksErr old new (place_of index) (room_for name body)
+  pub unmet : RequestsBlocksErr old new (index_at index) (room_for name body)
 
 -- no object is pending: its key is in use, or a block has no fit
 abbrev pub BeginsObjectErr : WindowState → WindowState → names.Key → Kind → ℕ → Refusal → Type 0
@@ -144,7 +144,7 @@ pub record Fills {S A : Type 0} (gives : S → Option A → S → Type 0) (whole
 pub record WritesUnindexedForEntry (old now : WindowState) (h : ℕ) (e : PendingEntry) : Type 0 where
   pub len : ℕ
   pub taken : WindowState
-  pub requested : RequestsBlocksOk old taken (place_of e.index) len e.growth.block h
+  pub requested : RequestsBlocksOk old taken (index_at e.index) len e.growth.block h
   pub change : ChangesBytes current taken now h len
 
 -- an anonymous object is written
@@ -162,7 +162,7 @@ WritesUnindexedObject old now h (Some e) = WritesUnindexedForEntry old now h e
 -- an index is ready for an entry that leads to an object: its key belongs at the place
 pub record IsReadyForEntry (now : WindowState) (h : ℕ) (e : PendingEntry) : Type 0 where
   pub entry : CanAdd now e.index e.place h
-  pub growth : CanGrow now (place_of e.index) e.growth.block
+  pub growth : CanGrow now (index_at e.index) e.growth.block
 
 -- the index is ready for the object's entry, if it is to have one
 abbrev pub IsReadyFor : WindowState → ℕ → Option PendingEntry → Type 0
@@ -171,11 +171,11 @@ IsReadyFor now h (Some e) = IsReadyForEntry now h e
 
 -- the entry leads to the object
 pub record AddsPendingEntry (now new : WindowState) (h : ℕ) (e : PendingEntry) : Type 0 where
-  pub adds : (t : BackingArray) (hs : List ℕ) → IsIndexOf now (place_of e.index) t hs
-      → AddsEntry now new (place_of e.index) t (insert hs e.place h) e.growth.block
-  pub live : EncodesLiveSet current new.bytes (grown_live now (place_of e.index) e.growth.block)
-  pub keeps : (t : BackingArray) (hs : List ℕ) → IsIndexOf now (place_of e.index) t hs
-      → AddKeeps now new (place_of e.index) t e.growth.block
+  pub adds : (t : BackingArray) (hs : List ℕ) → IsIndexOf now (index_at e.index) t hs
+      → AddsEntry now new (index_at e.index) t (insert hs e.place h) e.growth.block
+  pub live : EncodesLiveSet current new.bytes (grown_live now (index_at e.index) e.growth.block)
+  pub keeps : (t : BackingArray) (hs : List ℕ) → IsIndexOf now (index_at e.index) t hs
+      → AddKeeps now new (index_at e.index) t e.growth.block
 
 -- the entry leads to the object, if it is to have one
 abbrev pub LeadsThere : WindowState → WindowState → ℕ → Option PendingEntry → Type 0

@@ -50,8 +50,8 @@ abbrev pub element_at : ScalarKind → List ℕ → ℕ → ℕ
 element_at k name i = head_len + padded (length name) + size_of k * i
 
 -- the offset of an element of an object, or an error if it has no such element
-abbrev pub place_in : Object → ScalarKind → ℕ → Result ℕ Refusal
-place_in o k i =
+abbrev pub offset_in : Object → ScalarKind → ℕ → Result ℕ Refusal
+offset_in o k i =
     if same_kind (Scalar k) (kind_of o.value) then
     (if nat_lt i (count_of o.value) then Ok (element_at k o.name i) else Err OutOfRange) else Err WrongKind
 
@@ -63,5 +63,5 @@ pair_of_kind o kind = if same_kind kind (kind_of o.value) then Ok (handle o.exte
 abbrev pub place_at : Directory → Key → ScalarKind → ℕ → Result Place Refusal
 place_at d key k i = elim (object_at d key) [
   | None ↦ Err NotFound
-  | Some o ↦ elim (place_in o k i) [ Ok at ↦ Ok (record { handle = handle o.extent; at = at }) | Err r ↦ Err r ]
+  | Some o ↦ elim (offset_in o k i) [ Ok at ↦ Ok (record { handle = handle o.extent; at = at }) | Err r ↦ Err r ]
 ]

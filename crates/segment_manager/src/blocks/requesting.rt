@@ -1,5 +1,5 @@
 //! Allocates the blocks of a new object.
-ghost use Rattle.seg_index.specs.Held.{HasIndex, place_of};
+ghost use Rattle.seg_index.specs.Held.{HasIndex, index_at};
 ghost use Rattle.segment_manager.specs.objects.NewObjects.{Requests};
 
 use best_fit::{Heap, NoSpace};
@@ -18,8 +18,8 @@ pub(crate) struct Requested {
 /// Allocates the blocks of a new object with an entry in an index. A full index first gets a larger block; then the
 /// object gets a block of `len` bytes. If no gap is long enough for the second, it frees the first.
 pub(crate) fn request(heap: &mut Heap, index: Index, len: u64) -> Result<Requested, NoSpace>
-    requires { HasIndex heap.old (place_of index) }
-    ensures { Requests heap.old heap.new (place_of index) len result }
+    requires { HasIndex heap.old (index_at index) }
+    ensures { Requests heap.old heap.new (index_at index) len result }
 {
     let growth = index.prepare(heap, &mut Steps::new())?;
     match heap.allocate(len, Role::Object, &mut Steps::new()) {

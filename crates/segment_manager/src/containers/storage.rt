@@ -4,7 +4,7 @@ ghost use Rattle.seg_types.specs.declared.kinds.Kind.TheVariants.{Map as MapOf, 
 ghost use Rattle.seg_types.specs.declared.kinds.Kind.TheVariants.{Strings as StringsKind};
 ghost use Rattle.seg_types.specs.Commands.{Clear, Reserve, Shrink};
 ghost use Rattle.segment_manager.specs.containers.Contents.{has_sizes, sizes_at, sizes_at_kind};
-ghost use Rattle.segment_manager.specs.{Keeping.HasPlaces, containers.Stored.HasEnough, containers.Stored.command_of};
+ghost use Rattle.segment_manager.specs.{Keeping.HasCapacity, containers.Stored.HasEnough, containers.Stored.command_of};
 ghost use Rattle.segment_manager.specs.{Keeping.UnchangedWhere, State.AnswersWith, State.TakesStep, State.done_answer};
 ghost use Rattle.segment_manager.specs.objects.ElementLists.{array_length_at, length_at_kind};
 
@@ -65,7 +65,7 @@ impl Segment {
         requires { O.stands key.now self.old }
         ensures step { TakesStep self.old self.new (Reserve (O.key key.now) n) (done_answer result) }
         ensures refused { OnErr result (self.new ≡ self.old) }
-        ensures noop { UnchangedWhere self.old self.new (HasPlaces (O.key key.now) n) }
+        ensures noop { UnchangedWhere self.old self.new (HasCapacity (O.key key.now) n) }
     {
         self.change_storage(key, Change::Reserve(n))
     }

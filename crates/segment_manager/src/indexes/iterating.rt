@@ -2,7 +2,7 @@
 ghost use Rattle.std.specs.{Prelude.◌≡◌, Prelude.◌-◌, Prelude.IfSome, Prelude.length, Iterator.UpTo, Iterator.at_most};
 ghost use Rattle.std.specs.Iterator.SizeHint.{IsExactHint, IsWithinCount};
 ghost use Rattle.seg_index.specs.declared.index.Index.TheVariants.{Named, Unique};
-ghost use Rattle.seg_index.specs.Held.{entry_count, place_of};
+ghost use Rattle.seg_index.specs.Held.{entry_count, index_at};
 ghost use Rattle.segment_manager.specs.{indexes.Indexed.objects_of, indexes.Iterating.YieldsInstance};
 ghost use Rattle.segment_manager.specs.{indexes.Iterating.GoesOnNames, State.AnswersWith};
 
@@ -35,7 +35,7 @@ impl<'a> Iterator for Instances<'a> {
 
     ghost next_gives = { YieldsInstance };
 
-    ghost remaining = { λ w. at_most (entry_count w.segment.cut (place_of w.index) - w.at) };
+    ghost remaining = { λ w. at_most (entry_count w.segment.cut (index_at w.index) - w.at) };
 
     fn next(&mut self) -> Option<Instance<'a>> {
         let segment = self.segment;
@@ -49,10 +49,10 @@ impl<'a> Iterator for Instances<'a> {
 
     fn size_hint(&self) -> (usize, Option<usize>)
         ensures lower { IsWithinCount result.0
-            (at_most (entry_count self.now.segment.cut (place_of self.now.index) - self.now.at)) }
+            (at_most (entry_count self.now.segment.cut (index_at self.now.index) - self.now.at)) }
         ensures upper { IfSome result.1
-            (UpTo (at_most (entry_count self.now.segment.cut (place_of self.now.index) - self.now.at))) }
-        ensures exact { IsExactHint result (entry_count self.now.segment.cut (place_of self.now.index) - self.now.at) }
+            (UpTo (at_most (entry_count self.now.segment.cut (index_at self.now.index) - self.now.at))) }
+        ensures exact { IsExactHint result (entry_count self.now.segment.cut (index_at self.now.index) - self.now.at) }
     {
         let left = self.segment.count_of(self.index).saturating_sub(self.at) as usize;
         (left, Some(left))
@@ -84,7 +84,7 @@ impl<'a> Iterator for Names<'a> {
 
     ghost next_gives = { GoesOnNames (λ name. name.now) };
 
-    ghost remaining = { λ w. at_most (entry_count w.segment.cut (place_of Named) - w.at) };
+    ghost remaining = { λ w. at_most (entry_count w.segment.cut (index_at Named) - w.at) };
 
     fn next(&mut self) -> Option<&'a [u8]> {
         let said = self.instances.next()?;
@@ -93,10 +93,10 @@ impl<'a> Iterator for Names<'a> {
 
     fn size_hint(&self) -> (usize, Option<usize>)
         ensures lower { IsWithinCount result.0
-            (at_most (entry_count self.now.segment.cut (place_of Named) - self.now.at)) }
+            (at_most (entry_count self.now.segment.cut (index_at Named) - self.now.at)) }
         ensures upper { IfSome result.1
-            (UpTo (at_most (entry_count self.now.segment.cut (place_of Named) - self.now.at))) }
-        ensures exact { IsExactHint result (entry_count self.now.segment.cut (place_of Named) - self.now.at) }
+            (UpTo (at_most (entry_count self.now.segment.cut (index_at Named) - self.now.at))) }
+        ensures exact { IsExactHint result (entry_count self.now.segment.cut (index_at Named) - self.now.at) }
     {
         self.instances.size_hint()
     }
@@ -143,7 +143,7 @@ impl Segment {
 
     /// Returns the number of objects in an index.
     fn count_of(&self, index: Index) -> u64
-        ensures word { result ≡ entry_count self.now.cut (place_of index) }
+        ensures word { result ≡ entry_count self.now.cut (index_at index) }
         ensures count { AnswersWith self.now (λ d. length (objects_of index d)) result }
     {
         index.len(&self.heap)

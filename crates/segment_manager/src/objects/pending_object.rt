@@ -3,7 +3,7 @@
 ghost use Rattle.std.specs.Prelude.{◌≡◌, ◌^◌, ◌<◌, ◌≤◌, length};
 ghost use Rattle.raw_region.specs.Memory.{WindowState};
 ghost use Rattle.seg_types.specs.{Keys.new_key_seen, Names.Key as AnyKey, Names.NoKey};
-ghost use Rattle.seg_index.specs.{declared.keys.Entry.Entry as AnyEntry, Held.HasIndex, Held.place_of};
+ghost use Rattle.seg_index.specs.{declared.keys.Entry.Entry as AnyEntry, Held.HasIndex, Held.index_at};
 ghost use Rattle.segment_manager.specs.objects.PendingObjects.{BeginsObject, BeginsEntry, Ends, GivesAllBack, IsEnding};
 ghost use Rattle.segment_manager.specs.objects.PendingObjects.{WritesUnindexedObject};
 ghost use Rattle.segment_manager.specs.{indexes.Indexed.class_of_index, objects.NewObjects.IsNewKeyOf};
@@ -93,7 +93,7 @@ pub(crate) fn begin_at(
     name: &[u8],
     shape: ObjectShape,
 ) -> Result<PendingObject, Refusal>
-    requires index { HasIndex heap.old (place_of index) }
+    requires index { HasIndex heap.old (index_at index) }
     requires max_len { length name.now ≤ 255 }
     requires max_size { shape.len < 2 ^ 40 }
     ensures { (key : AnyKey) (entry : AnyEntry)

@@ -14,7 +14,7 @@ use Rattle.segment_manager.specs.State.{AnswersWith, AnswersQuery, IsSegment, Se
 use Rattle.segment_manager.proofs.Laws.{live-size}
 use Rattle.segment_report.specs.declared.objects.ObjectTally.{ObjectTally}
 use Rattle.segment_report.specs.declared.tallies.Tally.{Tally}
-use Rattle.segment_report.specs.Objects.{count_of_kind, kind_place, object_tally_of}
+use Rattle.segment_report.specs.Objects.{count_of_kind, kind_index, object_tally_of}
 use Rattle.segment_report.specs.Stat.{counted_line, figures_text, kind_line, kinds_text}
 use Rattle.segment_report.specs.Usages.{tally_of}
 use Rattle.segment_report.proofs.figures.Objects.{kind-there}
@@ -44,8 +44,8 @@ pub kinds-are : (s : SegmentState) (t : ObjectTally) → AnswersWith s object_ta
     → DenotesCurrent s.cut.bytes d
     → flat_map (counted_line t.kinds) kinds ≡ kinds_text (count_of_kind d.objects)
 kinds-are s t h d k =
-    kinds-same (λ l. slice_index t.kinds (kind_place l)) (count_of_kind d.objects) kinds
-    (λ l. ap (λ (u : ObjectTally). slice_index u.kinds (kind_place l)) (h.answers d k)
+    kinds-same (λ l. slice_index t.kinds (kind_index l)) (count_of_kind d.objects) kinds
+    (λ l. ap (λ (u : ObjectTally). slice_index u.kinds (kind_index l)) (h.answers d k)
     ∙ kind-there (count_of_kind d.objects) l)
 
 -- the figures are the directory's
@@ -63,7 +63,7 @@ figures-are s size t o named unique a b c e f d k = λ i.
 pub kind-cut : {A B E F : Type 0} (counts : List ℕ) (ks : List Kind) (i : ℕ) (d : Kind) (n : ℕ)
     (old mid new : WriterHistory) (x : E) (result : Result B F) → i < length ks
     → mid.bytes ≡ old.bytes ++ flat_map (counted_line counts) (take i ks) → mid.failures ≡ old.failures
-    → IsErr result → n ≡ slice_index counts (kind_place (get_or ks i d))
+    → IsErr result → n ≡ slice_index counts (kind_index (get_or ks i d))
     → Writes {A = A} mid new (Err x) (kind_line (get_or ks i d) n)
     → Writes old new result (flat_map (counted_line counts) ks)
 kind-cut {A} counts ks i d n old mid new x result within before failures failed same w =

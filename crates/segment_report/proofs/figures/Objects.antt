@@ -17,7 +17,7 @@ use Rattle.segment_manager.specs.objects.Instances.{IsInstance, SaysAt}
 use Rattle.segment_manager.specs.State.{IsSegment, SegmentState, DenotesCurrent}
 use Rattle.segment_manager.proofs.Laws.{objects-few}
 use Rattle.segment_report.specs.declared.objects.ObjectTally.{ObjectTally}
-use Rattle.segment_report.specs.Objects.{CanTally, count_of_kind, is_of_kind, kind_place, object_counted}
+use Rattle.segment_report.specs.Objects.{CanTally, count_of_kind, is_of_kind, kind_index, object_counted}
 use Rattle.segment_report.specs.Objects.{object_tally_of, objects_tally, one_more_at}
 
 -- ---- one object more
@@ -39,7 +39,7 @@ map-same f g (k ∷ ks) h = λ i. h k i ∷ map-same f g ks h i
 
 -- the count of its kind is one more, and no other is
 kinds-at : (f : Kind → ℕ) (k : Kind)
-    → map (λ l. if same_kind l k then f l + 1 else f l) kinds ≡ one_more_at (map f kinds) (kind_place k)
+    → map (λ l. if same_kind l k then f l + 1 else f l) kinds ≡ one_more_at (map f kinds) (kind_index k)
 kinds-at f (Scalar BoolKind) = refl
 kinds-at f (Scalar U8) = refl
 kinds-at f (Scalar I32) = refl
@@ -79,7 +79,7 @@ kinds-at f (Map U64 I64) = refl
 kinds-at f (Map U64 U64) = refl
 
 -- what is counted of a kind stands at its place
-pub kind-there : (f : Kind → ℕ) (k : Kind) → slice_index (map f kinds) (kind_place k) ≡ f k
+pub kind-there : (f : Kind → ℕ) (k : Kind) → slice_index (map f kinds) (kind_index k) ≡ f k
 kind-there f (Scalar BoolKind) = refl
 kind-there f (Scalar U8) = refl
 kind-there f (Scalar I32) = refl
@@ -120,7 +120,7 @@ kind-there f (Map U64 U64) = refl
 
 kinds-more : (os : List Object) (o : Object)
     → map (count_of_kind (os ++ o ∷ [])) kinds
-    ≡ one_more_at (map (count_of_kind os) kinds) (kind_place (kind_of o.value))
+    ≡ one_more_at (map (count_of_kind os) kinds) (kind_index (kind_of o.value))
 kinds-more os o =
     map-same (count_of_kind (os ++ o ∷ [])) (λ k.
     if same_kind k (kind_of o.value) then count_of_kind os k + 1 else count_of_kind os k) kinds (λ k.

@@ -13,7 +13,7 @@ use Rattle.seg_types.specs.Names.{Key, ByHandle}
 use Rattle.seg_types.specs.Commands as asked
 use Rattle.seg_types.specs.Commands.{Command, Literal, Quoted, Boolean, Integer}
 use Rattle.seg_vector.specs.Vector.{OwnedText}
-use Rattle.segment_lang.specs.Seen.{HasLineRoom}
+use Rattle.segment_lang.specs.Seen.{HasLineBuffer}
 use Rattle.segment_manager.specs.declared.modes.Mode.{Mode}
 use Rattle.segment_manager.specs.declared.objects.object_ref.Object.{Object as Located}
 use Rattle.segment_manager.specs.Answers.{Answer, Done, Refused, TextElement, is_untouched, refusal_of}
@@ -210,7 +210,7 @@ pub text-asked : (s : SegmentState) (key : Key) (i : ℕ) (answer : Answer)
 text-asked s key i answer r d st = r.answers d st ∙ asked-step s.mode d key i ∙ asked-if d key i (object_at d key) refl
 
 -- a literal that takes no more bytes than a line has
-pub has-room : (l : Literal) → bytes_taken (l ∷ []) ≤ 4097 → HasLineRoom l
+pub has-room : (l : Literal) → bytes_taken (l ∷ []) ≤ 4097 → HasLineBuffer l
 has-room (Integer z) few = tt
 has-room (Boolean b) few = tt
 has-room (Quoted bs) few = omega arith

@@ -20,7 +20,7 @@ use Rattle.segment_manager.specs.Calls.{IsTileOfIndex}
 use Rattle.segment_manager.specs.State.{SegmentState, DenotesCurrent}
 use Rattle.segment_manager.specs.Step.{step}
 use Rattle.segment_manager.proofs.Laws.{live-size}
-use Rattle.segment_scripts.specs.Answer.{block_words, line}
+use Rattle.segment_scripts.specs.Answer.{block_tokens, line}
 use Rattle.segment_scripts.specs.Parts.{part_of}
 use Rattle.segment_scripts.proofs.listing.Lines.{line_part}
 use Rattle.segment_scripts.proofs.segments.CommandSteps.{size_is}
@@ -84,8 +84,8 @@ module _ (s : SegmentState) (i : ℕ) (t : Tile) (ahead : Option Tile) (h : IsTi
 
   -- the next line of the listing is the directory's
   pub next_line : (d : Directory) → DenotesCurrent s.cut.bytes d
-      → line (block_words (span t)) ≡ line_part block_words (spans (live d)) i
-  next_line d k = ap (part_of (λ (x : Span). line (block_words x))) (next d k)
+      → line (block_tokens (span t)) ≡ line_part block_tokens (spans (live d)) i
+  next_line d k = ap (part_of (λ (x : Span). line (block_tokens x))) (next d k)
 
   -- the next line is one of the directory's
   pub next_within : (d : Directory) → DenotesCurrent s.cut.bytes d → i < length (spans (live d))

@@ -22,26 +22,27 @@ use Rattle.segment_scripts.specs.Answer.{answer_text, line, pair_text}
 use Rattle.segment_scripts.specs.Parts.{part_of}
 use Rattle.segment_scripts.specs.Refusing.{is_refusal}
 use Rattle.segment_scripts.specs.Replies.{shown_at, shown_of}
-use Rattle.segment_scripts.specs.Shown.{front_text, in_line}
+use Rattle.segment_scripts.specs.Shown.{prefix_text, in_line}
 
 -- ---- all elements
 
-line-words : {X : Type 0} (text : X → List ℕ) (w : List ℕ) (xs : List X)
+line-tokens : {X : Type 0} (text : X → List ℕ) (w : List ℕ) (xs : List X)
     → line (w ∷ map text xs) ≡ w ++ (flat_map (λ x. 0x20 ∷ text x) xs ++ 0x0A ∷ [])
-line-words text w [] = refl
-line-words text w (x ∷ xs) =
-    ap (λ l. w ++ 0x20 ∷ l) (line-words text (text x) xs)
+line-tokens text w [] = refl
+line-tokens text w (x ∷ xs) =
+    ap (λ l. w ++ 0x20 ∷ l) (line-tokens text (text x) xs)
     ∙ ap (λ l. w ++ 0x20 ∷ l) (sym (append_assoc (text x) (flat_map (λ x. 0x20 ∷ text x) xs) (0x0A ∷ [])))
 
 -- elements that are laid out after a word are the words after it
 laid-line : {X : Type 0} (text : X → List ℕ) (w : List ℕ) (xs : List X)
     → w ++ (laid_from (λ i x. 0x20 ∷ text x) 0 xs ++ 0x0A ∷ []) ≡ line (w ∷ map text xs)
-laid-line text w xs = ap (λ l. w ++ (l ++ 0x0A ∷ [])) (laid-flat (λ x. 0x20 ∷ text x) 0 xs) ∙ sym (line-words text w xs)
+laid-line text w xs = ap (λ l. w ++ (l ++ 0x0A ∷ [])) (laid-flat (λ x. 0x20 ∷ text x) 0 xs) ∙ sym (line-tokens
+    text w xs)
 
 -- what is written of a value is what is shown of it
-shown-laid : (v : Value) → front_text (kind_of v) (count_of_content (content_of v))
+shown-laid : (v : Value) → prefix_text (kind_of v) (count_of_content (content_of v))
     ++ (laid_out in_line (content_of v) ++ 0x0A ∷ []) ≡ answer_text (Shown v)
-shown-laid (Numbers k zs) = laid-line (value_text k) (front_text (Scalar k) (length zs)) zs
+shown-laid (Numbers k zs) = laid-line (value_text k) (prefix_text (Scalar k) (length zs)) zs
 shown-laid (Elements k zs t) = laid-line (value_text k) (kind_text (Vector k)) zs
 shown-laid (Bytes bs t) = refl
 shown-laid (Pairs k v ps) =
@@ -56,13 +57,13 @@ shown-laid (Texts ps t) =
 -- what is shown of an object is the directory's
 pub shown-said : (s : SegmentState) (o : Located) → IsLocated s (ByHandle o.handle) o → (n : ℕ)
     → AnswersWith s (λ d. count_at d (ByHandle o.handle)) n → (d : Directory) → DenotesCurrent s.cut.bytes d
-    → front_text o.kind n ++ (laid_at in_line d (ByHandle o.handle) ++ 0x0A ∷ [])
+    → prefix_text o.kind n ++ (laid_at in_line d (ByHandle o.handle) ++ 0x0A ∷ [])
     ≡ answer_text (shown_at d (ByHandle o.handle))
 shown-said s o l n counted d st =
     let f = said-at s (ByHandle o.handle) o l d st in
     let kind : o.kind ≡ kind_of f.object.value = ap (λ (q : Located). q.kind) f.said in
     let long : n ≡ object_count f.object = counted.answers d st ∙ ap count_of_object f.is in
-    (λ j. front_text (kind j) (long j) ++ (part_of (laid_object in_line) (f.is j) ++ 0x0A ∷ []))
+    (λ j. prefix_text (kind j) (long j) ++ (part_of (laid_object in_line) (f.is j) ++ 0x0A ∷ []))
     ∙ shown-laid f.object.value
     ∙ ap (λ (r : Option Object). answer_text (shown_of r)) (sym f.is)
 

@@ -15,36 +15,36 @@ use Rattle.segment_scripts.proofs.runs.Lines.{open-nil}
 
 -- what is kept of a long line decides as the whole of it
 pub kept-decides : {P A : Type 0} (f : P → List ℕ → A)
-    → ((place : P) (line : List ℕ) → 4097 < length line → f place line ≡ f place (take kept line))
-    → (place : P) (line : List ℕ) → f place (take kept line) ≡ f place line
-kept-decides f long place line = elim (at_most_or_more (length line) 4097) [
-  | inl h ↦ ap (f place) (take_all kept line (omega arith))
-  | inr h ↦ sym (long place line h)
+    → ((state : P) (line : List ℕ) → 4097 < length line → f state line ≡ f state (take kept line))
+    → (state : P) (line : List ℕ) → f state (take kept line) ≡ f state line
+kept-decides f long state line = elim (at_most_or_more (length line) 4097) [
+  | inl h ↦ ap (f state) (take_all kept line (omega arith))
+  | inr h ↦ sym (long state line h)
 ]
 
 -- bytes after no open line are all of their line
 pub whole_line : {P A : Type 0} (f : P → List ℕ → A)
-    → ((place : P) (line : List ℕ) → 4097 < length line → f place line ≡ f place (take kept line))
-    → (place : P) (line end : List ℕ) → (length line == 0) ≡ true → f place end ≡ f place (take kept (line ++ end))
-whole_line f long place line end none =
+    → ((state : P) (line : List ℕ) → 4097 < length line → f state line ≡ f state (take kept line))
+    → (state : P) (line end : List ℕ) → (length line == 0) ≡ true → f state end ≡ f state (take kept (line ++ end))
+whole_line f long state line end none =
     let empty : line ≡ [] = nil_from_length line (eqb-true _ 0 none) in
-    sym (ap (λ (l : List ℕ). f place (take kept (l ++ end))) empty ∙ kept-decides f long place end)
+    sym (ap (λ (l : List ℕ). f state (take kept (l ++ end))) empty ∙ kept-decides f long state end)
 
 module _ {P : Type 0} (respond : P → List ℕ → List ℕ × P) where
-  pub answer_all-text : (place : P) (ls : List (List ℕ)) (l : List ℕ)
-      → (answer_all respond place (ls ++ l ∷ [])).0 ≡ (answer_all respond place ls).0
-      ++ (respond (answer_all respond place ls).1 l).0
-  answer_all-text place [] l = append-nil (respond place l).0
-  answer_all-text place (x ∷ xs) l =
-      let rest = answer_all-text (respond place x).1 xs l in
-      ap (λ (t : List ℕ). (respond place x).0 ++ t) rest
-      ∙ sym (append_assoc (respond place x).0 (answer_all respond (respond place x).1 xs).0
-      (respond (answer_all respond (respond place x).1 xs).1 l).0)
+  pub answer_all-text : (state : P) (ls : List (List ℕ)) (l : List ℕ)
+      → (answer_all respond state (ls ++ l ∷ [])).0 ≡ (answer_all respond state ls).0
+      ++ (respond (answer_all respond state ls).1 l).0
+  answer_all-text state [] l = append-nil (respond state l).0
+  answer_all-text state (x ∷ xs) l =
+      let rest = answer_all-text (respond state x).1 xs l in
+      ap (λ (t : List ℕ). (respond state x).0 ++ t) rest
+      ∙ sym (append_assoc (respond state x).0 (answer_all respond (respond state x).1 xs).0
+      (respond (answer_all respond (respond state x).1 xs).1 l).0)
 
-  pub answer_all-place : (place : P) (ls : List (List ℕ)) (l : List ℕ)
-      → (answer_all respond place (ls ++ l ∷ [])).1 ≡ (respond (answer_all respond place ls).1 l).1
-  answer_all-place place [] l = refl
-  answer_all-place place (x ∷ xs) l = answer_all-place (respond place x).1 xs l
+  pub answer_all-state : (state : P) (ls : List (List ℕ)) (l : List ℕ)
+      → (answer_all respond state (ls ++ l ∷ [])).1 ≡ (respond (answer_all respond state ls).1 l).1
+  answer_all-state state [] l = refl
+  answer_all-state state (x ∷ xs) l = answer_all-state (respond state x).1 xs l
 
   -- one more line was answered
   pub answers_one : (start : P) (before : List ℕ) (ls : List (List ℕ)) (l : List ℕ) (Stands Stands' : P
@@ -60,7 +60,7 @@ module _ {P : Type 0} (respond : P → List ℕ → List ℕ × P) where
         prints = ok at h.stands ∙ ap (λ (t : List ℕ). t ++ (respond at l).0) h.prints
             ∙ append_assoc before told (respond at l).0
             ∙ ap (λ (t : List ℕ). before ++ t) (sym (answer_all-text start ls l));
-        stands = subst Stands' (sym (answer_all-place start ls l)) (leads at h.stands);
+        stands = subst Stands' (sym (answer_all-state start ls l)) (leads at h.stands);
       }
 
   -- the answer to the next line was cut
@@ -78,10 +78,10 @@ module _ {P : Type 0} (respond : P → List ℕ → List ℕ × P) where
       }
 
   -- what is kept of the open line is answered as the whole of it
-  pub same_answer : ((place : P) (line : List ℕ) → 4097 < length line
-      → respond place line ≡ respond place (take kept line)) → (line all : List ℕ) → line ≡ take kept all
-      → (place : P) → respond place line ≡ respond place all
-  same_answer long line all e place = ap (respond place) e ∙ kept-decides respond long place all
+  pub same_answer : ((state : P) (line : List ℕ) → 4097 < length line
+      → respond state line ≡ respond state (take kept line)) → (line all : List ℕ) → line ≡ take kept all
+      → (state : P) → respond state line ≡ respond state all
+  same_answer long line all e state = ap (respond state) e ∙ kept-decides respond long state all
 
   -- before the first line nothing was answered
   pub behind_none : (start : P) (before : List ℕ) (Stands : P → Type 0) → Stands start
@@ -110,8 +110,8 @@ module _ {P : Type 0} (respond : P → List ℕ → List ℕ × P) where
         ∙ ap (take kept) (sym (open_line-open read part none));
   }
 
-  pub behind_end : ((place : P) (line : List ℕ) → 4097 < length line
-      → respond place line ≡ respond place (take kept line))
+  pub behind_end : ((state : P) (line : List ℕ) → 4097 < length line
+      → respond state line ≡ respond state (take kept line))
       → (start : P) (before read : List ℕ) (Stands Stands' : P → Type 0) (line line' taken taken' : List ℕ)
       → HasRunTo respond start before read Stands line taken
       → ((p : P) → Stands p → Stands' (respond p line).1)
@@ -131,8 +131,8 @@ module _ {P : Type 0} (respond : P → List ℕ → List ℕ × P) where
       }
 
   -- the first line that ends in what is left of a piece was answered
-  pub behind_line : ((place : P) (line : List ℕ) → 4097 < length line
-      → respond place line ≡ respond place (take kept line))
+  pub behind_line : ((state : P) (line : List ℕ) → 4097 < length line
+      → respond state line ≡ respond state (take kept line))
       → (start : P) (before read done rest end more : List ℕ) (Stands Stands' : P
       → Type 0) (line line' taken taken' : List ℕ)
       → HasRunTo respond start before (read ++ done) Stands line taken

@@ -21,16 +21,16 @@ and-then true b c e next = next e
 and-then false b c e next = e
 
 module _ {P : Type 0} (respond : P → List ℕ → List ℕ × P) (stops : P → List ℕ → Bool) where
-  goes_on-alone : (place : P) (l : List ℕ) (b : Bool) → stops place l ≡ b → b ≡ false → (not b && true) ≡ true
-  goes_on-alone place l true e f = absurd (cc)
-  goes_on-alone place l false e f = refl
+  goes_on-alone : (state : P) (l : List ℕ) (b : Bool) → stops state l ≡ b → b ≡ false → (not b && true) ≡ true
+  goes_on-alone state l true e f = absurd (cc)
+  goes_on-alone state l false e f = refl
 
   -- one more line, after which the run goes on
-  pub goes_on-one : (place : P) (ls : List (List ℕ)) (l : List ℕ) → goes_on respond stops place ls ≡ true
-      → stops (answer_all respond place ls).1 l ≡ false → goes_on respond stops place (ls ++ l ∷ []) ≡ true
-  goes_on-one place [] l e f = goes_on-alone place l (stops place l) refl f
-  goes_on-one place (x ∷ xs) l e f =
-      and-then (not (stops place x)) _ _ e (λ h. goes_on-one (respond place x).1 xs l h f)
+  pub goes_on-one : (state : P) (ls : List (List ℕ)) (l : List ℕ) → goes_on respond stops state ls ≡ true
+      → stops (answer_all respond state ls).1 l ≡ false → goes_on respond stops state (ls ++ l ∷ []) ≡ true
+  goes_on-one state [] l e f = goes_on-alone state l (stops state l) refl f
+  goes_on-one state (x ∷ xs) l e f =
+      and-then (not (stops state x)) _ _ e (λ h. goes_on-one (respond state x).1 xs l h f)
 
   -- before the first line the run is on
   pub on_none : (start : P) (before : List ℕ) (Stands : P → Type 0) → Stands start
@@ -47,10 +47,10 @@ module _ {P : Type 0} (respond : P → List ℕ → List ℕ × P) (stops : P �
     on = ap (goes_on respond stops start) (ended_lines-open read part none) ∙ h.on;
   }
 
-  module _ (long : (place : P) (line : List ℕ) → 4097 < length line
-      → respond place line ≡ respond place (take kept line))
-      (long_stops : (place : P) (line : List ℕ) → 4097 < length line
-      → stops place line ≡ stops place (take kept line)) where
+  module _ (long : (state : P) (line : List ℕ) → 4097 < length line
+      → respond state line ≡ respond state (take kept line))
+      (long_stops : (state : P) (line : List ℕ) → 4097 < length line
+      → stops state line ≡ stops state (take kept line)) where
     -- whether the run ends after the open line, by what is kept of it
     stop_is : (start : P) (before read : List ℕ) (Stands : P → Type 0) (line taken : List ℕ) (b : Bool)
         → HasRunTo respond start before read Stands line taken
@@ -111,15 +111,15 @@ module _ {P : Type 0} (respond : P → List ℕ → List ℕ × P) (stops : P �
           → line' ≡ []
           → IsOn respond stops start before (read ++ (done ++ end ++ 0x0A ∷ [])) Stands' line' taken'
       on_line line' ok tells new =
-          let front : List ℕ = read ++ (done ++ end) in
-          let all : front ++ 0x0A ∷ [] ≡ read ++ (done ++ end ++ 0x0A ∷ []) = simp append_assoc in
+          let prefix : List ℕ = read ++ (done ++ end) in
+          let all : prefix ++ 0x0A ∷ [] ≡ read ++ (done ++ end ++ 0x0A ∷ []) = simp append_assoc in
           record {
             behind = behind_line respond long start before read done rest end more Stands Stands' line line' taken
                 taken' h.behind ends leads ok new;
             on = ap (λ (l : List ℕ). goes_on respond stops start (ended_lines l)) (sym all)
-                ∙ ap (goes_on respond stops start) (ended_lines-end front []
-                ∙ ap (λ (ls : List (List ℕ)). ended_lines front ++ open_line front ∷ ls) ended-nil)
-                ∙ on_one start before front Stands (take kept (line ++ end)) taken on_end tells;
+                ∙ ap (goes_on respond stops start) (ended_lines-end prefix []
+                ∙ ap (λ (ls : List (List ℕ)). ended_lines prefix ++ open_line prefix ∷ ls) ended-nil)
+                ∙ on_one start before prefix Stands (take kept (line ++ end)) taken on_end tells;
           }
 
       -- the run ends after it
@@ -128,7 +128,7 @@ module _ {P : Type 0} (respond : P → List ℕ → List ℕ × P) (stops : P �
           → ((p : P) → Stands p → stops p (take kept (line ++ end)) ≡ true)
           → EndsIn respond stops start before read piece Stands' taken'
       ends_in parts ok tells = record {
-        front = done ++ end;
+        prefix = done ++ end;
         more = more;
         parts = parts_end parts;
         ends = ends_behind start before (read ++ (done ++ end)) Stands Stands' (take kept (line ++ end)) taken
@@ -140,15 +140,15 @@ module _ {P : Type 0} (respond : P → List ℕ → List ℕ × P) (stops : P �
           → ((p : P) → Stands p → AppendsProperPrefix taken taken' (respond p (take kept (line ++ end))).0)
           → FailsIn respond stops start before read piece Stands' taken'
       fails_in parts err =
-          let front : List ℕ = read ++ (done ++ end) in
+          let prefix : List ℕ = read ++ (done ++ end) in
           let was = on_end in
-          let same = same_answer respond long (take kept (line ++ end)) (open_line front) was.behind.line_kept in
+          let same = same_answer respond long (take kept (line ++ end)) (open_line prefix) was.behind.line_kept in
           record {
-            front = done ++ end;
+            prefix = done ++ end;
             more = more;
             parts = parts_end parts;
             on = was.on;
-            stopped = stops_at respond start before (ended_lines front) (open_line front) Stands Stands' taken
+            stopped = stops_at respond start before (ended_lines prefix) (open_line prefix) Stands Stands' taken
                 taken' was.behind.answered
                 (λ p s. subst (λ (r : List ℕ × P). Stands' r.1) (same p) (leads p s))
                 (λ p s. subst (λ (r : List ℕ × P). AppendsProperPrefix taken taken' r.0) (same p) (err p s));

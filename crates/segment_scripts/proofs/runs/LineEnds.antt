@@ -46,9 +46,9 @@ first_from test hay i (suc n) r left h = elim (cases_Bool (test (slice_index hay
 ]
 
 -- the first place of a byte is what was found
-pub first_place : (test : ℕ → Bool) (hay all left : List ℕ) (r : Option ℕ) → all ≡ places test hay
+pub first_state : (test : ℕ → Bool) (hay all left : List ℕ) (r : Option ℕ) → all ≡ places test hay
     → TakesFirst all r left → IsFirstByte test hay r
-first_place test hay all left r e h =
+first_state test hay all left r e h =
     let len : 0 + (length hay - 0) ≡ length hay = omega arith in
     subst (λ (j : ℕ). IsFirst (Passes test hay) 0 j r) len
     (first_from test hay 0 (length hay - 0) r left (subst (λ (l : List ℕ). TakesFirst l r left) e h))

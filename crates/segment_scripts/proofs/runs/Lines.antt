@@ -57,17 +57,17 @@ none_whole (x ∷ xs) e = absurd (let h = lt-ltb 0 (length (x ∷ xs)) (omega ar
 lines-some : (c : ℕ) (cs : List ℕ) → (l : List ℕ) × ((ls : List (List ℕ)) × (lines (c ∷ cs) ≡ l ∷ ls))
 lines-some c cs = elim (cases_Bool (c == 0x0A)) [
   | inl e ↦ ([], (lines cs, rw e refl))
-  | inr e ↦ (front (lines cs), (behind (lines cs), rw e (onto_first-some (lines cs))))
+  | inr e ↦ (prefix (lines cs), (behind (lines cs), rw e (onto_first-some (lines cs))))
 ] where
-  front : List (List ℕ) → List ℕ
-  front [] = c ∷ []
-  front (l ∷ ls) = c ∷ l
+  prefix : List (List ℕ) → List ℕ
+  prefix [] = c ∷ []
+  prefix (l ∷ ls) = c ∷ l
 
   behind : List (List ℕ) → List (List ℕ)
   behind [] = []
   behind (l ∷ ls) = ls
 
-  onto_first-some : (ls : List (List ℕ)) → onto_first c ls ≡ front ls ∷ behind ls
+  onto_first-some : (ls : List (List ℕ)) → onto_first c ls ≡ prefix ls ∷ behind ls
   onto_first-some [] = refl
   onto_first-some (l ∷ ls) = refl
 

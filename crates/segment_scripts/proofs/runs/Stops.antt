@@ -128,9 +128,9 @@ module _ {P : Type 0} (respond : P → List ℕ → List ℕ × P) where
       → Type 0) (taken : List ℕ) → HasStopped respond start before ls l Stands taken → AppendsBytes before taken
   grows_stopped start before ls l Stands taken h =
       let told = (answer_all respond start ls).0 in
-      let front = take h.prints.count (respond (answer_all respond start ls).1 l).0 in
-      let all : taken ≡ before ++ (told ++ front) = h.prints.added ∙ append_assoc before told front in
-      all ∙ ap (λ (t : List ℕ). before ++ t) (sym (added before taken (told ++ front) all))
+      let prefix = take h.prints.count (respond (answer_all respond start ls).1 l).0 in
+      let all : taken ≡ before ++ (told ++ prefix) = h.prints.added ∙ append_assoc before told prefix in
+      all ∙ ap (λ (t : List ℕ). before ++ t) (sym (added before taken (told ++ prefix) all))
 
   module _ (stops : P → List ℕ → Bool) where
     -- a run that ends at its last line leaves it
@@ -156,7 +156,7 @@ module _ {P : Type 0} (respond : P → List ℕ → List ℕ × P) where
             next = l;
             rest = more;
             parts = e;
-            front = take n text;
+            prefix = take n text;
             prints = added before taken (told ++ take n text) (h.prints.added ∙ append_assoc before told (take n text));
             part = (
               drop n text,
@@ -169,16 +169,16 @@ module _ {P : Type 0} (respond : P → List ℕ → List ℕ × P) where
         }
 
     -- a line end in the piece is executable, as far as the piece is within the limit
-    executable_in : (read piece front more : List ℕ) (left count within : ℕ) (script : ReadDelta)
+    executable_in : (read piece prefix more : List ℕ) (left count within : ℕ) (script : ReadDelta)
         → length read + left ≡ script_limit → within ≡ min count left
-        → script.bytes ≡ read ++ take count piece → script.ended ≡ false → take within piece ≡ front ++ 0x0A ∷ more
-        → executable script ≡ ended_lines (read ++ front) ++ open_line (read ++ front) ∷ ended_lines more
-    executable_in read piece front more left count within script limit is bytes unended parts =
-        let all : take script_limit script.bytes ≡ (read ++ front) ++ 0x0A ∷ more =
+        → script.bytes ≡ read ++ take count piece → script.ended ≡ false → take within piece ≡ prefix ++ 0x0A ∷ more
+        → executable script ≡ ended_lines (read ++ prefix) ++ open_line (read ++ prefix) ∷ ended_lines more
+    executable_in read piece prefix more left count within script limit is bytes unended parts =
+        let all : take script_limit script.bytes ≡ (read ++ prefix) ++ 0x0A ∷ more =
         ap (take script_limit) bytes ∙ within_limit script_limit left count read piece limit
         ∙ ap (λ (n : ℕ). read ++ take n piece) (sym is)
-        ∙ ap (λ (l : List ℕ). read ++ l) parts ∙ sym (append_assoc read front (0x0A ∷ more)) in
-        executable-open script unended ∙ ap ended_lines all ∙ ended_lines-end (read ++ front) more
+        ∙ ap (λ (l : List ℕ). read ++ l) parts ∙ sym (append_assoc read prefix (0x0A ∷ more)) in
+        executable-open script unended ∙ ap ended_lines all ∙ ended_lines-end (read ++ prefix) more
 
     -- the writer failed in the answer to a line that ends there
     pub cut_in : (start : P) (before read piece : List ℕ) (left count within : ℕ) (script : ReadDelta) (Stands : P
@@ -188,9 +188,9 @@ module _ {P : Type 0} (respond : P → List ℕ → List ℕ × P) where
         → FailsIn respond stops start before read (take within piece) Stands taken
         → IsPartOn respond stops start (executable script) (drop (length before) taken) Stands
     cut_in start before read piece left count within script Stands taken limit is bytes unended h =
-        printed_part start before (executable script) (ended_lines (read ++ h.front)) (open_line (read ++ h.front))
+        printed_part start before (executable script) (ended_lines (read ++ h.prefix)) (open_line (read ++ h.prefix))
         (ended_lines h.more) Stands taken h.stopped h.on
-        (executable_in read piece h.front h.more left count within script limit is bytes unended h.parts)
+        (executable_in read piece h.prefix h.more left count within script limit is bytes unended h.parts)
 
     -- the run ended after a line that ends there
     pub stopped_in : (start : P) (before read piece : List ℕ) (left count within : ℕ) (script : ReadDelta)
@@ -202,16 +202,16 @@ module _ {P : Type 0} (respond : P → List ℕ → List ℕ × P) where
         → IsStoppedAt respond stops start script out Stands
     stopped_in start before read piece left count within script out Stands taken limit is bytes unended h took given
         written = record {
-          before = ended_lines (read ++ h.front);
-          last = open_line (read ++ h.front);
+          before = ended_lines (read ++ h.prefix);
+          last = open_line (read ++ h.prefix);
           rest = ended_lines h.more;
-          parts = executable_in read piece h.front h.more left count within script limit is bytes unended h.parts;
+          parts = executable_in read piece h.prefix h.more left count within script limit is bytes unended h.parts;
           on = h.ends.on;
           stop = h.ends.stop;
           answers = subst (λ (t : List ℕ).
-              AnswersLines respond start (ended_lines (read ++ h.front) ++ open_line (read ++ h.front) ∷ []) t
+              AnswersLines respond start (ended_lines (read ++ h.prefix) ++ open_line (read ++ h.prefix) ∷ []) t
               Stands) (sym took)
-              (printed start before (ended_lines (read ++ h.front) ++ open_line (read ++ h.front) ∷ []) Stands taken
+              (printed start before (ended_lines (read ++ h.prefix) ++ open_line (read ++ h.prefix) ∷ []) Stands taken
               h.ends.answered);
           read = given;
           written = written;
@@ -296,8 +296,8 @@ module _ {P : Type 0} (respond : P → List ℕ → List ℕ × P) where
       omega arith
 
   -- the last line is answered
-  pub answered_last : ((place : P) (line : List ℕ) → 4097 < length line
-      → respond place line ≡ respond place (take kept line))
+  pub answered_last : ((state : P) (line : List ℕ) → 4097 < length line
+      → respond state line ≡ respond state (take kept line))
       → (start : P) (before read : List ℕ) (Stands Stands' : P → Type 0) (line taken taken' : List ℕ)
       → HasRunTo respond start before read Stands line taken
       → (length line == 0) ≡ false
@@ -313,8 +313,8 @@ module _ {P : Type 0} (respond : P → List ℕ → List ℕ × P) where
       (λ p s. subst (λ (r : List ℕ × P). taken' ≡ taken ++ r.0) (same p) (ok p s)))
 
   -- a run stops at its last line
-  pub stopped_at_last : ((place : P) (line : List ℕ) → 4097 < length line
-      → respond place line ≡ respond place (take kept line))
+  pub stopped_at_last : ((state : P) (line : List ℕ) → 4097 < length line
+      → respond state line ≡ respond state (take kept line))
       → (start : P) (before read : List ℕ) (Stands Stands' : P → Type 0) (line taken taken' : List ℕ)
       → HasRunTo respond start before read Stands line taken
       → (length line == 0) ≡ false

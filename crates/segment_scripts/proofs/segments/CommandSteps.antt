@@ -1,7 +1,7 @@
 -- A call of the segment is the step of its command.
 use Rattle.std.proofs.lemmas.Bool.{false≢true, leb-true}
 use Rattle.std.specs.Prelude.{◌||◌, not, is_some}
-use Rattle.segment_manager.specs.Keeping.{IsBoundKey, HasPlaces, UnchangedWhere, LacksKey}
+use Rattle.segment_manager.specs.Keeping.{IsBoundKey, HasCapacity, UnchangedWhere, LacksKey}
 use Rattle.segment_manager.specs.containers.Contents.{sizes_at}
 use Rattle.std.proofs.Common.{◌≡◌, ◌≤◌, Bool, refl, sym, ap, subst, ◌∙◌, ℕ, true, false, Result, Ok, Err, Option, Some}
 use Rattle.std.proofs.Common.{None, length}
@@ -28,7 +28,7 @@ use Rattle.segment_lang.specs.Seen.{operation_of}
 use Rattle.segment_scripts.specs.declared.replies.CommandAnswer.{CommandAnswer as Reply}
 use Rattle.segment_scripts.specs.declared.replies.CommandAnswer.TheVariants as said
 use Rattle.segment_scripts.specs.Replies.{Replies, answer_seen, shown_at, shown_of, told_at, told_of}
-use Rattle.segment_scripts.specs.ZeroGaps.{has_nothing_to_do, has_places, is_zero_free}
+use Rattle.segment_scripts.specs.ZeroGaps.{has_nothing_to_do, has_capacity, is_zero_free}
 
 -- ---- what only reads
 
@@ -80,7 +80,7 @@ module _ (s : SegmentState) where
   reads c reply e says =
       let same = λ (d : Directory). step-reads s.mode d c e in
       record {
-        stays = record { mode = refl; place = record { before = refl; after = refl } };
+        stays = record { mode = refl; state = record { before = refl; after = refl } };
         answers = λ d h. ap (λ (x : Directory). answer_seen x reply) (same d) ∙ says d h;
         denotes = λ d h. subst (DenotesCurrent s.cut.bytes) (sym (same d)) h;
         reads = λ _. refl;
@@ -220,7 +220,7 @@ is-some None e = absurd (cc)
 is-some (Some o) e = (o, refl)
 
 has-places : (key : Key) (n : ℕ) (d : Directory) (r : Result (ℕ × ℕ) Refusal) → sizes_at d key ≡ r
-    → has_places r n ≡ true → HasPlaces key n d
+    → has_capacity r n ≡ true → HasCapacity key n d
 has-places key n d (Ok (len, capacity)) e h =
     record { len = len; capacity = capacity; says = e; enough = leb-true n capacity h }
 has-places key n d (Err why) e h = absurd (false≢true h)
@@ -236,7 +236,7 @@ module _ {old new : SegmentState} (key : Key) where
   has-found c k d s e = k d s (is-some (object_at d key) e)
 
   -- the places sufficed: what was found stays
-  pub places-found : (n : ℕ) → UnchangedWhere old new (HasPlaces key n) → KeepsFound old new (asked.Reserve key n)
+  pub places-found : (n : ℕ) → UnchangedWhere old new (HasCapacity key n) → KeepsFound old new (asked.Reserve key n)
   places-found n k d s e = k d s (has-places key n d (sizes_at d key) refl e)
 
 module _ {old new : SegmentState} (n : ℕ) where

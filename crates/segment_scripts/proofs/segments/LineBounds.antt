@@ -15,20 +15,21 @@ use Rattle.seg_types.specs.Names.{Key}
 use Rattle.seg_types.specs.Commands as asked
 use Rattle.seg_types.specs.Commands.{Command, Content, Literal, Integer, Boolean, Quoted, Reading, Nothing, Asked}
 use Rattle.seg_types.specs.Commands.{UnknownCommand, LineTooLong, BadSyntax}
-use Rattle.segment_lang.specs.Words as word
-use Rattle.segment_lang.specs.Words.{Word, Bare, words, is_word, is_blank, literal_of_word, number_of, whole_of}
+use Rattle.segment_lang.specs.Lexing as token
+use Rattle.segment_lang.specs.Lexing.{Token, Bare, tokens, is_token, is_blank, literal_of_token, number_of, whole_of}
 use Rattle.raw_region.specs.Format.{current}
 use Rattle.segment_lang.specs.Language.{Language, whole_language}
 use Rattle.segment_lang.specs.Reading as reads
 use Rattle.segment_lang.specs.Reading.{Form, Reader, agrees, all, alone, as_reading, bracketed, command_line, content}
 use Rattle.segment_lang.specs.Reading.{counted, counted_kind, each, for_kind, form_of, forms, items, key_of, kind_named}
-use Rattle.segment_lang.specs.Reading.{kind_of_word, making, making_each, name_key, new_key, number, quoted_of, reading}
+use Rattle.segment_lang.specs.Reading.{kind_of_token, making, making_each, name_key, new_key, number, quoted_of}
+use Rattle.segment_lang.specs.Reading.{reading}
 use Rattle.segment_lang.specs.Reading.{skip_blanks, value_for, with_key, with_key_literal, with_key_number}
 use Rattle.segment_lang.specs.Reading.{with_key_number_literal, with_number, without_return}
-use Rattle.segment_lang.specs.Laws.{room}
-use Rattle.segment_lang.proofs.Laws.{words_room}
+use Rattle.segment_lang.specs.Laws.{held_len}
+use Rattle.segment_lang.proofs.Laws.{tokens_room}
 use Rattle.segment_scripts.specs.Replies.{IsLineContent, IsMeant, bytes_taken, texts_taken}
-use Rattle.segment_scripts.proofs.values.Rows.{text-no_value}
+use Rattle.segment_scripts.proofs.values.ScalarBuffers.{text-no_value}
 
 -- ---- what there is, if there is something
 
@@ -66,24 +67,24 @@ if-holds P false a h = tt
 -- ---- the room that words take
 
 -- a word takes a byte at the least
-room-tail : (w : Word) (ws : List Word) → room ws + 1 ≤ room (w ∷ ws)
-room-tail (Bare bs) ws = omega arith
-room-tail (word.Text bs) ws = omega arith
+held_len-tail : (w : Token) (ws : List Token) → held_len ws + 1 ≤ held_len (w ∷ ws)
+held_len-tail (Bare bs) ws = omega arith
+held_len-tail (token.Text bs) ws = omega arith
 
 -- two values take four bytes
-values-room : (k : ScalarKind) (ws : List Word)
-    → Holds (λ (zs : List ℤ). 2 * length zs ≤ room ws) (all (value_for k) ws)
-values-room k [] = omega arith
-values-room k (Bare [] ∷ ws) = tt
-values-room k (Bare (c ∷ cs) ∷ ws) =
-    then-all (λ (zs : List ℤ). 2 * length zs ≤ room (Bare (c ∷ cs) ∷ ws)) (λ z.
+values-held_len : (k : ScalarKind) (ws : List Token)
+    → Holds (λ (zs : List ℤ). 2 * length zs ≤ held_len ws) (all (value_for k) ws)
+values-held_len k [] = omega arith
+values-held_len k (Bare [] ∷ ws) = tt
+values-held_len k (Bare (c ∷ cs) ∷ ws) =
+    then-all (λ (zs : List ℤ). 2 * length zs ≤ held_len (Bare (c ∷ cs) ∷ ws)) (λ z.
     option_map (λ zs. z ∷ zs) (all (value_for k) ws)) (value_for k (Bare (c ∷ cs)))
-    (λ z. map-where (λ (zs : List ℤ). 2 * length zs ≤ room ws) (λ (zs : List ℤ).
-    2 * length zs ≤ room (Bare (c ∷ cs) ∷ ws)) (λ zs. z ∷ zs) (all (value_for k) ws) (values-room k ws)
+    (λ z. map-where (λ (zs : List ℤ). 2 * length zs ≤ held_len ws) (λ (zs : List ℤ).
+    2 * length zs ≤ held_len (Bare (c ∷ cs) ∷ ws)) (λ zs. z ∷ zs) (all (value_for k) ws) (values-held_len k ws)
     (λ zs h. omega arith))
-values-room k (word.Text bs ∷ ws) =
+values-held_len k (token.Text bs ∷ ws) =
     subst (λ (r : Result ℤ Refusal).
-    Holds (λ (zs : List ℤ). 2 * length zs ≤ room (word.Text bs ∷ ws))
+    Holds (λ (zs : List ℤ). 2 * length zs ≤ held_len (token.Text bs ∷ ws))
     (option_and_then (λ z. option_map (λ zs. z ∷ zs) (all (value_for k) ws)) (result_ok r)))
     (sym (text-no_value k bs)) tt
 
@@ -104,36 +105,36 @@ bare-taken (Integer z) ls h = refl
 bare-taken (Boolean b) ls h = refl
 bare-taken (Quoted bs) ls h = absurd h
 
-literals-room : (ws : List Word) → Holds (λ ls. bytes_taken ls ≤ room ws) (all literal_of_word ws)
-literals-room [] = omega arith
-literals-room (Bare [] ∷ ws) = tt
-literals-room (Bare (c ∷ cs) ∷ ws) =
-    then-holds IsBareValue (λ ls. bytes_taken ls ≤ room (Bare (c ∷ cs) ∷ ws)) (λ l.
-    option_map (λ ls. l ∷ ls) (all literal_of_word ws)) (literal_of_word (Bare (c ∷ cs)))
-    (bare-if (is_word (c ∷ cs) (codes "true")) (is_word (c ∷ cs) (codes "false")) (whole_of (c ∷ cs)))
-    (λ l b. map-where (λ ls. bytes_taken ls ≤ room ws) (λ ls. bytes_taken ls ≤ room (Bare (c ∷ cs) ∷ ws)) (λ ls.
-    l ∷ ls) (all literal_of_word ws) (literals-room ws)
+literals-held_len : (ws : List Token) → Holds (λ ls. bytes_taken ls ≤ held_len ws) (all literal_of_token ws)
+literals-held_len [] = omega arith
+literals-held_len (Bare [] ∷ ws) = tt
+literals-held_len (Bare (c ∷ cs) ∷ ws) =
+    then-holds IsBareValue (λ ls. bytes_taken ls ≤ held_len (Bare (c ∷ cs) ∷ ws)) (λ l.
+    option_map (λ ls. l ∷ ls) (all literal_of_token ws)) (literal_of_token (Bare (c ∷ cs)))
+    (bare-if (is_token (c ∷ cs) (codes "true")) (is_token (c ∷ cs) (codes "false")) (whole_of (c ∷ cs)))
+    (λ l b. map-where (λ ls. bytes_taken ls ≤ held_len ws) (λ ls. bytes_taken ls ≤ held_len (Bare (c ∷ cs) ∷ ws)) (λ ls.
+    l ∷ ls) (all literal_of_token ws) (literals-held_len ws)
     (λ ls h. let e = bare-taken l ls b in omega arith))
-literals-room (word.Text bs ∷ ws) =
-    map-where (λ ls. bytes_taken ls ≤ room ws) (λ ls. bytes_taken ls ≤ room (word.Text bs ∷ ws)) (λ ls.
-    Quoted bs ∷ ls) (all literal_of_word ws) (literals-room ws) (λ ls h. omega arith)
+literals-held_len (token.Text bs ∷ ws) =
+    map-where (λ ls. bytes_taken ls ≤ held_len ws) (λ ls. bytes_taken ls ≤ held_len (token.Text bs ∷ ws)) (λ ls.
+    Quoted bs ∷ ls) (all literal_of_token ws) (literals-held_len ws) (λ ls h. omega arith)
 
-texts-room : (ws : List Word) → Holds (λ (bss : List (List ℕ)). texts_taken bss ≤ room ws) (all quoted_of ws)
-texts-room [] = omega arith
-texts-room (Bare w ∷ ws) = tt
-texts-room (word.Text bs ∷ ws) =
-    map-where (λ (bss : List (List ℕ)). texts_taken bss ≤ room ws) (λ (bss : List (List ℕ)).
-    texts_taken bss ≤ room (word.Text bs ∷ ws)) (λ bss. bs ∷ bss) (all quoted_of ws) (texts-room ws) (λ bss h.
+texts-held_len : (ws : List Token) → Holds (λ (bss : List (List ℕ)). texts_taken bss ≤ held_len ws) (all quoted_of ws)
+texts-held_len [] = omega arith
+texts-held_len (Bare w ∷ ws) = tt
+texts-held_len (token.Text bs ∷ ws) =
+    map-where (λ (bss : List (List ℕ)). texts_taken bss ≤ held_len ws) (λ (bss : List (List ℕ)).
+    texts_taken bss ≤ held_len (token.Text bs ∷ ws)) (λ bss. bs ∷ bss) (all quoted_of ws) (texts-held_len ws) (λ bss h.
     omega arith)
 
 -- one value takes no more than its word
-literal-room : (w : Word) → Holds (λ l. bytes_taken (l ∷ []) ≤ room (w ∷ [])) (literal_of_word w)
-literal-room (Bare []) = tt
-literal-room (Bare (c ∷ cs)) =
-    holds-map IsBareValue (λ l. bytes_taken (l ∷ []) ≤ room (Bare (c ∷ cs) ∷ [])) (literal_of_word (Bare (c ∷ cs)))
-    (bare-if (is_word (c ∷ cs) (codes "true")) (is_word (c ∷ cs) (codes "false")) (whole_of (c ∷ cs)))
+literal-held_len : (w : Token) → Holds (λ l. bytes_taken (l ∷ []) ≤ held_len (w ∷ [])) (literal_of_token w)
+literal-held_len (Bare []) = tt
+literal-held_len (Bare (c ∷ cs)) =
+    holds-map IsBareValue (λ l. bytes_taken (l ∷ []) ≤ held_len (Bare (c ∷ cs) ∷ [])) (literal_of_token (Bare (c ∷ cs)))
+    (bare-if (is_token (c ∷ cs) (codes "true")) (is_token (c ∷ cs) (codes "false")) (whole_of (c ∷ cs)))
     (λ l b. let e = bare-taken l [] b in omega arith)
-literal-room (word.Text bs) = omega arith
+literal-held_len (token.Text bs) = omega arith
 
 -- ---- kinds, keys and contents
 
@@ -159,21 +160,21 @@ counted-holds Strings r = tt
 
 kind-holds : (l : Language) (w : List ℕ) (r : Option Kind) → Counts (elim r as (λ _. Option (Kind × ℕ)) [
   | Some k ↦ Some (k, 1)
-  | None ↦ let front = take_while (λ c. not (c == 0x5B)) w in
-      option_and_then (λ k. counted k (bracketed (drop (length front + 1) w))) (kind_named l front)
+  | None ↦ let prefix = take_while (λ c. not (c == 0x5B)) w in
+      option_and_then (λ k. counted k (bracketed (drop (length prefix + 1) w))) (kind_named l prefix)
 ])
 kind-holds l w (Some k) = (omega arith, omega arith)
 kind-holds l w None = then-all IsCounted _ (kind_named l (take_while (λ c. not (c == 0x5B)) w)) (λ k. counted-holds k _)
 
-kinds-count : (w : Word) → Counts (counted_kind (whole_language current) w)
+kinds-count : (w : Token) → Counts (counted_kind (whole_language current) w)
 kinds-count (Bare w) = kind-holds (whole_language current) w (kind_named (whole_language current) w)
-kinds-count (word.Text bs) = tt
+kinds-count (token.Text bs) = tt
 
 key-agrees : (k : Kind) (key : Option Key) → Holds (λ (x : Key). IsTrue (agrees k x)) (for_kind k key)
 key-agrees k key = then-all (λ (x : Key). IsTrue (agrees k x)) _ key (λ x.
     if-holds (λ (y : Key). IsTrue (agrees k y)) (agrees k x) x (λ e. e))
 
-content-holds : (k : Kind) (n : ℕ) (ws : List Word) (key : Key) → IsCounted (k, n) → room ws ≤ 4097
+content-holds : (k : Kind) (n : ℕ) (ws : List Token) (key : Key) → IsCounted (k, n) → held_len ws ≤ 4097
     → IsTrue (agrees k key) → Holds (IsLineContent key) (content k n ws)
 content-holds (Scalar k) n [] key h f a = tt
 content-holds (Scalar k) n (v ∷ []) key h f a =
@@ -181,28 +182,28 @@ content-holds (Scalar k) n (v ∷ []) key h f a =
     (λ z. let e = length-replicate n z in (subst (λ m. 1 ≤ m) (sym e) h.0, subst (λ m. m ≤ 1048576) (sym e) h.1, a))
 content-holds (Scalar k) n (v ∷ w ∷ ws) key h f a = tt
 content-holds (Vector k) n ws key h f a =
-    map-where (λ (zs : List ℤ). 2 * length zs ≤ room ws) (IsLineContent key) (asked.Elements k)
-    (all (value_for k) ws) (values-room k ws) (λ zs r. (omega arith, a))
+    map-where (λ (zs : List ℤ). 2 * length zs ≤ held_len ws) (IsLineContent key) (asked.Elements k)
+    (all (value_for k) ws) (values-held_len k ws) (λ zs r. (omega arith, a))
 content-holds String n [] key h f a = tt
 content-holds String n (Bare w ∷ ws) key h f a = tt
-content-holds String n (word.Text bs ∷ []) key h f a = (omega arith, a)
-content-holds String n (word.Text bs ∷ w ∷ ws) key h f a = tt
+content-holds String n (token.Text bs ∷ []) key h f a = (omega arith, a)
+content-holds String n (token.Text bs ∷ w ∷ ws) key h f a = tt
 content-holds (Map k v) n [] key h f a = a
 content-holds (Map k v) n (w ∷ ws) key h f a = tt
 content-holds Strings n ws key h f a =
-    map-where (λ (bss : List (List ℕ)). texts_taken bss ≤ room ws) (IsLineContent key) asked.Strings
-    (all quoted_of ws) (texts-room ws) (λ bss r. (omega arith, a))
+    map-where (λ (bss : List (List ℕ)). texts_taken bss ≤ held_len ws) (IsLineContent key) asked.Strings
+    (all quoted_of ws) (texts-held_len ws) (λ bss r. (omega arith, a))
 
 -- ---- the forms
 
 abbrev Meant : Reader → Type 0
-Meant r = (ws : List Word) → room ws ≤ 4097 → Holds IsMeant (r (whole_language current) ws)
+Meant r = (ws : List Token) → held_len ws ≤ 4097 → Holds IsMeant (r (whole_language current) ws)
 
 alone-meant : (c : Command) → IsMeant c → Meant (alone c)
 alone-meant c h [] room_is = h
 alone-meant c h (w ∷ ws) room_is = tt
 
-key-meant : (f : Key → Command) (key_in : Language → Word → Option Key) → ((k : Key) → IsMeant (f k))
+key-meant : (f : Key → Command) (key_in : Language → Token → Option Key) → ((k : Key) → IsMeant (f k))
     → Meant (with_key f key_in)
 key-meant f key_in h [] room_is = tt
 key-meant f key_in h (w ∷ []) room_is = map-holds IsMeant f (key_in (whole_language current) w) h
@@ -226,9 +227,10 @@ key-literal-meant : (f : Key → Literal → Command)
 key-literal-meant f h [] room_is = tt
 key-literal-meant f h (w ∷ []) room_is = tt
 key-literal-meant f h (w ∷ v ∷ []) room_is =
-    let tail = room-tail w (v ∷ []) in
-    then-all IsMeant (λ key. option_map (f key) (literal_of_word v)) (key_of (whole_language current) w)
-    (λ k. map-where (λ l. bytes_taken (l ∷ []) ≤ room (v ∷ [])) IsMeant (f k) (literal_of_word v) (literal-room v)
+    let tail = held_len-tail w (v ∷ []) in
+    then-all IsMeant (λ key. option_map (f key) (literal_of_token v)) (key_of (whole_language current) w)
+    (λ k. map-where (λ l. bytes_taken (l ∷ []) ≤ held_len (v ∷ [])) IsMeant (f k) (literal_of_token v)
+    (literal-held_len v)
     (λ m few. h k m (omega arith)))
 key-literal-meant f h (w ∷ v ∷ u ∷ ws) room_is = tt
 
@@ -239,22 +241,24 @@ key-number-literal-meant f h [] room_is = tt
 key-number-literal-meant f h (w ∷ []) room_is = tt
 key-number-literal-meant f h (w ∷ v ∷ []) room_is = tt
 key-number-literal-meant f h (w ∷ v ∷ u ∷ []) room_is =
-    let first = room-tail w (v ∷ u ∷ []) in
-    let second = room-tail v (u ∷ []) in
-    then-all IsMeant (λ key. option_and_then (λ n. option_map (f key n) (literal_of_word u)) (number v))
+    let first = held_len-tail w (v ∷ u ∷ []) in
+    let second = held_len-tail v (u ∷ []) in
+    then-all IsMeant (λ key. option_and_then (λ n. option_map (f key n) (literal_of_token u)) (number v))
     (key_of (whole_language current) w)
-    (λ k. then-all IsMeant (λ n. option_map (f k n) (literal_of_word u)) (number v)
-    (λ n. map-where (λ l. bytes_taken (l ∷ []) ≤ room (u ∷ [])) IsMeant (f k n) (literal_of_word u) (literal-room u)
+    (λ k. then-all IsMeant (λ n. option_map (f k n) (literal_of_token u)) (number v)
+    (λ n. map-where (λ l. bytes_taken (l ∷ []) ≤ held_len (u ∷ [])) IsMeant (f k n) (literal_of_token u)
+    (literal-held_len u)
     (λ m few. h k n m (omega arith))))
 key-number-literal-meant f h (w ∷ v ∷ u ∷ t ∷ ws) room_is = tt
 
 assigning-meant : Meant reads.assigning
 assigning-meant [] room_is = tt
 assigning-meant (w ∷ ws) room_is =
-    let tail = room-tail w ws in
-    then-all IsMeant (λ key. option_map (asked.Assign key) (all literal_of_word ws)) (key_of (whole_language current) w)
-    (λ k. map-where (λ ls. bytes_taken ls ≤ room ws) IsMeant (asked.Assign k) (all literal_of_word ws)
-    (literals-room ws) (λ ls h. omega arith))
+    let tail = held_len-tail w ws in
+    then-all IsMeant (λ key. option_map (asked.Assign key) (all literal_of_token ws)) (key_of (whole_language
+    current) w)
+    (λ k. map-where (λ ls. bytes_taken ls ≤ held_len ws) IsMeant (asked.Assign k) (all literal_of_token ws)
+    (literals-held_len ws) (λ ls h. omega arith))
 
 putting-meant : Meant reads.putting
 putting-meant [] room_is = tt
@@ -262,26 +266,26 @@ putting-meant (w ∷ []) room_is = tt
 putting-meant (w ∷ v ∷ []) room_is = tt
 putting-meant (w ∷ v ∷ u ∷ []) room_is =
     then-all IsMeant (λ key. option_and_then (λ k.
-    option_map (asked.Put key k) (literal_of_word u)) (literal_of_word v)) (key_of (whole_language current) w)
-    (λ key. then-all IsMeant (λ k. option_map (asked.Put key k) (literal_of_word u)) (literal_of_word v) (λ k.
-    map-holds IsMeant (asked.Put key k) (literal_of_word u) (λ m. tt)))
+    option_map (asked.Put key k) (literal_of_token u)) (literal_of_token v)) (key_of (whole_language current) w)
+    (λ key. then-all IsMeant (λ k. option_map (asked.Put key k) (literal_of_token u)) (literal_of_token v) (λ k.
+    map-holds IsMeant (asked.Put key k) (literal_of_token u) (λ m. tt)))
 putting-meant (w ∷ v ∷ u ∷ t ∷ ws) room_is = tt
 
 appending-meant : Meant reads.appending
 appending-meant [] room_is = tt
 appending-meant (w ∷ []) room_is = tt
 appending-meant (w ∷ Bare b ∷ ws) room_is = tt
-appending-meant (w ∷ word.Text bs ∷ []) room_is =
-    let tail = room-tail w (word.Text bs ∷ []) in
+appending-meant (w ∷ token.Text bs ∷ []) room_is =
+    let tail = held_len-tail w (token.Text bs ∷ []) in
     map-holds IsMeant (λ key. asked.Append key bs) (key_of (whole_language current) w) (λ k. omega arith)
-appending-meant (w ∷ word.Text bs ∷ v ∷ ws) room_is = tt
+appending-meant (w ∷ token.Text bs ∷ v ∷ ws) room_is = tt
 
 finding-meant : Meant reads.finding
 finding-meant [] room_is = tt
 finding-meant (w ∷ []) room_is = tt
 finding-meant (w ∷ v ∷ []) room_is =
     then-all IsMeant (λ k. option_map (λ key. asked.Find key k) (for_kind k (name_key (whole_language current) v)))
-    (kind_of_word (whole_language current) w)
+    (kind_of_token (whole_language current) w)
     (λ k. map-holds IsMeant (λ key. asked.Find key k) (for_kind k (name_key (whole_language current) v)) (λ key. tt))
 finding-meant (w ∷ v ∷ u ∷ ws) room_is = tt
 
@@ -294,15 +298,15 @@ destroying-meant [] room_is = tt
 destroying-meant (Bare [] ∷ ws) room_is = tt
 destroying-meant (Bare (c ∷ cs) ∷ []) room_is = handle-if (c == 0x23) cs
 destroying-meant (Bare (c ∷ cs) ∷ w ∷ ws) room_is = tt
-destroying-meant (word.Text bs ∷ ws) room_is = tt
+destroying-meant (token.Text bs ∷ ws) room_is = tt
 
-making-meant : (make : Key → Content → Command) (key_in : Language → Word → Option Key)
+making-meant : (make : Key → Content → Command) (key_in : Language → Token → Option Key)
     → ((key : Key) (x : Content) → IsLineContent key x → IsMeant (make key x)) → Meant (making make key_in)
 making-meant make key_in h [] room_is = tt
 making-meant make key_in h (w ∷ []) room_is = tt
 making-meant make key_in h (w ∷ v ∷ args) room_is =
-    let tail = room-tail w (v ∷ args) in
-    let fits = room-tail v args in
+    let tail = held_len-tail w (v ∷ args) in
+    let fits = held_len-tail v args in
     then-holds IsCounted IsMeant (λ (k, n).
     option_and_then (λ key. option_map (make key) (content k n args)) (for_kind k (key_in (whole_language current) v)))
     (counted_kind (whole_language current) w) (kinds-count w)
@@ -312,7 +316,7 @@ making-meant make key_in h (w ∷ v ∷ args) room_is =
     (λ key a. map-where (IsLineContent key) IsMeant (make key) (content p.0 p.1 args)
     (content-holds p.0 p.1 args key count (omega arith) a) (h key)))
 
-each-meant : (vs : List Word) (k : Kind) (n : ℕ) (key : Key) → IsCount n → IsTrue (agrees k key)
+each-meant : (vs : List Token) (k : Kind) (n : ℕ) (key : Key) → IsCount n → IsTrue (agrees k key)
     → Holds IsMeant (each vs k n key)
 each-meant vs (Scalar k) n key h a =
     then-all IsMeant (items n k key) (all (value_for k) vs)
@@ -373,10 +377,10 @@ found-meant t (f ∷ fs) h = find-if t (t f) f (find t fs) h.0 (found-meant t fs
 
 -- ---- the line
 
-words-fit : (rest : List ℕ) (r : Option (List Word)) → words rest ≡ r → length rest ≤ 4096
-    → Holds (λ ws. room ws ≤ 4097) r
-words-fit rest None e short = tt
-words-fit rest (Some ws) e short = omega (arith, words_room rest ws e)
+tokens-fit : (rest : List ℕ) (r : Option (List Token)) → tokens rest ≡ r → length rest ≤ 4096
+    → Holds (λ ws. held_len ws ≤ 4097) r
+tokens-fit rest None e short = tt
+tokens-fit rest (Some ws) e short = omega (arith, tokens_room rest ws e)
 
 abbrev IsReadingMeant : Reading → Type 0
 IsReadingMeant (Asked c) = IsMeant c
@@ -389,23 +393,23 @@ as-meant : (r : Option Command) → Holds IsMeant r → IsReadingMeant (as_readi
 as-meant None h = tt
 as-meant (Some c) h = h
 
-words-if : (rest : List ℕ) (r : Option Form) → length rest ≤ 4096 → Holds IsFormMeant r
+tokens-if : (rest : List ℕ) (r : Option Form) → length rest ≤ 4096 → Holds IsFormMeant r
     → IsReadingMeant (elim r as (λ _. Reading) [
       | None ↦ UnknownCommand
-      | Some form ↦ as_reading (option_and_then (form.1 (whole_language current)) (words rest))
+      | Some form ↦ as_reading (option_and_then (form.1 (whole_language current)) (tokens rest))
     ])
-words-if rest None short h = tt
-words-if rest (Some f) short h =
-    as-meant (option_and_then (f.1 (whole_language current)) (words rest))
-    (then-holds (λ ws. room ws ≤ 4097) IsMeant (f.1 (whole_language current)) (words rest)
-    (words-fit rest (words rest) refl short) (λ ws fits. h ws fits))
+tokens-if rest None short h = tt
+tokens-if rest (Some f) short h =
+    as-meant (option_and_then (f.1 (whole_language current)) (tokens rest))
+    (then-holds (λ ws. held_len ws ≤ 4097) IsMeant (f.1 (whole_language current)) (tokens rest)
+    (tokens-fit rest (tokens rest) refl short) (λ ws fits. h ws fits))
 
 command-meant : (line : List ℕ) → length line ≤ 4096 → IsReadingMeant (command_line (whole_language current) line)
 command-meant [] short = tt
 command-meant (c ∷ cs) short =
     let first = take_while (λ c. not (is_blank c)) (c ∷ cs) in
-    words-if (drop (length first) (c ∷ cs)) (form_of first) (omega (arith, length-drop (length first) (c ∷ cs)))
-    (found-meant (λ (f : Form). is_word first f.0) forms forms-meant)
+    tokens-if (drop (length first) (c ∷ cs)) (form_of first) (omega (arith, length-drop (length first) (c ∷ cs)))
+    (found-meant (λ (f : Form). is_token first f.0) forms forms-meant)
 
 meant-if : (b : Bool) (x y : Reading) → IsReadingMeant x → (b ≡ false → IsReadingMeant y)
     → IsReadingMeant (if b then x else y)

@@ -10,7 +10,7 @@ use Rattle.segment_manager.specs.State.{SegmentState}
 use Rattle.segment_scripts.specs.declared.answered.Answered.{Answered}
 use Rattle.segment_scripts.specs.Refusing.{Tells, refuses}
 use Rattle.segment_scripts.specs.Run.{error_line, respond}
-use Rattle.segment_scripts.specs.Segments.{IsMachineAt, MachineState, Responds, place_after}
+use Rattle.segment_scripts.specs.Segments.{IsMachineAt, MachineState, Responds, state_after}
 use Rattle.segment_scripts.proofs.listing.Output.{writes_owed}
 
 printed : (at : MachineState) (e : LineError) → error_line e ≡ (respond at.mode at.directory (wrong_reading e)).0
@@ -24,7 +24,7 @@ refused at LineTooLong = refl
 refused at BadSyntax = refl
 
 stays : (s : SegmentState) (at : MachineState) (e : LineError) → IsMachineAt s at
-    → IsMachineAt s (place_after at (wrong_reading e))
+    → IsMachineAt s (state_after at (wrong_reading e))
 stays s at UnknownCommand h = record { mode = h.mode; denotes = h.denotes; zeros = h.zeros }
 stays s at LineTooLong h = record { mode = h.mode; denotes = h.denotes; zeros = h.zeros }
 stays s at BadSyntax h = record { mode = h.mode; denotes = h.denotes; zeros = h.zeros }
@@ -35,7 +35,7 @@ pub responds-wrong : {E : Type 0} {took took' : WriterHistory} {result : Result 
     → Tells result true
     → Responds s s took took' result asked
 responds-wrong {took = took} {took' = took'} {result = result} {asked = asked} s e is w t = record {
-  leads = λ at h. subst (λ (r : Reading). IsMachineAt s (place_after at r)) is (stays s at e h);
+  leads = λ at h. subst (λ (r : Reading). IsMachineAt s (state_after at r)) is (stays s at e h);
   writes = writes_owed w (λ at h. printed at e ∙ ap (λ (r : Reading). (respond at.mode at.directory r).0) is);
   tells = λ at h. subst (Tells result) (refused at e ∙ ap (refuses at.mode at.directory) is) t;
   idles = λ _ _ _. refl;

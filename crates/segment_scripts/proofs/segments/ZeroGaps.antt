@@ -20,7 +20,7 @@ use Rattle.segment_scripts.specs.Replies.{Replies, answer_seen}
 use Rattle.segment_scripts.specs.declared.answered.Answered.{Answered}
 use Rattle.segment_scripts.specs.Refusing.{AnswersFor, Tells, is_refusal, refuses}
 use Rattle.segment_scripts.specs.Run.{respond}
-use Rattle.segment_scripts.specs.Segments.{MachineState, IsMachineAt, Responds, place_after}
+use Rattle.segment_scripts.specs.Segments.{MachineState, IsMachineAt, Responds, state_after}
 use Rattle.segment_scripts.proofs.segments.Refusals.{answers-before, answers-owed}
 
 -- ---- a command
@@ -63,11 +63,11 @@ module _ (old new : SegmentState) (c : Command) (asked : Reading) (e : Asked c �
     (kept : (d : Directory) → DenotesCurrent old.cut.bytes d → changes_nothing old.mode d c ≡ true → new ≡ old)
     (reads : is_changing c ≡ false → new ≡ old) where
   led : ((d : Directory) → DenotesCurrent old.cut.bytes d → c ≡ ZeroFree → (step old.mode d c).0 ≡ Done
-      → HasZeroGaps new) → (at : MachineState) → IsMachineAt old at → IsMachineAt new (place_after at asked)
+      → HasZeroGaps new) → (at : MachineState) → IsMachineAt old at → IsMachineAt new (state_after at asked)
   led zeros at h =
       let d = at.directory in
       let m = h.mode in
-      let place : IsMachineAt new (place_after at (Asked c)) = record {
+      let state : IsMachineAt new (state_after at (Asked c)) = record {
         mode = done.stays.mode ∙ m;
         denotes = subst (λ (n : Mode). DenotesCurrent new.cut.bytes (step n d c).1) m (done.denotes d h.denotes);
         zeros = zeros_held (changes_nothing at.mode d c) (is_changing c) (is_zero_free c) at.zeros old new
@@ -80,28 +80,28 @@ module _ (old new : SegmentState) (c : Command) (asked : Reading) (e : Asked c �
             ∙ ap (λ (n : Mode). changes_nothing n d c) m ∙ r))))
             h.zeros;
       } in
-      subst (λ (r : Reading). IsMachineAt new (place_after at r)) e place
+      subst (λ (r : Reading). IsMachineAt new (state_after at r)) e state
 
 executed : (old new : SegmentState) (c : Command) (reply : Reply) (asked : Reading) → Asked c ≡ asked
-    → Replies old new c reply → (at : MachineState) → IsMachineAt old at → IsMachineAt new (place_after at asked)
+    → Replies old new c reply → (at : MachineState) → IsMachineAt old at → IsMachineAt new (state_after at asked)
 executed old new c reply asked e done = led old new c asked e
     (record { stays = done.stays; denotes = done.denotes; refused = λ d st r. done.kept d st (either-first _ _ r) })
     done.kept done.reads done.zeros
 
 -- one that takes out an element too
 popped : (old new : SegmentState) (key : Key) (asked : Reading) → Asked (Pop key) ≡ asked
-    → Executes old new (Pop key) → (at : MachineState) → IsMachineAt old at → IsMachineAt new (place_after at asked)
+    → Executes old new (Pop key) → (at : MachineState) → IsMachineAt old at → IsMachineAt new (state_after at asked)
 popped old new key asked e done = led old new (Pop key) asked e done
     (λ d st r. done.refused d st (first-of (is_untouched (step old.mode d (Pop key)).0) r)) (λ n.
     absurd (cc)) (λ d st is. absurd (let other : is_zero_free (Pop key) ≡ true = ap is_zero_free is in cc))
 
 -- one that only reads
 answered : (s : SegmentState) (c : Command) (asked : Reading) → is_changing c ≡ false → Asked c ≡ asked
-    → (at : MachineState) → IsMachineAt s at → IsMachineAt s (place_after at asked)
+    → (at : MachineState) → IsMachineAt s at → IsMachineAt s (state_after at asked)
 answered s c asked r e =
     led s s c asked e
     (record {
-      stays = record { mode = refl; place = record { before = refl; after = refl } };
+      stays = record { mode = refl; state = record { before = refl; after = refl } };
       denotes = λ d st. subst (DenotesCurrent s.cut.bytes) (sym (step-reads s.mode d c r)) st;
       refused = λ _ _ _. refl;
     })
@@ -140,7 +140,7 @@ idle old new c asked e kept reads at h i =
 module _ {E : Type 0} {took took' : WriterHistory} {result : Result Answered E} {asked : Reading} where
   -- a call that answers what its command does
   responds : {old new : SegmentState} (c : Command) → Asked c ≡ asked
-      → ((at : MachineState) → IsMachineAt old at → IsMachineAt new (place_after at asked))
+      → ((at : MachineState) → IsMachineAt old at → IsMachineAt new (state_after at asked))
       → ((at : MachineState) → IsMachineAt old at → is_idle at.mode at.directory asked ≡ true → new ≡ old)
       → AnswersFor took took' result (DenotesCurrent old.cut.bytes) (λ d. (step old.mode d c).0)
       → Responds old new took took' result asked

@@ -21,15 +21,15 @@ of_kind : (k : ScalarKind) (zs : List ℤ) → AllByRecursion (λ v. kind_of_sca
 of_kind k [] = tt
 of_kind k (z ∷ zs) = (scalar_of-kind k z, of_kind k zs)
 
-all-front : (P : ScalarValue → Type 0) (xs ys : List ScalarValue) → AllByRecursion P (xs ++ ys) → AllByRecursion P xs
-all-front P [] ys h = tt
-all-front P (x ∷ xs) ys h = (h.0, all-front P xs ys h.1)
+all-prefix : (P : ScalarValue → Type 0) (xs ys : List ScalarValue) → AllByRecursion P (xs ++ ys) → AllByRecursion P xs
+all-prefix P [] ys h = tt
+all-prefix P (x ∷ xs) ys h = (h.0, all-prefix P xs ys h.1)
 
 -- all values that are taken are of the kind
 pub taken-kind : (w t : TypedNumbers) (xs : List ScalarValue) → Yields (YieldsFirst scalars_in) w xs t
     → AllByRecursion (λ v. kind_of_scalar v ≡ w.kind) xs
 taken-kind w t xs h =
-    all-front (λ v. kind_of_scalar v
+    all-prefix (λ v. kind_of_scalar v
     ≡ w.kind) xs (scalars_in t) (subst (AllByRecursion (λ v. kind_of_scalar v ≡ w.kind))
     (taken-front scalars_in w t xs h) (of_kind w.kind w.numbers))
 

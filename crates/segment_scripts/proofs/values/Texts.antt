@@ -12,7 +12,7 @@ use Rattle.segment_lang.specs.declared.literals.Literal.TheVariants.{Quoted as C
 use Rattle.segment_lang.specs.Seen.{literal_of}
 use Rattle.segment_manager.specs.Step.{texts_of}
 use Rattle.segment_scripts.specs.Replies.{bytes_taken, texts_taken}
-use Rattle.segment_scripts.specs.TextRows.{parts, total}
+use Rattle.segment_scripts.specs.TextBuffers.{parts, total}
 
 none : (bs : List ℕ) → 0 ≡ length bs → bs ≡ []
 none [] e = refl
@@ -44,16 +44,16 @@ parts-taken (n ∷ ns) bs e =
     omega (arith, length-take-le n bs fits, length-drop n bs)
 
 -- what a row has, and a place for the length of one more
-module _ (len : ℕ) (lengths bs : List ℕ) {row : List (List ℕ)} (is : parts (take len lengths) bs ≡ row)
+module _ (len : ℕ) (lengths bs : List ℕ) {buffer : List (List ℕ)} (is : parts (take len lengths) bs ≡ buffer)
     (fits : total (take len lengths) ≡ length bs) where
   -- the bytes taken by a row are those before and the new text's
-  pub row-taken : texts_taken row ≡ length (take len lengths) + length bs
-  row-taken = ap texts_taken (sym is) ∙ parts-taken (take len lengths) bs fits
+  pub buffer-taken : texts_taken buffer ≡ length (take len lengths) + length bs
+  buffer-taken = ap texts_taken (sym is) ∙ parts-taken (take len lengths) bs fits
 
   -- a text that fits a row has a slot in it
-  pub row-slot : (n : ℕ) → len ≤ 4097 → length lengths ≡ 4097 → texts_taken row + n ≤ 4096 → len < length lengths
-  row-slot n within many few =
-      omega (arith, few, many, row-taken, length-take-le len lengths (omega (arith, within, many)))
+  pub buffer-slot : (n : ℕ) → len ≤ 4097 → length lengths ≡ 4097 → texts_taken buffer + n ≤ 4096 → len < length lengths
+  buffer-slot n within many few =
+      omega (arith, few, many, buffer-taken, length-take-le len lengths (omega (arith, within, many)))
 
 pub taken-more : (ts : List (List ℕ)) (t : List ℕ) → texts_taken (ts ++ t ∷ []) ≡ texts_taken ts + 1 + length t
 taken-more [] t = omega arith
@@ -66,80 +66,86 @@ taken-append [] ts = omega arith
 taken-append (s ∷ ss) ts = let rest = taken-append ss ts in omega arith
 
 -- those of the row and those that are left are the line's
-pub record IsGathered (all rest row : List (List ℕ)) : Type 0 where
-  pub is : row ++ rest ≡ all
+pub record IsGathered (all rest buffer : List (List ℕ)) : Type 0 where
+  pub is : buffer ++ rest ≡ all
   pub few : texts_taken all ≤ 4097
 
 pub gathered-none : (all : List (List ℕ)) → texts_taken all ≤ 4097 → IsGathered all all []
 gathered-none all few = record { is = refl; few = few }
 
-module _ (all rest rest' row : List (List ℕ)) (t : List ℕ) (h : IsGathered all rest row) (next : rest ≡ t ∷ rest') where
+module _ (all rest rest' buffer : List (List ℕ)) (t : List ℕ) (h : IsGathered all rest buffer) (next : rest ≡ t ∷
+    rest') where
   -- one text more fits the row
-  pub gathered-fits : texts_taken row + length t ≤ 4096
+  pub gathered-fits : texts_taken buffer + length t ≤ 4096
   gathered-fits =
-      let whole : texts_taken (row ++ rest) ≡ texts_taken all = ap texts_taken h.is in
+      let whole : texts_taken (buffer ++ rest) ≡ texts_taken all = ap texts_taken h.is in
       let left : texts_taken rest ≡ texts_taken (t ∷ rest') = ap texts_taken next in
-      omega (arith, h.few, taken-append row rest)
+      omega (arith, h.few, taken-append buffer rest)
 
-  pub gathered-more : IsGathered all rest' (row ++ t ∷ [])
-  gathered-more = record { is = append_assoc row (t ∷ []) rest' ∙ ap (λ r. row ++ r) (sym next) ∙ h.is; few = h.few }
+  pub gathered-more : IsGathered all rest' (buffer ++ t ∷ [])
+  gathered-more = record {
+    is = append_assoc buffer (t ∷ []) rest' ∙ ap (λ r. buffer ++ r) (sym next) ∙ h.is;
+    few
+        = h.few;
+  }
 
-pub gathered-all : (all rest row : List (List ℕ)) → IsGathered all rest row → rest ≡ [] → row ≡ all
-gathered-all all rest row h e = sym (append-nil row) ∙ ap (λ r. row ++ r) (sym e) ∙ h.is
+pub gathered-all : (all rest buffer : List (List ℕ)) → IsGathered all rest buffer → rest ≡ [] → buffer ≡ all
+gathered-all all rest buffer h e = sym (append-nil buffer) ∙ ap (λ r. buffer ++ r) (sym e) ∙ h.is
 
 -- ---- literals that are texts
 
 abbrev before : List (List ℕ) → Result (List (List ℕ)) Refusal → Result (List (List ℕ)) Refusal
-before row (Ok bss) = Ok (row ++ bss)
-before row (Err why) = Err why
+before buffer (Ok bss) = Ok (buffer ++ bss)
+before buffer (Err why) = Err why
 
 before-none : (r : Result (List (List ℕ)) Refusal) → before [] r ≡ r
 before-none (Ok bss) = refl
 before-none (Err why) = refl
 
-before-more : (row : List (List ℕ)) (bs : List ℕ) (r : Result (List (List ℕ)) Refusal)
-    → before row (elim r as (λ _. Result (List (List ℕ)) Refusal) [ Ok css ↦ Ok (bs ∷ css) | Err w ↦ Err w ])
-    ≡ before (row ++ bs ∷ []) r
-before-more row bs (Ok css) = ap Ok (sym (append_assoc row (bs ∷ []) css))
-before-more row bs (Err w) = refl
+before-more : (buffer : List (List ℕ)) (bs : List ℕ) (r : Result (List (List ℕ)) Refusal)
+    → before buffer (elim r as (λ _. Result (List (List ℕ)) Refusal) [ Ok css ↦ Ok (bs ∷ css) | Err w ↦ Err w ])
+    ≡ before (buffer ++ bs ∷ []) r
+before-more buffer bs (Ok css) = ap Ok (sym (append_assoc buffer (bs ∷ []) css))
+before-more buffer bs (Err w) = refl
 
 -- what the literals are as texts, by the row so far and by those that are left
-pub record AreTexts (ls rest : List Literal) (row : List (List ℕ)) : Type 0 where
-  pub values : texts_of ls ≡ before row (texts_of rest)
-  pub few : texts_taken row + bytes_taken rest ≤ 4097
+pub record AreTexts (ls rest : List Literal) (buffer : List (List ℕ)) : Type 0 where
+  pub values : texts_of ls ≡ before buffer (texts_of rest)
+  pub few : texts_taken buffer + bytes_taken rest ≤ 4097
 
 pub texts-none : (ls : List Literal) → bytes_taken ls ≤ 4097 → AreTexts ls ls []
 texts-none ls few = record { values = sym (before-none (texts_of ls)); few = omega arith }
 
-module _ (ls rest rest' : List Literal) (row : List (List ℕ)) (l : Literal) (h : AreTexts ls rest row) (next : rest
+module _ (ls rest rest' : List Literal) (buffer : List (List ℕ)) (l : Literal) (h : AreTexts ls rest buffer)
+    (next : rest
     ≡ l ∷ rest') where
   -- the next text of the line fits the row
-  pub texts-fit : (bs : List ℕ) → l ≡ Quoted bs → texts_taken row + length bs ≤ 4096
+  pub texts-fit : (bs : List ℕ) → l ≡ Quoted bs → texts_taken buffer + length bs ≤ 4096
   texts-fit bs e =
       let left : bytes_taken rest ≡ bytes_taken (Quoted bs ∷ rest') = ap bytes_taken (next ∙ ap (λ m. m ∷ rest') e) in
       omega (arith, h.few)
 
   -- one text more is in the row
-  pub texts-more : (bs : List ℕ) → l ≡ Quoted bs → AreTexts ls rest' (row ++ bs ∷ [])
+  pub texts-more : (bs : List ℕ) → l ≡ Quoted bs → AreTexts ls rest' (buffer ++ bs ∷ [])
   texts-more bs e =
       let left : bytes_taken rest ≡ bytes_taken (Quoted bs ∷ rest') = ap bytes_taken (next ∙ ap (λ m. m ∷ rest') e) in
       record {
-        values = h.values ∙ ap (λ r. before row (texts_of r)) (next ∙ ap (λ m. m ∷ rest') e)
-            ∙ before-more row bs (texts_of rest');
-        few = omega (arith, h.few, taken-more row bs);
+        values = h.values ∙ ap (λ r. before buffer (texts_of r)) (next ∙ ap (λ m. m ∷ rest') e)
+            ∙ before-more buffer bs (texts_of rest');
+        few = omega (arith, h.few, taken-more buffer bs);
       }
 
-no_text-first : (row : List (List ℕ)) (l : Literal) (rest : List Literal) → ((bs : List ℕ) → l ≡ Quoted bs → ⊥)
-    → before row (texts_of (l ∷ rest)) ≡ Err WrongKind
-no_text-first row (Integer z) rest n = refl
-no_text-first row (Boolean b) rest n = refl
-no_text-first row (Quoted bs) rest n = absurd (n bs refl)
+no_text-first : (buffer : List (List ℕ)) (l : Literal) (rest : List Literal) → ((bs : List ℕ) → l ≡ Quoted bs → ⊥)
+    → before buffer (texts_of (l ∷ rest)) ≡ Err WrongKind
+no_text-first buffer (Integer z) rest n = refl
+no_text-first buffer (Boolean b) rest n = refl
+no_text-first buffer (Quoted bs) rest n = absurd (n bs refl)
 
 -- a literal that is no text: the line is no row of texts
-pub texts-wrong : (ls rest rest' : List Literal) (row : List (List ℕ)) (l : CodeLiteral) → AreTexts ls rest row
+pub texts-wrong : (ls rest rest' : List Literal) (buffer : List (List ℕ)) (l : CodeLiteral) → AreTexts ls rest buffer
     → rest ≡ literal_of l ∷ rest' → ((q : List ℕ) → l ≡ CodeQuoted q → ⊥) → texts_of ls ≡ Err WrongKind
-texts-wrong ls rest rest' row l h next n =
-    h.values ∙ ap (λ r. before row (texts_of r)) next ∙ no_text-first row (literal_of l) rest' (other l n)
+texts-wrong ls rest rest' buffer l h next n =
+    h.values ∙ ap (λ r. before buffer (texts_of r)) next ∙ no_text-first buffer (literal_of l) rest' (other l n)
   where
     other : (l : CodeLiteral) → ((q : List ℕ) → l ≡ CodeQuoted q → ⊥) → (bs : List ℕ) → literal_of l ≡ Quoted bs → ⊥
     other (CodeInteger z) n bs e = absurd (cc)
@@ -147,8 +153,9 @@ texts-wrong ls rest rest' row l h next n =
     other (CodeQuoted q) n bs e = absurd (n q refl)
 
 -- all literals are texts: the row has them
-pub texts-all : (ls rest : List Literal) (row : List (List ℕ)) → AreTexts ls rest row → rest ≡ [] → texts_of ls ≡ Ok row
-texts-all ls rest row h e = h.values ∙ ap (λ r. before row (texts_of r)) e ∙ ap Ok (append-nil row)
+pub texts-all : (ls rest : List Literal) (buffer : List (List ℕ)) → AreTexts ls rest buffer → rest ≡ [] →
+    texts_of ls ≡ Ok buffer
+texts-all ls rest buffer h e = h.values ∙ ap (λ r. before buffer (texts_of r)) e ∙ ap Ok (append-nil buffer)
 
 -- ---- texts that are lent, one after another
 

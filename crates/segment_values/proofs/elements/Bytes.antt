@@ -18,10 +18,10 @@ use Rattle.segment_manager.specs.Directory.{Object, kind_of}
 use Rattle.segment_manager.specs.Directory.{count_of, object_at}
 use Rattle.segment_manager.specs.{Calls.elements_at, Calls.elements_of, Keeping.ChangesElement}
 use Rattle.segment_manager.specs.objects.Located.{IsLocated}
-use Rattle.segment_manager.specs.objects.Standing.{element_at, place_in}
+use Rattle.segment_manager.specs.objects.Standing.{element_at, offset_in}
 use Rattle.segment_manager.specs.State.{AnswersWith, SegmentState}
 use Rattle.segment_manager.proofs.Laws.{said-at, same-object}
-use Rattle.segment_values.proofs.ranges.Rows.{one-kind}
+use Rattle.segment_values.proofs.ranges.Slices.{one-kind}
 
 -- ---- where an element stands
 
@@ -33,7 +33,7 @@ place_by o r = elim r as (λ _. Result Place Refusal) [
 
 abbrev place_of : Option Object → ScalarKind → ℕ → Result Place Refusal
 place_of r k i =
-    elim r as (λ _. Result Place Refusal) [ None ↦ Err NotFound | Some o ↦ place_by o (place_in o k i) ]
+    elim r as (λ _. Result Place Refusal) [ None ↦ Err NotFound | Some o ↦ place_by o (offset_in o k i) ]
 
 place-other : (k : ScalarKind) (o : Object) (i : ℕ) → same_kind (Scalar k) (kind_of o.value) ≡ false
     → place_of (Some o) k i ≡ Err WrongKind

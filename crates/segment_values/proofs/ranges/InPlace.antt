@@ -33,10 +33,10 @@ use Rattle.segment_manager.specs.objects.ElementLists.{numbers_in}
 use Rattle.segment_manager.specs.objects.Located.{IsLocated}
 use Rattle.segment_manager.specs.State.{AnswersWith, IsSegment, SegmentState, DenotesCurrent}
 use Rattle.segment_manager.proofs.Laws.{IsSaidAt, said-at}
-use Rattle.segment_manager.proofs.ElementLaws.{AVector, AnArray, IsRowOfKind, row-element, run-kind}
-use Rattle.segment_values.specs.Ranges.{AreSpelled, HasRow, is_row, row_of}
+use Rattle.segment_manager.proofs.ElementLaws.{AVector, AnArray, IsSliceOfKind, series-element, run-kind}
+use Rattle.segment_values.specs.Ranges.{AreSpelled, HasSlice, is_slice, slice_of}
 use Rattle.segment_values.proofs.ranges.Lists.{read-more}
-use Rattle.segment_values.proofs.ranges.Rows.{its-numbers, row-cases}
+use Rattle.segment_values.proofs.ranges.Slices.{its-numbers, series-cases}
 
 -- ---- bytes that spell values
 
@@ -123,16 +123,16 @@ slice-element bytes {each} {size} i e =
 
 -- the first i are read
 abbrev pub AreReadOf : {A : Type 0} → (A → ℤ) → ScalarKind → List ℕ → List A → ℕ → Type 0
-AreReadOf whole k bytes row i = (zs : List ℤ) → AreSpelled k zs bytes → map whole (take i row) ≡ take i zs
+AreReadOf whole k bytes series i = (zs : List ℤ) → AreSpelled k zs bytes → map whole (take i series) ≡ take i zs
 
 -- the next element is read
-pub reads-value : {A : Type 0} (whole : A → ℤ) (k : ScalarKind) (bytes : List ℕ) (row : List A) (i : ℕ) (x : A)
-    (from : List ℕ) → length bytes ≡ size_of k * length row → i < length row
+pub reads-value : {A : Type 0} (whole : A → ℤ) (k : ScalarKind) (bytes : List ℕ) (series : List A) (i : ℕ) (x : A)
+    (from : List ℕ) → length bytes ≡ size_of k * length series → i < length series
     → from ≡ part bytes (size_of k * i) (size_of k)
-    → ((z : ℤ) → is_value k z ≡ true → from ≡ spelling k z → whole x ≡ z) → AreReadOf whole k bytes row i
-    → AreReadOf whole k bytes (set row i x) (i + 1)
-reads-value whole k bytes row i x from many within e reads before = λ zs a.
-    let all : size_of k * length row ≡ size_of k * length zs =
+    → ((z : ℤ) → is_value k z ≡ true → from ≡ spelling k z → whole x ≡ z) → AreReadOf whole k bytes series i
+    → AreReadOf whole k bytes (set series i x) (i + 1)
+reads-value whole k bytes series i x from many within e reads before = λ zs a.
+    let all : size_of k * length series ≡ size_of k * length zs =
     sym many ∙ ap (λ bs. length bs) a.spelled_are ∙ spelled-length k zs a.values in
     let fits : i < length zs =
     lt_of_mul-lt-mul_left (size_of k) (subst (λ n. size_of k * i < n) all (mul-lt-mul_of_pos_left within (some k))) in
@@ -141,17 +141,17 @@ reads-value whole k bytes row i x from many within e reads before = λ zs a.
     e ∙ ap (λ bs. part bs (size_of k * i) (size_of k)) a.spelled_are
     ∙ flat-element (size_of k) (is_value k) (spelling k) (long k) zs i a.values one.1 in
     let is = reads one.0 (all-at (is_value k) zs i a.values one.1) same in
-    read-more whole zs 0 i row x within (ap (slice_get zs) (zero-add i) ∙ one.1 ∙ ap Some (sym is)) (before zs a)
+    read-more whole zs 0 i series x within (ap (slice_get zs) (zero-add i) ∙ one.1 ∙ ap Some (sym is)) (before zs a)
 
 -- all are
-pub reads-all : {A : Type 0} (whole : A → ℤ) (k : ScalarKind) (bytes : List ℕ) (row : List A) (i : ℕ)
-    → length bytes ≡ size_of k * length row → length row ≤ i → AreReadOf whole k bytes row i → (zs : List ℤ)
-    → AreSpelled k zs bytes → map whole row ≡ zs
-reads-all whole k bytes row i many last before zs a =
-    let all : size_of k * length row ≡ size_of k * length zs =
+pub reads-all : {A : Type 0} (whole : A → ℤ) (k : ScalarKind) (bytes : List ℕ) (series : List A) (i : ℕ)
+    → length bytes ≡ size_of k * length series → length series ≤ i → AreReadOf whole k bytes series i → (zs : List ℤ)
+    → AreSpelled k zs bytes → map whole series ≡ zs
+reads-all whole k bytes series i many last before zs a =
+    let all : size_of k * length series ≡ size_of k * length zs =
     sym many ∙ ap (λ bs. length bs) a.spelled_are ∙ spelled-length k zs a.values in
-    let same = eq_of_mul-eq-mul_left (size_of k) (some k) (length row) (length zs) all in
-    ap (map whole) (sym (take_all i row last)) ∙ before zs a ∙ take_all i zs (omega (arith, same, last))
+    let same = eq_of_mul-eq-mul_left (size_of k) (some k) (length series) (length zs) all in
+    ap (map whole) (sym (take_all i series last)) ∙ before zs a ∙ take_all i zs (omega (arith, same, last))
 
 -- ---- the object
 
@@ -167,77 +167,79 @@ segment-short b (d, st) =
     legal-most : (n : ℕ) → IsTrue (is_legal_size n) → n ≤ 1073741824
     legal-most n l = grind arith
 
-spelled-if : (k : ScalarKind) (v : Value) → IsRowOfKind k v → spelled_in v ≡ spelled k (numbers_in v)
+spelled-if : (k : ScalarKind) (v : Value) → IsSliceOfKind k v → spelled_in v ≡ spelled k (numbers_in v)
 spelled-if k (Numbers j zs) (AnArray e) = let same : j ≡ k = cc in ap (λ l. spelled l zs) same
 spelled-if k (Elements j zs t) (AVector e) = let same : j ≡ k = cc in ap (λ l. spelled l zs) same
 spelled-if k v (AnArray e) = absurd (cc)
 spelled-if k v (AVector e) = absurd (cc)
 
-run-if : {k : ScalarKind} {why : Refusal} (o : Object) → IsRowOfKind k o.value → Err why ≡ run_of o → ⊥
-run-if {k} {why} o row e = of-value (handle o.extent + head_len + padded (length o.name)) o.value row e
+run-if : {k : ScalarKind} {why : Refusal} (o : Object) → IsSliceOfKind k o.value → Err why ≡ run_of o → ⊥
+run-if {k} {why} o series e = of-value (handle o.extent + head_len + padded (length o.name)) o.value series e
   where
-    of-value : (at : ℕ) (v : Value) → IsRowOfKind k v → Err why ≡ run_in at v → ⊥
+    of-value : (at : ℕ) (v : Value) → IsSliceOfKind k v → Err why ≡ run_in at v → ⊥
     of-value at (Numbers j zs) (AnArray e) f = cc
     of-value at (Elements j zs t) (AVector e) f = cc
     of-value at v (AnArray e) f = absurd (cc)
     of-value at v (AVector e) f = absurd (cc)
 
 module _ (s : SegmentState) (o : Located) (k : ScalarKind) (located : IsLocated s (ByHandle o.handle) o)
-    (row : is_row k o.kind ≡ true) where
+    (series : is_slice k o.kind ≡ true) where
   there : (d : Directory) → DenotesCurrent s.cut.bytes d → IsSaidAt d (ByHandle o.handle) o
   there d st = said-at s (ByHandle o.handle) o located d st
 
-  of-kind : (d : Directory) (st : DenotesCurrent s.cut.bytes d) → IsRowOfKind k (there d st).object.value
-  of-kind d st = cases (row-cases k o.kind row)
+  of-kind : (d : Directory) (st : DenotesCurrent s.cut.bytes d) → IsSliceOfKind k (there d st).object.value
+  of-kind d st = cases (series-cases k o.kind series)
     where
       said : o.kind ≡ kind_of (there d st).object.value
       said = ap (λ (l : Located). l.kind) (there d st).said
 
-      cases : (o.kind ≡ Vector k) ⊎ (o.kind ≡ Scalar k) → IsRowOfKind k (there d st).object.value
+      cases : (o.kind ≡ Vector k) ⊎ (o.kind ≡ Scalar k) → IsSliceOfKind k (there d st).object.value
       cases (inl e) = AVector (sym said ∙ e)
       cases (inr e) = AnArray (sym said ∙ e)
 
-  numbers-are : (d : Directory) (st : DenotesCurrent s.cut.bytes d) → row_of o d ≡ numbers_in (there d st).object.value
+  numbers-are : (d : Directory) (st : DenotesCurrent s.cut.bytes d) → slice_of o d ≡ numbers_in (there d
+      st).object.value
   numbers-are d st = its-numbers d (ByHandle o.handle) o.kind (there d st).object (there d st).is
       (sym (ap (λ (l : Located). l.kind) (there d st).said))
 
   module _ (run : ElementRun) (place : AnswersWith s (λ d. run_at d (ByHandle o.handle)) (Ok run))
       (bytes : IsRunOf s (ByHandle o.handle) run) where
     -- the run has the kind, and the number of elements
-    run-said : (d : Directory) → DenotesCurrent s.cut.bytes d → (run.kind ≡ k) × (run.count ≡ length (row_of o d))
+    run-said : (d : Directory) → DenotesCurrent s.cut.bytes d → (run.kind ≡ k) × (run.count ≡ length (slice_of o d))
     run-said d st =
         let said = run-kind s (ByHandle o.handle) run k place d st (there d st).object (there d st).is (of-kind d st) in
         (said.0, said.1 ∙ ap (λ zs. length zs) (sym (numbers-are d st)))
 
-    values-are : (d : Directory) → DenotesCurrent s.cut.bytes d → IsTrue (list_all (is_value k) (row_of o d))
-    values-are d st = all-from (is_value k) (row_of o d) (λ i z e. (row-element s (ByHandle o.handle) run k bytes d st
+    values-are : (d : Directory) → DenotesCurrent s.cut.bytes d → IsTrue (list_all (is_value k) (slice_of o d))
+    values-are d st = all-from (is_value k) (slice_of o d) (λ i z e. (series-element s (ByHandle o.handle) run k
+        bytes d st
         (there d st).object (there d st).is (of-kind d st) i (ap (λ zs. slice_get zs i) (sym (numbers-are d st))
         ∙ e)).value)
 
     spelled-is : (d : Directory) (st : DenotesCurrent s.cut.bytes d)
-        → spelled_at d (ByHandle o.handle) ≡ spelled k (row_of o d)
+        → spelled_at d (ByHandle o.handle) ≡ spelled k (slice_of o d)
     spelled-is d st =
         ap (λ (q : Option Object). elim q as (λ _. List ℕ) [ None ↦ [] | Some p ↦ spelled_in p.value ]) (there d st).is
         ∙ spelled-if k (there d st).object.value (of-kind d st) ∙ ap (spelled k) (sym (numbers-are d st))
 
-    row-inside : (d : Directory) → DenotesCurrent s.cut.bytes d
+    series-inside : (d : Directory) → DenotesCurrent s.cut.bytes d
         → run.offset + size_of k * run.count ≤ length s.cut.bytes
-    row-inside d st = subst (λ j. run.offset + size_of j * run.count ≤ length s.cut.bytes) (run-said d st).0
+    series-inside d st = subst (λ j. run.offset + size_of j * run.count ≤ length s.cut.bytes) (run-said d st).0
         bytes.inside
 
     -- the object has a row of elements
-    pub has-row : IsSegment s.cut.bytes → HasRow s o k run
-    has-row g = record {
-      inside = row-inside g.0 g.1;
+    pub has-series : IsSegment s.cut.bytes → HasSlice s o k run
+    has-series g = record {
+      inside = series-inside g.0 g.1;
       short = segment-short s.cut.bytes g;
       many = record { answers = λ d st. (run-said d st).1 };
       spells = λ d st. record {
         values = values-are d st;
         spelled_are =
             let n : length (spelled_at d (ByHandle o.handle)) ≡ size_of k * run.count =
-            ap (λ bs. length bs) (spelled-is d st) ∙ spelled-length k (row_of o d) (values-are d st)
+            ap (λ bs. length bs) (spelled-is d st) ∙ spelled-length k (slice_of o d) (values-are d st)
             ∙ ap (λ m. size_of k * m) (sym (run-said d st).1) in
-            sym (read-part s.cut.bytes run.offset (size_of k * run.count) (row-inside d st))
+            sym (read-part s.cut.bytes run.offset (size_of k * run.count) (series-inside d st))
             ∙ ap (read (bytes_of s.cut.bytes) run.offset) (sym n) ∙ bytes.spells d st ∙ spelled-is d st;
       };
     }
@@ -253,24 +255,24 @@ module _ (s : SegmentState) (o : Located) (k : ScalarKind) (located : IsLocated 
       ]) said.is)
 
 -- this many of them from a place on
-pub row-bytes : (s : SegmentState) (o : Located) (k : ScalarKind) (run : ElementRun) (first n : ℕ) (from : List ℕ)
-    → HasRow s o k run → first + n ≤ run.count
+pub series-bytes : (s : SegmentState) (o : Located) (k : ScalarKind) (run : ElementRun) (first n : ℕ) (from : List ℕ)
+    → HasSlice s o k run → first + n ≤ run.count
     → from ≡ part s.cut.bytes (run.offset + size_of k * first) (size_of k * n)
-    → (d : Directory) → DenotesCurrent s.cut.bytes d → AreSpelled k (take n (drop first (row_of o d))) from
-row-bytes s o k run first n from row within e d st =
+    → (d : Directory) → DenotesCurrent s.cut.bytes d → AreSpelled k (take n (drop first (slice_of o d))) from
+series-bytes s o k run first n from series within e d st =
     let fits : size_of k * first + size_of k * n ≤ size_of k * run.count =
     let all : size_of k * (first + n) ≤ size_of k * run.count = mul-le-mul_left (size_of k) within
     in omega (arith, all) in
-    subst (λ bs. AreSpelled k (take n (drop first (row_of o d))) bs)
+    subst (λ bs. AreSpelled k (take n (drop first (slice_of o d))) bs)
     (part-part s.cut.bytes run.offset (size_of k * run.count) (size_of k * first) (size_of k * n) fits ∙ sym e)
-    (range-spelled k (row_of o d) (part s.cut.bytes run.offset (size_of k * run.count)) first n (row.spells d st))
+    (range-spelled k (slice_of o d) (part s.cut.bytes run.offset (size_of k * run.count)) first n (series.spells d st))
 
 -- the bytes of a row lie in the image
-pub row-bytes-inside : (s : SegmentState) (o : Located) (k : ScalarKind) (run : ElementRun) (first n : ℕ)
-    → HasRow s o k run
+pub series-bytes-inside : (s : SegmentState) (o : Located) (k : ScalarKind) (run : ElementRun) (first n : ℕ)
+    → HasSlice s o k run
     → first + n ≤ run.count → run.offset + size_of k * first + size_of k * n ≤ length s.cut.bytes
-row-bytes-inside s o k run first n row within =
+series-bytes-inside s o k run first n series within =
     let fits : size_of k * first + size_of k * n ≤ size_of k * run.count =
     let all : size_of k * (first + n) ≤ size_of k * run.count = mul-le-mul_left (size_of k) within
     in omega (arith, all) in
-    let inside = row.inside in omega (arith, fits, inside)
+    let inside = series.inside in omega (arith, fits, inside)

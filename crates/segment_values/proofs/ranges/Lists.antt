@@ -23,11 +23,11 @@ taken-more : {A : Type 0} (xs : List A) (i : ℕ) (x : A) → slice_get xs i ≡
 taken-more xs i x e = ap (λ n. take n xs) (add-one i) ∙ taken-one xs i x e
 
 -- one element more was read into a row
-pub read-more : {A : Type 0} (whole : A → ℤ) (zs : List ℤ) (first i : ℕ) (row : List A) (x : A) → i < length row
+pub read-more : {A : Type 0} (whole : A → ℤ) (zs : List ℤ) (first i : ℕ) (series : List A) (x : A) → i < length series
     → slice_get zs (first + i) ≡ Some (whole x)
-    → map whole (take i row) ≡ take i (drop first zs)
-    → map whole (take (i + 1) (set row i x)) ≡ take (i + 1) (drop first zs)
-read-more whole zs first i row x within e h =
-    ap (map whole) (take_more_set row i x within) ∙ map-append whole (take i row) (x ∷ [])
+    → map whole (take i series) ≡ take i (drop first zs)
+    → map whole (take (i + 1) (set series i x)) ≡ take (i + 1) (drop first zs)
+read-more whole zs first i series x within e h =
+    ap (map whole) (take_more_set series i x within) ∙ map-append whole (take i series) (x ∷ [])
     ∙ ap (λ ys. ys ++ whole x ∷ []) h
     ∙ sym (taken-more (drop first zs) i (whole x) (got-behind zs first i ∙ e))

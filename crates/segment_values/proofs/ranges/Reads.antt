@@ -15,8 +15,8 @@ use Rattle.segment_manager.specs.objects.Instances.{IsMissing}
 use Rattle.segment_manager.specs.objects.Located.{IsLocated}
 use Rattle.segment_manager.specs.State.{AnswersWith, SegmentState, DenotesCurrent}
 use Rattle.segment_manager.proofs.Laws.{IsSaidAt, said-at, told-by_key}
-use Rattle.segment_values.specs.Ranges.{is_row, numbers_if, range_at, range_in, range_of, row_of}
-use Rattle.segment_values.proofs.ranges.Rows.{its-numbers}
+use Rattle.segment_values.specs.Ranges.{is_slice, numbers_if, range_at, range_in, range_of, slice_of}
+use Rattle.segment_values.proofs.ranges.Slices.{its-numbers}
 
 -- ---- a range of a list
 
@@ -59,31 +59,32 @@ module _ (s : SegmentState) (o : Located) (l : IsLocated s (ByHandle o.handle) o
   kind-here : (d : Directory) (st : DenotesCurrent s.cut.bytes d) → o.kind ≡ kind_of (here d st).object.value
   kind-here d st = ap (λ (q : Located). q.kind) (here d st).said
 
-  told-here : (d : Directory) (st : DenotesCurrent s.cut.bytes d) (b : Bool) → is_row k o.kind ≡ b
+  told-here : (d : Directory) (st : DenotesCurrent s.cut.bytes d) (b : Bool) → is_slice k o.kind ≡ b
       → range_at d (ByHandle o.handle) k first n
       ≡ range_in (if b then Ok (numbers_in (here d st).object.value) else Err WrongKind) first n
-  told-here d st b row =
+  told-here d st b series =
       let p : IsSaidAt d (ByHandle o.handle) o = here d st in
       ap (told k first n) p.is
       ∙ ap (λ c. range_in (if c then Ok (numbers_in p.object.value) else Err WrongKind) first n)
-      (ap (is_row k) (sym (kind-here d st)) ∙ row)
+      (ap (is_slice k) (sym (kind-here d st)) ∙ series)
 
-  pub row-range : (d : Directory) → DenotesCurrent s.cut.bytes d → is_row k o.kind ≡ true
-      → range_of (row_of o d) first n ≡ range_at d (ByHandle o.handle) k first n
-  row-range d st row =
+  pub series-range : (d : Directory) → DenotesCurrent s.cut.bytes d → is_slice k o.kind ≡ true
+      → range_of (slice_of o d) first n ≡ range_at d (ByHandle o.handle) k first n
+  series-range d st series =
       let p : IsSaidAt d (ByHandle o.handle) o = here d st in
       ap (λ zs. range_of zs first n) (its-numbers d (ByHandle o.handle) o.kind p.object p.is (sym (kind-here d st)))
-      ∙ sym (told-here d st true row)
+      ∙ sym (told-here d st true series)
 
   -- a range of a row is read from such an object
-  pub row-reads : (r : Result (List ℤ) Refusal) → is_row k o.kind ≡ true
-      → AnswersWith s (λ d. range_of (row_of o d) first n) r
+  pub series-reads : (r : Result (List ℤ) Refusal) → is_slice k o.kind ≡ true
+      → AnswersWith s (λ d. range_of (slice_of o d) first n) r
       → AnswersWith s (λ d. range_at d (ByHandle o.handle) k first n) r
-  row-reads r row a = record { answers = λ d st. a.answers d st ∙ row-range d st row }
+  series-reads r series a = record { answers = λ d st. a.answers d st ∙ series-range d st series }
 
   -- an object of another kind has no row
-  pub no-reads : is_row k o.kind ≡ false → AnswersWith s (λ d. range_at d (ByHandle o.handle) k first n) (Err WrongKind)
-  no-reads row = record { answers = λ d st. sym (told-here d st false row) }
+  pub no-reads : is_slice k o.kind ≡ false → AnswersWith s (λ d. range_at d (ByHandle o.handle) k first n) (Err
+      WrongKind)
+  no-reads series = record { answers = λ d st. sym (told-here d st false series) }
 
 -- a result for the handle is the result for the key
 pub reads-by_key : (s : SegmentState) (key : Key) (o : Located) → IsLocated s key o

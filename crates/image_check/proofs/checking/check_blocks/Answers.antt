@@ -2,8 +2,8 @@
 use Rattle.image_check.proofs.Common.{IsFirstWrongTile, IsSharedAt, bytes_of, counted_fields, has_container}
 use Rattle.image_check.proofs.Common.{is_orphaned, not, refl, true, ◌≡◌}
 use Rattle.image_check.specs.Fields.{is_left}
-use Rattle.image_check.specs.IndexPlaces.{IsWrongIndex}
-use Rattle.image_check.specs.ObjectPlaces.{IsFirstTile, IsWrongObject}
+use Rattle.image_check.specs.IndexOffsets.{IsWrongIndex}
+use Rattle.image_check.specs.ObjectOffsets.{IsFirstTile, IsWrongObject}
 use Rattle.image_check.specs.Passes.{tiles_in}
 use Rattle.image_check.specs.Visits.{both, container_rates, index_rates, object_rates, orphan_rates, sharing_rates}
 use Rattle.image_check.proofs.budget.Visits.{spend-both, spend-less}

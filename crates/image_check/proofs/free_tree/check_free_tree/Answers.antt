@@ -1,9 +1,9 @@
 -- The tree that the check finds over places is that of the free tiles.
 use Rattle.image_check.proofs.Common.{HasTiles, IsLinkClosed, IsSearchTree, List, Option, Spends, WindowState, ap}
-use Rattle.image_check.proofs.Common.{both_ways, bytes_of, is_bad, is_in, is_place, is_some, leads, length, link_at}
+use Rattle.image_check.proofs.Common.{both_ways, bytes_of, is_bad, is_in, is_target, is_some, leads, length, link_at}
 use Rattle.image_check.proofs.Common.{nodes_of, planting_rates, refl, some_same, stands_before, subst, sym, tree_rates}
 use Rattle.image_check.proofs.Common.{true, ℕ, ◌*◌, ◌+◌, ◌∙◌, ◌≡◌, ◌≤◌}
-use Rattle.image_check.specs.FreeNodes.{place_cells}
+use Rattle.image_check.specs.FreeNodes.{target_cells}
 use Rattle.image_check.proofs.budget.Visits.{check-short, tree-planted, tree-steps}
 use Rattle.image_check.proofs.walks.Counts.{not-given}
 use Rattle.image_check.proofs.free_tree.NodeCount.{nodes-few}
@@ -18,8 +18,8 @@ returns-in_default-clause-value c =
     both_ways (is_bad (length w.bytes) (link_at (bytes_of w.bytes) 24))
     (planted w (tagged w c.requires.size c.requires.tags) t).root (sym c.in_default.ensures.on_error)))
 
-pub check_places-tree-requires : goal.check_places-tree-requires
-check_places-tree-requires c =
+pub check_targets-tree-requires : goal.check_targets-tree-requires
+check_targets-tree-requires c =
     let w = c.args.window.now in
     good-leads w c.in-Ok.root c.requires.size (ap (is_bad (length w.bytes)) c.in-Ok.ensures.on_ok
     ∙ sym c.in-Ok.ensures.on_error)
@@ -31,10 +31,10 @@ returns-in_default-nodes-clause-value c =
     sym (tree-false w (λ t.
     let p = planted w (tagged w c.requires.size c.requires.tags) t in
     let s = subst (λ (o : Option ℕ).
-    IsSearchTree (stands_before m) (place_cells w) o p.tree) (sym c.in-Ok.ensures.on_ok)
+    IsSearchTree (stands_before m) (target_cells w) o p.tree) (sym c.in-Ok.ensures.on_ok)
     p.search in
     c.in_default-nodes.not-Some (length (nodes_of p.tree))
-    ((c.check_places-tree.ensures.count (length (nodes_of p.tree))).1 (p.tree, s, refl))))
+    ((c.check_targets-tree.ensures.count (length (nodes_of p.tree))).1 (p.tree, s, refl))))
 
 pub count_planted-requires-clause-root : goal.count_planted-requires-clause-root
 count_planted-requires-clause-root c =
@@ -47,7 +47,7 @@ count_planted-requires-clause-tree c =
     let w = c.args.window.now in
     let good = good-leads w c.in-Ok.root c.requires.size (ap (is_bad (length w.bytes)) c.in-Ok.ensures.on_ok
     ∙ sym c.in-Ok.ensures.on_error) in
-    let x = (c.check_places-tree.ensures.count c.in-Some.nodes).0 c.in-Some.is in
+    let x = (c.check_targets-tree.ensures.count c.in-Some.nodes).0 c.in-Some.is in
     (x.0, x.1, nodes-few w c.in-Ok.root x.0 c.requires.size good x.1)
 
 -- not all free tiles are planted
@@ -58,7 +58,7 @@ returns-in_default-count_planted-clause-value c =
     sym (tree-false w (λ t.
     let p = planted w (tagged w c.requires.size c.requires.tags) t in
     let s = subst (λ (o : Option ℕ).
-    IsSearchTree (stands_before m) (place_cells w) o p.tree) (sym c.in-Ok.ensures.on_ok)
+    IsSearchTree (stands_before m) (target_cells w) o p.tree) (sym c.in-Ok.ensures.on_ok)
     p.search in
     both_ways (is_some c.count_planted.result) (not-given c.count_planted.result c.in_default-count_planted.not-Some)
     (c.count_planted.ensures.value p.tree s ∙ p.all)))
@@ -71,10 +71,10 @@ returns-then-counts-nodes-clause-value c =
     sym (tree-false w (λ t.
     let p = planted w (tagged w c.requires.size c.requires.tags) t in
     let s = subst (λ (o : Option ℕ).
-    IsSearchTree (stands_before m) (place_cells w) o p.tree) (sym c.in-Ok.ensures.on_ok)
+    IsSearchTree (stands_before m) (target_cells w) o p.tree) (sym c.in-Ok.ensures.on_ok)
     p.search in
     let n = some_same c.in-Some.nodes (length (nodes_of p.tree)) (sym c.in-Some.is
-    ∙ (c.check_places-tree.ensures.count (length (nodes_of p.tree))).1 (p.tree, s, refl)) in
+    ∙ (c.check_targets-tree.ensures.count (length (nodes_of p.tree))).1 (p.tree, s, refl)) in
     c.if-counts-nodes.true (c.in-Some-count_planted.ensures.steps_lower.free ∙ sym p.few ∙ sym n)))
 
 -- they are the nodes
@@ -83,9 +83,9 @@ returns-clause-value c =
     let w = c.args.window.now in
     let m = bytes_of w.bytes in
     let g = tagged w c.requires.size c.requires.tags in
-    let x = (c.check_places-tree.ensures.count c.in-Some.nodes).0 c.in-Some.is in
+    let x = (c.check_targets-tree.ensures.count c.in-Some.nodes).0 c.in-Some.is in
     sym (tree-true w
-    (unplanted w x.0 g (subst (λ (o : Option ℕ). IsSearchTree (stands_before m) (place_cells w) o x.0)
+    (unplanted w x.0 g (subst (λ (o : Option ℕ). IsSearchTree (stands_before m) (target_cells w) o x.0)
     c.in-Ok.ensures.on_ok x.1)
     (x.2 ∙ sym c.if-counts-nodes.false ∙ c.in-Some-count_planted.ensures.steps_lower.free)
     (sym (c.count_planted.ensures.value x.0 x.1) ∙ ap is_some c.in-Some-count_planted.is)))
@@ -95,15 +95,15 @@ returns-in_default-nodes-clause-visits c =
     let w = c.args.window.now in
     let good = good-leads w c.in-Ok.root c.requires.size (ap (is_bad (length w.bytes)) c.in-Ok.ensures.on_ok
     ∙ sym c.in-Ok.ensures.on_error) in
-    let steps = check-short w c.in-Ok.root _ c.check_places-tree.result.steps c.check_places-tree.new.visits
-    (record { size = c.requires.size; tags = c.requires.tags }) good c.check_places-tree.ensures.steps
-    c.check_places-tree.ensures.visits in
-    tree-steps w _ c.check_places-tree.new.visits steps
+    let steps = check-short w c.in-Ok.root _ c.check_targets-tree.result.steps c.check_targets-tree.new.visits
+    (record { size = c.requires.size; tags = c.requires.tags }) good c.check_targets-tree.ensures.steps
+    c.check_targets-tree.ensures.visits in
+    tree-steps w _ c.check_targets-tree.new.visits steps
 
 -- the search for the free tiles is counted too
 planted-spends : (w : WindowState) (root : Option ℕ) (old steps stepped new : ℕ) → HasTiles w.bytes
-    → leads (is_place w) root ≡ true
-    → ((ns : List ℕ) → IsLinkClosed (place_cells w) ns → leads (λ n. is_in n ns) root ≡ true
+    → leads (is_target w) root ≡ true
+    → ((ns : List ℕ) → IsLinkClosed (target_cells w) ns → leads (λ n. is_in n ns) root ≡ true
     → steps ≤ 5 * length ns + 5)
     → stepped ≡ old + steps
     → Spends planting_rates 0 w.bytes stepped new → Spends tree_rates 50 w.bytes old new
@@ -115,24 +115,24 @@ returns-in_default-count_planted-clause-visits c =
     let w = c.args.window.now in
     let good = good-leads w c.in-Ok.root c.requires.size (ap (is_bad (length w.bytes)) c.in-Ok.ensures.on_ok
     ∙ sym c.in-Ok.ensures.on_error) in
-    planted-spends w c.in-Ok.root _ c.check_places-tree.result.steps c.check_places-tree.new.visits _
-    (record { size = c.requires.size; tags = c.requires.tags }) good c.check_places-tree.ensures.steps
-    c.check_places-tree.ensures.visits c.count_planted.ensures.visits
+    planted-spends w c.in-Ok.root _ c.check_targets-tree.result.steps c.check_targets-tree.new.visits _
+    (record { size = c.requires.size; tags = c.requires.tags }) good c.check_targets-tree.ensures.steps
+    c.check_targets-tree.ensures.visits c.count_planted.ensures.visits
 
 pub returns-then-counts-nodes-clause-visits : goal.returns-then-counts-nodes-clause-visits
 returns-then-counts-nodes-clause-visits c =
     let w = c.args.window.now in
     let good = good-leads w c.in-Ok.root c.requires.size (ap (is_bad (length w.bytes)) c.in-Ok.ensures.on_ok
     ∙ sym c.in-Ok.ensures.on_error) in
-    planted-spends w c.in-Ok.root _ c.check_places-tree.result.steps c.check_places-tree.new.visits _
-    (record { size = c.requires.size; tags = c.requires.tags }) good c.check_places-tree.ensures.steps
-    c.check_places-tree.ensures.visits c.count_planted.ensures.visits
+    planted-spends w c.in-Ok.root _ c.check_targets-tree.result.steps c.check_targets-tree.new.visits _
+    (record { size = c.requires.size; tags = c.requires.tags }) good c.check_targets-tree.ensures.steps
+    c.check_targets-tree.ensures.visits c.count_planted.ensures.visits
 
 pub returns-clause-visits : goal.returns-clause-visits
 returns-clause-visits c =
     let w = c.args.window.now in
     let good = good-leads w c.in-Ok.root c.requires.size (ap (is_bad (length w.bytes)) c.in-Ok.ensures.on_ok
     ∙ sym c.in-Ok.ensures.on_error) in
-    planted-spends w c.in-Ok.root _ c.check_places-tree.result.steps c.check_places-tree.new.visits _
-    (record { size = c.requires.size; tags = c.requires.tags }) good c.check_places-tree.ensures.steps
-    c.check_places-tree.ensures.visits c.count_planted.ensures.visits
+    planted-spends w c.in-Ok.root _ c.check_targets-tree.result.steps c.check_targets-tree.new.visits _
+    (record { size = c.requires.size; tags = c.requires.tags }) good c.check_targets-tree.ensures.steps
+    c.check_targets-tree.ensures.visits c.count_planted.ensures.visits

@@ -4,8 +4,8 @@ use Rattle.image_check.proofs.reading.Fronts.{IsReadOf, front-right, front-size,
 use Rattle.image_check.proofs.reading.Formats.{other-format, taken-format}
 use Rattle.image_check.proofs.header.judge_front.Goals as goal
 
-pub other_place-place-requires-clause-magic : goal.other_place-place-requires-clause-magic
-other_place-place-requires-clause-magic c =
+pub other_offset-place-requires-clause-magic : goal.other_offset-place-requires-clause-magic
+other_offset-place-requires-clause-magic c =
     ne_eqb (word_at (bytes_of c.args.front.now) 0) magic_number (λ e.
     c.if-word_in-ne-MAGIC.true (c.word_in.ensures ∙ e))
 

@@ -1,5 +1,5 @@
 -- Each turn passes one entry.
-use Rattle.image_check.proofs.Common.{List, NotesEntries, Option, [], ap, are_enterable, arith, bytes_of, can_enter}
+use Rattle.image_check.proofs.Common.{List, EntersEntries, Option, [], ap, are_enterable, arith, bytes_of, can_enter}
 use Rattle.image_check.proofs.Common.{first_targets, inl, inr, is_new, link_at, links_in, refl, subst, sym, true, ℕ}
 use Rattle.image_check.proofs.Common.{◌*◌, ◌++◌, ◌+◌, ◌∙◌, ◌∷◌, ◌≡◌}
 use Rattle.std.proofs.lemmas.List.FromFn.{map-range_with_len_more}
@@ -53,7 +53,7 @@ entries-preserved c =
           let r = one-entered ts old c.entries.owners.blocks.entries c.args.root (c.args.block + 8 * c.entries.i)
           front c.link-link.result i.1 i.0 new c.if-not-enter.ensures.entry in (
             ap (are_enterable ts old) (sym here) ∙ r.0,
-            subst (λ (ls : List (Option ℕ)). NotesEntries ts old new c.args.root (targets_of ls)) here r.1,
+            subst (λ (ls : List (Option ℕ)). EntersEntries ts old new c.args.root (targets_of ls)) here r.1,
           );
       new = λ ts b earlier have i l.
           let old = c.args.owners.now.blocks.entries in

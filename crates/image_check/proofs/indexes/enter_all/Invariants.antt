@@ -1,4 +1,4 @@
-use Rattle.image_check.proofs.Common.{AreBlocks, HaveEntries, List, NotesEntries, Tile, are_enterable, bytes_of}
+use Rattle.image_check.proofs.Common.{AreBlocks, HaveEntries, List, EntersEntries, Tile, are_enterable, bytes_of}
 use Rattle.image_check.proofs.Common.{first_targets, is_new, link_at, links_in, true, ℕ, ◌*◌, ◌++◌, ◌+◌, ◌-◌, ◌<◌, ◌≡◌}
 use Rattle.image_check.proofs.Common.{◌≤◌}
 use Rattle.image_check.proofs.indexes.enter_all.Given as goal
@@ -9,7 +9,7 @@ invariant-entries l = record {
   within : l.i ≤ l.count;
   entered : (ts : List Tile) → AreBlocks ts l.fn.owners.blocks.entries
       → (are_enterable ts l.fn.owners.blocks.entries (links_in (bytes_of l.window.bytes) l.block l.i) ≡ true)
-      × NotesEntries ts l.fn.owners.blocks.entries l.owners.blocks.entries l.root
+      × EntersEntries ts l.fn.owners.blocks.entries l.owners.blocks.entries l.root
       (first_targets (bytes_of l.window.bytes) l.block l.i);
   new : (ts : List Tile) → AreBlocks ts l.fn.owners.blocks.entries → (earlier : List ℕ)
       → HaveEntries l.fn.owners.blocks.entries earlier → (i : ℕ) → i < l.i

@@ -4,7 +4,7 @@ use Rattle.image_check.proofs.Common.{link_at, links_in, name_len_at, refl, some
 use Rattle.image_check.proofs.Common.{◌+◌, ◌∙◌, ◌∷◌, ◌≡◌, ◌≤◌}
 use Rattle.std.proofs.lemmas.List.FromFn.{map-range_with_len_more}
 use Rattle.image_check.specs.ObjectPasses.{follows}
-use Rattle.image_check.specs.ObjectPlaces.{link_before}
+use Rattle.image_check.specs.ObjectOffsets.{link_before}
 use Rattle.image_check.proofs.bytes.Ranges.{split}
 use Rattle.image_check.proofs.indexes.AllEntries.{targets-split, targets_of}
 use Rattle.image_check.proofs.indexes.Ranks.{last-of-more, last_of, ranked-broken, ranked-more}

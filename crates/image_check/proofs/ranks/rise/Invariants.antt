@@ -1,6 +1,6 @@
 use Rattle.image_check.proofs.Common.{Some, are_ranked, bytes_of, first_targets, length, name_len_at, true, ℕ, ◌*◌, ◌+◌}
 use Rattle.image_check.proofs.Common.{◌-◌, ◌≡◌, ◌≤◌}
-use Rattle.image_check.specs.ObjectPlaces.{link_before}
+use Rattle.image_check.specs.ObjectOffsets.{link_before}
 use Rattle.image_check.proofs.indexes.Ranks.{last_of}
 use Rattle.image_check.proofs.ranks.rise.Given as goal
 

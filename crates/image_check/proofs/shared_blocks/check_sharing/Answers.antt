@@ -1,4 +1,5 @@
-use Rattle.image_check.proofs.Common.{AreIndexesNoted, IsSharedIn, IsWholeMarkingOf, NotesValues, arith, unspent_budget}
+use Rattle.image_check.proofs.Common.{AreIndexesNoted, IsSharedIn, IsWholeMarkingOf, EntersValues, arith}
+use Rattle.image_check.proofs.Common.{unspent_budget}
 use Rattle.image_check.proofs.Common.{weigh, ◌*◌, ◌+◌, ◌≤◌}
 use Rattle.image_check.specs.Owners.{FollowsAll}
 use Rattle.image_check.specs.Passes.{tiles_in}
@@ -22,7 +23,7 @@ returns-in-Err-mark_values-clause-verdict g c =
     let b = c.args.window.now.bytes in
     let m = c.mark_indexes.new.owners in
     let n = c.mark_values.new.owners in
-    let e = of-err (λ x. NotesValues g.said b m.blocks.entries n.blocks.entries n.pending n.waiting)
+    let e = of-err (λ x. EntersValues g.said b m.blocks.entries n.blocks.entries n.pending n.waiting)
     (IsSharedIn g.said b) c.mark_values.result c.in-Err-mark_values.place c.in-Err-mark_values.is
     c.mark_values.ensures.mark in
     (some-shared-in g.said b _ c.requires.0 e, e)
@@ -55,7 +56,7 @@ returns-clause-verdict g c =
     let k = c.follow.new.owners in
     let one = of-ok (λ x. AreIndexesNoted g.said b m.blocks.entries m.pending m.waiting) (IsSharedIn g.said b)
     c.mark_indexes.result _ c.in_default.is c.mark_indexes.ensures.mark in
-    let two = of-ok (λ x. NotesValues g.said b m.blocks.entries n.blocks.entries n.pending n.waiting)
+    let two = of-ok (λ x. EntersValues g.said b m.blocks.entries n.blocks.entries n.pending n.waiting)
     (IsSharedIn g.said b) c.mark_values.result _ c.in_default-mark_values.is c.mark_values.ensures.mark in
     finds-from g.said b (λ x. FollowsAll g.said b n.blocks.entries k.blocks.entries k.pending k.waiting)
     c.follow.result c.requires.0 c.follow.ensures.observed
@@ -71,7 +72,7 @@ returns-clause-contents g c =
     let k = c.follow.new.owners in
     let one = of-ok (λ x. AreIndexesNoted g.said b m.blocks.entries m.pending m.waiting) (IsSharedIn g.said b)
     c.mark_indexes.result _ c.in_default.is c.mark_indexes.ensures.mark in
-    let two = of-ok (λ x. NotesValues g.said b m.blocks.entries n.blocks.entries n.pending n.waiting)
+    let two = of-ok (λ x. EntersValues g.said b m.blocks.entries n.blocks.entries n.pending n.waiting)
     (IsSharedIn g.said b) c.mark_values.result _ c.in_default-mark_values.is c.mark_values.ensures.mark in
     on-ok (λ x. FollowsAll g.said b n.blocks.entries k.blocks.entries k.pending k.waiting) (IsSharedIn g.said b)
     (IsWholeMarkingOf g.said b k.blocks.entries k.waiting) c.follow.result c.follow.ensures.observed

@@ -9,22 +9,22 @@ use Rattle.link_tree.proofs.descending.descend.Given.{Over}
 
 abbrev Seeks : (g : Over) → g.row.N.Denot → g.row.N-Probe.Denot → Option ℕ → g.row.K.Denot → (link at : Option ℕ)
     → g.row.K.Denot → ℕ → Type 0
-Seeks g s probe root start link at notes steps =
+Seeks g s probe root start link at folded steps =
     (t : Tree) → IsSearchTree (g.N.Nodes.order s) (g.N.Nodes.cells s) root t
     → Seeking g.K.PathFold.passed start (g.N.Nodes.order s) (g.N.Nodes.cells s) (g.N.Nodes.before s probe) t link at
-    notes
+    folded
     steps
 
 -- the search, one node further down
 further : (g : Over) (s : g.row.N.Denot) (probe : g.row.N-Probe.Denot) (root : Option ℕ) (start : g.row.K.Denot)
-    (b : Bool) (n : ℕ) (link at at' : Option ℕ) (notes notes' : g.row.K.Denot) (steps steps' : ℕ)
-    → Seeks g s probe root start (Some n) at notes steps → g.N.Nodes.before s probe n ≡ b
-    → notes' ≡ g.K.PathFold.passed notes n (g.N.Nodes.cells s n).red b → ((at ≡ Some n → ⊥) → steps' ≡ steps + 1)
+    (b : Bool) (n : ℕ) (link at at' : Option ℕ) (folded folded' : g.row.K.Denot) (steps steps' : ℕ)
+    → Seeks g s probe root start (Some n) at folded steps → g.N.Nodes.before s probe n ≡ b
+    → folded' ≡ g.K.PathFold.passed folded n (g.N.Nodes.cells s n).red b → ((at ≡ Some n → ⊥) → steps' ≡ steps + 1)
     → at' ≡ Some n → link ≡ child_of (onward b) (g.N.Nodes.cells s n)
-    → Seeks g s probe root start link at' notes' steps'
-further g s probe root start b n link at at' notes notes' steps steps' seeks e k goes here is = λ t w.
+    → Seeks g s probe root start link at' folded' steps'
+further g s probe root start b n link at at' folded folded' steps steps' seeks e k goes here is = λ t w.
     let seeking = seeks t w in
-    rw is (seek_on (strict g.met.N.Nodes s) b n at at' notes notes' steps steps' seeking e k
+    rw is (seek_on (strict g.met.N.Nodes s) b n at at' folded folded' steps steps' seeking e k
     (goes (seeking.away n refl)) here)
 
 pub loop-link-init : goal.loop-link-init
@@ -40,7 +40,7 @@ loop-link-smaller-then-before g c =
     let t = c.requires.tree in
     let goes = c.before_probe-before.ensures.progress_on_step
     ((c.loop-link.invariant.seeks t.0 t.1).away _ c.in-Some.is) in
-    let stays = c.right-link.ensures.unchanged c.fold_node-notes.ensures.position in
+    let stays = c.right-link.ensures.unchanged c.fold_node-folded.ensures.position in
     omega arith
 
 pub loop-link-smaller : goal.loop-link-smaller
@@ -48,7 +48,7 @@ loop-link-smaller g c =
     let t = c.requires.tree in
     let goes = c.before_probe-before.ensures.progress_on_step
     ((c.loop-link.invariant.seeks t.0 t.1).away _ c.in-Some.is) in
-    let stays = c.left-link.ensures.unchanged c.fold_node-notes.ensures.position in
+    let stays = c.left-link.ensures.unchanged c.fold_node-folded.ensures.position in
     omega arith
 
 pub loop-link-preserved-then-before : goal.loop-link-preserved-then-before
@@ -59,10 +59,10 @@ loop-link-preserved-then-before g c =
     let here : g.N.Nodes.is_node s n ≡ true = rw c.in-Some.is at c.loop-link.invariant.good in
     let is : c.right-link.result ≡ (g.N.Nodes.cells s n).right = cc in
     let seeks = further g s c.args.probe.now c.args.root c.args.start true n c.right-link.result _ _ _
-    c.fold_node-notes.result _ c.right-link.new.self.steps (rw c.in-Some.is at c.loop-link.invariant.seeks) (cc) (cc)
+    c.fold_node-folded.result _ c.right-link.new.self.steps (rw c.in-Some.is at c.loop-link.invariant.seeks) (cc) (cc)
     (λ away.
     let goes = c.before_probe-before.ensures.progress_on_step away in
-    let stays = c.right-link.ensures.unchanged c.fold_node-notes.ensures.position in
+    let stays = c.right-link.ensures.unchanged c.fold_node-folded.ensures.position in
     omega arith) c.right-link.ensures.position is in
     let low = low_tree g.met.N.Nodes s t.1 c.requires.root in
     let taken = (seeks t.0 t.1).taken in
@@ -76,10 +76,10 @@ loop-link-preserved g c =
     let here : g.N.Nodes.is_node s n ≡ true = rw c.in-Some.is at c.loop-link.invariant.good in
     let is : c.left-link.result ≡ (g.N.Nodes.cells s n).left = cc in
     let seeks = further g s c.args.probe.now c.args.root c.args.start false n c.left-link.result _ _ _
-    c.fold_node-notes.result _ c.left-link.new.self.steps (rw c.in-Some.is at c.loop-link.invariant.seeks)
+    c.fold_node-folded.result _ c.left-link.new.self.steps (rw c.in-Some.is at c.loop-link.invariant.seeks)
     (cc) (cc) (λ away.
     let goes = c.before_probe-before.ensures.progress_on_step away in
-    let stays = c.left-link.ensures.unchanged c.fold_node-notes.ensures.position in
+    let stays = c.left-link.ensures.unchanged c.fold_node-folded.ensures.position in
     omega arith) c.left-link.ensures.position is in
     let low = low_tree g.met.N.Nodes s t.1 c.requires.root in
     let taken = (seeks t.0 t.1).taken in

@@ -11,7 +11,7 @@ invariant-loop-link g l = record {
   room : l.visits.steps ≤ 80;
   seeks : (t : Tree) → IsSearchTree (g.N.Nodes.order l.nodes) (g.N.Nodes.cells l.nodes) l.fn.root t
       → Seeking g.K.PathFold.passed l.fn.start (g.N.Nodes.order l.nodes) (g.N.Nodes.cells l.nodes)
-      (g.N.Nodes.before l.nodes l.probe) t l.link l.visits.at l.notes l.visits.steps;
+      (g.N.Nodes.before l.nodes l.probe) t l.link l.visits.at l.folded l.visits.steps;
 }
 
 abbrev pub decreases-loop-link : goal.decreases-loop-link

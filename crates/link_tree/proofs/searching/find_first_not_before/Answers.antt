@@ -5,6 +5,6 @@ use Rattle.link_tree.proofs.searching.find_first_not_before.Goals as goal
 
 pub returns-clause-first : goal.returns-clause-first
 returns-clause-first g c = λ t k.
-    ap (λ (notes : First). notes.node) (c.descend-way.ensures.mark t k)
-    ∙ first_from (g.met.N.Nodes.agrees c.args.nodes.now c.args.probe.now) _ (λ (notes : First). notes.node)
-    (λ notes n red b. refl) _ t k.ordered refl
+    ap (λ (folded : First). folded.node) (c.descend-way.ensures.mark t k)
+    ∙ first_from (g.met.N.Nodes.agrees c.args.nodes.now c.args.probe.now) _ (λ (folded : First). folded.node)
+    (λ folded n red b. refl) _ t k.ordered refl

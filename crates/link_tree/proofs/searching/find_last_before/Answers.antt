@@ -5,6 +5,6 @@ use Rattle.link_tree.proofs.searching.find_last_before.Goals as goal
 
 pub returns-clause-last : goal.returns-clause-last
 returns-clause-last g c = λ t k.
-    ap (λ (notes : Last). notes.node) (c.descend-way.ensures.mark t k)
-    ∙ last_noted (g.met.N.Nodes.agrees c.args.nodes.now c.args.probe.now) _ (λ (notes : Last). notes.node)
-    (λ notes n red b. refl) _ t k.ordered ∙ or_none _
+    ap (λ (folded : Last). folded.node) (c.descend-way.ensures.mark t k)
+    ∙ last_noted (g.met.N.Nodes.agrees c.args.nodes.now c.args.probe.now) _ (λ (folded : Last). folded.node)
+    (λ folded n red b. refl) _ t k.ordered ∙ or_none _

@@ -28,7 +28,7 @@ returns-clause-changes c =
 pub returns-clause-keys_seen : goal.returns-clause-keys_seen
 returns-clause-keys_seen c =
     eight_seen (bytes_of c.args.bytes.now) c.args.from c.args.to (omega (arith, c.requires.from_in_bounds))
-    (omega (arith, c.requires.to_in_bounds)) c.requires.places
+    (omega (arith, c.requires.to_in_bounds)) c.requires.slots
     c.moved_by_distance-a.result c.moved_by_distance-b.result c.moved_by_distance-c.result c.moved_by_distance-d.result
     c.moved_by_distance-e.result c.moved_by_distance-f.result c.moved_by_distance-g.result c.moved_by_distance-h.result
     c.moved_by_distance-a.ensures c.moved_by_distance-b.ensures c.moved_by_distance-c.ensures

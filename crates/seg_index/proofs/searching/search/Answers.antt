@@ -2,7 +2,7 @@
 use Rattle.seg_index.proofs.{◌≡◌, ◌+◌, ap, sym, subst, ◌∙◌, ◌≤◌, arith, bytes_of, bits, IsKeyedEntry, middle, order_at}
 use Rattle.seg_index.proofs.{IsLeft, entry_of, left_down, left_found, left_none, left_up}
 use Rattle.seg_index.proofs.{searching.search.Goals.After-compare, bits_few}
-use Rattle.seg_index.specs.{declared.comparing.ComparisonCounter.ComparisonCounter, Beginnings.key_front}
+use Rattle.seg_index.specs.{declared.comparing.ComparisonCounter.ComparisonCounter, Beginnings.key_prefix}
 use Rattle.seg_index.proofs.searching.search.Goals as goal
 
 pub compare-requires : goal.compare-requires
@@ -13,7 +13,7 @@ compare-requires c =
       entry = subst (λ (s : ComparisonCounter).
           IsKeyedEntry s.heap.now s.key s.block (middle c.halves.low c.halves.high))
           (sym i.same) entry;
-      front = subst (λ (s : ComparisonCounter). s.front ≡ key_front s.key) (sym i.same) c.requires.front;
+      prefix = subst (λ (s : ComparisonCounter). s.prefix ≡ key_prefix s.key) (sym i.same) c.requires.prefix;
       room = omega arith;
     }
 

@@ -19,13 +19,14 @@ values-preserved g c =
     in
     let at : c.args.from + c.SIZE-each.result * i ≡ c.args.from + size * length front =
     λ k. c.args.from + c.SIZE-each.ensures k * sym many k in
-    let inside : c.args.from + size * length front + size ≤ length c.args.row.now =
-    subst (λ n. c.args.from + size * n + size ≤ length c.args.row.now) (sym many)
+    let inside : c.args.from + size * length front + size ≤ length c.args.slice.now =
+    subst (λ n. c.args.from + size * n + size ≤ length c.args.slice.now) (sym many)
     (omega (arith, c.requires, within, step)) in
     subst (λ zs. IsTrue (list_all test zs)
-    × (c.put_spelling.new.row ≡ patched c.args.row.now c.args.from (flat_map sp zs))) (sym next) (
+    × (c.put_spelling.new.slice ≡ patched c.args.slice.now c.args.from (flat_map sp zs))) (sym next) (
       all-next test front y c.values.invariant.0 good,
-      c.put_spelling.ensures.row ∙ (λ k. patched (c.values.invariant.1 k) (at k) (sp y))
-          ∙ spelled-next size test sp g.met.T.Plain.spells c.args.row.now c.args.from front y c.values.invariant.0 good
+      c.put_spelling.ensures.slice ∙ (λ k. patched (c.values.invariant.1 k) (at k) (sp y))
+          ∙ spelled-next size test sp g.met.T.Plain.spells c.args.slice.now c.args.from front y
+          c.values.invariant.0 good
           inside,
     )

@@ -4,4 +4,4 @@ use Rattle.seg_vector.proofs.elements.put_spellings.Given as goal
 
 abbrev pub invariant-values : goal.invariant-values
 invariant-values g l = IsTrue (list_all g.T.Plain.is_value (take l.i l.values))
-    × (l.row ≡ patched l.fn.row l.from (flat_map g.T.Plain.spelling (take l.i l.values)))
+    × (l.slice ≡ patched l.fn.slice l.from (flat_map g.T.Plain.spelling (take l.i l.values)))

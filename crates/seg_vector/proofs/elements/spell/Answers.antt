@@ -22,9 +22,9 @@ returns-clause-changes g c =
     let room = subst (λ k. IsTrue (has_room (live_of c.args.heap.now.bytes) c.args.handle (c.args.at + k))) (sym long)
     c.requires.room in
     subst (λ k. ChangesBytes current c.args.heap.now
-    (with_payload c.args.heap.now c.args.handle c.put_spellings.new.row)
+    (with_payload c.args.heap.now c.args.handle c.put_spellings.new.slice)
     (c.args.handle + c.args.at) k) long (payload-spelled c.loans_write_one_block.ensures c.args.heap.now c.args.handle
-    c.args.at bs c.requires.heap room c.put_spellings.new.row (c.put_spellings.ensures.row
+    c.args.at bs c.requires.heap room c.put_spellings.new.slice (c.put_spellings.ensures.slice
     ∙ ap (λ (p : List ℕ). patched p c.args.at bs) c.block_mut.ensures.bytes)).0
 
 pub returns-clause-content : goal.returns-clause-content
@@ -35,5 +35,5 @@ returns-clause-content g c =
     let room = subst (λ k. IsTrue (has_room (live_of c.args.heap.now.bytes) c.args.handle (c.args.at + k))) (sym long)
     c.requires.room in
     (payload-spelled c.loans_write_one_block.ensures c.args.heap.now c.args.handle c.args.at bs c.requires.heap room
-    c.put_spellings.new.row (c.put_spellings.ensures.row ∙ ap (λ (p : List ℕ). patched p c.args.at bs)
+    c.put_spellings.new.slice (c.put_spellings.ensures.slice ∙ ap (λ (p : List ℕ). patched p c.args.at bs)
     c.block_mut.ensures.bytes)).1

@@ -31,9 +31,9 @@ returns g c = record {
           let taken = c.in-Ok.ensures.entry.3 in
           let lent = c.deref.ensures in
           let same : s ≡ c.deref.result.now = cc in
-          subst (λ key. IsCoded (λ zs. map g.T.Scalar.whole c.read_row.new.row
-          ≡ zs) c.put.result (range_at d key g.T.Scalar.kind c.args.first (length c.args.row.now)))
-          c.in-Ok.ensures.entry.1 (rw c.put.ensures.code (c.read_row.ensures.read d (subst (λ (z : SegmentState).
+          subst (λ key. IsCoded (λ zs. map g.T.Scalar.whole c.read_slice.new.series
+          ≡ zs) c.put.result (range_at d key g.T.Scalar.kind c.args.first (length c.args.series.now)))
+          c.in-Ok.ensures.entry.1 (rw c.put.ensures.code (c.read_slice.ensures.read d (subst (λ (z : SegmentState).
           DenotesCurrent z.cut.bytes d) same st)));
       same = search rules;
     };

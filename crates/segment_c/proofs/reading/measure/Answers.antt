@@ -9,5 +9,5 @@ returns-in-Ok-clause-read c = λ d st.
 
 pub returns-in-Err-clause-read : goal.returns-in-Err-clause-read
 returns-in-Err-clause-read c =
-    λ d st. subst (IsCoded (AreSizes c.args.len.now c.args.places.now) c.code_of.result) (sym c.in-Err.is
+    λ d st. subst (IsCoded (AreSizes c.args.len.now c.args.slots.now) c.code_of.result) (sym c.in-Err.is
     ∙ c.measure.ensures.answers d st) c.code_of.ensures.number

@@ -1,7 +1,7 @@
 use Rattle.std.proofs.lemmas.Result.{err_from_is_err_and}
 use Rattle.raw_region.proofs.Laws.{added}
 use Rattle.segment_scripts.proofs.Laws.{one_failed}
-use Rattle.segment_cli.proofs.sessions.Ends.{appended, front_added, none_appended, none_counted, not_written}
+use Rattle.segment_cli.proofs.sessions.Ends.{appended, prefix_added, none_appended, none_counted, not_written}
 use Rattle.segment_cli.proofs.migrations.Outcomes.{migrated, not-migrated, unmigrated}
 use Rattle.segment_cli.proofs.migrations.migrate.Goals as goal
 
@@ -20,7 +20,7 @@ pub returns-in_err-save-clause-migration : goal.returns-in_err-save-clause-migra
 returns-in_err-save-clause-migration g c =
     let from = c.from_residual-in_err-save in let p = err_from_is_err_and from.result from.ensures.1 in
     rw (p.1, p.2) (unmigrated _ _ _ _ _ c.in_ok-segment.segment c.in_ok-segment.ensures.opening
-    c.save.ensures.acceptance (front_added _ _ _ c.in_err-save.ensures.output.err)
+    c.save.ensures.acceptance (prefix_added _ _ _ c.in_err-save.ensures.output.err)
     (one_failed _ _ c.in_err-save.ensures.output.counted))
 
 pub returns-in_err-segment-clause-saved_history : goal.returns-in_err-segment-clause-saved_history

@@ -2,7 +2,7 @@
 use Rattle.std.proofs.Common.{None, Some, subst}
 use Rattle.std.specs.Prelude.{option_map}
 use Rattle.seg_types.specs.Keys.{key_seen}
-use Rattle.segment_lang.specs.Words.{number_of}
+use Rattle.segment_lang.specs.Lexing.{number_of}
 use Rattle.segment_manager.specs.State.{AnswersWith}
 use Rattle.segment_commands.specs.Getting.{got, literal_in, looked_up}
 use Rattle.segment_commands.specs.RawValues.{raw_text}

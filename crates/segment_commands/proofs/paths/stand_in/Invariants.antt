@@ -6,5 +6,5 @@ use Rattle.segment_commands.proofs.paths.stand_in.Given as goal
 
 abbrev pub invariant-bytes : goal.invariant-bytes
 invariant-bytes l = record {
-  taken : string_bytes l.word ≡ (0 ∷ 0x22 ∷ []) ++ flat_map item_text (take l.byte-index l.path);
+  taken : string_bytes l.token ≡ (0 ∷ 0x22 ∷ []) ++ flat_map item_text (take l.byte-index l.path);
 }

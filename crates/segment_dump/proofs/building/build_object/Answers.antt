@@ -4,7 +4,7 @@ use Rattle.segment_dump.proofs.building.Objects.{object-built, object-unstarted}
 use Rattle.segment_dump.proofs.building.build_object.Goals as goal
 
 pub returns-in_err-handle-clause-object : goal.returns-in_err-handle-clause-object
-returns-in_err-handle-clause-object c = object-unstarted c.args.segment.now c.start_next.new.segment c.args.words.now
+returns-in_err-handle-clause-object c = object-unstarted c.args.segment.now c.start_next.new.segment c.args.tokens.now
     c.start_next.new.segment c.args.lines.now c.args.lines.now (length c.args.room.now) _ c.from_residual.result
     c.in_err-handle.ensures.start
 
@@ -22,7 +22,7 @@ returns-clause-object c =
     let new = c.fill.new.segment in
     let shape = c.in_ok-handle.shape in
     let room = length c.args.room.now in
-    object-built old begun c.args.words.now new c.args.lines.now c.fill.new.lines room c.in_ok-handle.handle shape
+    object-built old begun c.args.tokens.now new c.args.lines.now c.fill.new.lines room c.in_ok-handle.handle shape
     c.fill.result c.in_ok-handle.ensures.start
     (subst (λ h. FillsNew begun new h shape.kind shape.count c.args.lines.now c.fill.new.lines room c.fill.result)
     c.object_here-object.ensures.handle c.fill.ensures.filling)

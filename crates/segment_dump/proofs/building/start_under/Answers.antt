@@ -7,18 +7,18 @@ use Rattle.segment_dump.proofs.{building.NewObjects.started}
 
 pub returns-in_err-shape-clause-start : goal.returns-in_err-shape-clause-start
 returns-in_err-shape-clause-start g c =
-    shape-unread c.args.segment.now c.args.segment.now (g.D.ConstructKey.key c.args.under.now) c.args.words.now _
+    shape-unread c.args.segment.now c.args.segment.now (g.D.ConstructKey.key c.args.under.now) c.args.tokens.now _
     c.from_residual.result c.in_err-shape.ensures
 
 pub returns-in-Ok-clause-start : goal.returns-in-Ok-clause-start
 returns-in-Ok-clause-start g c =
-    started c.args.segment.now c.construct.new.segment (g.D.ConstructKey.key c.args.under.now) c.args.words.now
+    started c.args.segment.now c.construct.new.segment (g.D.ConstructKey.key c.args.under.now) c.args.tokens.now
     c.in_ok-shape.shape c.construct.result _ c.in_ok-shape.ensures c.construct.ensures.step
     (λ h e. ap (λ x. Ok (x, c.in_ok-shape.shape)) (ok-same _ h (sym c.in-Ok.is ∙ e)))
 
 pub returns-in-Err-clause-start : goal.returns-in-Err-clause-start
 returns-in-Err-clause-start g c =
-    started c.args.segment.now c.construct.new.segment (g.D.ConstructKey.key c.args.under.now) c.args.words.now
+    started c.args.segment.now c.construct.new.segment (g.D.ConstructKey.key c.args.under.now) c.args.tokens.now
     c.in_ok-shape.shape c.construct.result _ c.in_ok-shape.ensures c.construct.ensures.step
     (λ h e. absurd (never-ok _ h (sym c.in-Err.is ∙ e)))
 

@@ -1,5 +1,5 @@
 use Rattle.segment_dump.proofs.Common.{ap, ◌∙◌, arith, ℕ, List, bytes_of, word_at}
-use Rattle.segment_dump.proofs.dumping.Capacities.{header-inside, unique-places}
+use Rattle.segment_dump.proofs.dumping.Capacities.{header-inside, unique-slots}
 use Rattle.segment_dump.proofs.capacities.unique_capacity.Goals as goal
 
 pub word_in-requires : goal.word_in-requires
@@ -8,5 +8,5 @@ word_in-requires c = let h = header-inside c.as_bytes.result.now c.as_bytes.ensu
 pub returns : goal.returns
 returns c = record {
   answers = λ d k. c.word_in.ensures ∙ ap (λ (b : List ℕ). word_at (bytes_of b) 72) c.as_bytes.ensures.bytes
-      ∙ unique-places c.args.segment.now.cut.bytes d k;
+      ∙ unique-slots c.args.segment.now.cut.bytes d k;
 }

@@ -1,6 +1,6 @@
 use Rattle.segment_dump.proofs.counting.behind_size.Goals as goal
-use Rattle.segment_dump.proofs.{Common.sym, Common.subst, reading.FrontFaults.size-none}
-use Rattle.segment_dump.proofs.{reading.FrontFaults.size-skipped}
+use Rattle.segment_dump.proofs.{Common.sym, Common.subst, reading.PrefixFaults.size-none}
+use Rattle.segment_dump.proofs.{reading.PrefixFaults.size-skipped}
 use Rattle.segment_dump.specs.{Reads.Skips, Reads.seen_rest, Succeeding.IsNumber, Succeeding.size_said}
 
 pub returns-in_err-behind : goal.returns-in_err-behind

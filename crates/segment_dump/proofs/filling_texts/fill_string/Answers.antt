@@ -5,43 +5,43 @@ use Rattle.segment_dump.proofs.filling.Strings.{string-end, string-more, string-
 use Rattle.segment_dump.proofs.filling.Strings.{string-no_more}
 use Rattle.segment_dump.proofs.filling.Strings.{string-no_piece, string-refused, string-start}
 
-pub returns-in_err-words-clause-filling : goal.returns-in_err-words-clause-filling
-returns-in_err-words-clause-filling c = λ room. string-no_first c.in_err-words.ensures
+pub returns-in_err-tokens-clause-filling : goal.returns-in_err-tokens-clause-filling
+returns-in_err-tokens-clause-filling c = λ room. string-no_first c.in_err-tokens.ensures
 
 pub returns-in-Err-clause-filling : goal.returns-in-Err-clause-filling
 returns-in-Err-clause-filling c =
     λ room. string-refused c.args.segment.now c.reserve.new.self c.args.object.handle room
-    c.args.lines.now c.first_line.new.lines c.in_ok-words.words c.in_ok-words.len c.reserve.result
-    c.reserve.ensures.step c.in_ok-words.ensures c.in-Err.is
+    c.args.lines.now c.first_line.new.lines c.in_ok-tokens.tokens c.in_ok-tokens.len c.reserve.result
+    c.reserve.ensures.step c.in_ok-tokens.ensures c.in-Err.is
 
 pub returns-in_err-append_piece-clause-filling : goal.returns-in_err-append_piece-clause-filling
 returns-in_err-append_piece-clause-filling c =
     λ room. string-no_piece c.args.segment.now c.reserve.new.self c.args.object.handle room c.args.lines.now
-    c.first_line.new.lines c.in_ok-words.words c.in_ok-words.len c.reserve.result c.reserve.ensures.step
-    c.in_ok-words.ensures c.in_err-append_piece.ensures.append
+    c.first_line.new.lines c.in_ok-tokens.tokens c.in_ok-tokens.len c.reserve.result c.reserve.ensures.step
+    c.in_ok-tokens.ensures c.in_err-append_piece.ensures.append
 
 pub pieces-init : goal.pieces-init
 pieces-init c = (
   λ room. string-start c.args.segment.now c.reserve.new.self c.args.object.handle room
-      c.args.lines.now c.first_line.new.lines c.in_ok-words.words c.in_ok-words.len c.reserve.result
-      c.reserve.ensures.step c.in_ok-words.ensures c.in_ok-append_piece.ensures.append,
+      c.args.lines.now c.first_line.new.lines c.in_ok-tokens.tokens c.in_ok-tokens.len c.reserve.result
+      c.reserve.ensures.step c.in_ok-tokens.ensures c.in_ok-append_piece.ensures.append,
   c.in_ok-append_piece.ensures.in_place,
   SameSurroundings-trans _ _ _ c.reserve.ensures.step.stays.place c.in_ok-append_piece.ensures.place,
 )
 
-pub returns-in_err-words-2-clause-filling : goal.returns-in_err-words-2-clause-filling
-returns-in_err-words-2-clause-filling c = λ room. string-no_line (c.pieces.invariant.0 room)
-    (omega (arith, c.pieces-test.true, c.pieces_behind-end.ensures)) c.in_err-words-2.ensures
+pub returns-in_err-tokens-2-clause-filling : goal.returns-in_err-tokens-2-clause-filling
+returns-in_err-tokens-2-clause-filling c = λ room. string-no_line (c.pieces.invariant.0 room)
+    (omega (arith, c.pieces-test.true, c.pieces_behind-end.ensures)) c.in_err-tokens-2.ensures
 
 pub returns-in_err-append_piece-2-clause-filling : goal.returns-in_err-append_piece-2-clause-filling
 returns-in_err-append_piece-2-clause-filling c = λ room. string-no_more (c.pieces.invariant.0 room)
-    (omega (arith, c.pieces-test.true, c.pieces_behind-end.ensures)) c.in_ok-words-2.ensures
+    (omega (arith, c.pieces-test.true, c.pieces_behind-end.ensures)) c.in_ok-tokens-2.ensures
     c.in_err-append_piece-2.ensures.append
 
 pub pieces-preserved : goal.pieces-preserved
 pieces-preserved c = (
   λ room. string-more (c.pieces.invariant.0 room)
-      (omega (arith, c.pieces-test.true, c.pieces_behind-end.ensures)) c.in_ok-words-2.ensures
+      (omega (arith, c.pieces-test.true, c.pieces_behind-end.ensures)) c.in_ok-tokens-2.ensures
       c.in_ok-append_piece-2.ensures.append,
   c.in_ok-append_piece-2.ensures.in_place,
   SameSurroundings-trans _ _ _ c.pieces.invariant.2 c.in_ok-append_piece-2.ensures.place,
@@ -64,8 +64,8 @@ pub returns-in_err-append_piece-clause-place : goal.returns-in_err-append_piece-
 returns-in_err-append_piece-clause-place c = SameSurroundings-trans _ _ _ c.reserve.ensures.step.stays.place
     c.in_err-append_piece.ensures.place
 
-pub returns-in_err-words-2-clause-place : goal.returns-in_err-words-2-clause-place
-returns-in_err-words-2-clause-place c = c.pieces.invariant.2
+pub returns-in_err-tokens-2-clause-place : goal.returns-in_err-tokens-2-clause-place
+returns-in_err-tokens-2-clause-place c = c.pieces.invariant.2
 
 pub returns-in_err-append_piece-2-clause-place : goal.returns-in_err-append_piece-2-clause-place
 returns-in_err-append_piece-2-clause-place c =

@@ -2,7 +2,7 @@ use Rattle.segment_dump.proofs.loading.Success.{good-indexed, good-placed}
 use Rattle.segment_dump.proofs.loading.make.Goals as goal
 use Rattle.segment_dump.proofs.{Common.length, Common.refl, loading.Judgement.back-some, loading.Judgement.judged}
 use Rattle.segment_dump.proofs.{loading.Judgement.unlacking, loading.Judgement.wrong-why}
-use Rattle.segment_dump.proofs.loading.Success.{good-judged, good-no_front, good-unbuilt, good-uncreated}
+use Rattle.segment_dump.proofs.loading.Success.{good-judged, good-no_prefix, good-unbuilt, good-uncreated}
 
 pub returns-in-Err-clause-completion : goal.returns-in-Err-clause-completion
 returns-in-Err-clause-completion c =
@@ -14,9 +14,9 @@ returns-in-Err-clause-completion c =
 
 pub returns-in-Err-clause-success : goal.returns-in-Err-clause-success
 returns-in-Err-clause-success c =
-    good-no_front c.args.text.now (length c.args.region) c.args.base c.args.size (length c.args.room.now)
-    c.args.counted c.new-lines.result c.read_front.new.lines c.read_front.result _ _ c.new-lines.ensures
-    c.read_front.ensures c.in-Err.is
+    good-no_prefix c.args.text.now (length c.args.region) c.args.base c.args.size (length c.args.room.now)
+    c.args.counted c.new-lines.result c.read_prefix.new.lines c.read_prefix.result _ _ c.new-lines.ensures
+    c.read_prefix.ensures c.in-Err.is
 
 pub returns-in-Err-create-clause-success : goal.returns-in-Err-create-clause-success
 returns-in-Err-create-clause-success c =
@@ -27,10 +27,10 @@ returns-in-Err-create-clause-success c =
 pub returns-in-Err-make_objects-clause-success : goal.returns-in-Err-make_objects-clause-success
 returns-in-Err-make_objects-clause-success c =
     good-unbuilt c.args.text.now (length c.args.region) c.args.base c.args.size (length c.args.room.now)
-    c.args.counted _ _ c.args.region c.new-lines.result c.read_front.new.lines c.in-Ok.front
+    c.args.counted _ _ c.args.region c.new-lines.result c.read_prefix.new.lines c.in-Ok.prefix
     c.asked_size-asked.result c.declared_size.result c.in-Ok-create.segment c.make_objects.new.segment
     c.make_objects.result
-    c.read_front.result c.create.result c.new-lines.ensures c.read_front.ensures c.in-Ok.is c.declared_size.ensures
+    c.read_prefix.result c.create.result c.new-lines.ensures c.read_prefix.ensures c.in-Ok.is c.declared_size.ensures
     c.asked_size-asked.ensures.value c.create.ensures c.in-Ok-create.is c.make_objects.ensures.objects _ _
     c.in-Err-make_objects.is
 
@@ -41,10 +41,10 @@ returns-clause-completion c = judged c.args.text.now c.args.region c.args.base c
 pub returns-clause-success : goal.returns-clause-success
 returns-clause-success c =
     good-judged c.args.text.now (length c.args.region) c.args.base c.args.size (length c.args.room.now)
-    c.args.counted _ _ c.args.region c.new-lines.result c.read_front.new.lines c.in-Ok.front
+    c.args.counted _ _ c.args.region c.new-lines.result c.read_prefix.new.lines c.in-Ok.prefix
     c.asked_size-asked.result c.declared_size.result c.in-Ok-create.segment c.make_objects.new.segment
     c.make_objects.result
-    c.read_front.result c.create.result c.new-lines.ensures c.read_front.ensures c.in-Ok.is c.declared_size.ensures
+    c.read_prefix.result c.create.result c.new-lines.ensures c.read_prefix.ensures c.in-Ok.is c.declared_size.ensures
     c.asked_size-asked.ensures.value c.create.ensures c.in-Ok-create.is c.make_objects.ensures.objects _
     c.judge.ensures.success
 
@@ -68,19 +68,19 @@ returns-in-Err-make_objects-clause-exact c =
 pub returns-clause-place : goal.returns-clause-place
 returns-clause-place c =
     good-placed c.args.text.now (length c.args.region) c.args.base c.args.size (length c.args.room.now)
-    c.args.counted _ _ c.args.region c.new-lines.result c.read_front.new.lines c.in-Ok.front
+    c.args.counted _ _ c.args.region c.new-lines.result c.read_prefix.new.lines c.in-Ok.prefix
     c.asked_size-asked.result c.declared_size.result c.in-Ok-create.segment c.make_objects.new.segment
     c.make_objects.result
-    c.read_front.result c.create.result c.new-lines.ensures c.read_front.ensures c.in-Ok.is c.declared_size.ensures
+    c.read_prefix.result c.create.result c.new-lines.ensures c.read_prefix.ensures c.in-Ok.is c.declared_size.ensures
     c.asked_size-asked.ensures.value c.create.ensures c.in-Ok-create.is c.make_objects.ensures.objects _ refl
     c.make_objects.ensures.place c.judge.ensures.place
 
 pub returns-clause-indexes : goal.returns-clause-indexes
 returns-clause-indexes c =
     good-indexed c.args.text.now (length c.args.region) c.args.base c.args.size (length c.args.room.now)
-    c.args.counted _ _ c.args.region c.new-lines.result c.read_front.new.lines c.in-Ok.front
+    c.args.counted _ _ c.args.region c.new-lines.result c.read_prefix.new.lines c.in-Ok.prefix
     c.asked_size-asked.result c.declared_size.result c.in-Ok-create.segment c.make_objects.new.segment
     c.make_objects.result
-    c.read_front.result c.create.result c.new-lines.ensures c.read_front.ensures c.in-Ok.is c.declared_size.ensures
+    c.read_prefix.result c.create.result c.new-lines.ensures c.read_prefix.ensures c.in-Ok.is c.declared_size.ensures
     c.asked_size-asked.ensures.value c.create.ensures c.in-Ok-create.is c.make_objects.ensures.objects _
     c.judge.ensures.indexes

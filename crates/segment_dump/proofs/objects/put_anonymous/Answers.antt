@@ -4,8 +4,8 @@ use Rattle.segment_dump.proofs.Common.{DenotesCurrent, WritesOf, where_anonymous
 use Rattle.std.proofs.Common.{rules}
 use Rattle.segment_dump.proofs.{building.Members.all-objects, building.Members.said-of, dumping.Output.of-same}
 use Rattle.segment_dump.proofs.{dumping.Output.of-start, texts.Parts.well}
-use Rattle.segment_dump.proofs.dumping.Sections.{anonymous-filtered, object_at_place, places-all, places-cut}
-use Rattle.segment_dump.proofs.dumping.Sections.{places-more}
+use Rattle.segment_dump.proofs.dumping.Sections.{anonymous-filtered, object_at_place, slots-all, slots-cut}
+use Rattle.segment_dump.proofs.dumping.Sections.{slots-more}
 
 pub objects-init : goal.objects-init
 objects-init g c =
@@ -39,7 +39,7 @@ returns-in_err-put_if_anonymous g c =
     let at : SaysAt s (λ (d : Directory). d.objects) walk.at c.in-Some.said =
     subst (λ (t : SegmentState). SaysAt t (λ (d : Directory). d.objects) walk.at c.in-Some.said)
     c.objects.invariant.segment c.in-Some.ensures.steps.says in
-    of-same (places-cut at (λ d st. all-objects s.cut.bytes d st) c.objects.invariant.told
+    of-same (slots-cut at (λ d st. all-objects s.cut.bytes d st) c.objects.invariant.told
     c.in_err-put_if_anonymous.ensures c.from_residual.ensures.0)
     (λ d st. anonymous-filtered (g.T.ObjectWriter.text c.args.telling.now) d.objects)
 
@@ -61,7 +61,7 @@ objects-preserved g c =
       segment = steps.segment ∙ c.objects.invariant.segment;
       told =
           subst (λ n. WritesOf s old new well (λ d. parts_until (part d) n)) (sym steps.place)
-          (places-more at (λ d st. all-objects s.cut.bytes d st) c.objects.invariant.told
+          (slots-more at (λ d st. all-objects s.cut.bytes d st) c.objects.invariant.told
           c.in_ok-put_if_anonymous.ensures);
     }
 
@@ -72,6 +72,6 @@ returns g c =
     let none : (d : Directory) → DenotesCurrent s.cut.bytes d → length d.objects ≤ walk.at =
     subst (λ (t : SegmentState). (d : Directory) → DenotesCurrent t.cut.bytes d
     → length d.objects ≤ walk.at) c.objects.invariant.segment c.in-None.ensures.steps.says in
-    of-same (places-all s (λ (d : Directory).
+    of-same (slots-all s (λ (d : Directory).
     d.objects) (where_anonymous (g.T.ObjectWriter.text c.args.telling.now)) walk.at
     c.objects.invariant.told none) (λ d st. anonymous-filtered (g.T.ObjectWriter.text c.args.telling.now) d.objects)

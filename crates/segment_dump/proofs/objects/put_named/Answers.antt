@@ -2,7 +2,7 @@ use Rattle.segment_dump.proofs.objects.put_named.Goals as goal
 use Rattle.segment_dump.proofs.Common.{arith, named_objects}
 use Rattle.segment_dump.proofs.{dumping.ObjectParts.named-is, building.Members.all-named, building.Members.said-of}
 use Rattle.segment_dump.proofs.{dumping.Output.of-start}
-use Rattle.segment_dump.proofs.dumping.Sections.{object_at_place, places-all, places-cut, places-more}
+use Rattle.segment_dump.proofs.dumping.Sections.{object_at_place, slots-all, slots-cut, slots-more}
 
 pub named_instance-requires : goal.named_instance-requires
 named_instance-requires g c = record {
@@ -24,16 +24,16 @@ names-init g c = of-start (object_at_place (g.T.ObjectWriter.text c.args.telling
 
 pub returns-in_err-tell : goal.returns-in_err-tell
 returns-in_err-tell g c =
-    places-cut c.named_instance.ensures (λ d st. all-named c.args.segment.now.cut.bytes d st) c.names.invariant
+    slots-cut c.named_instance.ensures (λ d st. all-named c.args.segment.now.cut.bytes d st) c.names.invariant
     c.in_err-tell.ensures c.from_residual.ensures.0
 
 pub names-preserved : goal.names-preserved
-names-preserved g c = places-more c.named_instance.ensures (λ d st. all-named c.args.segment.now.cut.bytes d st)
+names-preserved g c = slots-more c.named_instance.ensures (λ d st. all-named c.args.segment.now.cut.bytes d st)
     c.names.invariant c.in_ok-tell.ensures
 
 pub returns : goal.returns
 returns g c =
     let n = c.num_named-index-end in
-    places-all c.args.segment.now named_objects (g.T.ObjectWriter.text c.args.telling.now) c.names.index
+    slots-all c.args.segment.now named_objects (g.T.ObjectWriter.text c.args.telling.now) c.names.index
     c.names.invariant
     (λ d k. omega (arith, c.names-test.false, named-is c.args.segment.now.mode d n.result (n.ensures.answers d k)))

@@ -1,6 +1,6 @@
 use Rattle.std.proofs.Common.{◌∙◌, sym}
-use Rattle.segment_lang.proofs.commands.Words.{elements_content, no_pairs_content, scalar_content, text_content}
-use Rattle.segment_lang.proofs.commands.Words.{texts_content}
+use Rattle.segment_lang.proofs.commands.Lexing.{elements_content, no_pairs_content, scalar_content, text_content}
+use Rattle.segment_lang.proofs.commands.Lexing.{texts_content}
 use Rattle.segment_lang.proofs.contents.read_content.Goals as goal
 
 pub returns-in-Scalar : goal.returns-in-Scalar

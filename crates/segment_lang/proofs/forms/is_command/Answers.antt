@@ -2,8 +2,8 @@ use Rattle.std.proofs.Common.{◌∙◌, ap, sym}
 use Rattle.std.specs.Prelude.{is_some}
 use Rattle.seg_types.specs.Commands as asked
 use Rattle.segment_lang.specs.Reading.{key_of}
-use Rattle.segment_lang.proofs.commands.Words.{alone_at_end, of_key, of_key_literal, of_key_number, of_putting}
-use Rattle.segment_lang.proofs.words.Readers.{end_some, some_of}
+use Rattle.segment_lang.proofs.commands.Lexing.{alone_at_end, of_key, of_key_literal, of_key_number, of_putting}
+use Rattle.segment_lang.proofs.tokens.Readers.{end_some, some_of}
 use Rattle.segment_lang.proofs.forms.is_command.Goals as goal
 
 pub returns-in-Size : goal.returns-in-Size

@@ -4,10 +4,10 @@ use Rattle.seg_types.specs.Commands as asked
 use Rattle.segment_lang.specs.declared.commands.Operation.TheVariants as operation
 use Rattle.segment_lang.specs.Reading.{key_of, name_key, new_key}
 use Rattle.segment_lang.specs.Seen.{operation_of}
-use Rattle.segment_lang.proofs.commands.Words.{alone_at_end as ends, of_appending, of_assigning, of_finding, of_handle}
-use Rattle.segment_lang.proofs.commands.Words.{of_key, of_key_literal, of_key_number, of_key_number_literal, of_making}
-use Rattle.segment_lang.proofs.commands.Words.{of_making_each, of_number}
-use Rattle.segment_lang.proofs.words.Readers.{map_made}
+use Rattle.segment_lang.proofs.commands.Lexing.{alone_at_end as ends, of_appending, of_assigning, of_finding, of_handle}
+use Rattle.segment_lang.proofs.commands.Lexing.{of_key, of_key_literal, of_key_number, of_key_number_literal, of_making}
+use Rattle.segment_lang.proofs.commands.Lexing.{of_making_each, of_number}
+use Rattle.segment_lang.proofs.tokens.Readers.{map_made}
 use Rattle.segment_lang.proofs.forms.read_operation.Goals as goal
 
 pub returns-in-Construct : goal.returns-in-Construct

@@ -4,7 +4,7 @@ use Rattle.seg_types.specs.Commands.{Nothing}
 use Rattle.segment_lang.specs.Language.{whole_language}
 use Rattle.segment_lang.specs.Reading.{command_line, skip_blanks}
 use Rattle.segment_lang.specs.Seen.{reader_of}
-use Rattle.segment_lang.proofs.commands.Words.{known_command}
+use Rattle.segment_lang.proofs.commands.Lexing.{known_command}
 use Rattle.segment_lang.proofs.line.lead_behind_blanks.Goals as goal
 
 pub returns-in-Some : goal.returns-in-Some

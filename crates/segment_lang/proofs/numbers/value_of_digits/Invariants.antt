@@ -1,6 +1,6 @@
 use Rattle.std.proofs.Common.{◌≡◌, length, IsTrue, ◌<◌, ◌^◌}
 use Rattle.std.specs.List.{list_all}
-use Rattle.segment_lang.specs.Words.{is_digit, number_after}
+use Rattle.segment_lang.specs.Lexing.{is_digit, number_after}
 use Rattle.segment_lang.proofs.numbers.value_of_digits.Given as goal
 
 abbrev pub invariant-digits : goal.invariant-digits

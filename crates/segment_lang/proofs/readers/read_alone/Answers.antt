@@ -1,7 +1,7 @@
 use Rattle.std.proofs.Common.{◌∙◌, ap, cond, Some, None}
 use Rattle.std.specs.Option.{option_map}
 use Rattle.segment_lang.specs.Seen.{operation_of}
-use Rattle.segment_lang.proofs.words.Readers.{then_made}
+use Rattle.segment_lang.proofs.tokens.Readers.{then_made}
 use Rattle.segment_lang.proofs.readers.read_alone.Goals as goal
 
 pub returns : goal.returns

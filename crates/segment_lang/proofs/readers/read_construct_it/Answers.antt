@@ -1,4 +1,4 @@
-use Rattle.segment_lang.proofs.commands.Words.{each_read}
+use Rattle.segment_lang.proofs.commands.Lexing.{each_read}
 use Rattle.segment_lang.proofs.readers.read_construct_it.Goals as goal
 
 pub returns : goal.returns

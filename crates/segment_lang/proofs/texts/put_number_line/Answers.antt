@@ -11,7 +11,7 @@ pub overflow_sub-start : goal.overflow_sub-start
 overflow_sub-start g c =
     let digits = length-decimal-le 20 c.args.number (omega arith) (omega arith) c.ranges.number.fits in
     let end = c.write_digits-digits.ensures.start in
-    let front = c.if-front-gt-LONGEST_FRONT.false in
+    let prefix = c.if-prefix-gt-LONGEST_PREFIX.false in
     omega arith
 
 pub copy_from_slice-requires : goal.copy_from_slice-requires

@@ -1,4 +1,4 @@
-use Rattle.segment_lang.proofs.words.LongLines.{long_lines_are_cut}
+use Rattle.segment_lang.proofs.tokens.LongLines.{long_lines_are_cut}
 use Rattle.segment_lang.proofs.theorems.long_lines_are_cut.Goals as goal
 
 pub returns : goal.returns

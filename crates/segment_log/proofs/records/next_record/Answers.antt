@@ -46,9 +46,9 @@ module _ (gate : ℕ) (log : List ℕ) where
   too_long n is long =
       none_at gate log (omega (arith, is, ap number_of text_is, ap length behind_is, length-drop 8 (drop gate log)))
 
-  pub whole : (n : ℕ) (front back : List ℕ) → get_or log 0 0 ≡ 1 → n ≡ number_of text → 8 ≤ length text
-      → n ≤ length behind → front ≡ take n behind → back ≡ drop n behind → next_at gate log ≡ Some (front, back)
-  whole n front back first is room fits a b =
+  pub whole : (n : ℕ) (prefix back : List ℕ) → get_or log 0 0 ≡ 1 → n ≡ number_of text → 8 ≤ length text
+      → n ≤ length behind → prefix ≡ take n behind → back ≡ drop n behind → next_at gate log ≡ Some (prefix, back)
+  whole n prefix back first is room fits a b =
       let number : n ≡ number_of (drop gate log) = is ∙ ap number_of text_is in
       next_open gate log first
       ∙ some_behind (drop gate log)
@@ -73,4 +73,4 @@ returns-then-len-behind c =
 pub returns : goal.returns
 returns c =
     whole 4096 c.args.log.now c.number_of-len.result _ _ c.if-log-ne1.false c.number_of-len.ensures c.if-text-lt8.false
-    c.if-len-behind.false c.split_at.ensures.front c.split_at.ensures.back
+    c.if-len-behind.false c.split_at.ensures.prefix c.split_at.ensures.back

@@ -11,9 +11,9 @@ loop-payload-smaller c =
 
 pub loop-payload-preserved : goal.loop-payload-preserved
 loop-payload-preserved c =
-    let front : (names_image c.args.id c.in-Some.payload.now || names_after c.args.id (recovered c.in-Some.behind.now))
+    let prefix : (names_image c.args.id c.in-Some.payload.now || names_after c.args.id (recovered c.in-Some.behind.now))
     ≡ names_after c.args.id (recovered c.in-Some.behind.now) =
     ap (λ b. b || names_after c.args.id (recovered c.in-Some.behind.now)) (sym c.if-names_image.ensures) in
-    sym front
+    sym prefix
     ∙ sym (named_some c.args.id c.loop-payload.rest.now c.in-Some.payload.now c.in-Some.behind.now c.in-Some.ensures)
     ∙ c.loop-payload.invariant

@@ -6,12 +6,12 @@ pub returns : goal.returns
 returns g c =
     vector-stands g.T.Scalar.whole c.args.image.now _ _ c.args._at c.args.head.value _ g.T.Scalar.kind _ _ _ _ _
     c.construct_vec.ensures.step c.requires.head c.in-Some.ensures.content
-    (rw c.in-Some-2.is at c.in_ok-row.ensures.bytes) (rw c.in-Some-2.is at c.in_ok-row.ensures.count)
+    (rw c.in-Some-2.is at c.in_ok-scalars.ensures.bytes) (rw c.in-Some-2.is at c.in_ok-scalars.ensures.count)
     c.deref.ensures.value
 
 pub returns-in_err-construct_vec : goal.returns-in_err-construct_vec
 returns-in_err-construct_vec g c =
     vector-stands g.T.Scalar.whole c.args.image.now _ _ c.args._at c.args.head.value _ g.T.Scalar.kind _ _ _ _ _
     c.construct_vec.ensures.step c.requires.head c.in-Some.ensures.content
-    (rw c.in-Some-2.is at c.in_ok-row.ensures.bytes) (rw c.in-Some-2.is at c.in_ok-row.ensures.count)
+    (rw c.in-Some-2.is at c.in_ok-scalars.ensures.bytes) (rw c.in-Some-2.is at c.in_ok-scalars.ensures.count)
     c.deref.ensures.value

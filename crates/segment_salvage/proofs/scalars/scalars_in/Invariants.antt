@@ -5,6 +5,6 @@ use Rattle.segment_salvage.proofs.scalars.scalars_in.Given as goal
 
 abbrev pub invariant-values : goal.invariant-values
 invariant-values g l = record {
-  bytes_are : l.bytes ≡ spelled g.T.Scalar.kind (map g.T.Scalar.whole l.row.items) ++ l.left;
-  many : length l.row.items ≡ l.counter;
+  bytes_are : l.bytes ≡ spelled g.T.Scalar.kind (map g.T.Scalar.whole l.scalars.items) ++ l.left;
+  many : length l.scalars.items ≡ l.counter;
 }

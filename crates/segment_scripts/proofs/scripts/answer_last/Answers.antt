@@ -25,8 +25,8 @@ returns-then-is_stop-clause-on_ok g c = λ start before read h.
     let until = c.args.until in
     let stops = stops_at until g.M.Machine.refuses in
     let ok = c.in_ok-answered.ensures in
-    ends_at_last g.M.Machine.respond stops g.met.M.Machine.long_lines (λ place line h.
-    ap (λ b. may_stop until && b) (g.met.M.Machine.long_refusals place line h))
+    ends_at_last g.M.Machine.respond stops g.met.M.Machine.long_lines (λ state line h.
+    ap (λ b. may_stop until && b) (g.met.M.Machine.long_refusals state line h))
     start before read (Stands c.args.machine.now) (Stands c.answer_next.new.machine) c.as_slice-last.result.now
     (g.W.Sink.history c.args.out.now).bytes (g.W.Sink.history c.answer_next.new.out).bytes
     (same_on g.M.Machine.respond stops start before read (Stands c.args.machine.now) c.args.line.now
@@ -40,8 +40,8 @@ returns-else-is_stop-clause-on_ok g c = λ start before read h.
     let until = c.args.until in
     let stops = stops_at until g.M.Machine.refuses in
     let ok = c.in_ok-answered.ensures in
-    through_last g.M.Machine.respond stops g.met.M.Machine.long_lines (λ place line h.
-    ap (λ b. may_stop until && b) (g.met.M.Machine.long_refusals place line h))
+    through_last g.M.Machine.respond stops g.met.M.Machine.long_lines (λ state line h.
+    ap (λ b. may_stop until && b) (g.met.M.Machine.long_refusals state line h))
     start before read (Stands c.args.machine.now) (Stands c.answer_next.new.machine) c.as_slice-last.result.now
     (g.W.Sink.history c.args.out.now).bytes (g.W.Sink.history c.answer_next.new.out).bytes
     (same_on g.M.Machine.respond stops start before read (Stands c.args.machine.now) c.args.line.now

@@ -14,8 +14,8 @@ returns-in_err-answered-clause-on_error g c =
     let was = c.in_err-answered.ensures in
     let p = err_from_is_err_and c.from_residual.result c.from_residual.ensures.1 in
     rw p.1 (λ start before read h.
-    fails_in g.M.Machine.respond (stops_at until g.M.Machine.refuses) g.met.M.Machine.long_lines (λ place line h.
-    ap (λ b. may_stop until && b) (g.met.M.Machine.long_refusals place line h))
+    fails_in g.M.Machine.respond (stops_at until g.M.Machine.refuses) g.met.M.Machine.long_lines (λ state line h.
+    ap (λ b. may_stop until && b) (g.met.M.Machine.long_refusals state line h))
     start before read c.args.piece.now c.lines.invariant.done c.lines.rest.now _ _ (Stands c.lines.machine)
     (Stands c.answer_ended.new.machine)
     c.lines.line (g.W.Sink.history c.lines.out).bytes (g.W.Sink.history c.answer_ended.new.out).bytes
@@ -28,8 +28,8 @@ returns-then-is_stop-clause-on_ok g c = λ start before read h.
     let Stands = g.M.Machine.stands in
     let until = c.args.until in
     let ok = c.in_ok-answered.ensures in
-    ends_in g.M.Machine.respond (stops_at until g.M.Machine.refuses) g.met.M.Machine.long_lines (λ place line h.
-    ap (λ b. may_stop until && b) (g.met.M.Machine.long_refusals place line h))
+    ends_in g.M.Machine.respond (stops_at until g.M.Machine.refuses) g.met.M.Machine.long_lines (λ state line h.
+    ap (λ b. may_stop until && b) (g.met.M.Machine.long_refusals state line h))
     start before read c.args.piece.now c.lines.invariant.done c.lines.rest.now _ _ (Stands c.lines.machine)
     (Stands c.answer_ended.new.machine)
     c.lines.line (g.W.Sink.history c.lines.out).bytes (g.W.Sink.history c.answer_ended.new.out).bytes
@@ -52,7 +52,7 @@ lines-preserved g c =
       parts = c.lines.invariant.parts ∙ ap (λ (l : List ℕ). c.lines.invariant.done ++ l) ends.parts ∙ simp append_assoc;
       behind = λ start before read h.
           on_line g.M.Machine.respond (stops_at until g.M.Machine.refuses) g.met.M.Machine.long_lines
-          (λ place line h. ap (λ b. may_stop until && b) (g.met.M.Machine.long_refusals place line h))
+          (λ state line h. ap (λ b. may_stop until && b) (g.met.M.Machine.long_refusals state line h))
           start before read c.args.piece.now c.lines.invariant.done rest end _ (Stands c.lines.machine)
           (Stands c.answer_ended.new.machine)
           c.lines.line (g.W.Sink.history c.lines.out).bytes (g.W.Sink.history c.answer_ended.new.out).bytes

@@ -7,7 +7,7 @@ abbrev pub invariant-lines : goal.invariant-lines
 invariant-lines g l = record {
   done : List ℕ;
   parts : l.piece ≡ done ++ l.rest;
-  behind : (start : g.M.Machine.Place) (before read : List ℕ)
+  behind : (start : g.M.Machine.RunState) (before read : List ℕ)
       → IsOn g.M.Machine.respond (stops_at l.until g.M.Machine.refuses) start before read
       (g.M.Machine.stands l.initial.machine) l.initial.line (g.W.Sink.history l.initial.out).bytes
       → IsOn g.M.Machine.respond (stops_at l.until g.M.Machine.refuses) start before (read ++ done)

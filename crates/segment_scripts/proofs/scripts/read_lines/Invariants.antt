@@ -14,7 +14,7 @@ invariant-pieces g l =
       grows : AppendsBytes old new;
       limit : length (drop (length old) new) + l.left ≡ script_limit;
       passed : length new + l.left ≡ length old + script_limit;
-      behind : (start : g.M.Machine.Place) → g.M.Machine.stands l.initial.machine start
+      behind : (start : g.M.Machine.RunState) → g.M.Machine.stands l.initial.machine start
           → IsOn g.M.Machine.respond (stops_at l.until g.M.Machine.refuses) start
           (g.W.Sink.history l.initial.out).bytes (drop (length old) new) (g.M.Machine.stands l.machine) l.line
           (g.W.Sink.history l.out).bytes;

@@ -12,9 +12,9 @@ is-count n some few = and_from (nat_le 1 n) (nat_le n 1048576) (le-leb 1 n some)
 pub returns-clause-step : goal.returns-clause-step
 returns-clause-step g c =
     array-step _ (c.construct_it.ensures.items
-    (is-count (length c.args.row.now) c.requires.non_empty c.requires.max_count)) refl refl c.requires.non_empty
+    (is-count (length c.args.series.now) c.requires.non_empty c.requires.max_count)) refl refl c.requires.non_empty
 
 pub returns-clause-refused : goal.returns-clause-refused
 returns-clause-refused g c =
     array-refused _ (c.construct_it.ensures.items
-    (is-count (length c.args.row.now) c.requires.non_empty c.requires.max_count)) refl
+    (is-count (length c.args.series.now) c.requires.non_empty c.requires.max_count)) refl

@@ -12,6 +12,6 @@ read_object-requires g c =
 pub returns-clause-read : goal.returns-clause-read
 returns-clause-read g c =
     reads-by_key c.args.segment.now (g.O.ObjectRef.key c.args.key.now) c.in_ok-object.object c.in_ok-object.ensures
-    g.T.Scalar.kind c.args.first (length c.args.row.now)
-    (read_into g.T.Scalar.whole c.read_object.new.row c.read_object.result)
+    g.T.Scalar.kind c.args.first (length c.args.series.now)
+    (read_into g.T.Scalar.whole c.read_object.new.series c.read_object.result)
     c.read_object.ensures.read

@@ -2,4 +2,4 @@
 use Rattle.best_fit.proofs.heap.Heap.adopt.Goals as goal
 
 pub invariant_of-heap : goal.invariant_of-heap
-invariant_of-heap c = record { heap = c.heap.invariant.heap; hints = c.note_blocks.ensures }
+invariant_of-heap c = record { heap = c.heap.invariant.heap; hints = c.hint_blocks.ensures }

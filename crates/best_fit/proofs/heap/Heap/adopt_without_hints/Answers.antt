@@ -6,6 +6,6 @@ use Rattle.best_fit.proofs.heap.Heap.adopt_without_hints.Goals as goal
 pub invariant_of-result : goal.invariant_of-result
 invariant_of-result c =
     record {
-      heap = subst (λ (v : WindowState). IsHeap current v.bytes) (sym c.take_notes.ensures.unchanged) c.requires;
-      hints = none-lead c.none_in-hints.result c.take_notes.new.self.bytes c.none_in-hints.ensures;
+      heap = subst (λ (v : WindowState). IsHeap current v.bytes) (sym c.take_hints.ensures.unchanged) c.requires;
+      hints = none-lead c.none_in-hints.result c.take_hints.new.self.bytes c.none_in-hints.ensures;
     }

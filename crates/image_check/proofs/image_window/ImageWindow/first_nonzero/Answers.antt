@@ -2,7 +2,7 @@ use Rattle.image_check.proofs.Common.{AreZero, List, [], ap, bytes_of, drop, len
 use Rattle.image_check.proofs.Common.{◌∷◌, ◌≡◌}
 use Rattle.std.specs.Prelude.{MatchOption}
 use Rattle.std.proofs.Math.Seq.{take-length}
-use Rattle.image_check.specs.HeaderPlaces.{IsFirstNonzero}
+use Rattle.image_check.specs.HeaderOffsets.{IsFirstNonzero}
 use Rattle.image_check.proofs.image_window.ImageWindow.first_nonzero.Goals as goal
 
 drop-none : (b : List ℕ) → drop 0 b ≡ b

@@ -11,8 +11,8 @@ as_heap-heap-requires c =
     let image = subst (λ (v : WindowState). IsImage c.args.format v.bytes) (sym c.self.view_is) c.requires.image in
     image-heap c.args.format c.self.inside.window.bytes image
 
-pub note_blocks-requires : goal.note_blocks-requires
-note_blocks-requires c = λ n block is.
+pub hint_blocks-requires : goal.hint_blocks-requires
+hint_blocks-requires c = λ n block is.
     let changes = subst (λ (v : WindowState). RebuildsFreeTree current v c.as_heap-heap.result) c.self.view_is
     c.as_heap-heap.ensures.changes in
     subst (λ (live : LiveSet). IsTrue (is_live_in live n))
@@ -24,9 +24,9 @@ pub segment_of-requires : goal.segment_of-requires
 segment_of-requires c =
     let changes = subst (λ (v : WindowState). RebuildsFreeTree current v c.as_heap-heap.result) c.self.view_is
     c.as_heap-heap.ensures.changes in
-    renewed-segment c.args.format c.args.self.bytes c.note_blocks.new.heap.bytes c.requires.image
+    renewed-segment c.args.format c.args.self.bytes c.hint_blocks.new.heap.bytes c.requires.image
     (subst (λ (v : WindowState). UpgradesFormat c.args.format c.args.self.bytes v.bytes)
-    (sym c.note_blocks.ensures.unchanged)
+    (sym c.hint_blocks.ensures.unchanged)
     (upgraded c.args.format c.args.self c.as_heap-heap.result c.set_version.new.heap c.requires.format
     c.requires.image changes (λ l. c.as_heap-heap.ensures.unchanged l ∙ c.self.view_is)
     c.set_version.ensures.unchanged c.set_version.ensures.changes c.set_version.ensures.word))
@@ -35,7 +35,7 @@ pub returns-clause-place : goal.returns-clause-place
 returns-clause-place c =
     let changes = subst (λ (v : WindowState). RebuildsFreeTree current v c.as_heap-heap.result) c.self.view_is
     c.as_heap-heap.ensures.changes in
-    subst (SameSurroundings c.args.self) (sym (c.segment_of.ensures.cut ∙ c.note_blocks.ensures.unchanged))
+    subst (SameSurroundings c.args.self) (sym (c.segment_of.ensures.cut ∙ c.hint_blocks.ensures.unchanged))
     (upgraded-place c.args.format c.args.self c.as_heap-heap.result c.set_version.new.heap changes
     c.set_version.ensures.unchanged c.set_version.ensures.changes)
 
@@ -44,7 +44,7 @@ returns-clause-upgrade c =
     let changes = subst (λ (v : WindowState). RebuildsFreeTree current v c.as_heap-heap.result) c.self.view_is
     c.as_heap-heap.ensures.changes in
     subst (λ (v : WindowState). UpgradesFormat c.args.format c.args.self.bytes v.bytes)
-    (sym (c.segment_of.ensures.cut ∙ c.note_blocks.ensures.unchanged))
+    (sym (c.segment_of.ensures.cut ∙ c.hint_blocks.ensures.unchanged))
     (upgraded c.args.format c.args.self c.as_heap-heap.result c.set_version.new.heap c.requires.format
     c.requires.image changes (λ l. c.as_heap-heap.ensures.unchanged l ∙ c.self.view_is)
     c.set_version.ensures.unchanged c.set_version.ensures.changes c.set_version.ensures.word)

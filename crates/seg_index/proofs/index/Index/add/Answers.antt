@@ -3,8 +3,8 @@
 use Rattle.seg_index.proofs.index.Index.add.Goals as goal
 use Rattle.seg_index.proofs.{◌≡◌, ap, ap₂, refl, sym, subst, ◌∙◌, ℕ, ◌+◌, ◌-◌, ◌*◌, ◌%◌, ◌<◌, Option, IfSome, List}
 use Rattle.seg_index.proofs.{arith, insert, length-insert, current, LiveSet, EncodesLiveSet, IsBlockFor, without_link}
-use Rattle.seg_index.proofs.{IsIndexOf, block_and_count, capacity_at, filled, gaps_kept, grown_capacity, has_places}
-use Rattle.seg_index.proofs.{in_header, index_in, insert_all, inserted, links_lead, offer, place_of, same_live, source}
+use Rattle.seg_index.proofs.{IsIndexOf, block_and_count, capacity_at, filled, gaps_kept, grown_capacity, has_slots}
+use Rattle.seg_index.proofs.{in_header, index_in, insert_all, inserted, links_lead, offer, index_at, same_live, source}
 use Rattle.seg_index.proofs.{target, written, written_both, written_keeps, ChangesBytes, Offer, Placed, bytes_of}
 use Rattle.seg_index.proofs.{link_at, added-sorted, aligned, beside-stays, extent_at, inl, inr, keeps-sorted, live_of}
 use Rattle.seg_index.proofs.{moved-stays, none-some, without_index_block}
@@ -15,13 +15,13 @@ use Rattle.seg_index.proofs.index.Index.add.Goals.{After-unwrap_or-block, After-
 
 -- the capacity of the index's block allows one more
 few : (c : After-unwrap_or-block)
-    → entry_count c.args.heap.now (place_of c.args.self) < capacity_at c.args.heap.now (place_of c.args.self)
-few c = subst (λ b. CanGrow c.args.heap.now (place_of c.args.self) b) c.in-None.is c.requires.growth
+    → entry_count c.args.heap.now (index_at c.args.self) < capacity_at c.args.heap.now (index_at c.args.self)
+few c = subst (λ b. CanGrow c.args.heap.now (index_at c.args.self) b) c.in-None.is c.requires.growth
 
-had : (c : After-unwrap_or-block) {t : ATable} {hs : List ℕ} → IsIndexOf c.args.heap.now (place_of c.args.self) t hs
-    → Placed c.args.heap.now (place_of c.args.self) t hs c.unwrap_or-block.result
+had : (c : After-unwrap_or-block) {t : ATable} {hs : List ℕ} → IsIndexOf c.args.heap.now (index_at c.args.self) t hs
+    → Placed c.args.heap.now (index_at c.args.self) t hs c.unwrap_or-block.result
 had c i =
-    let left = few c in has_places i (omega arith) c.header_offset.ensures c.header_link.ensures
+    let left = few c in has_slots i (omega arith) c.header_offset.ensures c.header_link.ensures
     c.unwrap_or-block.ensures
 
 pub spread-requires-clause-links : goal.spread-requires-clause-links
@@ -36,7 +36,7 @@ spread-requires-clause-handle c = aligned c.requires.entry
 
 pub returns-in-None-clause-index : goal.returns-in-None-clause-index
 returns-in-None-clause-index c = λ t hs i.
-    let A = c.args.heap.now in let at = place_of c.args.self in
+    let A = c.args.heap.now in let at = index_at c.args.self in
     let v = (goal.at.returns-in-None-clause-index c).After-unwrap_or-block in let left = few v in let p = had v i in
     subst (λ b. AddsEntry A c.set_header_word.new.self at t (insert hs c.args.place c.args.handle) b)
     (sym c.in-None.is) (inserted p (in_header c.args.self) (c.len-count.ensures.len t hs i) (omega arith) (omega arith)
@@ -47,14 +47,14 @@ returns-in-None-clause-index c = λ t hs i.
 pub returns-in-None-clause-live : goal.returns-in-None-clause-live
 returns-in-None-clause-live c =
     let B = c.set_header_word.new.self in
-    subst (λ b. EncodesLiveSet current B.bytes (grown_live c.args.heap.now (place_of c.args.self) b)) (sym c.in-None.is)
+    subst (λ b. EncodesLiveSet current B.bytes (grown_live c.args.heap.now (index_at c.args.self) b)) (sym c.in-None.is)
     (subst (λ (l : LiveSet). EncodesLiveSet current B.bytes l) (same_live c.spread.ensures.changes)
     c.set_header_word.ensures.changes.live)
 
 pub returns-in-None-clause-frame : goal.returns-in-None-clause-frame
 returns-in-None-clause-frame c = λ t hs i.
     let v = (goal.at.returns-in-None-clause-frame c).After-unwrap_or-block in let left = few v in let p = had v i in
-    subst (λ b. AddKeeps c.args.heap.now c.set_header_word.new.self (place_of c.args.self) t b) (sym c.in-None.is)
+    subst (λ b. AddKeeps c.args.heap.now c.set_header_word.new.self (index_at c.args.self) t b) (sym c.in-None.is)
     (block_and_count p (in_header c.args.self) (8 * c.args.place) c.spread.ensures.changes (omega arith)
     c.header_offset-in-None.ensures c.set_header_word.ensures.changes)
 
@@ -66,19 +66,19 @@ returns-in-None-clause-gaps c = λ none.
     c.header_offset-in-None.ensures c.set_header_word.ensures.changes
 
 -- the block of the growth, and the old place of the links
-given : (c : After-unwrap_or-from) {t : ATable} {hs : List ℕ} → IsIndexOf c.args.heap.now (place_of c.args.self) t hs
-    → let A = c.args.heap.now in let at = place_of c.args.self in
+given : (c : After-unwrap_or-from) {t : ATable} {hs : List ℕ} → IsIndexOf c.args.heap.now (index_at c.args.self) t hs
+    → let A = c.args.heap.now in let at = index_at c.args.self in
     Offer A (record {
       at = at;
       block = c.in-Some.block;
-      places = grown_capacity (capacity_at A at);
+      slots = grown_capacity (capacity_at A at);
       from = c.unwrap_or-from.result;
       link = c.header_link-in-Some.result;
       table = t;
       handles = hs;
     })
 given c i =
-    let g = subst (λ b. CanGrow c.args.heap.now (place_of c.args.self) b) c.in-Some.is c.requires.growth in
+    let g = subst (λ b. CanGrow c.args.heap.now (index_at c.args.self) b) c.in-Some.is c.requires.growth in
     offer (in_header c.args.self) c.header_offset-in-Some.ensures c.header_link-in-Some.ensures
     c.unwrap_or-from.ensures g.0 g.1 i
 
@@ -140,7 +140,7 @@ returns-in-Some-clause-index c = λ t hs i.
     long (omega arith) c.shift_non_null_links.ensures.lead c.spread-in-Some.ensures.changes
     c.spread-in-Some.ensures.in_place c.spread-in-Some.ensures.tail in
     let whole = insert_all (λ k. k % 16 ≡ 0) hs place c.args.handle (omega arith) i.whole (aligned c.requires.entry) in
-    subst (λ b. AddsEntry A c.install_block.new.heap (place_of c.args.self) t (insert hs place c.args.handle) b)
+    subst (λ b. AddsEntry A c.install_block.new.heap (index_at c.args.self) t (insert hs place c.args.handle) b)
     (sym c.in-Some.is)
     (index_in A c.spread-in-Some.new.heap c.install_block.new.heap c.in-Some.block
     (same_live (all at.After-spread-in-Some))
@@ -150,7 +150,7 @@ pub returns-in-Some-clause-live : goal.returns-in-Some-clause-live
 returns-in-Some-clause-live c =
     let at = goal.at.returns-in-Some-clause-live c in let d = all at.After-spread-in-Some in
     let o = given at.After-unwrap_or-from c.requires.entry.index.index in let E = c.install_block.new.heap in
-    subst (λ b. EncodesLiveSet current E.bytes (grown_live c.args.heap.now (place_of c.args.self) b)) (sym c.in-Some.is)
+    subst (λ b. EncodesLiveSet current E.bytes (grown_live c.args.heap.now (index_at c.args.self) b)) (sym c.in-Some.is)
     (subst (λ (l : LiveSet). EncodesLiveSet current E.bytes l)
     (ap₂ without_link (same_live d) ((written o d (omega arith)).leads ∙ sym o.leads)) c.install_block.ensures.live)
 
@@ -158,7 +158,7 @@ pub returns-in-Some-clause-frame : goal.returns-in-Some-clause-frame
 returns-in-Some-clause-frame c = λ t hs i.
     let at = goal.at.returns-in-Some-clause-frame c in let o =
     given at.After-unwrap_or-from c.requires.entry.index.index in
-    subst (λ b. AddKeeps c.args.heap.now c.install_block.new.heap (place_of c.args.self) t b) (sym c.in-Some.is)
+    subst (λ b. AddKeeps c.args.heap.now c.install_block.new.heap (index_at c.args.self) t b) (sym c.in-Some.is)
     (written_keeps o (all at.After-spread-in-Some) (omega arith) c.install_block.ensures.frame)
 
 pub returns-in-Some-clause-progress : goal.returns-in-Some-clause-progress
@@ -166,7 +166,7 @@ returns-in-Some-clause-progress c =
     let at = goal.at.returns-in-Some-clause-progress c in let o =
     given at.After-unwrap_or-from c.requires.entry.index.index in
     let more = λ (l : Option ℕ). IfSome l (λ old. c.args.steps.now < c.install_block.new.steps) in
-    subst (λ (b : Option ℕ). IfSome b (λ block. more (link_at (bytes_of c.args.heap.now.bytes) (place_of c.args.self))))
+    subst (λ (b : Option ℕ). IfSome b (λ block. more (link_at (bytes_of c.args.heap.now.bytes) (index_at c.args.self))))
     (sym c.in-Some.is)
     (subst more ((written o (all at.After-spread-in-Some) (omega arith)).leads
     ∙ sym o.leads) c.install_block.ensures.progress)
@@ -191,8 +191,8 @@ returns-in-Some-clause-order c =
     let at = goal.at.returns-in-Some-clause-order c in let d = all at.After-spread-in-Some in
     let q = c.requires.entry.index.index in let o = given at.After-unwrap_or-from q in
     let A = c.args.heap.now in let E = c.install_block.new.heap in
-    let live : live_of E.bytes ≡ without_index_block A (place_of c.args.self) =
-    lay_out_one current E.bytes (without_index_block c.spread-in-Some.new.heap (place_of c.args.self))
+    let live : live_of E.bytes ≡ without_index_block A (index_at c.args.self) =
+    lay_out_one current E.bytes (without_index_block c.spread-in-Some.new.heap (index_at c.args.self))
     c.install_block.ensures.live
     ∙ ap₂ without_link (same_live d) ((written o d (omega arith)).leads ∙ sym o.leads) in
     keeps-sorted (moved-stays q o.offered live (written_keeps o d (omega arith) c.install_block.ensures.frame))

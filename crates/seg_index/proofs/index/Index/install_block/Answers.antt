@@ -1,7 +1,7 @@
 -- The words link to the block, and the old one is freed.
 use Rattle.seg_index.proofs.index.Index.install_block.Goals as goal
 use Rattle.seg_index.proofs.{◌≡◌, ap, sym, subst, ◌∙◌, ◌+◌, ◌≤◌, arith, current, LiveSet, released, EncodesLiveSet}
-use Rattle.seg_index.proofs.{heap_touches, live_of, KeepsOutsideIndex, without_index_block, without_link, place_of}
+use Rattle.seg_index.proofs.{heap_touches, live_of, KeepsOutsideIndex, without_index_block, without_link, index_at}
 use Rattle.seg_index.proofs.{same_live}
 use Rattle.seg_index.proofs.{in_header, leads_from, keeps_words, block_whole, gone, headed, headed_released_keeps}
 use Rattle.seg_index.proofs.{settled, settled_released, ℕ, ◌<◌, Option, IfSome, none-some, refl}
@@ -18,7 +18,7 @@ returns-in-Some c =
     let leads = leads_from A c.header_offset-place.ensures c.header_link-old.ensures c.in-Some.is in
     let E = c.deallocate.new.self in let h = in_header c.args.self in
     let r = c.deallocate.ensures.released in let live = same_live w.change in let old = c.in-Some.old in
-    let is : without_index_block A (place_of c.args.self) ≡ released (live_of A.bytes) old =
+    let is : without_index_block A (index_at c.args.self) ≡ released (live_of A.bytes) old =
     ap (without_link (live_of A.bytes)) leads in
     record {
       index = λ hs links long whole. settled_released w h r (gone A old leads c.requires.released).1
@@ -26,7 +26,7 @@ returns-in-Some c =
       live = subst (λ (l : LiveSet). EncodesLiveSet current E.bytes l) (ap (λ (l : LiveSet). released l old) live
           ∙ sym is)
           r.live;
-      frame = subst (λ (l : LiveSet). KeepsOutsideIndex A E (place_of c.args.self) l.extents) (sym is)
+      frame = subst (λ (l : LiveSet). KeepsOutsideIndex A E (index_at c.args.self) l.extents) (sym is)
           (headed_released_keeps old w r h);
       steps_lower = omega arith;
       noop = λ none. absurd (none-some old (sym none ∙ leads));
@@ -39,7 +39,7 @@ returns-in-Some c =
 pub returns-in_default : goal.returns-in_default
 returns-in_default c =
     let A = c.args.heap.now in let D = c.set_header_word-2.new.self in let h = in_header c.args.self in
-    let at = place_of c.args.self in
+    let at = index_at c.args.self in
     let w = headed c.header_offset-place.ensures
     c.set_header_link.ensures.changes c.set_header_link.ensures.link_target c.set_header_word.ensures.changes
     c.set_header_word.ensures.word c.set_header_word-2.ensures.changes c.set_header_word-2.ensures.word in

@@ -1,7 +1,7 @@
 -- The links after the place close up.
 use Rattle.seg_index.proofs.{◌≡◌, ◌+◌, ◌-◌, ◌*◌, subst, arith, current, bytes_of, AllLinksLead, LiveSet, EncodesLiveSet}
 use Rattle.seg_index.proofs.{same_live}
-use Rattle.seg_index.proofs.{ℕ, List, IsIndexOf, place_of, has_places, in_header, links_lead, block_and_count}
+use Rattle.seg_index.proofs.{ℕ, List, IsIndexOf, index_at, has_slots, in_header, links_lead, block_and_count}
 use Rattle.seg_index.proofs.{gaps_kept, removed, ap, ◌∙◌, remove, extent_at, beside-stays, keeps-sorted, one-less}
 use Rattle.seg_index.specs.Sorted.{KeepsSorted}
 use Rattle.best_fit.specs.Table.{BackingArray as ATable}
@@ -11,7 +11,7 @@ pub shift_non_null_links-requires-clause-links : goal.shift_non_null_links-requi
 shift_non_null_links-requires-clause-links c =
     let q = c.requires.index in let block = c.unwrap_or-block.result in let place = c.args.place in
     let rest = c.len-count.result - place - 1 in
-    let p = has_places q.index (omega arith) c.header_offset.ensures c.header_link.ensures c.unwrap_or-block.ensures in
+    let p = has_slots q.index (omega arith) c.header_offset.ensures c.header_link.ensures c.unwrap_or-block.ensures in
     let lead = links_lead block (place + 1) rest q.handles p.links q.index.whole (omega arith) in
     let e : block + 8 * (place + 1) ≡ block + (8 * place + 8) = omega arith in
     subst (λ k. AllLinksLead (bytes_of c.args.heap.now.bytes) k rest) e lead
@@ -20,8 +20,8 @@ pub returns : goal.returns
 returns c =
     let D = c.set_header_word.new.self in let w = in_header c.args.self in let moved = c.shift_non_null_links.ensures in
     let counted = c.set_header_word.ensures in
-    let p = λ (t : ATable) (hs : List ℕ) (i : IsIndexOf c.args.heap.now (place_of c.args.self) t hs).
-    has_places i (omega arith) c.header_offset.ensures c.header_link.ensures c.unwrap_or-block.ensures in
+    let p = λ (t : ATable) (hs : List ℕ) (i : IsIndexOf c.args.heap.now (index_at c.args.self) t hs).
+    has_slots i (omega arith) c.header_offset.ensures c.header_link.ensures c.unwrap_or-block.ensures in
     let q = c.requires.index in let r = p q.table q.handles q.index in
     let keeps = block_and_count r w (8 * c.args.place) moved.changes (omega (arith, r))
     c.header_offset-2.ensures counted.changes in

@@ -1,7 +1,7 @@
 -- A new block is allocated, and then the links are copied to it.
 use Rattle.seg_index.proofs.{◌≡◌, ap, ap₂, refl, sym, subst, ◌∙◌, ◌+◌, ◌*◌, ◌<◌, ◌≤◌, arith, None, Option, Some}
 use Rattle.seg_index.proofs.{current, Extent, LiveSet, added, place, EncodesLiveSet, extent_at, heap_touches, live_of}
-use Rattle.seg_index.proofs.{allocated-live, without_link, IsIndexOf, capacity_at, place_of, same_live, in_header}
+use Rattle.seg_index.proofs.{allocated-live, without_link, IsIndexOf, capacity_at, index_at, same_live, in_header}
 use Rattle.seg_index.proofs.{links_lead, asked, is_found, meant, moved, source, taken_keeps, taken_offer, target}
 use Rattle.seg_index.proofs.{written, written_keeps, IndexRole, bytes_of, link_at, without_index_block, found_still}
 use Rattle.seg_index.proofs.{in-kept}
@@ -14,7 +14,7 @@ use Rattle.seg_index.proofs.index.Index.reserve.Goals as goal
 
 pub returns-in_err-block-clause-capacity : goal.returns-in_err-block-clause-capacity
 returns-in_err-block-clause-capacity c =
-    let A = c.args.heap.now in let B = c.allocate.new.self in let at = place_of c.args.self in let n = c.args.n in
+    let A = c.args.heap.now in let B = c.allocate.new.self in let at = index_at c.args.self in let n = c.args.n in
     let r = c.in_err-block.ensures.answer in let few : capacity_at A at < n = omega arith in
     let none = asked A n c.saturating_mul.result IndexRole c.requires.index.index.heap c.saturating_mul.ensures in
     let refused : AllocatesNoSpace A B (8 * n) IndexRole = record { none = none ∙ r.none; same = r.same } in
@@ -53,7 +53,7 @@ install_block-requires c =
 pub returns : goal.returns
 returns c =
     let A = c.args.heap.now in let B = c.allocate.new.self in let E = c.install_block.new.heap in
-    let at = place_of c.args.self in let q = c.requires.index in let n = c.args.n in let h = c.in_ok-block.block in
+    let at = index_at c.args.self in let q = c.requires.index in let n = c.args.n in let h = c.in_ok-block.block in
     let al = c.in_ok-block.ensures.answer in let w = in_header c.args.self in
     let one = c.shift_non_null_links.ensures.changes in let k = meant n q.index.heap al c.saturating_mul.ensures in
     let o = taken_offer w al c.saturating_mul.ensures c.header_offset.ensures c.header_link.ensures

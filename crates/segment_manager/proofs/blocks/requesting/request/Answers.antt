@@ -1,5 +1,5 @@
 -- The index has room or grows, and then the object's block is there, or all is given back.
-use Rattle.segment_manager.proofs.Common.{sym, subst, IfSome, IsTrue, WindowState, is_live_in, live_of, place_of}
+use Rattle.segment_manager.proofs.Common.{sym, subst, IfSome, IsTrue, WindowState, is_live_in, live_of, index_at}
 use Rattle.segment_manager.proofs.objects.Taking.{growth-held, request-unmet}
 use Rattle.segment_manager.proofs.blocks.requesting.request.Goals as goal
 
@@ -7,11 +7,11 @@ pub give_back-requires : goal.give_back-requires
 give_back-requires c = record {
   growth = subst (λ (s : WindowState). IfSome c.in_ok-growth.growth.block
       (λ h. IsTrue (is_live_in (live_of s.bytes) h))) (sym c.in-Err.ensures.answer.same)
-      (growth-held c.args.heap.now c.prepare.new.heap (place_of c.args.index) c.in_ok-growth.growth.block
+      (growth-held c.args.heap.now c.prepare.new.heap (index_at c.args.index) c.in_ok-growth.growth.block
       c.in_ok-growth.ensures.growth);
 }
 
 pub returns-in-Err : goal.returns-in-Err
 returns-in-Err c = request-unmet c.args.heap.now c.prepare.new.heap c.allocate.new.self c.give_back.new.heap
-    (place_of c.args.index) c.args.len c.in_ok-growth.growth.block c.requires.index.heap
+    (index_at c.args.index) c.args.len c.in_ok-growth.growth.block c.requires.index.heap
     c.in_ok-growth.ensures.growth c.in-Err.ensures.answer c.give_back.ensures.changes c.give_back.ensures.unchanged

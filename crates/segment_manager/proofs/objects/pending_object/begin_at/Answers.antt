@@ -1,6 +1,6 @@
 -- The blocks are requested and the head is written.
 use Rattle.segment_manager.proofs.Common.{ap, subst, ℕ, ◌+◌, inr, length, arith, current, ObjectRole}
-use Rattle.segment_manager.proofs.Common.{allocated-room, place_of, padded, RequestsBlocksErr, room_for}
+use Rattle.segment_manager.proofs.Common.{allocated-room, index_at, padded, RequestsBlocksErr, room_for}
 use Rattle.segment_manager.proofs.objects.Taking.{meant}
 use Rattle.segment_manager.proofs.objects.pending_object.begin_at.Goals as goal
 
@@ -12,7 +12,7 @@ returns-in_default c = λ key entry n away. inr (record {
   is = n;
   place = c.args.place;
   absent = away;
-  unmet = subst (λ (m : ℕ). RequestsBlocksErr c.args.heap.now c.request.new.heap (place_of c.args.index) m)
+  unmet = subst (λ (m : ℕ). RequestsBlocksErr c.args.heap.now c.request.new.heap (index_at c.args.index) m)
       (ap (λ m. m + c.args.shape.len) c.value_at-at.ensures) c.in_default.ensures;
 })
 

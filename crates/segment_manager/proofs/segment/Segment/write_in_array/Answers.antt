@@ -6,7 +6,7 @@ use Rattle.segment_manager.proofs.{directory.HeapCalls.denotes-heap, containers.
 use Rattle.segment_manager.proofs.containers.RangeCalls.{array-empty, array-framed, array-gaps, array-kind, array-other}
 use Rattle.segment_manager.proofs.containers.RangeCalls.{array-room}
 use Rattle.best_fit.proofs.Laws.{gaps-refl}
-use Rattle.segment_manager.proofs.containers.RangeCalls.{array-short, array-spelled, array-unlike, row-test}
+use Rattle.segment_manager.proofs.containers.RangeCalls.{array-short, array-spelled, array-unlike, series-test}
 
 pub returns-then-code-clause-step : goal.returns-then-code-clause-step
 returns-then-code-clause-step g c = array-other c.args.self.now c.args.object.now c.requires.object g.T.Scalar.kind
@@ -17,14 +17,14 @@ pub returns-then-not-has_range-clause-step : goal.returns-then-not-has_range-cla
 returns-then-not-has_range-clause-step g c = array-short c.args.self.now c.args.object.now c.requires.object
     g.T.Scalar.kind c.args.first (map g.T.Scalar.whole c.args.values.now)
     (array-kind c.args.object.now c.kind.ensures c.code.ensures c.code-2.ensures c.if-code.false) c.requires.writing
-    (row-test g.T.Scalar.whole c.args.values.now c.args.first c.from.ensures c.has_range.ensures
+    (series-test g.T.Scalar.whole c.args.values.now c.args.first c.from.ensures c.has_range.ensures
     c.if-not-has_range.true)
 
 pub returns-then-is_empty-clause-step : goal.returns-then-is_empty-clause-step
 returns-then-is_empty-clause-step g c = array-empty c.args.self.now c.args.object.now c.requires.object g.T.Scalar.kind
     c.args.first (map g.T.Scalar.whole c.args.values.now)
     (array-kind c.args.object.now c.kind.ensures c.code.ensures c.code-2.ensures c.if-code.false) c.requires.writing
-    (row-test g.T.Scalar.whole c.args.values.now c.args.first c.from.ensures c.has_range.ensures
+    (series-test g.T.Scalar.whole c.args.values.now c.args.first c.from.ensures c.has_range.ensures
     c.if-not-has_range.false) (length-map c.args.values.now g.T.Scalar.whole
     ∙ eqb-true (length c.args.values.now) 0 (sym c.is_empty.ensures ∙ c.if-is_empty.true))
 
@@ -38,7 +38,7 @@ spell-requires-clause-room g c = array-room (record { cut = c.self.inside.heap; 
     (subst (λ (u : SegmentState). IsLocated u (ByHandle c.args.object.now.handle) c.args.object.now)
     (sym c.self.view_is) c.requires.object) g.T.Scalar.kind c.args.first (map g.T.Scalar.whole c.args.values.now)
     (array-kind c.args.object.now c.kind.ensures c.code.ensures c.code-2.ensures c.if-code.false)
-    (row-test g.T.Scalar.whole c.args.values.now c.args.first c.from.ensures c.has_range.ensures
+    (series-test g.T.Scalar.whole c.args.values.now c.args.first c.from.ensures c.has_range.ensures
     c.if-not-has_range.false) c.value_at.ensures (c.SIZE.ensures ∙ g.met.T.Scalar.size)
     (λ i. g.met.T.Scalar.size i * sym (length-map c.args.values.now g.T.Scalar.whole) i)
 
@@ -46,7 +46,7 @@ pub invariant_of-self : goal.invariant_of-self
 invariant_of-self g c = (array-spelled (of-vector g.met.T.Scalar) _ _ c.self.view_is c.self.invariant c.args.object.now
     c.requires.object c.args.first c.args.values.now
     (array-kind c.args.object.now c.kind.ensures c.code.ensures c.code-2.ensures c.if-code.false) c.requires.writing
-    (row-test g.T.Scalar.whole c.args.values.now c.args.first c.from.ensures c.has_range.ensures
+    (series-test g.T.Scalar.whole c.args.values.now c.args.first c.from.ensures c.has_range.ensures
     c.if-not-has_range.false)
     c.value_at.ensures c.SIZE.ensures c.spell.ensures.values _ c.spell.ensures.changes c.spell.ensures.content).segment
 
@@ -54,7 +54,7 @@ pub returns-clause-step : goal.returns-clause-step
 returns-clause-step g c = (array-spelled (of-vector g.met.T.Scalar) _ _ c.self.view_is c.self.invariant
     c.args.object.now c.requires.object c.args.first c.args.values.now
     (array-kind c.args.object.now c.kind.ensures c.code.ensures c.code-2.ensures c.if-code.false) c.requires.writing
-    (row-test g.T.Scalar.whole c.args.values.now c.args.first c.from.ensures c.has_range.ensures
+    (series-test g.T.Scalar.whole c.args.values.now c.args.first c.from.ensures c.has_range.ensures
     c.if-not-has_range.false)
     c.value_at.ensures c.SIZE.ensures c.spell.ensures.values _ c.spell.ensures.changes c.spell.ensures.content).step
 
@@ -62,7 +62,7 @@ pub returns-clause-frame : goal.returns-clause-frame
 returns-clause-frame g c = array-framed (of-vector g.met.T.Scalar) _ _ c.self.view_is c.self.invariant
     c.args.object.now c.requires.object c.args.first c.args.values.now
     (array-kind c.args.object.now c.kind.ensures c.code.ensures c.code-2.ensures c.if-code.false) c.requires.writing
-    (row-test g.T.Scalar.whole c.args.values.now c.args.first c.from.ensures c.has_range.ensures
+    (series-test g.T.Scalar.whole c.args.values.now c.args.first c.from.ensures c.has_range.ensures
     c.if-not-has_range.false) c.value_at.ensures c.SIZE.ensures c.spell.ensures.values _ c.spell.ensures.changes
 
 pub returns-then-code-clause-gaps : goal.returns-then-code-clause-gaps
@@ -78,5 +78,5 @@ pub returns-clause-gaps : goal.returns-clause-gaps
 returns-clause-gaps g c = array-gaps (of-vector g.met.T.Scalar) _ _ c.self.view_is c.self.invariant
     c.args.object.now c.requires.object c.args.first c.args.values.now
     (array-kind c.args.object.now c.kind.ensures c.code.ensures c.code-2.ensures c.if-code.false) c.requires.writing
-    (row-test g.T.Scalar.whole c.args.values.now c.args.first c.from.ensures c.has_range.ensures
+    (series-test g.T.Scalar.whole c.args.values.now c.args.first c.from.ensures c.has_range.ensures
     c.if-not-has_range.false) c.value_at.ensures c.SIZE.ensures c.spell.ensures.values _ c.spell.ensures.changes

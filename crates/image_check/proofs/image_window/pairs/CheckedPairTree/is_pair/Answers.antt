@@ -5,8 +5,8 @@ use Rattle.image_check.proofs.image_window.pairs.CheckedPairTree.is_pair.Goals a
 pub overflow_add-node : goal.overflow_add-node
 overflow_add-node c =
     let s = c.args.self.now in
-    let lies = place-lies s.window.now s.key s.value c.args.node (sym c.is_place_in.ensures
-    ∙ c.if-not-is_place_in.false) in
+    let lies = place-lies s.window.now s.key s.value c.args.node (sym c.is_target_in.ensures
+    ∙ c.if-not-is_target_in.false) in
     let fields = lies.fields in
     let small = lies.small in
     omega arith
@@ -14,8 +14,8 @@ overflow_add-node c =
 pub is_spelled-requires : goal.is_spelled-requires
 is_spelled-requires c =
     let s = c.args.self.now in
-    let lies = place-lies s.window.now s.key s.value c.args.node (sym c.is_place_in.ensures
-    ∙ c.if-not-is_place_in.false) in
+    let lies = place-lies s.window.now s.key s.value c.args.node (sym c.is_target_in.ensures
+    ∙ c.if-not-is_target_in.false) in
     let fields = lies.fields in
     let small = lies.small in
     omega arith
@@ -23,8 +23,8 @@ is_spelled-requires c =
 pub overflow_add-node-then-is_spelled : goal.overflow_add-node-then-is_spelled
 overflow_add-node-then-is_spelled c =
     let s = c.args.self.now in
-    let lies = place-lies s.window.now s.key s.value c.args.node (sym c.is_place_in.ensures
-    ∙ c.if-not-is_place_in.false) in
+    let lies = place-lies s.window.now s.key s.value c.args.node (sym c.is_target_in.ensures
+    ∙ c.if-not-is_target_in.false) in
     let fields = lies.fields in
     let small = lies.small in
     omega arith
@@ -32,8 +32,8 @@ overflow_add-node-then-is_spelled c =
 pub overflow_add-node-then-is_spelled-2 : goal.overflow_add-node-then-is_spelled-2
 overflow_add-node-then-is_spelled-2 c =
     let s = c.args.self.now in
-    let lies = place-lies s.window.now s.key s.value c.args.node (sym c.is_place_in.ensures
-    ∙ c.if-not-is_place_in.false) in
+    let lies = place-lies s.window.now s.key s.value c.args.node (sym c.is_target_in.ensures
+    ∙ c.if-not-is_target_in.false) in
     let fields = lies.fields in
     let small = lies.small in
     let len = c.size.ensures in
@@ -42,8 +42,8 @@ overflow_add-node-then-is_spelled-2 c =
 pub is_spelled-requires-then-is_spelled : goal.is_spelled-requires-then-is_spelled
 is_spelled-requires-then-is_spelled c =
     let s = c.args.self.now in
-    let lies = place-lies s.window.now s.key s.value c.args.node (sym c.is_place_in.ensures
-    ∙ c.if-not-is_place_in.false) in
+    let lies = place-lies s.window.now s.key s.value c.args.node (sym c.is_target_in.ensures
+    ∙ c.if-not-is_target_in.false) in
     let fields = lies.fields in
     let small = lies.small in
     let len = c.size.ensures in

@@ -1,11 +1,11 @@
-use Rattle.image_check.proofs.Common.{arith, is_pair-IsPairNode, is_place-PayloadBounds}
+use Rattle.image_check.proofs.Common.{arith, is_pair-IsPairNode, is_target-PayloadBounds}
 use Rattle.image_check.proofs.containers.MapPairs.{left-kept, pair-lies}
 use Rattle.image_check.proofs.image_window.pairs.CheckedPairTreeNodes.left.Goals as goal
 
 pub child-requires-clause-size : goal.child-requires-clause-size
 child-requires-clause-size c =
     let s = c.args.self.now in
-    (is_place-PayloadBounds s.window.now c.args.node
+    (is_target-PayloadBounds s.window.now c.args.node
     (is_pair-IsPairNode s.window.now s.blocks.now.entries s.root s.key s.value c.args.node c.requires).place).size
 
 pub child-requires-clause-aligned : goal.child-requires-clause-aligned

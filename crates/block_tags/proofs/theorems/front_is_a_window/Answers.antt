@@ -1,5 +1,0 @@
-use Rattle.block_tags.proofs.changes.UnchangedTags.{front_is_a_window as law}
-use Rattle.block_tags.proofs.theorems.front_is_a_window.Goals as goal
-
-pub returns : goal.returns
-returns c = law

@@ -1,0 +1,67 @@
+//! The words for the codes.
+ghost use Rattle.std.specs.Prelude.{◌≡◌};
+ghost use Rattle.segment_c.specs.Messages.{code_message, version};
+
+use seg_types::Refusal;
+
+/// The version of the library: 10000 for each major one, 100 for each minor one, and 1 for each patch.
+const VERSION: u32 = 900;
+
+/// Returns the version of the library, as a number.
+#[unsafe(no_mangle)]
+pub extern "C" fn zx_version() -> u32
+    ensures { result ≡ version }
+{
+    VERSION
+}
+
+/// Returns the words for a code, which stay as long as the program runs; none if it is no code.
+#[unsafe(no_mangle)]
+pub extern "C" fn zx_words(code: u32, message: &mut &'static [u8])
+    ensures { message.new.now ≡ code_message code }
+{
+    *message = code_message(code);
+}
+
+/// Returns the words for a code.
+fn code_message(code: u32) -> &'static [u8]
+    ensures { result.now ≡ code_message code }
+{
+    match code {
+        0 => b"done",
+        4 => Refusal::ReadOnly.message().as_bytes(),
+        5 => Refusal::Exists.message().as_bytes(),
+        6 => Refusal::NotFound.message().as_bytes(),
+        7 => Refusal::WrongKind.message().as_bytes(),
+        8 => Refusal::OutOfRange.message().as_bytes(),
+        9 => Refusal::NoSpace.message().as_bytes(),
+        10 => b"nothing is there",
+        16 => b"the handle is closed",
+        17 => b"no such key",
+        18 => b"no name",
+        19 => b"no such kind",
+        20 => b"no such value",
+        21 => b"no such count",
+        22 => b"no such size",
+        23 => b"no such mode",
+        24 => b"the buffer is too short",
+        25 => b"a slice is null",
+        26 => b"out of memory",
+        27 => b"region too small",
+        28 => b"growth is no multiple of 16 from 32 on",
+        29 => b"too large",
+        101 => b"the image ends too early",
+        102 => b"the image does not begin with the magic",
+        103 => b"the version is not supported",
+        104 => b"the size is wrong",
+        105 => b"a reserved byte is not zero",
+        106 => b"the tags are wrong",
+        107 => b"the free tree is wrong",
+        108 => b"an index is wrong",
+        109 => b"an object is wrong",
+        110 => b"two links lead to one block",
+        111 => b"a container is wrong",
+        112 => b"a block belongs to nothing",
+        _ => b"",
+    }
+}

@@ -73,4 +73,4 @@ returns-then-len-behind c =
 pub returns : goal.returns
 returns c =
     whole 4096 c.args.log.now c.number_of-len.result _ _ c.if-log-ne1.false c.number_of-len.ensures c.if-text-lt8.false
-    c.if-len-behind.false c.split_at.ensures.prefix c.split_at.ensures.back
+    c.if-len-behind.false c.split_at.ensures.front c.split_at.ensures.back

@@ -13,5 +13,5 @@ returns-then-not-is_note c =
 pub notes-preserved : goal.notes-preserved
 notes-preserved c =
     cut-last c.notes.left.now c.last_line_at.result c.last_line_at.ensures c.split_at.result.0.now
-    c.split_at.result.1.now c.split_at.ensures.prefix c.split_at.ensures.back
+    c.split_at.result.1.now c.split_at.ensures.front c.split_at.ensures.back
     (c.is_note.ensures.note c.if-not-is_note.false) ∙ c.notes.invariant

@@ -10,11 +10,11 @@ pub returns-then-line-gt-LONGEST_LINE : goal.returns-then-line-gt-LONGEST_LINE
 returns-then-line-gt-LONGEST_LINE c =
     long-line c.args.self.now c.args.self.now c.split_at.result.0.now c.line_len.result c.in-Some.end _
     (c.line_len.ensures ∙ ap (position is_end) c.self.view_is) c.in-Some.is
-    (c.split_at.ensures.prefix ∙ ap (take c.in-Some.end) c.self.view_is) c.if-line-gt-LONGEST_LINE.true
+    (c.split_at.ensures.front ∙ ap (take c.in-Some.end) c.self.view_is) c.if-line-gt-LONGEST_LINE.true
 
 pub returns : goal.returns
 returns c =
     this-line c.args.self.now c.split_at-2.result.1.now c.split_at.result.0.now c.split_at.result.1.now
     c.line_len.result c.in-Some.end (c.line_len.ensures ∙ ap (position is_end) c.self.view_is) c.in-Some.is
-    (c.split_at.ensures.prefix ∙ ap (take c.in-Some.end) c.self.view_is) (c.split_at.ensures.back
+    (c.split_at.ensures.front ∙ ap (take c.in-Some.end) c.self.view_is) (c.split_at.ensures.back
     ∙ ap (drop c.in-Some.end) c.self.view_is) c.split_at-2.ensures.back

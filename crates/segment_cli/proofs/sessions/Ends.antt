@@ -133,6 +133,14 @@ pub images_mean_one : (b : List ℕ) → IsTrue (are_bytes b) → HasOneDirector
 unfolding current
 images_mean_one b h = one_directory current b (omega arith) h
 
+-- of a session that failed before it saved anything there is nothing to say of gaps
+pub no_zeros : (start : Start) (mode : Mode) (t : SessionIo) (fault : SessionFault) → t.saved.failed ≡ false
+    → LeavesZeros start mode t (failed fault)
+no_zeros start mode t fault saved = record {
+  done = λ is. absurd (cc);
+  cut = λ is. absurd (false≢true (sym saved ∙ is));
+}
+
 -- ---- faults, as the call before answers them
 
 abbrev no_segment : SessionFault → Result SegmentState SessionFault
@@ -260,10 +268,6 @@ module _ (start : Start) (mode : Mode) (base capacity : ℕ) (t : SessionIo) whe
         );
         cut = λ is. absurd (false≢true (sym saved ∙ is));
       }
-
-  -- a session that was not saved leaves nothing to say of gaps
-  pub no_zeros : (fault : SessionFault) → t.saved.failed ≡ false → LeavesZeros start mode t (Err fault)
-  no_zeros fault saved = record { done = λ is. absurd (cc); cut = λ is. absurd (false≢true (sym saved ∙ is)) }
 
   -- all was answered, and of the image a proper prefix was written
   unsaved : (s s' : SegmentState) → BeginsSessionOk start mode t.image s

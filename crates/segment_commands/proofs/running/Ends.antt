@@ -184,7 +184,7 @@ module _ {D : Type 0} (step : D → Event → D
     ran = rw p.unserved.why (record {
       session = stopped_session start mode 0 capacity (io_of act (all_of [])) s s' p.unserved.stop h
           (λ at there. (p.unserved.left at there).left) (record { bytes = refl; failed = refl });
-      zero_gaps = no_zeros start mode 0 capacity (io_of act (all_of [])) (run_fault p.unserved.stop) refl;
+      zero_gaps = no_zeros start mode (io_of act (all_of [])) (run_fault p.unserved.stop) refl;
     });
     ok = p.ok;
     flushed = p.flushed;

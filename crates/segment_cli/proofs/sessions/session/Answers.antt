@@ -1,7 +1,6 @@
-use Rattle.std.proofs.{Common.length, Common.Ok, lemmas.Result.err_from_is_err_and}
+use Rattle.std.proofs.{Common.length, lemmas.Result.err_from_is_err_and}
 use Rattle.raw_region.proofs.Laws.{added}
 use Rattle.segment_scripts.specs.Lines.{script_limit}
-use Rattle.segment_cli.specs.declared.faults.SessionFault.TheVariants.{WriteFault}
 use Rattle.segment_scripts.proofs.Laws.{one_failed}
 use Rattle.segment_cli.proofs.sessions.Ends.{at_first, first, images_mean_one, none_appended, none_beyond, none_counted}
 use Rattle.segment_cli.proofs.sessions.Ends.{read_on_fault, unread}
@@ -107,24 +106,24 @@ returns-clause-script_end g c = c.serve.ensures.script_end
 pub returns-in_err-segment-clause-zero_gaps : goal.returns-in_err-segment-clause-zero_gaps
 returns-in_err-segment-clause-zero_gaps g c =
     let p = err_from_is_err_and c.from_residual.result c.from_residual.ensures.1 in
-    rw (p.1, p.2) (no_zeros _ _ _ c.in_err-segment.field-0.0
+    rw (p.1, p.2) (no_zeros _ _ _ _
     (not_written (g.W.Sink.history c.args.image_out.now)).failed)
 
 pub returns-in_err-serve-clause-zero_gaps : goal.returns-in_err-serve-clause-zero_gaps
 returns-in_err-serve-clause-zero_gaps g c =
     let p = err_from_is_err_and c.from_residual-in_err-serve.result c.from_residual-in_err-serve.ensures.1 in
-    rw (p.1, p.2) (no_zeros _ _ _ c.in_err-serve.field-0.0
+    rw (p.1, p.2) (no_zeros _ _ _ _
     (not_written (g.W.Sink.history c.args.image_out.now)).failed)
 
 pub returns-clause-zero_gaps : goal.returns-clause-zero_gaps
 returns-clause-zero_gaps g c = let saved = c.in_ok-save_segment.ensures in
     done_zeros _ _ _ _ _ c.in_ok-segment.segment c.serve.new.segment c.in_ok-segment.ensures.start
     (served _ _ _ _ _ c.in_ok-serve.ensures.service) (λ writes. added _ _ _ (saved.bytes writes))
-    (none_counted _ _ saved.failures) (Ok tt)
+    (none_counted _ _ saved.failures) _
 
 pub returns-in_err-save_segment-clause-zero_gaps : goal.returns-in_err-save_segment-clause-zero_gaps
 returns-in_err-save_segment-clause-zero_gaps g c =
     let from = c.from_residual-in_err-save_segment in let p = err_from_is_err_and from.result from.ensures.1 in
-    rw (p.1, p.2) (unsaved_zeros _ _ _ _ _ c.in_ok-segment.segment c.serve.new.segment WriteFault
+    rw (p.1, p.2) (unsaved_zeros _ _ _ _ _ c.in_ok-segment.segment c.serve.new.segment _
     c.in_ok-segment.ensures.start (served _ _ _ _ _ c.in_ok-serve.ensures.service)
     c.in_err-save_segment.ensures.on_error.1)

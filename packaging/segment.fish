@@ -1,5 +1,5 @@
 # Completions of the words of `segment` for fish. After `-c` the words of the language are completed.
-set -l commands create run check grow shrink migrate stat draw dump names get load lint language help
+set -l commands create run check grow shrink migrate stat draw dump names get load salvage lint language help
 set -l modes create_only open_only open_or_create open_read_only open_copy_on_write
 complete -c segment -n "not __fish_seen_subcommand_from $commands" -f -a "$commands"
 complete -c segment -n "not __fish_seen_subcommand_from $commands" -l version -d 'which program this is'

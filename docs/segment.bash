@@ -29,7 +29,7 @@ _segment() {
         create) options='--replace' more=1 ;;
         grow) options='--replace --wait' more=1 ;;
         shrink | migrate) options='--replace --wait' more=1 ;;
-        draw) options='--html --wait' more=1 ;;
+        draw) options='--html --all --wait' more=1 ;;
         dump) options='--capacities --json --wait' more=1 ;;
         names) options='--prefix --most --wait' more=1 ;;
         get) options='--wait' more=1 ;;

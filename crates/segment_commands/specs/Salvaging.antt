@@ -69,8 +69,8 @@ FindsWhole image (Some segment) = IsWholeImage image segment
 FindsWhole image None = IsRefusedImage image
 
 -- memory was refused
-abbrev pub IsWithoutMemory : CommandFault → Type 0
-IsWithoutMemory fault = ((refusal : MemoryFault) × (fault ≡ Session (OutOfMemory refusal))) ⊎ (fault ≡ NoMemory)
+abbrev pub LacksMemory : CommandFault → Type 0
+LacksMemory fault = ((refusal : MemoryFault) × (fault ≡ Session (OutOfMemory refusal))) ⊎ (fault ≡ NoMemory)
 
 -- ---- what is left out
 
@@ -155,7 +155,7 @@ module _ {O : Type 0} (history : O → WriterHistory) (flushes : O → Bool → 
 
   -- bytes that were read
   abbrev pub SalvagesBytes : List ℕ → Type 0
-  SalvagesBytes image = SalvagesErr IsWithoutMemory ⊎ (SalvagesWhole image ⊎ SalvagesParts image)
+  SalvagesBytes image = SalvagesErr LacksMemory ⊎ (SalvagesWhole image ⊎ SalvagesParts image)
 
   -- a file was read, and then this is of its bytes; or it was not
   pub record SalvagesRead {D : Type 0} (step : D → Event → D → Type 0) (old new : D) (path : List ℕ) : Type 0 where

@@ -4,7 +4,7 @@ ghost use Rattle.raw_region.specs.Device.{Writes};
 ghost use Rattle.block_tags.specs.Format.{is_legal_size};
 ghost use Rattle.segment_lang.specs.Pieces.{piece_text};
 ghost use Rattle.segment_salvage.specs.Standing.{IsSalvaged};
-ghost use Rattle.segment_commands.specs.Salvaging.{FindsWhole, IsRefusedImage, IsWithoutMemory, ReadsFile};
+ghost use Rattle.segment_commands.specs.Salvaging.{FindsWhole, IsRefusedImage, LacksMemory, ReadsFile};
 ghost use Rattle.segment_commands.specs.Salvaging.{RunsSalvage, SalvagesBytes, cause_message, key_text, loss_line};
 ghost use Rattle.segment_commands.specs.Salvaging.{losses_text, name_in, status_of};
 
@@ -59,7 +59,7 @@ fn read_file<D: Disk>(alloc: Global, disk: &mut D, path: &str) -> Result<Vec<u8>
 
 /// Returns the segment of an image of the current format, or none if the image is refused.
 fn whole_segment(alloc: Global, image: &[u8]) -> Result<Option<Segment>, CommandFault>
-    ensures { MatchResult result (FindsWhole image.now) IsWithoutMemory }
+    ensures { MatchResult result (FindsWhole image.now) LacksMemory }
 {
     let region = region_for(alloc, image.len() as u64)?;
     let current = AcceptedVersions::Current;
@@ -81,7 +81,7 @@ fn salvaged_segment(
     image: &[u8],
     losses: &mut Vec<Loss>,
 ) -> Result<Segment, CommandFault>
-    ensures { MatchResult result (IsSalvaged image.now) IsWithoutMemory }
+    ensures { MatchResult result (IsSalvaged image.now) LacksMemory }
 {
     let mut segment = new_segment(alloc, roomy_size(image.len() as u64))?;
     segment_salvage::salvage(alloc, image, &mut segment, losses)?;
@@ -190,7 +190,8 @@ fn salvage_parts<O: Output, E: Sink>(
     requires image { IsRefusedImage image.now }
     requires out { (O.history out.old).failures < 2 ^ 64 - 1 }
     requires on_error { (E.history err.old).failures < 2 ^ 64 - 1 }
-    ensures { SalvagesBytes O.history O.flushes out.old out.new (E.history err.old) (E.history err.new) result image.now }
+    ensures { SalvagesBytes O.history O.flushes out.old out.new (E.history err.old) (E.history err.new) result
+        image.now }
 {
     let mut losses = Vec::new(alloc);
     let segment = salvaged_segment(alloc, image, &mut losses)?;
@@ -208,7 +209,8 @@ fn salvage_image<O: Output, E: Sink>(
 ) -> Result<u8, CommandFault>
     requires out { (O.history out.old).failures < 2 ^ 64 - 1 }
     requires on_error { (E.history err.old).failures < 2 ^ 64 - 1 }
-    ensures { SalvagesBytes O.history O.flushes out.old out.new (E.history err.old) (E.history err.new) result image.now }
+    ensures { SalvagesBytes O.history O.flushes out.old out.new (E.history err.old) (E.history err.new) result
+        image.now }
 {
     match whole_segment(alloc, image)? {
         Some(segment) => {
@@ -219,9 +221,10 @@ fn salvage_image<O: Output, E: Sink>(
     }
 }
 
-/// Writes the dump of the segment in a file, which is opened for reading. If its image is refused, writes the dump of a
-/// segment with those of its objects that can be reached and are right by themselves. Then it writes to `err` a line for
-/// each object that is left out, and how many they are. Returns the status: 0 if no object is left out, and otherwise 1.
+/// Writes the dump of the segment in a file, which is opened for reading. If its image is refused, writes the dump of
+/// a segment with those of its objects that can be reached and are right by themselves. Then it writes to `err` a line
+/// for each object that is left out, and how many they are. Returns the status: 0 if no object is left out, otherwise
+/// 1.
 ///
 /// Each object of the dump stands in the bytes of the file: its kind, class and name, and its values.
 ///

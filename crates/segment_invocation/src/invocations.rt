@@ -24,22 +24,22 @@ pub(crate) enum FileCommand {
     Migrate,
     /// `stat`: the figures are told.
     Stat,
-    /// `draw`: the picture is told, or a page with it.
+    /// `draw`: a picture or a page is told.
     Draw,
-    /// `dump`: the objects are told, as text or as JSON.
+    /// `dump`: the objects are told, as text or JSON.
     Dump,
     /// `names`: the names are told.
     Names,
     /// `get`: one value is printed.
     Get,
-    /// `load`: a dump is loaded into the file.
+    /// `load`: a dump is loaded.
     Load,
-    /// `salvage`: what is right of a damaged image is told, as text.
+    /// `salvage`: a damaged image is told.
     Salvage,
 }
 
 impl FileCommand {
-    /// Returns the command of a word. `None` is a word that is none of the thirteen.
+    /// Returns the command of a word, `None` for any other.
     pub(crate) fn from_argument(argument: &str) -> Option<FileCommand>
         ensures { result ≡ command_called argument.now }
     {

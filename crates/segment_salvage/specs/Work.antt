@@ -7,9 +7,9 @@ abbrev pub max_work : List ℕ → ℕ
 max_work image = 4 * length image
 
 -- a call reads values, and takes them from what may still be read
-abbrev pub Takes : Allowance → Allowance → Type 0
-Takes old new = new.left ≤ old.left
+abbrev pub ReadsValues : Allowance → Allowance → Type 0
+ReadsValues old new = new.left ≤ old.left
 
 -- a call reads bytes, and takes at least these many from what may still be read
-abbrev pub TakesBytes : Allowance → Allowance → ℕ → Type 0
-TakesBytes old new bytes = new.left + bytes ≤ old.left
+abbrev pub ReadsBytes : Allowance → Allowance → ℕ → Type 0
+ReadsBytes old new bytes = new.left + bytes ≤ old.left

@@ -6,7 +6,7 @@ ghost use Rattle.segment_manager.specs.objects.NewObjects.{IsOfKind};
 ghost use Rattle.segment_salvage.specs.Pairs.{IsPairOfImage};
 ghost use Rattle.segment_salvage.specs.Standing.{Salvages};
 ghost use Rattle.segment_salvage.specs.Steps.{IsHead};
-ghost use Rattle.segment_salvage.specs.Work.{Takes};
+ghost use Rattle.segment_salvage.specs.Work.{ReadsValues};
 
 use crate::allowance::Allowance;
 use crate::heads::Head;
@@ -31,7 +31,7 @@ pub(crate) fn rebuild_map(
     requires head { IsHead image.now _at (MapOf keys values) (new_key_seen head.key) head.value }
     requires key { IsOfKind (new_key_seen head.key) (MapOf keys values) }
     ensures effect { Salvages image.now segment.old segment.new }
-    ensures steps_upper { Takes allowance.old allowance.new }
+    ensures steps_upper { ReadsValues allowance.old allowance.new }
 {
     if head.count != 1 {
         return Err(Unbuilt::Lost(LossCause::BadHead));

@@ -5,7 +5,7 @@ ghost use Rattle.seg_types.specs.Kinds.{is_value, size_of, spelling};
 ghost use Rattle.seg_types.specs.Values.{kind_of_scalar, value_of_scalar};
 ghost use Rattle.segment_salvage.specs.Standing.{HasPart};
 ghost use Rattle.segment_salvage.specs.Pairs.{IsPairOfImage};
-ghost use Rattle.segment_salvage.specs.Work.{Takes, TakesBytes};
+ghost use Rattle.segment_salvage.specs.Work.{ReadsValues, ReadsBytes};
 
 use crate::allowance::Allowance;
 use crate::bytes::{link, part, word};
@@ -52,7 +52,7 @@ pub(crate) fn pairs_at(
 ) -> Result<Option<Vec<Pair>>, AllocError>
     ensures contents { IfOk result (λ found. IfSome found (λ pairs.
         AllByRecursion (IsPairOfImage image.now keys values) pairs.items)) }
-    ensures steps_upper { Takes allowance.old allowance.new }
+    ensures steps_upper { ReadsValues allowance.old allowance.new }
 {
     let Some(root) = link(image, at) else {
         return Ok(None);
@@ -96,8 +96,9 @@ fn next_node(
     allowance: &mut Allowance,
 ) -> Option<Node>
     ensures pair { IfSome result (λ node. IsPairOfImage image.now keys values node.pair) }
-    ensures steps { IfSome result (λ node. TakesBytes allowance.old allowance.new (16 + size_of keys + size_of values)) }
-    ensures steps_upper { Takes allowance.old allowance.new }
+    ensures steps { IfSome result (λ node.
+        ReadsBytes allowance.old allowance.new (16 + size_of keys + size_of values)) }
+    ensures steps_upper { ReadsValues allowance.old allowance.new }
 {
     let at = waiting.pop()?;
     allowance.take(LINKS + keys.size() + values.size())?;

@@ -7,7 +7,7 @@ ghost use Rattle.seg_types.specs.Keys.{new_key_seen};
 ghost use Rattle.segment_manager.specs.objects.NewObjects.{IsOfKind};
 ghost use Rattle.segment_salvage.specs.Standing.{Salvages};
 ghost use Rattle.segment_salvage.specs.Steps.{IsHead};
-ghost use Rattle.segment_salvage.specs.Work.{Takes, TakesBytes};
+ghost use Rattle.segment_salvage.specs.Work.{ReadsValues, ReadsBytes};
 
 use crate::allowance::Allowance;
 use crate::bytes::part;
@@ -43,7 +43,7 @@ pub(crate) fn rebuild(
     requires head { IsHead image.now _at head.kind (new_key_seen head.key) head.value }
     requires key { IsOfKind (new_key_seen head.key) head.kind }
     ensures effect { Salvages image.now segment.old segment.new }
-    ensures steps_upper { Takes allowance.old allowance.new }
+    ensures steps_upper { ReadsValues allowance.old allowance.new }
 {
     macro_rules! array {
         ($type:ty, $kind:ident) => {
@@ -77,7 +77,7 @@ fn rebuild_array<T: Scalar>(
     requires head { IsHead image.now _at (ScalarOf T.kind) (new_key_seen head.key) head.value }
     requires key { IsOfKind (new_key_seen head.key) (ScalarOf T.kind) }
     ensures effect { Salvages image.now segment.old segment.new }
-    ensures steps_upper { Takes allowance.old allowance.new }
+    ensures steps_upper { ReadsValues allowance.old allowance.new }
 {
     let count = head.count;
     if count == 0 || count > MAX_ARRAY_LEN {
@@ -104,8 +104,8 @@ fn array_at<'a>(
 ) -> Option<&'a [u8]>
     ensures bytes { IfSome result (λ bytes. bytes.now ≡ part image.now value len) }
     ensures len { IfSome result (λ bytes. length bytes.now ≡ len) }
-    ensures steps { IfSome result (λ bytes. TakesBytes allowance.old allowance.new (length bytes.now)) }
-    ensures steps_upper { Takes allowance.old allowance.new }
+    ensures steps { IfSome result (λ bytes. ReadsBytes allowance.old allowance.new (length bytes.now)) }
+    ensures steps_upper { ReadsValues allowance.old allowance.new }
 {
     if !is_in_tile(image, at, value.checked_add(len)?) {
         return None;
@@ -127,7 +127,7 @@ fn rebuild_vector<T: Scalar>(
     requires head { IsHead image.now _at (VectorOf T.kind) (new_key_seen head.key) head.value }
     requires key { IsOfKind (new_key_seen head.key) (VectorOf T.kind) }
     ensures effect { Salvages image.now segment.old segment.new }
-    ensures steps_upper { Takes allowance.old allowance.new }
+    ensures steps_upper { ReadsValues allowance.old allowance.new }
 {
     if head.count != 1 {
         return Err(Unbuilt::Lost(LossCause::BadHead));
@@ -154,7 +154,7 @@ fn rebuild_string(
     requires head { IsHead image.now _at StringOf (new_key_seen head.key) head.value }
     requires key { IsOfKind (new_key_seen head.key) StringOf }
     ensures effect { Salvages image.now segment.old segment.new }
-    ensures steps_upper { Takes allowance.old allowance.new }
+    ensures steps_upper { ReadsValues allowance.old allowance.new }
 {
     if head.count != 1 {
         return Err(Unbuilt::Lost(LossCause::BadHead));
@@ -179,7 +179,7 @@ fn rebuild_texts(
     requires head { IsHead image.now _at StringsOf (new_key_seen head.key) head.value }
     requires key { IsOfKind (new_key_seen head.key) StringsOf }
     ensures effect { Salvages image.now segment.old segment.new }
-    ensures steps_upper { Takes allowance.old allowance.new }
+    ensures steps_upper { ReadsValues allowance.old allowance.new }
 {
     if head.count != 1 {
         return Err(Unbuilt::Lost(LossCause::BadHead));

@@ -1,7 +1,7 @@
 //! Makes the objects of an image again in another segment, as far as each is right by itself.
 ghost use Rattle.std.specs.Prelude.{◌≤◌, IfOk};
 ghost use Rattle.segment_salvage.specs.Standing.{Salvages};
-ghost use Rattle.segment_salvage.specs.Work.{Takes, max_work};
+ghost use Rattle.segment_salvage.specs.Work.{ReadsValues, max_work};
 
 use crate::allowance::Allowance;
 use crate::candidates::{Candidate, candidates_in, count_of};
@@ -16,8 +16,8 @@ use std::alloc::{AllocError, Global};
 /// the tags of the tiles, as far as tags agree.
 ///
 /// Each object of the segment that was not there before stands in the image: its kind, class and name, and its values.
-/// Returns how many bytes of values it read. Objects whose values share bytes read the same bytes again, but all of them
-/// together read at most four bytes for each byte of the image; an object that wants more is left out.
+/// Returns how many bytes of values it read. Objects whose values share bytes read the same bytes again, but all
+/// objects together read at most four bytes for each byte of the image; an object that wants more is left out.
 ///
 /// # Errors
 ///
@@ -62,7 +62,7 @@ fn salvage_at(
     losses: &mut Vec<Loss>,
 ) -> Result<(), AllocError>
     ensures effect { Salvages image.now segment.old segment.new }
-    ensures steps_upper { Takes allowance.old allowance.new }
+    ensures steps_upper { ReadsValues allowance.old allowance.new }
 {
     let Some(head) = head_at(image, at) else {
         return lose(losses, at, 0, LossCause::BadHead);

@@ -1,7 +1,7 @@
 //! The storage of vectors and strings in an image.
 ghost use Rattle.std.specs.Prelude.{◌≡◌, ◌*◌, [], IfSome, length};
 ghost use Rattle.segment_salvage.specs.Standing.{HasPart, HasContainer};
-ghost use Rattle.segment_salvage.specs.Work.{Takes, TakesBytes};
+ghost use Rattle.segment_salvage.specs.Work.{ReadsValues, ReadsBytes};
 
 use crate::allowance::Allowance;
 use crate::bytes::{link, part, word};
@@ -33,8 +33,8 @@ pub(crate) fn stored_at<'a>(
 ) -> Option<Stored<'a>>
     ensures content { IfSome result (λ stored. HasContainer image.now at stored.len stored.bytes.now) }
     ensures size { IfSome result (λ stored. length stored.bytes.now ≡ each * stored.len) }
-    ensures steps { IfSome result (λ stored. TakesBytes allowance.old allowance.new (length stored.bytes.now)) }
-    ensures steps_upper { Takes allowance.old allowance.new }
+    ensures steps { IfSome result (λ stored. ReadsBytes allowance.old allowance.new (length stored.bytes.now)) }
+    ensures steps_upper { ReadsValues allowance.old allowance.new }
 {
     let target = link(image, at)?;
     let len = word(image, at.checked_add(8)?)?;

@@ -2,7 +2,7 @@
 ghost use Rattle.std.specs.Prelude.{◌≡◌, IfOk, IfSome, length, map};
 ghost use Rattle.std.specs.List.{AllByRecursion};
 ghost use Rattle.segment_salvage.specs.Standing.{Stands};
-ghost use Rattle.segment_salvage.specs.Work.{Takes, TakesBytes};
+ghost use Rattle.segment_salvage.specs.Work.{ReadsValues, ReadsBytes};
 
 use crate::allowance::Allowance;
 use crate::bytes::{link, part, word};
@@ -23,7 +23,7 @@ pub(crate) fn texts_at<'a>(
 ) -> Result<Option<Vec<&'a [u8]>>, AllocError>
     ensures contents { IfOk result (λ found. IfSome found (λ texts.
         AllByRecursion (Stands image.now) (map (λ text. text.now) texts.items))) }
-    ensures steps_upper { Takes allowance.old allowance.new }
+    ensures steps_upper { ReadsValues allowance.old allowance.new }
 {
     let mut texts = Vec::new(alloc);
     'texts: for index in 0..count {
@@ -39,8 +39,8 @@ pub(crate) fn texts_at<'a>(
 /// Returns the text of the element at `at`, if it is right and as many bytes may still be read.
 fn text_at<'a>(image: &'a [u8], at: u64, allowance: &mut Allowance) -> Option<&'a [u8]>
     ensures text { IfSome result (λ text. Stands image.now text.now) }
-    ensures steps { IfSome result (λ text. TakesBytes allowance.old allowance.new (length text.now)) }
-    ensures steps_upper { Takes allowance.old allowance.new }
+    ensures steps { IfSome result (λ text. ReadsBytes allowance.old allowance.new (length text.now)) }
+    ensures steps_upper { ReadsValues allowance.old allowance.new }
 {
     let target = link(image, at)?;
     let len = word(image, at.checked_add(8)?)?;

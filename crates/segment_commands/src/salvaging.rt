@@ -34,6 +34,7 @@ const SPARE: u64 = 256;
 
 /// Returns how many bytes the segment of the objects of an image of this length has: twice as many, since objects may
 /// share bytes in the image.
+#[tactic(auto, using(crate::proofs::salvaging::Sizes::units_legal))]
 fn roomy_size(len: u64) -> u64
     ensures { is_legal_size result ≡ true }
 {

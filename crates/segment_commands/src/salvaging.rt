@@ -49,10 +49,7 @@ fn read_file<D: Disk>(alloc: Global, disk: &mut D, path: &str) -> Result<Vec<u8>
         Ok(opened) => opened,
         Err(_) => return Err(SessionFault::ReadFault),
     };
-    let OpenedFile {
-        mut reader,
-        len: _,
-    } = opened;
+    let OpenedFile { mut reader, len: _ } = opened;
     let text = read_text(alloc, &mut reader);
     disk.close(reader);
     text

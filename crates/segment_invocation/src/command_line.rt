@@ -320,7 +320,12 @@ static COMMANDS: [Row; 15] = [
     ("shrink", SHRINK, None, &[FILE, REPLACE, WAIT, VERBOSE]),
     ("migrate", MIGRATE, None, &[FILE, REPLACE, WAIT, VERBOSE]),
     ("stat", STAT, None, &[FILE, WAIT_TO_READ, VERBOSE]),
-    ("draw", DRAW, None, &[FILE, HTML, ALL, WAIT_TO_READ, VERBOSE]),
+    (
+        "draw",
+        DRAW,
+        None,
+        &[FILE, HTML, ALL, WAIT_TO_READ, VERBOSE],
+    ),
     (
         "dump",
         DUMP,

@@ -60,7 +60,9 @@ pub(crate) fn rebuild(
         Kind::Vector(kind) => by_kind!(kind, vector),
         Kind::String => rebuild_string(image, _at, head, segment, allowance),
         Kind::Strings => rebuild_texts(alloc, image, _at, head, segment, allowance),
-        Kind::Map(keys, values) => { rebuild_map(alloc, image, _at, head, keys, values, segment, allowance) }
+        Kind::Map(keys, values) => {
+            rebuild_map(alloc, image, _at, head, keys, values, segment, allowance)
+        }
     }
 }
 

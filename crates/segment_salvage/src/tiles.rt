@@ -138,7 +138,8 @@ fn mark_tile(image: &[u8], at: u64, places: &mut [Place]) {
 /// object says nothing.
 pub(crate) fn is_in_tile(image: &[u8], at: u64, end: u64) -> bool {
     match word(image, at.saturating_sub(8)) {
-        Some(tag) if tag % 16 == OBJECT => end.saturating_sub(at) <= (tag / 16 * 16).saturating_sub(16),
+        Some(tag) if tag % 16 == OBJECT => end.saturating_sub(at)
+            <= (tag / 16 * 16).saturating_sub(16),
         _ => true,
     }
 }

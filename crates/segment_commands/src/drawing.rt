@@ -21,7 +21,8 @@ fn has_more_objects(segment: &Segment, most: u64) -> bool
     ensures { (d : Directory) → DenotesCurrent segment.now.cut.bytes d → result ≡ nat_lt most (length d.objects) }
 {
     let mut count = 0;
-    'objects: for _said in segment.objects() {
+    'objects: for said in segment.objects() {
+        let _ = said;
         if count == most {
             return true;
         }

@@ -2,7 +2,7 @@
 # of bash's completions. Behind `-c` the words of the language are completed.
 _segment() {
     local word=${COMP_WORDS[COMP_CWORD]} before=${COMP_WORDS[COMP_CWORD - 1]}
-    local commands='create run check grow shrink migrate stat draw dump names get load lint language help'
+    local commands='create run check grow shrink migrate stat draw dump names get load salvage lint language help'
     local options= more=
     COMPREPLY=()
     if [ "$COMP_CWORD" = 1 ]; then
@@ -29,12 +29,12 @@ _segment() {
         create) options='--replace' more=1 ;;
         grow) options='--replace --wait' more=1 ;;
         shrink | migrate) options='--replace --wait' more=1 ;;
-        draw) options='--html --wait' more=1 ;;
+        draw) options='--html --all --wait' more=1 ;;
         dump) options='--capacities --json --wait' more=1 ;;
         names) options='--prefix --most --wait' more=1 ;;
         get) options='--wait' more=1 ;;
         load) options='--size --replace --wait' more=1 ;;
-        stat) options='--wait' more=1 ;;
+        stat | salvage) options='--wait' more=1 ;;
         help)
             COMPREPLY=($(compgen -W "$commands" -- "$word"))
             return ;;

@@ -1,5 +1,5 @@
 # Completions of the words of `segment` for fish. After `-c` the words of the language are completed.
-set -l commands create run check grow shrink migrate stat draw dump names get load lint language help
+set -l commands create run check grow shrink migrate stat draw dump names get load salvage lint language help
 set -l modes create_only open_only open_or_create open_read_only open_copy_on_write
 complete -c segment -n "not __fish_seen_subcommand_from $commands" -f -a "$commands"
 complete -c segment -n "not __fish_seen_subcommand_from $commands" -l version -d 'which program this is'
@@ -21,6 +21,7 @@ complete -c segment -n '__fish_seen_subcommand_from run' -l numbered -d 'number 
 complete -c segment -n '__fish_seen_subcommand_from check' -l explain -d 'tell where and why'
 complete -c segment -n '__fish_seen_subcommand_from check' -l quiet -d 'tell only of those that hold none'
 complete -c segment -n '__fish_seen_subcommand_from draw' -l html -d 'show a page for a browser'
+complete -c segment -n '__fish_seen_subcommand_from draw' -l all -d 'draw any number of objects'
 complete -c segment -n '__fish_seen_subcommand_from dump' -l capacities -d 'tell capacities too'
 complete -c segment -n '__fish_seen_subcommand_from dump' -l json -d 'write lines of JSON'
 complete -c segment -n '__fish_seen_subcommand_from names' -l prefix -x -d 'names that begin with it'

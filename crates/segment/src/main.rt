@@ -14,11 +14,12 @@ use segment_cli::SessionFault;
 use segment_commands::{
     CheckRequest, CommandFault, RefusalWatch, RunRequest, change, check, check_all, create,
     explain, get, is_stand_in, lint, load, load_over, names, print, print_language, put_trouble,
-    report, report_no_memory, tell_segment,
+    report, report_no_memory, salvage, tell_few, tell_segment,
 };
 use segment_disk::{Disk, FileProblem, HostDisk, OpenedFile, StdOutput};
 use segment_invocation::{
-    FileChange, Invocation, ModeName, Options, Request, SaveMode, Script, VERSION, script_text,
+    FileChange, Invocation, ModeName, Options, Report, Request, SaveMode, Script, VERSION,
+    script_text,
 };
 use segment_scripts::{Until, command_rows};
 use std::env::var;
@@ -208,6 +209,9 @@ impl<'a> Host<'a> {
             ),
             Invocation::Shrink(file) => self.change(file, FileChange::Shrink, how, &mut out),
             Invocation::Migrate(file) => self.change(file, FileChange::Migrate, how, &mut out),
+            Invocation::Tell(file, what @ (Report::Picture | Report::Page)) if !how.all => {
+                tell_few(alloc, disk, file, &mut out, *what)
+            }
             Invocation::Tell(file, what) => tell_segment(alloc, disk, file, &mut out, *what),
             Invocation::Names(file, prefix, most) => {
                 let most = most.unwrap_or(u64::MAX);
@@ -224,6 +228,7 @@ impl<'a> Host<'a> {
                     SaveMode::Replacing => load_over(alloc, disk, file, *size, &mut text),
                 }
             }
+            Invocation::Salvage(file) => return self.salvage(file, &mut out),
             Invocation::Lint => {
                 let mut script = StdSource::new(self.rt.reader());
                 lint(command_rows(), &mut script, &mut out)
@@ -257,6 +262,24 @@ impl<'a> Host<'a> {
         let mut err = StdSink::new(self.rt.stderr());
         let (alloc, disk) = (self.rt.alloc(), &mut self.disk);
         check_all(alloc, disk, &request, trouble_of, out, &mut err)
+    }
+
+    /// Dumps what is right of the image in a file, and returns the status. What was left out of a file that a writer
+    /// holds tells nothing of the image, and the file is in use.
+    fn salvage<W: Write + Drop>(
+        &mut self,
+        file: &str,
+        out: &mut StdOutput<W>,
+    ) -> Result<u8, CommandFault>
+        requires { out.old.history ≡ nothing_taken }
+    {
+        let mut err = StdSink::new(self.rt.stderr());
+        match salvage(self.rt.alloc(), &mut self.disk, file, out, &mut err) {
+            Ok(0) => Ok(0),
+            Ok(_) if self.disk.trouble() == Some(FileProblem::Writer) => Err(CommandFault::InUse),
+            Err(_) if out.is_closed_pipe() => Ok(CLOSED_PIPE),
+            answer => answer,
+        }
     }
 
     /// Changes the segment in a file without a script.

@@ -13,9 +13,11 @@ pub mod Changing
 pub mod Modes
 pub mod Linting
 pub mod Reporting
+pub mod Drawing
 pub mod Explaining
 pub mod Loading
 pub mod LoadOver
 pub mod Reports
 pub mod RawValues
 pub mod Getting
+pub mod Salvaging

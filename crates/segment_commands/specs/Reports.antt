@@ -50,6 +50,8 @@ command_text fault.Misspelled = line (codes "some lines are no commands")
 command_text (fault.BadDump bad) = bad_dump_line bad
 command_text (fault.NoSpace needed) = no_space_line needed
 command_text fault.NoValue = line (codes "no such value")
+command_text fault.TooManyObjects = line (codes "more than 10000 objects; --all draws them")
+command_text fault.OutOfMemory = line (codes "out of memory")
 
 -- what a second line says of the file of a path, which stands there as a text of the language
 abbrev pub trouble_message : FileProblem → List ℕ
@@ -87,3 +89,5 @@ command_status fault.Misspelled = 1
 command_status (fault.BadDump bad) = 1
 command_status (fault.NoSpace needed) = 1
 command_status fault.NoValue = 1
+command_status fault.TooManyObjects = 1
+command_status fault.OutOfMemory = 4

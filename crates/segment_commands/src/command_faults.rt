@@ -5,6 +5,7 @@ ghost use Rattle.segment_cli.specs.declared.faults.SessionFault.TheVariants.{Out
 ghost use Rattle.segment_cli.specs.declared.faults.SessionFault.TheVariants.{WriteFault as NotWritten};
 ghost use Rattle.segment_commands.specs.declared.command_faults.CommandFault.TheVariants.{InUse as HeldByAnother};
 ghost use Rattle.segment_commands.specs.declared.command_faults.CommandFault.TheVariants.{Session as SessionFails};
+ghost use Rattle.segment_commands.specs.declared.command_faults.CommandFault.TheVariants.{OutOfMemory as MemoryRefused};
 ghost use Rattle.segment_commands.specs.Commands.{written_as};
 
 use grow_shrink::GrowError;
@@ -12,6 +13,7 @@ use raw_region::{DeviceFault, OutOfMemory};
 use segment_cli::SessionFault;
 use segment_disk::AlreadyLocked;
 use segment_dump::BadDump;
+use std::alloc::AllocError;
 use thiserror::Error;
 
 /// Why a command fails.
@@ -47,6 +49,12 @@ pub enum CommandFault {
     /// The key leads to no object, or the object has no value at the index.
     #[error("no such value")]
     NoValue,
+    /// More objects are to be drawn than people can use.
+    #[error("more than 10000 objects")]
+    TooManyObjects,
+    /// Memory for the work of a salvage was refused.
+    #[error("out of memory")]
+    OutOfMemory,
 }
 
 /// A file or standard output can't be written.
@@ -84,6 +92,14 @@ impl From<AlreadyLocked> for CommandFault {
 
     fn from(_refused: AlreadyLocked) -> CommandFault {
         CommandFault::InUse
+    }
+}
+
+impl From<AllocError> for CommandFault {
+    ghost from_gives = { λ _ fault. fault ≡ MemoryRefused };
+
+    fn from(_refusal: AllocError) -> CommandFault {
+        CommandFault::OutOfMemory
     }
 }
 

@@ -32,7 +32,11 @@ fn write_report<O: Output>(out: &mut O, segment: &Segment, what: Report) -> Resu
 }
 
 /// Writes what is told of a segment, and gives out all that was written.
-fn tell_report<O: Output>(out: &mut O, segment: &Segment, what: Report) -> Result<(), DeviceFault>
+pub(crate) fn tell_report<O: Output>(
+    out: &mut O,
+    segment: &Segment,
+    what: Report,
+) -> Result<(), DeviceFault>
     requires { (O.history out.old).failures < 2 ^ 64 - 1 }
     ensures { WritesTextOf O.history O.flushes out.old out.new segment.now (text_of what) result }
 {

@@ -98,6 +98,14 @@ pub fn report<S: Sink>(fault: CommandFault, err: &mut S) -> u8
         }
         CommandFault::Misspelled => put_line(b"segment: some lines are no commands\n", 1, err),
         CommandFault::NoValue => put_line(b"segment: no such value\n", 1, err),
+        CommandFault::TooManyObjects => {
+            put_line(
+                b"segment: more than 10000 objects; --all draws them\n",
+                1,
+                err,
+            )
+        }
+        CommandFault::OutOfMemory => report_no_memory(err),
         CommandFault::NoSpace(needed) => {
             let _ = put_no_space(needed, err);
             1

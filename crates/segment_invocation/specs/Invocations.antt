@@ -17,6 +17,7 @@ use Rattle.segment_lang.specs.Lexing.{number_of}
 use Rattle.segment_invocation.specs.declared.invocations.Invocation.{Invocation}
 use Rattle.segment_invocation.specs.declared.invocations.Invocation.TheVariants.{Create, Run, Check, Grow, Shrink}
 use Rattle.segment_invocation.specs.declared.invocations.Invocation.TheVariants.{Migrate, Tell, Names, Get, Load, Lint}
+use Rattle.segment_invocation.specs.declared.invocations.Invocation.TheVariants.{Salvage}
 use Rattle.segment_invocation.specs.declared.invocations.Invocation.TheVariants.{Language, Version}
 use Rattle.segment_invocation.specs.declared.invocations.Options.{Options}
 use Rattle.segment_invocation.specs.declared.invocations.Request.{Request}
@@ -110,7 +111,8 @@ check_command = taking (codes "check")
     (operands (codes "file") ∷ flag (codes "explain") ∷ flag (codes "quiet") ∷ waited)
 
 abbrev pub draw_command : Shape
-draw_command = taking (codes "draw") (operand (codes "file") ∷ flag (codes "html") ∷ waited)
+draw_command = taking (codes "draw") (operand (codes "file") ∷ flag (codes "html") ∷ flag (codes "all")
+    ∷ waited)
 
 abbrev pub dump_command : Shape
 dump_command = taking (codes "dump")
@@ -140,7 +142,7 @@ abbrev pub subcommands : List Shape
 subcommands = create_command ∷ run_command ∷ check_command ∷ grow_command ∷ kept_command (codes "shrink")
     ∷ kept_command (codes "migrate")
     ∷ file_command (codes "stat") ∷ draw_command ∷ dump_command ∷ names_command ∷ get_command ∷ load_command
-    ∷ taking (codes "lint") [] ∷ taking (codes "language") [] ∷ []
+    ∷ file_command (codes "salvage") ∷ taking (codes "lint") [] ∷ taking (codes "language") [] ∷ []
 
 -- the grammar of the command line
 abbrev pub command_line : App
@@ -167,6 +169,7 @@ pub data InvocationValue : Type 0 where
   names : Text → Text → Option ℕ → InvocationValue
   get : Text → Text → Option Text → InvocationValue
   load : Text → Option ℕ → InvocationValue
+  salvage : Text → InvocationValue
   lint : InvocationValue
   language : InvocationValue
   version : InvocationValue
@@ -182,6 +185,7 @@ pub record OptionValues : Type 0 where
   pub numbered : Bool
   pub explains : Bool
   pub quiet : Bool
+  pub all : Bool
   pub verbose : Bool
 
 -- a command with its options
@@ -201,6 +205,7 @@ plain_options files = record {
   numbered = false;
   explains = false;
   quiet = false;
+  all = false;
   verbose = false;
 }
 
@@ -234,6 +239,7 @@ asked_by (Tell file what) = tell file.now what
 asked_by (Names file prefix most) = names file.now prefix.now most
 asked_by (Get file key index) = get file.now key.now (option_map (λ i. i.now) index)
 asked_by (Load file size) = load file.now size
+asked_by (Salvage file) = salvage file.now
 asked_by Lint = lint
 asked_by Language = language
 asked_by Version = version
@@ -250,6 +256,7 @@ options_by how = record {
   numbered = how.answering.numbered;
   explains = how.explain;
   quiet = how.quiet;
+  all = how.all;
   verbose = how.verbose;
 }
 
@@ -383,6 +390,7 @@ command_called argument =
     else if bytes_eq argument (codes "names") then Some on_file.Names
     else if bytes_eq argument (codes "get") then Some on_file.Get
     else if bytes_eq argument (codes "load") then Some on_file.Load
+    else if bytes_eq argument (codes "salvage") then Some on_file.Salvage
     else None
 
 -- what such a command asks for, of a file
@@ -399,6 +407,7 @@ asked_as (Some on_file.Dump) file words = option_map (tell file) (dumped_of word
 asked_as (Some on_file.Names) file words = asked_names file words
 asked_as (Some on_file.Get) file words = asked_get file words
 asked_as (Some on_file.Load) file words = option_map (load file) (size_of (first_of (codes "size") words))
+asked_as (Some on_file.Salvage) file words = Some (salvage file)
 asked_as None file words = None
 
 -- the command of the words of a subcommand
@@ -420,6 +429,7 @@ options_with words wait origin = record {
   numbered = is_set (first_of (codes "numbered") words);
   explains = is_set (first_of (codes "explain") words);
   quiet = is_set (first_of (codes "quiet") words);
+  all = is_set (first_of (codes "all") words);
   verbose = is_set (first_of (codes "verbose") words);
 }
 
@@ -681,6 +691,8 @@ IsWrittenWith (get file key index) how words = IsTrue (is_path file) × IsTrue (
     × (how ≡ plain_options (file ∷ [])) × (words ≡ codes "get" ∷ file ∷ key ∷ index_arguments index)
 IsWrittenWith (load file size) how words = (sizes : List Text) × IsNumberPart (codes "--size") sizes size
     × IsKeptWritten (codes "load" ∷ file ∷ sizes) file how words
+IsWrittenWith (salvage file) how words = IsTrue (is_path file) × (how ≡ plain_options (file ∷ []))
+    × (words ≡ codes "salvage" ∷ file ∷ [])
 IsWrittenWith lint how words = (how ≡ no_options) × (words ≡ codes "lint" ∷ [])
 IsWrittenWith language how words = (how ≡ no_options) × (words ≡ codes "language" ∷ [])
 IsWrittenWith version how words = (how ≡ no_options) × (words ≡ codes "--version" ∷ [])

@@ -200,6 +200,7 @@ fn read_filed<'a>(
             None => Err(UsageError::Key),
         },
         FileCommand::Load => Ok(Invocation::Load(file, count_in(words, "size")?)),
+        FileCommand::Salvage => Ok(Invocation::Salvage(file)),
     }
 }
 
@@ -257,6 +258,7 @@ fn options_in<'a>(
         },
         explain,
         quiet: is_set(words, "quiet"),
+        all: is_set(words, "all"),
         verbose: is_set(words, "verbose"),
     })
 }

@@ -42,6 +42,9 @@ const GET: &str =
 const LOAD: &str =
     "Makes FILE with a segment of the dump of standard input; without --replace a FILE that exists is refused";
 
+const SALVAGE: &str =
+    "Prints as a dump the objects of a damaged FILE that are right by themselves, and tells which are left out";
+
 const LINT: &str =
     "Tells which lines of the script of standard input are no commands, and where; it needs no segment";
 
@@ -245,6 +248,11 @@ const HTML: CommandArgument = CommandArgument::Flag(
     "Prints a page for a browser: the picture, the figures of stat, and the objects as a table",
 );
 
+const ALL: CommandArgument = CommandArgument::Flag(
+    "all",
+    "Draws more than 10000 objects too; without it they are refused",
+);
+
 const JSON: CommandArgument = CommandArgument::Flag(
     "json",
     "Writes each object as a line of JSON: class, name, kind and value; not with --capacities",
@@ -291,7 +299,7 @@ const VERBOSE: CommandArgument = CommandArgument::Flag(
 );
 
 /// The commands, in the order in which help has them.
-static COMMANDS: [Row; 14] = [
+static COMMANDS: [Row; 15] = [
     ("create", CREATE, None, &[FILE, SIZE, WHOLE, VERBOSE]),
     (
         "run",
@@ -312,7 +320,12 @@ static COMMANDS: [Row; 14] = [
     ("shrink", SHRINK, None, &[FILE, REPLACE, WAIT, VERBOSE]),
     ("migrate", MIGRATE, None, &[FILE, REPLACE, WAIT, VERBOSE]),
     ("stat", STAT, None, &[FILE, WAIT_TO_READ, VERBOSE]),
-    ("draw", DRAW, None, &[FILE, HTML, WAIT_TO_READ, VERBOSE]),
+    (
+        "draw",
+        DRAW,
+        None,
+        &[FILE, HTML, ALL, WAIT_TO_READ, VERBOSE],
+    ),
     (
         "dump",
         DUMP,
@@ -327,6 +340,7 @@ static COMMANDS: [Row; 14] = [
     ),
     ("get", GET, None, &[FILE, KEY, INDEX, WAIT_TO_READ, VERBOSE]),
     ("load", LOAD, None, &[FILE, LOADED, REPLACE, WAIT, VERBOSE]),
+    ("salvage", SALVAGE, None, &[FILE, WAIT_TO_READ, VERBOSE]),
     ("lint", LINT, None, &[VERBOSE]),
     ("language", LANGUAGE, Some(HelpEnd::Legend), &[VERBOSE]),
 ];

@@ -24,20 +24,22 @@ pub(crate) enum FileCommand {
     Migrate,
     /// `stat`: the figures are told.
     Stat,
-    /// `draw`: the picture is told, or a page with it.
+    /// `draw`: a picture or a page is told.
     Draw,
-    /// `dump`: the objects are told, as text or as JSON.
+    /// `dump`: the objects are told, as text or JSON.
     Dump,
     /// `names`: the names are told.
     Names,
     /// `get`: one value is printed.
     Get,
-    /// `load`: a dump is loaded into the file.
+    /// `load`: a dump is loaded.
     Load,
+    /// `salvage`: a damaged image is told.
+    Salvage,
 }
 
 impl FileCommand {
-    /// Returns the command of a word. `None` is a word that is none of the twelve.
+    /// Returns the command of a word, `None` for any other.
     pub(crate) fn from_argument(argument: &str) -> Option<FileCommand>
         ensures { result ≡ command_called argument.now }
     {
@@ -54,6 +56,7 @@ impl FileCommand {
             "names" => Some(FileCommand::Names),
             "get" => Some(FileCommand::Get),
             "load" => Some(FileCommand::Load),
+            "salvage" => Some(FileCommand::Salvage),
             _ => None,
         }
     }
@@ -196,6 +199,8 @@ pub enum Invocation<'a> {
     Get(&'a str, &'a str, Option<&'a str>),
     /// To make a segment of a dump, in a file: of this size, or as long as the dump says and cut after its last block.
     Load(&'a str, Option<u64>),
+    /// To dump the objects of a damaged image that are right by themselves.
+    Salvage(&'a str),
     /// To tell which lines of a script are no commands.
     Lint,
     /// To print the commands of a script.
@@ -219,6 +224,8 @@ pub struct Options<'a> {
     pub explain: bool,
     /// `--quiet`: nothing is told of a file that holds a segment.
     pub quiet: bool,
+    /// `--all`: a picture is drawn of any number of objects.
+    pub all: bool,
     /// `--verbose`: a second line says why the command failed.
     pub verbose: bool,
 }
@@ -242,6 +249,7 @@ impl<'a> Options<'a> {
             },
             explain: false,
             quiet: false,
+            all: false,
             verbose: false,
         }
     }

@@ -1,3 +1,4 @@
 pub mod Standing
+pub mod Work
 pub mod Steps
 pub mod Pairs

@@ -1,7 +1,7 @@
 //! The objects of an image that can be right by themselves, in the order in which they are made again.
 
 use crate::heads::{Head, head_at};
-use crate::losses::{Loss, LossCause};
+use crate::losses::{Loss, LossCause, lose};
 use crate::tiles::{Place, offset_of, places_in};
 use seg_types::NewKey;
 use std::alloc::{AllocError, Global};
@@ -43,7 +43,7 @@ pub(crate) fn candidates_in<'a>(
     image: &'a [u8],
     losses: &mut Vec<Loss>,
 ) -> Result<Vec<Candidate<'a>>, AllocError> {
-    let places = places_in(alloc, image)?;
+    let places = places_in(alloc, image, losses)?;
     let mut found = Vec::new(alloc);
     'places: for index in 0..places.len() {
         if places[index] == Place::Object {
@@ -63,11 +63,7 @@ fn take<'a>(
 ) -> Result<(), AllocError> {
     match head_at(image, at) {
         Some(head) => found.push(ranked(head, at))?,
-        None => losses.push(Loss {
-            at,
-            name_len: 0,
-            cause: LossCause::BadHead,
-        })?,
+        None => lose(losses, at, 0, LossCause::BadHead)?,
     }
     Ok(())
 }

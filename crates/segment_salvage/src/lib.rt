@@ -2,6 +2,7 @@
 //! its own.
 #![tactic(auto)]
 
+mod allowance;
 mod bytes;
 mod candidates;
 mod heads;

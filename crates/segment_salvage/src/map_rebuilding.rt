@@ -6,7 +6,9 @@ ghost use Rattle.segment_manager.specs.objects.NewObjects.{IsOfKind};
 ghost use Rattle.segment_salvage.specs.Pairs.{IsPairOfImage};
 ghost use Rattle.segment_salvage.specs.Standing.{Salvages};
 ghost use Rattle.segment_salvage.specs.Steps.{IsHead};
+ghost use Rattle.segment_salvage.specs.Work.{ReadsValues};
 
+use crate::allowance::Allowance;
 use crate::heads::Head;
 use crate::losses::{LossCause, Unbuilt};
 use crate::nodes::{Pair, pairs_at};
@@ -24,15 +26,17 @@ pub(crate) fn rebuild_map(
     keys: ScalarKind,
     values: ScalarKind,
     segment: &mut Segment,
+    allowance: &mut Allowance,
 ) -> Result<(), Unbuilt>
     requires head { IsHead image.now _at (MapOf keys values) (new_key_seen head.key) head.value }
     requires key { IsOfKind (new_key_seen head.key) (MapOf keys values) }
-    ensures { Salvages image.now segment.old segment.new }
+    ensures effect { Salvages image.now segment.old segment.new }
+    ensures steps_upper { ReadsValues allowance.old allowance.new }
 {
     if head.count != 1 {
         return Err(Unbuilt::Lost(LossCause::BadHead));
     }
-    let Some(pairs) = pairs_at(alloc, image, head.value, keys, values)? else {
+    let Some(pairs) = pairs_at(alloc, image, head.value, keys, values, allowance)? else {
         return Err(Unbuilt::Lost(LossCause::BadValue));
     };
     let handle = segment.construct_map_of(&head.key, keys, values)?;

@@ -1,11 +1,13 @@
 //! The pairs of a map in an image.
-ghost use Rattle.std.specs.Prelude.{◌≡◌, IfOk, IfSome, true};
+ghost use Rattle.std.specs.Prelude.{◌≡◌, ◌+◌, IfOk, IfSome, true};
 ghost use Rattle.std.specs.List.{AllByRecursion};
-ghost use Rattle.seg_types.specs.Kinds.{is_value, spelling};
+ghost use Rattle.seg_types.specs.Kinds.{is_value, size_of, spelling};
 ghost use Rattle.seg_types.specs.Values.{kind_of_scalar, value_of_scalar};
 ghost use Rattle.segment_salvage.specs.Standing.{HasPart};
 ghost use Rattle.segment_salvage.specs.Pairs.{IsPairOfImage};
+ghost use Rattle.segment_salvage.specs.Work.{ReadsValues, ReadsBytes};
 
+use crate::allowance::Allowance;
 use crate::bytes::{link, part, word};
 use raw_region::bytes_are_octets;
 use seg_types::theorems::values_spell_one;
@@ -38,17 +40,19 @@ struct Node {
     right: Option<u64>,
 }
 
-/// Returns the pairs of the map whose value is at `at`, or `None` if its tree has not as many nodes as it says, or one
-/// of them is not right.
+/// Returns the pairs of the map whose value is at `at`, or `None` if its tree has not as many nodes as it says, one of
+/// them is not right, or they have more bytes than may still be read.
 pub(crate) fn pairs_at(
     alloc: Global,
     image: &[u8],
     at: u64,
     keys: ScalarKind,
     values: ScalarKind,
+    allowance: &mut Allowance,
 ) -> Result<Option<Vec<Pair>>, AllocError>
-    ensures { IfOk result (λ found. IfSome found (λ pairs.
+    ensures contents { IfOk result (λ found. IfSome found (λ pairs.
         AllByRecursion (IsPairOfImage image.now keys values) pairs.items)) }
+    ensures steps_upper { ReadsValues allowance.old allowance.new }
 {
     let Some(root) = link(image, at) else {
         return Ok(None);
@@ -61,7 +65,7 @@ pub(crate) fn pairs_at(
     await_node(&mut waiting, root)?;
     let mut pairs = Vec::new(alloc);
     'nodes: for _ in 0..count {
-        let Some(node) = next_node(image, &mut waiting, keys, values) else {
+        let Some(node) = next_node(image, &mut waiting, keys, values, allowance) else {
             return Ok(None);
         };
         await_node(&mut waiting, node.left)?;
@@ -89,10 +93,15 @@ fn next_node(
     waiting: &mut Vec<u64>,
     keys: ScalarKind,
     values: ScalarKind,
+    allowance: &mut Allowance,
 ) -> Option<Node>
-    ensures { IfSome result (λ node. IsPairOfImage image.now keys values node.pair) }
+    ensures pair { IfSome result (λ node. IsPairOfImage image.now keys values node.pair) }
+    ensures steps { IfSome result (λ node.
+        ReadsBytes allowance.old allowance.new (16 + size_of keys + size_of values)) }
+    ensures steps_upper { ReadsValues allowance.old allowance.new }
 {
     let at = waiting.pop()?;
+    allowance.take(LINKS + keys.size() + values.size())?;
     node_at(image, at, keys, values)
 }
 

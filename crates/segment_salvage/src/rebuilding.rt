@@ -1,12 +1,15 @@
 //! Makes an object of an image in a segment of its own.
-ghost use Rattle.std.specs.Prelude.{◌≡◌};
+ghost use Rattle.std.specs.Prelude.{◌≡◌, IfSome, length};
+ghost use Rattle.raw_region.specs.Memory.{part};
 ghost use Rattle.seg_types.specs.declared.kinds.Kind.TheVariants.{Scalar as ScalarOf, Vector as VectorOf};
 ghost use Rattle.seg_types.specs.declared.kinds.Kind.TheVariants.{String as StringOf, Strings as StringsOf};
 ghost use Rattle.seg_types.specs.Keys.{new_key_seen};
 ghost use Rattle.segment_manager.specs.objects.NewObjects.{IsOfKind};
 ghost use Rattle.segment_salvage.specs.Standing.{Salvages};
 ghost use Rattle.segment_salvage.specs.Steps.{IsHead};
+ghost use Rattle.segment_salvage.specs.Work.{ReadsValues, ReadsBytes};
 
+use crate::allowance::Allowance;
 use crate::bytes::part;
 use crate::heads::Head;
 use crate::losses::{LossCause, Unbuilt};
@@ -14,6 +17,7 @@ use crate::map_rebuilding::rebuild_map;
 use crate::scalars::scalars_in;
 use crate::storage::stored_at;
 use crate::texts::texts_at;
+use crate::tiles::is_in_tile;
 use seg_types::{Kind, MAX_ARRAY_LEN, Scalar, by_kind};
 use segment_manager::Segment;
 use segment_values::construct_array;
@@ -34,27 +38,31 @@ pub(crate) fn rebuild(
     _at: u64,
     head: Head<'_>,
     segment: &mut Segment,
+    allowance: &mut Allowance,
 ) -> Result<(), Unbuilt>
     requires head { IsHead image.now _at head.kind (new_key_seen head.key) head.value }
     requires key { IsOfKind (new_key_seen head.key) head.kind }
-    ensures { Salvages image.now segment.old segment.new }
+    ensures effect { Salvages image.now segment.old segment.new }
+    ensures steps_upper { ReadsValues allowance.old allowance.new }
 {
     macro_rules! array {
         ($type:ty, $kind:ident) => {
-            rebuild_array::<$type>(alloc, image, _at, head, segment)
+            rebuild_array::<$type>(alloc, image, _at, head, segment, allowance)
         };
     }
     macro_rules! vector {
         ($type:ty, $kind:ident) => {
-            rebuild_vector::<$type>(alloc, image, _at, head, segment)
+            rebuild_vector::<$type>(alloc, image, _at, head, segment, allowance)
         };
     }
     match head.kind {
         Kind::Scalar(kind) => by_kind!(kind, array),
         Kind::Vector(kind) => by_kind!(kind, vector),
-        Kind::String => rebuild_string(image, _at, head, segment),
-        Kind::Strings => rebuild_texts(alloc, image, _at, head, segment),
-        Kind::Map(keys, values) => { rebuild_map(alloc, image, _at, head, keys, values, segment) }
+        Kind::String => rebuild_string(image, _at, head, segment, allowance),
+        Kind::Strings => rebuild_texts(alloc, image, _at, head, segment, allowance),
+        Kind::Map(keys, values) => {
+            rebuild_map(alloc, image, _at, head, keys, values, segment, allowance)
+        }
     }
 }
 
@@ -66,16 +74,18 @@ fn rebuild_array<T: Scalar>(
     _at: u64,
     head: Head<'_>,
     segment: &mut Segment,
+    allowance: &mut Allowance,
 ) -> Result<(), Unbuilt>
     requires head { IsHead image.now _at (ScalarOf T.kind) (new_key_seen head.key) head.value }
     requires key { IsOfKind (new_key_seen head.key) (ScalarOf T.kind) }
-    ensures { Salvages image.now segment.old segment.new }
+    ensures effect { Salvages image.now segment.old segment.new }
+    ensures steps_upper { ReadsValues allowance.old allowance.new }
 {
     let count = head.count;
     if count == 0 || count > MAX_ARRAY_LEN {
         return Err(Unbuilt::Lost(LossCause::BadHead));
     }
-    let Some(bytes) = part(image, head.value, T::SIZE * count) else {
+    let Some(bytes) = array_at(image, _at, head.value, T::SIZE * count, allowance) else {
         return Err(BAD_VALUE);
     };
     let Some(scalars) = scalars_in::<T>(alloc, bytes, count)? else {
@@ -83,6 +93,27 @@ fn rebuild_array<T: Scalar>(
     };
     construct_array(segment, &head.key, &scalars)?;
     Ok(())
+}
+
+/// Returns the `len` bytes of an array at `value`, if the image has them, they are in the tile of the object at `at`,
+/// and as many may still be read.
+fn array_at<'a>(
+    image: &'a [u8],
+    at: u64,
+    value: u64,
+    len: u64,
+    allowance: &mut Allowance,
+) -> Option<&'a [u8]>
+    ensures bytes { IfSome result (λ bytes. bytes.now ≡ part image.now value len) }
+    ensures len { IfSome result (λ bytes. length bytes.now ≡ len) }
+    ensures steps { IfSome result (λ bytes. ReadsBytes allowance.old allowance.new (length bytes.now)) }
+    ensures steps_upper { ReadsValues allowance.old allowance.new }
+{
+    if !is_in_tile(image, at, value.checked_add(len)?) {
+        return None;
+    }
+    allowance.take(len)?;
+    part(image, value, len)
 }
 
 /// Makes a vector of scalars.
@@ -93,15 +124,17 @@ fn rebuild_vector<T: Scalar>(
     _at: u64,
     head: Head<'_>,
     segment: &mut Segment,
+    allowance: &mut Allowance,
 ) -> Result<(), Unbuilt>
     requires head { IsHead image.now _at (VectorOf T.kind) (new_key_seen head.key) head.value }
     requires key { IsOfKind (new_key_seen head.key) (VectorOf T.kind) }
-    ensures { Salvages image.now segment.old segment.new }
+    ensures effect { Salvages image.now segment.old segment.new }
+    ensures steps_upper { ReadsValues allowance.old allowance.new }
 {
     if head.count != 1 {
         return Err(Unbuilt::Lost(LossCause::BadHead));
     }
-    let Some(stored) = stored_at(image, head.value, T::SIZE) else {
+    let Some(stored) = stored_at(image, head.value, T::SIZE, allowance) else {
         return Err(BAD_VALUE);
     };
     let Some(scalars) = scalars_in::<T>(alloc, stored.bytes, stored.len)? else {
@@ -118,15 +151,17 @@ fn rebuild_string(
     _at: u64,
     head: Head<'_>,
     segment: &mut Segment,
+    allowance: &mut Allowance,
 ) -> Result<(), Unbuilt>
     requires head { IsHead image.now _at StringOf (new_key_seen head.key) head.value }
     requires key { IsOfKind (new_key_seen head.key) StringOf }
-    ensures { Salvages image.now segment.old segment.new }
+    ensures effect { Salvages image.now segment.old segment.new }
+    ensures steps_upper { ReadsValues allowance.old allowance.new }
 {
     if head.count != 1 {
         return Err(Unbuilt::Lost(LossCause::BadHead));
     }
-    let Some(stored) = stored_at(image, head.value, 1) else {
+    let Some(stored) = stored_at(image, head.value, 1, allowance) else {
         return Err(BAD_VALUE);
     };
     segment.construct_string(&head.key, stored.bytes)?;
@@ -141,18 +176,20 @@ fn rebuild_texts(
     _at: u64,
     head: Head<'_>,
     segment: &mut Segment,
+    allowance: &mut Allowance,
 ) -> Result<(), Unbuilt>
     requires head { IsHead image.now _at StringsOf (new_key_seen head.key) head.value }
     requires key { IsOfKind (new_key_seen head.key) StringsOf }
-    ensures { Salvages image.now segment.old segment.new }
+    ensures effect { Salvages image.now segment.old segment.new }
+    ensures steps_upper { ReadsValues allowance.old allowance.new }
 {
     if head.count != 1 {
         return Err(Unbuilt::Lost(LossCause::BadHead));
     }
-    let Some(stored) = stored_at(image, head.value, 16) else {
+    let Some(stored) = stored_at(image, head.value, 16, allowance) else {
         return Err(BAD_VALUE);
     };
-    let Some(texts) = texts_at(alloc, image, stored.to, stored.len)? else {
+    let Some(texts) = texts_at(alloc, image, stored.to, stored.len, allowance)? else {
         return Err(BAD_VALUE);
     };
     segment.construct_texts(&head.key, &texts)?;

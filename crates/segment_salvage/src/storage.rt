@@ -1,7 +1,9 @@
 //! The storage of vectors and strings in an image.
 ghost use Rattle.std.specs.Prelude.{◌≡◌, ◌*◌, [], IfSome, length};
 ghost use Rattle.segment_salvage.specs.Standing.{HasPart, HasContainer};
+ghost use Rattle.segment_salvage.specs.Work.{ReadsValues, ReadsBytes};
 
+use crate::allowance::Allowance;
 use crate::bytes::{link, part, word};
 
 /// The low bits of the tag of a block of storage: in use, black, and of the role of storage.
@@ -21,10 +23,18 @@ pub(crate) struct Stored<'a> {
     pub bytes: &'a [u8],
 }
 
-/// Returns the elements of the container at `at`, each of which has `each` bytes, if its storage is right.
-pub(crate) fn stored_at(image: &[u8], at: u64, each: u64) -> Option<Stored<'_>>
+/// Returns the elements of the container at `at`, each of which has `each` bytes, if its storage is right and as many
+/// bytes may still be read.
+pub(crate) fn stored_at<'a>(
+    image: &'a [u8],
+    at: u64,
+    each: u64,
+    allowance: &mut Allowance,
+) -> Option<Stored<'a>>
     ensures content { IfSome result (λ stored. HasContainer image.now at stored.len stored.bytes.now) }
     ensures size { IfSome result (λ stored. length stored.bytes.now ≡ each * stored.len) }
+    ensures steps { IfSome result (λ stored. ReadsBytes allowance.old allowance.new (length stored.bytes.now)) }
+    ensures steps_upper { ReadsValues allowance.old allowance.new }
 {
     let target = link(image, at)?;
     let len = word(image, at.checked_add(8)?)?;
@@ -34,7 +44,10 @@ pub(crate) fn stored_at(image: &[u8], at: u64, each: u64) -> Option<Stored<'_>>
     }
     match target {
         None => empty_at(len, capacity),
-        Some(to) => filled_at(image, to, len, each, capacity),
+        Some(to) => {
+            allowance.take(each.checked_mul(len)?)?;
+            filled_at(image, to, len, each, capacity)
+        }
     }
 }
 

@@ -2,6 +2,7 @@
 //! of tiles lead to, from both ends of the image and from each other place.
 
 use crate::bytes::{link, word};
+use crate::losses::{Loss, LossCause, lose};
 use segment_manager::layout::{NAMED_AT, UNIQUE_AT};
 use std::alloc::{AllocError, Global};
 
@@ -26,12 +27,17 @@ pub(crate) enum Place {
 }
 
 /// Returns what is known of each place at which a payload can begin: of the offset 16 times its index.
-pub(crate) fn places_in(alloc: Global, image: &[u8]) -> Result<Vec<Place>, AllocError> {
+/// Appends the indexes and entries that are not right to the losses.
+pub(crate) fn places_in(
+    alloc: Global,
+    image: &[u8],
+    losses: &mut Vec<Loss>,
+) -> Result<Vec<Place>, AllocError> {
     let mut places = vec![in alloc; Place::Unknown; image.len() / STEP as usize + 1]?;
     mark_tile(image, FIRST, &mut places);
     mark(&mut places, image.len() as u64, Place::Tile);
-    mark_entries(image, NAMED_AT, &mut places);
-    mark_entries(image, UNIQUE_AT, &mut places);
+    mark_index(image, NAMED_AT, &mut places, losses)?;
+    mark_index(image, UNIQUE_AT, &mut places, losses)?;
     mark_before(image, &mut places);
     mark_next(image, &mut places);
     Ok(places)
@@ -55,19 +61,41 @@ fn mark(places: &mut [Place], at: u64, what: Place) {
     }
 }
 
-/// Notes the objects that the entries of the index at `at` lead to.
-fn mark_entries(image: &[u8], at: u64, places: &mut [Place]) {
-    let Some(Some(block)) = link(image, at) else {
-        return;
-    };
-    let Some(count) = word(image, at.saturating_add(8)) else {
-        return;
-    };
-    'entries: for index in 0..count.min(image.len() as u64 / 8) {
-        if let Some(Some(to)) = link(image, block.saturating_add(index.saturating_mul(8))) {
-            mark(places, to, Place::Object);
+/// Notes the objects that the entries of the index at `at` lead to, and the loss of an index that is not right.
+fn mark_index(
+    image: &[u8],
+    at: u64,
+    places: &mut [Place],
+    losses: &mut Vec<Loss>,
+) -> Result<(), AllocError> {
+    let count = word(image, at.saturating_add(8)).unwrap_or(u64::MAX);
+    match link(image, at) {
+        Some(None) if count == 0 => Ok(()),
+        Some(Some(block)) if block >= FIRST && count <= image.len() as u64 / 8 => {
+            mark_entries(image, block, count, places, losses)
+        }
+        _ => lose(losses, at, 0, LossCause::BadIndex),
+    }
+}
+
+/// Notes the objects that the `count` entries from `block` on lead to, and the loss of each entry that leads to none.
+fn mark_entries(
+    image: &[u8],
+    block: u64,
+    count: u64,
+    places: &mut [Place],
+    losses: &mut Vec<Loss>,
+) -> Result<(), AllocError> {
+    'entries: for index in 0..count {
+        let entry = block.saturating_add(index.saturating_mul(8));
+        match link(image, entry) {
+            Some(Some(to)) if to >= FIRST && to % STEP == 0 && to < image.len() as u64 => {
+                mark(places, to, Place::Object);
+            }
+            _ => lose(losses, entry, 0, LossCause::BadIndex)?,
         }
     }
+    Ok(())
 }
 
 /// Notes the tile before each tile, from the end of the image on, if the tags of both agree.
@@ -103,6 +131,16 @@ fn mark_tile(image: &[u8], at: u64, places: &mut [Place]) {
     match word(image, at.saturating_sub(8)) {
         Some(tag) if tag % 16 == OBJECT && tag > 16 => mark(places, at, Place::Object),
         _ => mark(places, at, Place::Tile),
+    }
+}
+
+/// Tells whether the tile of the object at `at` goes on to `end` or farther, by its tag. A tag that is not that of an
+/// object says nothing.
+pub(crate) fn is_in_tile(image: &[u8], at: u64, end: u64) -> bool {
+    match word(image, at.saturating_sub(8)) {
+        Some(tag) if tag % 16 == OBJECT => end.saturating_sub(at)
+            <= (tag / 16 * 16).saturating_sub(16),
+        _ => true,
     }
 }
 

@@ -17,7 +17,7 @@ use Rattle.clap.specs.declared.error.kind.ErrorKind.TheVariants.{DisplayVersion}
 use Rattle.segment_lang.specs.Lexing.{between, is_digit, is_numeral, number_after, number_of}
 use Rattle.segment_invocation.specs.Invocations.{InvocationValue, OptionValues, Origin, RequestValue, create, run}
 use Rattle.segment_invocation.specs.Invocations.{check, get, grow, shrink, migrate, tell, names, load, lint, language}
-use Rattle.segment_invocation.specs.Invocations.{version, input, from_file, from_lines}
+use Rattle.segment_invocation.specs.Invocations.{salvage, version, input, from_file, from_lines}
 use Rattle.segment_invocation.specs.Invocations.{IsKeptWritten, IsModePart, IsNumberPart, IsOriginPart}
 use Rattle.segment_invocation.specs.Invocations.{IsPart, IsRequestWritten, IsRunWritten, IsSizePart, IsWaitPart}
 use Rattle.segment_invocation.specs.Invocations.{IsWrittenWith, check_options, check_arguments, command_line}
@@ -47,7 +47,7 @@ use Rattle.segment_invocation.proofs.command_lines.Subcommands.{dump-asks, get-a
 use Rattle.segment_invocation.proofs.command_lines.Subcommands.{html-asks, json-asks}
 use Rattle.segment_invocation.proofs.command_lines.Subcommands.{lines-ask, load-asks}
 use Rattle.segment_invocation.proofs.command_lines.Subcommands.{migrate-asks, names-asks, run-asks}
-use Rattle.segment_invocation.proofs.command_lines.Subcommands.{script-asks, shrink-asks}
+use Rattle.segment_invocation.proofs.command_lines.Subcommands.{salvage-asks, script-asks, shrink-asks}
 use Rattle.segment_invocation.proofs.command_lines.Subcommands.{stat-asks}
 
 -- ---- words that are no options
@@ -191,6 +191,13 @@ unfolding clap_on_literals
 behind-stat f p = record {
   takes = ap (λ b. b && true) (stat-asks f p).passes;
   asks = ap of_asking (stat-asks f p).found;
+}
+
+behind-salvage : (f : Text) → IsPlain f → Behind (codes "salvage" ∷ f ∷ []) (plain_request f (salvage f))
+unfolding clap_on_literals
+behind-salvage f p = record {
+  takes = ap (λ b. b && true) (salvage-asks f p).passes;
+  asks = ap of_asking (salvage-asks f p).found;
 }
 
 behind-draw : (f : Text) → IsPlain f → Behind (codes "draw" ∷ f ∷ []) (plain_request f (tell f Picture))
@@ -495,6 +502,7 @@ behind words (names f prefix most) how (p, o, prefixes, mosts, a, m, e) =
 behind words (get f k index) how (p, q, r, o, e) =
     inl (rw (e, o) (behind-value f k index (path-plain f p) (path-plain k q) r))
 behind words (load f size) how (sizes, s, k) = inl (behind-load f size how sizes words s k)
+behind words (salvage f) how (p, o, e) = inl (rw (e, o) (behind-salvage f (path-plain f p)))
 behind words lint how (o, e) = inl (rw (e, o) behind-lint)
 behind words language how (o, e) = inl (rw (e, o) behind-language)
 behind words version how (o, e) = inr (rw (e, o) asks-version)

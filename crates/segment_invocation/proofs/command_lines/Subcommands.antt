@@ -24,7 +24,7 @@ use Rattle.segment_invocation.specs.Invocations.{grow_command, input, kept_comma
 use Rattle.segment_invocation.specs.Invocations.{load_command, migrate, names, names_command, options_of}
 use Rattle.segment_invocation.specs.Invocations.{plain_options, program, run_command, run_of, options_of_run}
 use Rattle.segment_invocation.specs.Invocations.{saving_part}
-use Rattle.segment_invocation.specs.Invocations.{seconds_of, shrink, size_of, tell}
+use Rattle.segment_invocation.specs.Invocations.{salvage, seconds_of, shrink, size_of, tell}
 use Rattle.segment_invocation.specs.declared.invocations.ModeName.TheVariants.{OpenOnly}
 use Rattle.segment_invocation.specs.declared.invocations.Report.TheVariants.{Figures, Picture, Page, Dump, Capacities}
 use Rattle.segment_invocation.specs.declared.invocations.Report.TheVariants.{Json}
@@ -181,6 +181,13 @@ abbrev pub plainly : Text → InvocationValue → Asking
 plainly f a = (Some a, Some (plain_options (f ∷ [])))
 
 -- ---- a file, which may have flags after it
+
+-- `salvage` asks for what is right of a damaged image
+pub salvage-asks : (f : Text) → IsPlain f
+    → IsAsk (leaf (file_command (codes "salvage"))) (asking (codes "salvage")) (f ∷ []) (plainly f (salvage f))
+unfolding clap_on_literals
+salvage-asks f p = flagged (leaf (file_command (codes "salvage"))) (asking (codes "salvage")) f []
+    (plainly f (salvage f)) p refl refl refl refl
 
 -- `stat` asks for figures
 pub stat-asks : (f : Text) → IsPlain f

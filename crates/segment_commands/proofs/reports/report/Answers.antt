@@ -39,6 +39,18 @@ returns-in-NoValue-clause-text g c =
     (g.S.Sink.history c.put_line-in-NoValue.new.err) (command_text f)) (sym c.in-NoValue.is)
     c.put_line-in-NoValue.ensures.text
 
+pub returns-in-TooManyObjects-clause-text : goal.returns-in-TooManyObjects-clause-text
+returns-in-TooManyObjects-clause-text g c =
+    subst (λ (f : CommandFault). WritesText (g.S.Sink.history c.args.err.now)
+    (g.S.Sink.history c.put_line-in-TooManyObjects.new.err) (command_text f)) (sym c.in-TooManyObjects.is)
+    c.put_line-in-TooManyObjects.ensures.text
+
+pub returns-in-OutOfMemory-clause-text : goal.returns-in-OutOfMemory-clause-text
+returns-in-OutOfMemory-clause-text g c =
+    subst (λ (f : CommandFault). WritesText (g.S.Sink.history c.args.err.now)
+    (g.S.Sink.history c.report_no_memory.new.err) (command_text f)) (sym c.in-OutOfMemory.is)
+    c.report_no_memory.ensures.text
+
 pub returns-in-NoSpace-clause-text : goal.returns-in-NoSpace-clause-text
 returns-in-NoSpace-clause-text g c =
     subst (λ (f : CommandFault). WritesText (g.S.Sink.history c.args.err.now) (g.S.Sink.history c.put_no_space.new.err)

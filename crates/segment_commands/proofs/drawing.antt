@@ -1,0 +1,2 @@
+-- Drawings: a segment has more objects than a number, or not (`Counts`).
+pub mod Counts

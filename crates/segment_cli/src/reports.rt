@@ -51,8 +51,10 @@ pub fn put_session_line<S: Sink>(fault: SessionFault, err: &mut S) -> Result<(),
 {
     match fault {
         SessionFault::Image(class) => put_class_line(class, err),
-        SessionFault::BadSize | SessionFault::RegionTooSmall =>
-            write_all(err, b"segment: size refused\n"),
+        SessionFault::BadSize | SessionFault::RegionTooSmall => write_all(
+            err,
+            b"segment: size refused\n",
+        ),
         SessionFault::OutOfMemory(_) => write_all(err, b"segment: out of memory\n"),
         SessionFault::ReadFault => write_all(err, b"segment: read fault\n"),
         SessionFault::WriteFault => write_all(err, b"segment: write fault\n"),

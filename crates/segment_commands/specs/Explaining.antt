@@ -18,7 +18,6 @@ use Rattle.segment_commands.specs.Telling.{WritesAndFlushes}
 
 -- ---- the line of a verdict
 
-
 abbrev pub message_of : ImageClass → List ℕ
 message_of Truncated = codes "the file ends before the image does"
 message_of BadMagic = codes "this byte is not that of the magic, MSEGFILE"

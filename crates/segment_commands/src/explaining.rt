@@ -1,6 +1,5 @@
 //! The command that tells why an image is refused, and where.
 ghost use Rattle.std.specs.Prelude.{◌≡◌, ◌^◌, ◌-◌, ◌<◌};
-ghost use Rattle.raw_region.specs.Device.{Writes};
 ghost use Rattle.segment_commands.specs.Explaining.{RunsExplain, verdict_text};
 ghost use Rattle.segment_commands.specs.Telling.{WritesAndFlushes};
 
@@ -8,37 +7,29 @@ use crate::command_faults::CommandFault;
 use crate::opening::session_fault;
 use crate::telling::write_and_flush;
 use image_check::{OpenError, Verdict};
-use raw_region::{DeviceFault, Sink};
+use raw_region::DeviceFault;
 use segment_cli::SessionFault;
 use segment_disk::{Disk, Output};
 use segment_file::FileError;
 use segment_lang::{Piece, put_pieces};
 use std::alloc::Global;
 
-/// Writes a verdict as a line.
-fn put_verdict<W: Sink>(out: &mut W, verdict: Verdict) -> Result<(), DeviceFault>
-    requires { (W.history out.old).failures < 2 ^ 64 - 1 }
-    ensures { Writes (W.history out.old) (W.history out.new) result (verdict_text verdict) }
+/// Writes a verdict as a line, and gives out all that was written.
+fn tell_verdict<O: Output>(out: &mut O, verdict: Verdict) -> Result<(), DeviceFault>
+    requires { (O.history out.old).failures < 2 ^ 64 - 1 }
+    ensures { WritesAndFlushes O.history O.flushes out.old out.new (verdict_text verdict) result }
 {
-    let message = verdict.class.explanation();
+    let explanation = verdict.class.explanation();
     put_pieces(
         out,
         &[
             Piece::Bytes(b"at "),
             Piece::Number(verdict.place),
             Piece::Bytes(b": "),
-            Piece::Bytes(message.as_bytes()),
+            Piece::Bytes(explanation.as_bytes()),
             Piece::Bytes(b"\n"),
         ],
-    )
-}
-
-/// Writes a verdict, and gives out all that was written.
-fn tell_verdict<O: Output>(out: &mut O, verdict: Verdict) -> Result<(), DeviceFault>
-    requires { (O.history out.old).failures < 2 ^ 64 - 1 }
-    ensures { WritesAndFlushes O.history O.flushes out.old out.new (verdict_text verdict) result }
-{
-    put_verdict(out, verdict)?;
+    )?;
     Output::flush(out)
 }
 

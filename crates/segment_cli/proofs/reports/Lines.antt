@@ -9,7 +9,7 @@ use Rattle.segment_cli.specs.declared.faults.ProgramFault.TheVariants.{Usage, Ex
 use Rattle.segment_cli.specs.Reports.{fault_text, status_of}
 
 image : fault_text (Session (Image BadTag)) ≡ codes "segment: image refused: 6 BadTag\n"
-image = rw (decimal_digit 6 arith) in refl
+image = rw (decimal_digit 6 (omega arith)) refl
 
 image_status : status_of (Session (Image BadTag)) ≡ 1
 image_status = refl

@@ -2,7 +2,7 @@
 ghost use Rattle.std.specs.Prelude.{◌≡◌, ◌<◌, ◌-◌, ◌^◌, ◌%◌};
 
 use crate::among::runs_among;
-use crate::names::{class_name, fault_name};
+use crate::names::fault_name;
 use memory_devices::{MemorySink, MemorySource};
 use rows_trials::{Call, Case, Outcome, Place, Runner};
 use segment_cli::{Start, migrate, session};
@@ -47,7 +47,7 @@ fn verdict_on(alloc: Global, image: &[u8]) -> Option<(&'static str, u64)> {
     match open_bytes(alloc, versions, image, region, 0, mode, steps) {
         Ok(_) => None,
         Err(refused) => match refused.cause {
-            OpenError::Image(verdict) => Some((class_name(verdict.class), verdict.place)),
+            OpenError::Image(verdict) => Some((verdict.class.name(), verdict.place)),
             _ => None,
         },
     }

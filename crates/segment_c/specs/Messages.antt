@@ -1,5 +1,7 @@
 -- The version, and the words for the codes.
 use Rattle.std.specs.Prelude.{ℕ, List, [], codes, ◌==◌, if◌then◌else◌}
+use Rattle.image_check.specs.Classes.{message_of}
+use Rattle.image_check.specs.declared.classes.ImageClass.TheVariants as class
 use Rattle.seg_types.specs.{Refusals.refusal_message, declared.refusals.Refusal.TheVariants.NoSpace}
 use Rattle.seg_types.specs.declared.refusals.Refusal.TheVariants.{ReadOnly, Exists, NotFound, WrongKind, OutOfRange}
 
@@ -32,16 +34,16 @@ code_message code =
     else if code == 27 then codes "region too small"
     else if code == 28 then codes "growth is no multiple of 16 from 32 on"
     else if code == 29 then codes "too large"
-    else if code == 101 then codes "the image ends too early"
-    else if code == 102 then codes "the image does not begin with the magic"
-    else if code == 103 then codes "the version is not supported"
-    else if code == 104 then codes "the size is wrong"
-    else if code == 105 then codes "a reserved byte is not zero"
-    else if code == 106 then codes "the tags are wrong"
-    else if code == 107 then codes "the free tree is wrong"
-    else if code == 108 then codes "an index is wrong"
-    else if code == 109 then codes "an object is wrong"
-    else if code == 110 then codes "two links lead to one block"
-    else if code == 111 then codes "a container is wrong"
-    else if code == 112 then codes "a block belongs to nothing"
+    else if code == 101 then message_of class.Truncated
+    else if code == 102 then message_of class.BadMagic
+    else if code == 103 then message_of class.UnsupportedVersion
+    else if code == 104 then message_of class.BadSize
+    else if code == 105 then message_of class.BadReserved
+    else if code == 106 then message_of class.BadTag
+    else if code == 107 then message_of class.BadFreeTree
+    else if code == 108 then message_of class.BadIndex
+    else if code == 109 then message_of class.BadObject
+    else if code == 110 then message_of class.SharedBlock
+    else if code == 111 then message_of class.BadContainer
+    else if code == 112 then message_of class.OrphanBlock
     else []

@@ -222,22 +222,13 @@ pub extern "C" fn zx_check(alloc: Global, image: &[u8]) -> u32
     ensures owner { result ≡ 0 → IsSegment image.now }
     ensures cause { 1 ≤ result → IsNoImage image.now result }
 {
-    examine(alloc, image, &mut 0)
+    zx_explain(alloc, image, &mut 0)
 }
 
 /// Checks that the bytes are the image of a segment, and returns a code. For a code of a class, `place` is set to the
-/// byte that shows it.
+/// byte that shows it. Takes memory for as many bytes as the front says, and none if there are fewer.
 #[unsafe(no_mangle)]
 pub extern "C" fn zx_explain(alloc: Global, image: &[u8], place: &mut u64) -> u32
-    ensures owner { result ≡ 0 → IsSegment image.now }
-    ensures cause { 1 ≤ result → IsNoImage image.now result }
-    ensures place { IsPlaced image.now result place.old place.new }
-{
-    examine(alloc, image, place)
-}
-
-/// Examines an image in a region for as many bytes as its front says. It makes none if there are fewer.
-fn examine(alloc: Global, image: &[u8], place: &mut u64) -> u32
     ensures owner { result ≡ 0 → IsSegment image.now }
     ensures cause { 1 ≤ result → IsNoImage image.now result }
     ensures place { IsPlaced image.now result place.old place.new }

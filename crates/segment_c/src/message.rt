@@ -2,6 +2,7 @@
 ghost use Rattle.std.specs.Prelude.{◌≡◌};
 ghost use Rattle.segment_c.specs.Messages.{code_message, version};
 
+use image_check::ImageClass;
 use seg_types::Refusal;
 
 /// The version of the library: 10000 for each major one, 100 for each minor one, and 1 for each patch.
@@ -50,18 +51,18 @@ fn code_message(code: u32) -> &'static [u8]
         27 => b"region too small",
         28 => b"growth is no multiple of 16 from 32 on",
         29 => b"too large",
-        101 => b"the image ends too early",
-        102 => b"the image does not begin with the magic",
-        103 => b"the version is not supported",
-        104 => b"the size is wrong",
-        105 => b"a reserved byte is not zero",
-        106 => b"the tags are wrong",
-        107 => b"the free tree is wrong",
-        108 => b"an index is wrong",
-        109 => b"an object is wrong",
-        110 => b"two links lead to one block",
-        111 => b"a container is wrong",
-        112 => b"a block belongs to nothing",
+        101 => ImageClass::Truncated.message().as_bytes(),
+        102 => ImageClass::BadMagic.message().as_bytes(),
+        103 => ImageClass::UnsupportedVersion.message().as_bytes(),
+        104 => ImageClass::BadSize.message().as_bytes(),
+        105 => ImageClass::BadReserved.message().as_bytes(),
+        106 => ImageClass::BadTag.message().as_bytes(),
+        107 => ImageClass::BadFreeTree.message().as_bytes(),
+        108 => ImageClass::BadIndex.message().as_bytes(),
+        109 => ImageClass::BadObject.message().as_bytes(),
+        110 => ImageClass::SharedBlock.message().as_bytes(),
+        111 => ImageClass::BadContainer.message().as_bytes(),
+        112 => ImageClass::OrphanBlock.message().as_bytes(),
         _ => b"",
     }
 }

@@ -1,9 +1,9 @@
 -- What the program says of a fault, and the status that it ends with.
-use Rattle.std.specs.Prelude.{◌≡◌, ◌⊎◌, ◌∷◌, ◌+◌, ◌++◌, ℕ, List, [], codes}
+use Rattle.std.specs.Prelude.{◌≡◌, ◌⊎◌, ◌∷◌, ◌+◌, ◌++◌, ℕ, List, [], codes, decimal}
 use Rattle.raw_region.specs.Answers.{AppendsProperPrefix}
 use Rattle.raw_region.specs.Device.{WriterHistory}
 use Rattle.image_check.specs.declared.classes.ImageClass.{ImageClass}
-use Rattle.image_check.specs.declared.classes.ImageClass.TheVariants as class
+use Rattle.image_check.specs.Classes.{name_of, number_of}
 use Rattle.grow_shrink.specs.declared.refusals.GrowError.{GrowError}
 use Rattle.grow_shrink.specs.declared.refusals.GrowError.TheVariants as growth
 use Rattle.segment_cli.specs.declared.faults.SessionFault.{SessionFault}
@@ -15,18 +15,7 @@ use Rattle.segment_cli.specs.declared.faults.ProgramFault.TheVariants.{Usage, Ex
 
 -- a class by its number and its name
 abbrev pub class_message : ImageClass → List ℕ
-class_message class.Truncated = codes "1 Truncated"
-class_message class.BadMagic = codes "2 BadMagic"
-class_message class.UnsupportedVersion = codes "3 UnsupportedVersion"
-class_message class.BadSize = codes "4 BadSize"
-class_message class.BadReserved = codes "5 BadReserved"
-class_message class.BadTag = codes "6 BadTag"
-class_message class.BadFreeTree = codes "7 BadFreeTree"
-class_message class.BadIndex = codes "8 BadIndex"
-class_message class.BadObject = codes "9 BadObject"
-class_message class.SharedBlock = codes "10 SharedBlock"
-class_message class.BadContainer = codes "11 BadContainer"
-class_message class.OrphanBlock = codes "12 OrphanBlock"
+class_message class = decimal (number_of class) ++ codes " " ++ name_of class
 
 -- the name of a growth error
 abbrev pub growth_name : GrowError → List ℕ

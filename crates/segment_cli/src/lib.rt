@@ -10,7 +10,7 @@ pub use faults::{ProgramFault, SessionFault, Start};
 pub use grow_shrink::GrowError;
 pub use image_check::{ImageClass, MemoryFault, save};
 pub use migrations::migrate;
-pub use reports::{report, session_line, session_status};
+pub use reports::{put_session_line, report, session_status};
 pub use segment_invocation::{
     AnswerOptions, FileChange, FileOptions, Invocation, InvocationFault, ModeName, Options, Report,
     Request, SaveMode, Script, UsageError, invocation, request,

@@ -1,31 +1,31 @@
 //! What the program says of a fault, and the status that it ends with.
 ghost use Rattle.std.specs.Prelude.{◌≡◌, ◌++◌, ◌-◌, ◌^◌, ◌<◌, codes};
+ghost use Rattle.raw_region.specs.Device.{Writes};
 ghost use Rattle.segment_cli.specs.Reports.{WritesText, fault_text, growth_name, line, session_status, session_message};
 ghost use Rattle.segment_cli.specs.{Reports.status_of, declared.faults.SessionFault.TheVariants.Image};
 
 use crate::faults::{ProgramFault, SessionFault};
 use grow_shrink::GrowError;
 use image_check::ImageClass;
-use raw_region::{Sink, write_all};
+use raw_region::{DeviceFault, Sink, write_all};
+use segment_lang::{Piece, put_pieces};
 
-/// Returns the line of an image that is refused.
-fn class_line(class: ImageClass) -> &'static [u8]
-    ensures { result.now ≡ line (session_message (Image class)) }
+/// Writes the line of an image that is refused.
+fn put_class_line<S: Sink>(class: ImageClass, err: &mut S) -> Result<(), DeviceFault>
+    requires { (S.history err.old).failures < 2 ^ 64 - 1 }
+    ensures { Writes (S.history err.old) (S.history err.new) result (line (session_message (Image class))) }
 {
-    match class {
-        ImageClass::Truncated => b"segment: image refused: 1 Truncated\n",
-        ImageClass::BadMagic => b"segment: image refused: 2 BadMagic\n",
-        ImageClass::UnsupportedVersion => b"segment: image refused: 3 UnsupportedVersion\n",
-        ImageClass::BadSize => b"segment: image refused: 4 BadSize\n",
-        ImageClass::BadReserved => b"segment: image refused: 5 BadReserved\n",
-        ImageClass::BadTag => b"segment: image refused: 6 BadTag\n",
-        ImageClass::BadFreeTree => b"segment: image refused: 7 BadFreeTree\n",
-        ImageClass::BadIndex => b"segment: image refused: 8 BadIndex\n",
-        ImageClass::BadObject => b"segment: image refused: 9 BadObject\n",
-        ImageClass::SharedBlock => b"segment: image refused: 10 SharedBlock\n",
-        ImageClass::BadContainer => b"segment: image refused: 11 BadContainer\n",
-        ImageClass::OrphanBlock => b"segment: image refused: 12 OrphanBlock\n",
-    }
+    let name = class.name();
+    put_pieces(
+        err,
+        &[
+            Piece::Bytes(b"segment: image refused: "),
+            Piece::Number(u64::from(class.number())),
+            Piece::Bytes(b" "),
+            Piece::Bytes(name.as_bytes()),
+            Piece::Bytes(b"\n"),
+        ],
+    )
 }
 
 /// Returns the line of a segment that does not grow.
@@ -40,29 +40,38 @@ fn growth_line(error: GrowError) -> &'static [u8]
     }
 }
 
-/// Returns the line of a session that fails.
-pub fn session_line(fault: SessionFault) -> &'static [u8]
-    ensures { result.now ≡ line (session_message fault) }
+/// Writes the line of a session that fails.
+///
+/// # Errors
+///
+/// The writer failed. It took a front of the line, and not all of it.
+pub fn put_session_line<S: Sink>(fault: SessionFault, err: &mut S) -> Result<(), DeviceFault>
+    requires { (S.history err.old).failures < 2 ^ 64 - 1 }
+    ensures { Writes (S.history err.old) (S.history err.new) result (line (session_message fault)) }
 {
     match fault {
-        SessionFault::Image(class) => class_line(class),
-        SessionFault::BadSize | SessionFault::RegionTooSmall => b"segment: size refused\n",
-        SessionFault::OutOfMemory(_) => b"segment: out of memory\n",
-        SessionFault::ReadFault => b"segment: read fault\n",
-        SessionFault::WriteFault => b"segment: write fault\n",
-        SessionFault::ScriptTooLong => b"segment: script too long\n",
+        SessionFault::Image(class) => put_class_line(class, err),
+        SessionFault::BadSize | SessionFault::RegionTooSmall => write_all(
+            err,
+            b"segment: size refused\n",
+        ),
+        SessionFault::OutOfMemory(_) => write_all(err, b"segment: out of memory\n"),
+        SessionFault::ReadFault => write_all(err, b"segment: read fault\n"),
+        SessionFault::WriteFault => write_all(err, b"segment: write fault\n"),
+        SessionFault::ScriptTooLong => write_all(err, b"segment: script too long\n"),
     }
 }
 
-/// Returns the line of a fault; a wrong command line has none.
-fn fault_line(fault: ProgramFault) -> &'static [u8]
-    ensures { result.now ≡ fault_text fault }
+/// Writes the line of a fault; a wrong command line has none.
+fn put_fault_line<S: Sink>(fault: ProgramFault, err: &mut S) -> Result<(), DeviceFault>
+    requires { (S.history err.old).failures < 2 ^ 64 - 1 }
+    ensures { Writes (S.history err.old) (S.history err.new) result (fault_text fault) }
 {
     match fault {
-        ProgramFault::Usage => b"",
-        ProgramFault::Exists => b"segment: file exists\n",
-        ProgramFault::Growth(error) => growth_line(error),
-        ProgramFault::Session(fault) => session_line(fault),
+        ProgramFault::Usage => Ok(()),
+        ProgramFault::Exists => write_all(err, b"segment: file exists\n"),
+        ProgramFault::Growth(error) => write_all(err, growth_line(error)),
+        ProgramFault::Session(fault) => put_session_line(fault, err),
     }
 }
 
@@ -97,6 +106,6 @@ pub fn report<S: Sink>(fault: ProgramFault, err: &mut S) -> u8
     ensures status { result ≡ status_of fault }
     ensures text { WritesText (S.history err.old) (S.history err.new) (fault_text fault) }
 {
-    let _ = write_all(err, fault_line(fault));
+    let _ = put_fault_line(fault, err);
     status_of(fault)
 }

@@ -33,7 +33,7 @@ fit_line false path (Err fault) = []
 -- the lines of a refused file on standard error
 abbrev pub reason_lines : List ℕ → SessionFault → Option FileProblem → List ℕ
 reason_lines path fault trouble =
-    (path_text path ++ (codes ": " ++ (line (session_message fault) ++ []))) ++ trouble_line path trouble
+    (path_text path ++ (codes ": " ++ [])) ++ (line (session_message fault) ++ trouble_line path trouble)
 
 -- the lines of a refused file on standard error
 abbrev pub unfit_lines : List ℕ → Result (Unit {0}) SessionFault → Option FileProblem → List ℕ

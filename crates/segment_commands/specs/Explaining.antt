@@ -2,9 +2,7 @@
 use Rattle.std.specs.Prelude.{◌≡◌, ◌≢◌, ◌⊎◌, ◌++◌, ℕ, Bool, List, [], Result, Ok, Err, codes, decimal}
 use Rattle.raw_region.specs.Device.{WriterHistory}
 use Rattle.image_check.specs.declared.classes.ImageClass.{ImageClass}
-use Rattle.image_check.specs.declared.classes.ImageClass.TheVariants.{Truncated, BadMagic, UnsupportedVersion, BadSize}
-use Rattle.image_check.specs.declared.classes.ImageClass.TheVariants.{BadReserved, BadTag, BadFreeTree, BadIndex}
-use Rattle.image_check.specs.declared.classes.ImageClass.TheVariants.{BadObject, SharedBlock, BadContainer, OrphanBlock}
+use Rattle.image_check.specs.Classes.{explanation_of}
 use Rattle.image_check.specs.declared.errors.OpenError.TheVariants.{Image}
 use Rattle.image_check.specs.declared.verdict.Verdict.{Verdict}
 use Rattle.segment_cli.specs.declared.faults.SessionFault.TheVariants.{Image as Refused, WriteFault}
@@ -36,7 +34,7 @@ message_of OrphanBlock = codes "a block belongs to nothing"
 
 -- the line of a verdict
 abbrev pub verdict_text : Verdict → List ℕ
-verdict_text v = codes "at " ++ (decimal v.place ++ (codes ": " ++ (message_of v.class ++ (codes "\n" ++ []))))
+verdict_text v = codes "at " ++ (decimal v.place ++ (codes ": " ++ (explanation_of v.class ++ (codes "\n" ++ []))))
 
 -- ---- `check --explain`
 

@@ -11,7 +11,7 @@ use crate::paths::path_piece;
 use crate::reports::put_trouble;
 use crate::telling::write_and_flush;
 use raw_region::{DeviceFault, Sink};
-use segment_cli::{SessionFault, session_line, session_status};
+use segment_cli::{SessionFault, put_session_line, session_status};
 use segment_disk::{Disk, FileProblem, Output};
 use segment_lang::{Piece, put_pieces};
 use std::alloc::Global;
@@ -72,14 +72,8 @@ fn put_reason<S: Sink>(
     requires { (S.history err.old).failures < 2 ^ 64 - 1 }
     ensures { Writes (S.history err.old) (S.history err.new) result (reason_lines path.now fault trouble) }
 {
-    put_pieces(
-        err,
-        &[
-            path_piece(path),
-            Piece::Bytes(b": "),
-            Piece::Bytes(session_line(fault)),
-        ],
-    )?;
+    put_pieces(err, &[path_piece(path), Piece::Bytes(b": ")])?;
+    put_session_line(fault, err)?;
     put_trouble(path, trouble, err)
 }
 

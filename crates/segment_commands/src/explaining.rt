@@ -1,66 +1,35 @@
 //! The command that tells why an image is refused, and where.
 ghost use Rattle.std.specs.Prelude.{◌≡◌, ◌^◌, ◌-◌, ◌<◌};
-ghost use Rattle.raw_region.specs.Device.{Writes};
-ghost use Rattle.segment_commands.specs.Explaining.{RunsExplain, verdict_text, message_of as message_for};
+ghost use Rattle.segment_commands.specs.Explaining.{RunsExplain, verdict_text};
 ghost use Rattle.segment_commands.specs.Telling.{WritesAndFlushes};
 
 use crate::command_faults::CommandFault;
 use crate::opening::session_fault;
 use crate::telling::write_and_flush;
-use image_check::{ImageClass, OpenError, Verdict};
-use raw_region::{DeviceFault, Sink};
+use image_check::{OpenError, Verdict};
+use raw_region::DeviceFault;
 use segment_cli::SessionFault;
 use segment_disk::{Disk, Output};
 use segment_file::FileError;
 use segment_lang::{Piece, put_pieces};
 use std::alloc::Global;
 
-/// Returns why an image of a class is refused.
-fn message_of(class: ImageClass) -> &'static str
-    ensures { result.now ≡ message_for class }
+/// Writes a verdict as a line, and gives out all that was written.
+fn tell_verdict<O: Output>(out: &mut O, verdict: Verdict) -> Result<(), DeviceFault>
+    requires { (O.history out.old).failures < 2 ^ 64 - 1 }
+    ensures { WritesAndFlushes O.history O.flushes out.old out.new (verdict_text verdict) result }
 {
-    match class {
-        ImageClass::Truncated => "the file ends before the image does",
-        ImageClass::BadMagic => "this byte is not that of the magic, MSEGFILE",
-        ImageClass::UnsupportedVersion => "the version is not the one that is read",
-        ImageClass::BadSize =>
-            "the size that stands at 16 is none of a segment, or the file goes on behind it",
-        ImageClass::BadReserved => "a reserved byte is not zero",
-        ImageClass::BadTag => "the tag of a block or gap, or the end tag, is wrong",
-        ImageClass::BadFreeTree => "the links from here on do not make up the tree of the gaps",
-        ImageClass::BadIndex => "an index has a wrong count, capacity, block or entry",
-        ImageClass::BadObject =>
-            "an object has a wrong kind, count, name, class, padding or value, or is not in its index",
-        ImageClass::SharedBlock => "two links lead to one block",
-        ImageClass::BadContainer => "the block, elements, pairs or counts of a container are wrong",
-        ImageClass::OrphanBlock => "a block belongs to nothing",
-    }
-}
-
-/// Writes a verdict as a line.
-fn put_verdict<W: Sink>(out: &mut W, verdict: Verdict) -> Result<(), DeviceFault>
-    requires { (W.history out.old).failures < 2 ^ 64 - 1 }
-    ensures { Writes (W.history out.old) (W.history out.new) result (verdict_text verdict) }
-{
-    let message = message_of(verdict.class);
+    let explanation = verdict.class.explanation();
     put_pieces(
         out,
         &[
             Piece::Bytes(b"at "),
             Piece::Number(verdict.place),
             Piece::Bytes(b": "),
-            Piece::Bytes(message.as_bytes()),
+            Piece::Bytes(explanation.as_bytes()),
             Piece::Bytes(b"\n"),
         ],
-    )
-}
-
-/// Writes a verdict, and gives out all that was written.
-fn tell_verdict<O: Output>(out: &mut O, verdict: Verdict) -> Result<(), DeviceFault>
-    requires { (O.history out.old).failures < 2 ^ 64 - 1 }
-    ensures { WritesAndFlushes O.history O.flushes out.old out.new (verdict_text verdict) result }
-{
-    put_verdict(out, verdict)?;
+    )?;
     Output::flush(out)
 }
 

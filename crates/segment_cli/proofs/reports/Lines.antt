@@ -1,5 +1,6 @@
 -- What the program says of its faults, and the status that it ends with.
-use Rattle.std.proofs.Common.{◌≡◌, refl, [], codes}
+use Rattle.std.proofs.Common.{◌≡◌, refl, [], codes, arith}
+use Rattle.std.proofs.lemmas.Fmt.{decimal_digit}
 use Rattle.image_check.specs.declared.classes.ImageClass.TheVariants.{BadTag}
 use Rattle.image_check.specs.declared.errors.MemoryFault.{MemoryFault}
 use Rattle.grow_shrink.specs.declared.refusals.GrowError.TheVariants.{BadGrow}
@@ -8,7 +9,7 @@ use Rattle.segment_cli.specs.declared.faults.ProgramFault.TheVariants.{Usage, Ex
 use Rattle.segment_cli.specs.Reports.{fault_text, status_of}
 
 image : fault_text (Session (Image BadTag)) ≡ codes "segment: image refused: 6 BadTag\n"
-image = refl
+image = rw (decimal_digit 6 (omega arith)) refl
 
 image_status : status_of (Session (Image BadTag)) ≡ 1
 image_status = refl

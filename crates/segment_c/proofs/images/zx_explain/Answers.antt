@@ -1,5 +1,5 @@
 -- Fewer bytes than they say are cut off.
-use Rattle.segment_c.proofs.images.examine.Goals as goal
+use Rattle.segment_c.proofs.images.zx_explain.Goals as goal
 use Rattle.std.proofs.Common.{◌<◌, ◌≤◌, inr, length, refl, subst, ℕ}
 use Rattle.std.specs.Prelude.{min}
 use Rattle.image_check.specs.declared.classes.ImageClass.TheVariants.{Truncated}

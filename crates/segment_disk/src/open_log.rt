@@ -8,7 +8,7 @@ use crate::presence::FileProblem;
 use crate::replacement_file::take_rights;
 use crate::settling::renew_log;
 use crate::spare_file::{SpareFile, is_folder_synced};
-use crate::sparse::are_zeros;
+use crate::sparse::{are_zeros, longest_file};
 use segment_log::{CommittedImage, GATE_LEN, LogFault};
 use std::fs::{self, File};
 use std::io::{self, ErrorKind, Read, Write};
@@ -25,6 +25,8 @@ pub(crate) struct OpenLog {
     path: String,
     /// The path of the file, which leads through no link.
     file: PathBuf,
+    /// How many bytes the log may have.
+    longest: u64,
 }
 
 /// Returns the bytes of the file that is held, and writes it through, since it may have been written by another.
@@ -127,6 +129,10 @@ impl OpenLog {
         let (file, bytes) = synced_bytes(rt, real.as_str(), lock)?;
         let records = records_of(rt, real.as_str(), log.as_str())?;
         let (kept, gated) = committed(rt.alloc(), bytes, &records)?;
+        let longest = longest_file(rt);
+        if gated.len() as u64 > longest {
+            return Err(Some(FileProblem::Unwritten));
+        }
         let made = if kept.end > 0 {
             renew_log(rt, log.as_str(), &gated)
         } else {
@@ -137,6 +143,7 @@ impl OpenLog {
                 log: made.map_err(trouble_of)?,
                 path: log,
                 file: real,
+                longest,
             },
             kept,
         ))
@@ -156,8 +163,12 @@ impl OpenLog {
             )
     }
 
-    /// Writes bytes at an offset of the log.
+    /// Writes bytes at an offset of the log, if it may be as long.
     pub(crate) fn write(&self, at: usize, bytes: &[u8]) -> Result<(), LogFault> {
+        let end = (at as u64).saturating_add(bytes.len() as u64);
+        if end > self.longest {
+            return Err(LogFault);
+        }
         self.log
             .write_all_at(bytes, at as u64)
             .map_err(|_| LogFault)

@@ -77,6 +77,14 @@ pub record EndsUnbegun {D : Type 0} (old new : D) (log : CommitLog) (result answ
   pub log_is : log ≡ Absent
   pub answer_is : result ≡ answer
 
+-- a file that has the image, with its log or without, was written through: Ok says that it lasts
+pub record SyncsFile {D : Type 0} (step : D → Event → D → Type 0) (old new : D) (path : List ℕ) (log : CommitLog)
+    (result : Result (Unit {0}) CommitFault) : Type 0 where
+  pub lasts : Bool
+  pub asked : step old (Synced path lasts) new
+  pub log_is : log ≡ Absent
+  pub answer : result ≡ synced_as lasts
+
 module _ {D : Type 0} (step : D → Event → D → Type 0) (log_step : D → LogEvent → D → Type 0) (old new : D)
     (path : List ℕ) where
   -- no log could be put beside the file
@@ -95,17 +103,10 @@ module _ {D : Type 0} (step : D → Event → D → Type 0) (log_step : D → Lo
     pub stands : IsCommitted files first
     pub commits : CommitsBegun log_step begun new first image log result
 
-  -- a file that has the image, with its log or without, was written through: Ok says that it lasts
-  pub record SyncsFile (log : CommitLog) (result : Result (Unit {0}) CommitFault) : Type 0 where
-    pub lasts : Bool
-    pub asked : step old (Synced path lasts) new
-    pub log_is : log ≡ Absent
-    pub answer : result ≡ synced_as lasts
-
   -- after the file was compared with the image: one that has it is written through, and one of another is left alone
   abbrev pub CommitsIfDifferent : Comparison → List ℕ → CommitLog → Result (Unit {0}) CommitFault → Type 0
   CommitsIfDifferent Other image log result = EndsUnbegun old new log result (Err NotBegun)
-  CommitsIfDifferent Equal image log result = SyncsFile log result
+  CommitsIfDifferent Equal image log result = SyncsFile step old new path log result
   CommitsIfDifferent Different image log result = FailsToBegin log result ⊎ BeginsAndCommits image log result
 
   -- the log is removed if its records are in the file

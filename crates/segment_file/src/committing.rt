@@ -5,7 +5,7 @@ ghost use Rattle.segment_manager.specs.{Directory.Directory, State.DenotesCurren
 ghost use Rattle.segment_file.specs.Committing.{CheckpointsFile, CommitsAndShortens, CommitsBegun, CommitsFile};
 ghost use Rattle.segment_file.specs.Committing.{CommitsFirst, CommitsIfDifferent, CommitsSegment, EndsBegun};
 ghost use Rattle.segment_file.specs.Committing.{EndsCommits, EndsIfCommitted, EndsLog, answer_of, begun_anew};
-ghost use Rattle.segment_file.specs.Committing.{is_due, log_after, log_of};
+ghost use Rattle.segment_file.specs.Committing.{SyncsFile, is_due, log_after, log_of};
 
 use crate::segment_files::SegmentFile;
 use image_check::laws::one_directory;
@@ -80,6 +80,20 @@ fn commit_begun<D: Disk>(
     answered(kept, told)
 }
 
+/// Writes a file that has the image through.
+fn sync_found<D: Disk>(
+    disk: &mut D,
+    path: &str,
+    hold: &mut D::Hold,
+) -> (CommitLog, Result<(), CommitFault>)
+    ensures { SyncsFile D.step disk.old disk.new path.now result.0 result.1 }
+{
+    match disk.sync(path, hold) {
+        Ok(()) => (CommitLog::Absent, Ok(())),
+        Err(_fault) => (CommitLog::Absent, Err(CommitFault::NotBegun)),
+    }
+}
+
 /// Commits an image to a log that is put beside the file, after it was found what the file has. A file that has the
 /// image is written through.
 fn commit_if_different<D: Disk>(
@@ -94,10 +108,7 @@ fn commit_if_different<D: Disk>(
 {
     match found {
         Comparison::Other => (CommitLog::Absent, Err(CommitFault::NotBegun)),
-        Comparison::Equal => match disk.sync(path, hold) {
-            Ok(()) => (CommitLog::Absent, Ok(())),
-            Err(_) => (CommitLog::Absent, Err(CommitFault::NotBegun)),
-        },
+        Comparison::Equal => sync_found(disk, path, hold),
         Comparison::Different => match disk.begin_log(path, hold) {
             Ok(first) => commit_begun(alloc, disk, hold, first, image),
             Err(_) => (CommitLog::Absent, Err(CommitFault::NotBegun)),

@@ -40,8 +40,8 @@ fn commit_opened<D: Disk, S: Source, O: LineOutput>(
 ) -> Result<End, SessionFault>
     requires script { (S.history script.old).failures < 2 ^ 64 - 1 }
     requires out { (O.history out.old).failures < 2 ^ 64 - 1 }
-    ensures { CommitsOpened D.step D.log_step disk.old disk.new request.now (S.history script.old) (S.history script.new)
-        O.history (IsFlushed O.history O.flushes out.new) out.old out.new result }
+    ensures { CommitsOpened D.step D.log_step disk.old disk.new request.now (S.history script.old)
+        (S.history script.new) O.history (IsFlushed O.history O.flushes out.new) out.old out.new result }
 {
     let path = request.path;
     let mut segment = open_segment(alloc, disk, path, AcceptedVersions::Current, Mode::Write, 0)?;
@@ -92,15 +92,15 @@ fn commit_on_file<D: Disk, S: Source, O: LineOutput>(
 }
 
 /// Runs a script on the segment in a file, and gives out its answers. When all answers went out, what the script
-/// changed is committed to the log beside the file: at Ok it lasts, and a crash at any moment leaves the image of before
-/// or the new one. A log that has become long is put into the file. With `open_or_create` and no file, the segment is
-/// made and saved as by [`run`](crate::run). The script is run to its end, or until a line is refused.
+/// changed is committed to the log beside the file: at Ok it lasts, and a crash at any moment leaves the old image or
+/// the new one. A log that has become long is put into the file. With `open_or_create` and no file, the segment is made
+/// and saved as by [`run`](crate::run). The script is run to its end, or until a line is refused.
 ///
 /// # Errors
 ///
 /// `Usage` for a mode other than `open_only` and `open_or_create`, and for `open_or_create` without a size. Otherwise
-/// those of [`run`](crate::run). After `WriteFault` the file and its log stand for the image of before, or for the new
-/// one if the log could not be written through.
+/// those of [`run`](crate::run). After `WriteFault` the file and its log stand for the old image, or for the new one if
+/// the log could not be written through.
 pub fn run_and_commit<D: Disk, S: Source, O: LineOutput>(
     alloc: Global,
     disk: &mut D,

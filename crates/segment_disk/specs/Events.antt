@@ -47,11 +47,11 @@ pub data Event : Type 0 where
   -- it was to be removed
   Discarded : List ℕ → Event
   -- a log was to be put beside the file of this path, with the records of the one that is there; that was done, the
-  -- file and the log have these bytes, and both last; or it was not; in each case both stand for the same image as before
+  -- file and the log have these bytes, and both last; or it was not. Both stand for the same image as before.
   LogBegun : List ℕ → Option LoggedFile → Event
   -- the log that was put beside the file, and has no record, was to be removed
   LogEnded : List ℕ → Event
-  -- the file of this path, and its log, were to be written through with their names; that was done, or need not have been
+  -- the file of this path and its log were to be written through, with their names; they were, or need not have been
   Synced : List ℕ → Bool → Event
 
 -- a file was not opened for reading

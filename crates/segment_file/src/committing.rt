@@ -275,8 +275,8 @@ fn commit_and_shorten<D: Disk>(
 }
 
 /// Writes what changed of a file that is held to the log beside it, or to a new log: the image of a segment that was
-/// read from the file. At Ok that lasts. If the log is longer then than a quarter of the image, and than 1 MiB, the image
-/// is put into the file, and the log is removed, if that can be done. A check of the image accepts it.
+/// read from the file. At Ok that lasts. If the log is longer then than a quarter of the image, and than 1 MiB, the
+/// image is put into the file, and the log is removed, if that can be done. A check of the image accepts it.
 ///
 /// # Errors
 ///

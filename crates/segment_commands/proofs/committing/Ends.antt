@@ -71,7 +71,7 @@ module _ {D : Type 0} (step : D → Event → D → Type 0) (log_step : D → Lo
       refusing_run step Truncate path Image Write capacity image until script out Flushed s s' h old answered
   uncommitted_run old (Err fault) is_not why =
       elim (halted step Truncate path Image Write capacity image until script out Flushed s s' h old fault why)
-      [ | inl p ↦ inl p | inr p ↦ inr (inl p) ]
+      [ inl p ↦ inl p | inr p ↦ inr (inl p) ]
 
 module _ {D O : Type 0} (step : D → Event → D → Type 0) (log_step : D → LogEvent → D → Type 0) (old read new : D)
     (request : RunRequest) (script script' : ReaderHistory) (history : O → WriterHistory) (flushes : Bool → Type 0)
@@ -97,13 +97,15 @@ module _ {D O : Type 0} (step : D → Event → D → Type 0) (log_step : D → 
     room = r.room;
     read = read;
     asked = asked;
-    ends = ends (length r.region) image (begun image r.region Write s r.opened (read-fits Current len 0 Write image s r));
+    ends = ends (length r.region) image
+        (begun image r.region Write s r.opened (read-fits Current len 0 Write image s r));
   })
 
   read_commit : (x : Result SegmentState FileError) → ReadsFile step old read request.path.now Current Write 0 x
       → x ≡ Ok s → CommitsOpened step log_step old new request script script' history flushes out out' result
   read_commit x (inl u) e = absurd (no_error s (unopened_error u.why) (sym e ∙ u.refused))
-  read_commit x (inr r) e = begun_commit r.len r.image r.asked (subst (OpensImage Current 0 Write r.len r.image) e r.answer)
+  read_commit x (inr r) e =
+      begun_commit r.len r.image r.asked (subst (OpensImage Current 0 Write r.len r.image) e r.answer)
 
   -- a run goes on from an opened segment
   pub opened_commit : OpensFile step old read request.path.now Write (Ok s)

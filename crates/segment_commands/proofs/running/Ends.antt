@@ -139,6 +139,7 @@ module _ {D : Type 0} (step : D → Event → D
         (IsMachineAt s')
     ran = whole_run (record { mode = mode; directory = h.answers.from; zeros = false }) (at_first _ refl)
 
+    -- the run was to end after none of its lines
     pub unrefused : IsUnrefusedAct act
     unrefused = record {
       from = h.answers.from;
@@ -210,7 +211,7 @@ module _ {D : Type 0} (step : D → Event → D
 
   stopped : (old : D) (fault : SessionFault) → StopsWithFault until s s' script out Flushed fault
       ⊎ LosesAnswers until s s' script out Flushed fault → EndsRun step old old how path act Flushed (Err fault)
-  stopped old fault why = elim (halted old fault why) [ | inl h ↦ inl h | inr h ↦ inr (inl h) ]
+  stopped old fault why = elim (halted old fault why) [ inl h ↦ inl h | inr h ↦ inr (inl h) ]
 
   -- it ended at a refusal
   pub refusing_run : (old : D) → AnswersScript until s s' script out Flushed Refused true
@@ -240,6 +241,7 @@ module _ {D : Type 0} (step : D → Event → D
       is_left : s'.mode ≡ Write
       is_left = last_mode true answered ∙ writing
 
+      -- a session that saved its last image ran so
       pub done : ((d : Directory) → DenotesCurrent s'.cut.bytes d → IsSaved s'.cut.bytes d)
           → Ran act (all_of s'.cut.bytes) (Ok tt)
       done good = done_session start mode 0 capacity (record {

@@ -1,6 +1,6 @@
 -- A log that is cut behind its records, and gets a shut gate there, can take a record.
-use Rattle.std.proofs.Common.{◌≡◌, ◌≢◌, ℕ, zero, suc, ◌+◌, ◌<◌, ◌≤◌, List, [], ◌∷◌, ◌++◌, length, take, drop, get_or, true}
-use Rattle.std.proofs.Common.{refl, sym, ◌∙◌, ap, subst, arith}
+use Rattle.std.proofs.Common.{◌≡◌, ◌≢◌, ℕ, zero, suc, ◌+◌, ◌<◌, ◌≤◌, List, [], ◌∷◌, ◌++◌, length, take, drop, get_or}
+use Rattle.std.proofs.Common.{true, refl, sym, ◌∙◌, ap, subst, arith}
 use Rattle.std.proofs.lemmas.List.{append-nil, drop_all, length-take-le, take_all}
 use Rattle.segment_log.specs.CommittedImages.{IsCommitted}
 use Rattle.segment_log.specs.Crashes.{LoggedFile, with_log}
@@ -56,7 +56,8 @@ module _ (base log : List ℕ) (made : RecoveredImage) (r : Recovers base log ma
   cut_stands = ap (λ (ps : List (List ℕ)). applied_all ps base) cut_records ∙ sym r.image
 
   gated : take made.end cut ++ zeros 4096 ++ drop (made.end + length (zeros 4096)) cut ≡ cut ++ zeros 4096
-  gated = rw cut_again (rw nothing_behind (made.end + length (zeros 4096)) (omega arith) (append-nil (cut ++ zeros 4096)))
+  gated =
+      rw cut_again (rw nothing_behind (made.end + length (zeros 4096)) (omega arith) (append-nil (cut ++ zeros 4096)))
 
   -- it stands with its file for the image that was recovered
   pub gated_stands : RepairedIsReady → IsCommitted (with_log base (cut ++ zeros 4096))

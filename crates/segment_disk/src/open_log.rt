@@ -2,7 +2,7 @@
 ghost use Rattle.std.specs.Prelude.{IfOk};
 ghost use Rattle.segment_disk.specs.Logs.{StandsCommitted};
 
-use crate::locks::{FileLock, Identity, are_different, leads_to, sync_file};
+use crate::locks::{FileLock, Identity, are_different, leads_to, open_to_write, sync_file};
 use crate::logs::{LogTrouble, committed, has_log, log_paths, read_file, read_log, trouble_of};
 use crate::presence::FileProblem;
 use crate::replacement_file::take_rights;
@@ -29,12 +29,18 @@ pub(crate) struct OpenLog {
     longest: u64,
 }
 
-/// Returns the bytes of the file that is held, and writes it through, since it may have been written by another.
+/// Returns the bytes of the file that is held and may be written, and writes it through, since it may have been written
+/// by another.
 fn synced_bytes<R: Files<File = File> + AllocGlobal>(
     rt: &R,
     path: &str,
     lock: &FileLock,
 ) -> Result<(File, Vec<u8>), LogTrouble> {
+    // to open a pipe would wait for its other end
+    if !fs::metadata(rt, path).map_err(trouble_of)?.is_file() {
+        return Err(None);
+    }
+    open_to_write(rt, path).map_err(trouble_of)?;
     let mut file = fs::open(rt, path).map_err(trouble_of)?;
     if are_different(lock.identity(), Identity::of(&file)) {
         return Err(Some(FileProblem::Exists));

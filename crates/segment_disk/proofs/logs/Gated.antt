@@ -9,7 +9,7 @@ use Rattle.segment_log.specs.Events.{seen_in_the_end}
 use Rattle.segment_log.specs.Fingerprints.{fingerprint}
 use Rattle.segment_log.specs.Laws.{shut_events}
 use Rattle.segment_log.specs.Openings.{IsReady, RepairedIsReady}
-use Rattle.segment_log.specs.Records.{IsEndOfLog, recovered, recovered_at, zeros}
+use Rattle.segment_log.specs.Records.{IsEndOfLog, next_at, recovered, recovered_at, zeros}
 use Rattle.segment_log.specs.Tags.{AreTogether, belongs, names_after}
 use Rattle.segment_log.specs.declared.committed_image.CommittedImage.{CommittedImage}
 use Rattle.segment_log.specs.declared.recovery.RecoveredImage.{RecoveredImage}
@@ -41,7 +41,7 @@ module _ (base log : List ℕ) (made : RecoveredImage) (r : Recovers base log ma
     prefix = λ tail. ap (λ (l : List ℕ). recovered_at 4096 (l ++ tail)) cut_again ∙ r.end.prefix tail
         ∙ ap (λ (ps : List (List ℕ)). ps ++ recovered_at 4096 tail) (sym cut_records);
     within = omega (arith, cut_len);
-    none = rw nothing_behind made.end (omega arith) refl;
+    none = ap (next_at 4096) (nothing_behind made.end (omega arith));
     marked = λ some. first_kept made.end log some ∙ r.end.marked some;
   }
 
@@ -56,8 +56,9 @@ module _ (base log : List ℕ) (made : RecoveredImage) (r : Recovers base log ma
   cut_stands = ap (λ (ps : List (List ℕ)). applied_all ps base) cut_records ∙ sym r.image
 
   gated : take made.end cut ++ zeros 4096 ++ drop (made.end + length (zeros 4096)) cut ≡ cut ++ zeros 4096
-  gated =
-      rw cut_again (rw nothing_behind (made.end + length (zeros 4096)) (omega arith) (append-nil (cut ++ zeros 4096)))
+  gated = ap (λ (l : List ℕ). l ++ zeros 4096 ++ drop (made.end + length (zeros 4096)) cut) cut_again
+      ∙ (ap (λ (l : List ℕ). cut ++ zeros 4096 ++ l) (nothing_behind (made.end + length (zeros 4096)) (omega arith))
+      ∙ ap (λ (l : List ℕ). cut ++ l) (append-nil (zeros 4096)))
 
   -- it stands with its file for the image that was recovered
   pub gated_stands : RepairedIsReady → IsCommitted (with_log base (cut ++ zeros 4096))

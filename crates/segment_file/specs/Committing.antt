@@ -1,6 +1,6 @@
 -- How a segment is committed to the log beside its file: the calls to the disk, and what a crash leaves.
-use Rattle.std.specs.Prelude.{◌≡◌, ◌⊎◌, ℕ, ◌/◌, max, Bool, true, false, ◌&&◌, nat_lt, List, length, Some, None}
-use Rattle.std.specs.Prelude.{Result, Ok, Err, is_ok}
+use Rattle.std.specs.Prelude.{◌≡◌, ◌⊎◌, ℕ, ◌/◌, max, Bool, true, false, nat_lt, List, length, Some, None}
+use Rattle.std.specs.Prelude.{Result, Ok, Err}
 use Rattle.segment_log.specs.CommittedImages.{IsCommitted, CommitsImage, PlacesCommitted}
 use Rattle.segment_log.specs.Crashes.{LoggedFile}
 use Rattle.segment_log.specs.Events.{LogEvent}
@@ -44,11 +44,10 @@ log_after kept (Err WriteFault) = Unsure
 abbrev pub is_long : ℕ → ℕ → Bool
 is_long end len = nat_lt (max (len / 4) 1_048_576) end
 
--- a checkpoint is due
-abbrev pub is_due : CommitLog → Bool
-is_due Absent = false
-is_due (Begun kept) = is_long kept.end (length kept.image.items)
-is_due Unsure = false
+-- a checkpoint is due behind a commit: it is done, and the log is long
+abbrev pub is_due : Result (Unit {0}) CommitFault → CommitLog → Bool
+is_due (Ok done) (Begun kept) = is_long kept.end (length kept.image.items)
+is_due told log = false
 
 -- the answer of a commit of an image that the file has, by whether the file was written through
 abbrev pub synced_as : Bool → Result (Unit {0}) CommitFault
@@ -173,7 +172,7 @@ module _ {D : Type 0} (step : D → Event → D → Type 0) (log_step : D → Lo
     pub committed : D
     pub between : CommitLog
     pub commits : CommitsFile step log_step old committed path before image between result
-    pub shortens : ShortensIf step log_step committed new path (is_ok result && is_due between) between log
+    pub shortens : ShortensIf step log_step committed new path (is_due result between) between log
 
   -- `commit_segment`: the same for a file of which no log was begun; what is known of the log then is dropped
   pub record CommitsSegment (image : List ℕ) (result : Result (Unit {0}) CommitFault) : Type 0 where

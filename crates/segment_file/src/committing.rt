@@ -5,7 +5,7 @@ ghost use Rattle.segment_manager.specs.{Directory.Directory, State.DenotesCurren
 ghost use Rattle.segment_file.specs.Committing.{CheckpointsFile, CommitsAndShortens, CommitsBegun, CommitsFile};
 ghost use Rattle.segment_file.specs.Committing.{CommitsFirst, CommitsIfDifferent, CommitsSegment, EndsBegun};
 ghost use Rattle.segment_file.specs.Committing.{EndsCommits, EndsIfCommitted, EndsLog, answer_of, begun_anew};
-ghost use Rattle.segment_file.specs.Committing.{SyncsFile, is_due, log_after, log_of};
+ghost use Rattle.segment_file.specs.Committing.{ShortensIf, SyncsFile, is_due, log_after, log_of};
 
 use crate::segment_files::SegmentFile;
 use image_check::laws::one_directory;
@@ -244,13 +244,32 @@ fn checkpoint_image<D: Disk>(
     end_if_committed(alloc, disk, path, hold, told, committed)
 }
 
-/// Tells whether a checkpoint is due: the log has become long.
-fn is_due(log: &CommitLog) -> bool
-    ensures { result ≡ is_due log.now }
+/// Tells whether a checkpoint is due behind a commit: it is done, and the log has become long.
+fn is_due(told: Result<(), CommitFault>, log: &CommitLog) -> bool
+    ensures { result ≡ is_due told log.now }
 {
-    match log {
-        CommitLog::Begun(kept) => kept.end > (kept.image.len() / 4).max(LONG_LOG),
-        CommitLog::Absent | CommitLog::Unsure => false,
+    match (told, log) {
+        (Ok(()), CommitLog::Begun(kept)) => kept.end > (kept.image.len() / 4).max(LONG_LOG),
+        _ => false,
+    }
+}
+
+/// Puts the image of the last commit into the file, and removes the log, if a checkpoint is due. Returns the log then.
+fn shorten<D: Disk>(
+    alloc: Global,
+    disk: &mut D,
+    path: &str,
+    hold: &mut D::Hold,
+    is_due: bool,
+    log: CommitLog,
+) -> CommitLog
+    ensures { ShortensIf D.step D.log_step disk.old disk.new path.now is_due log result }
+{
+    if is_due {
+        let (ended, _) = end_log(alloc, disk, path, hold, log);
+        ended
+    } else {
+        log
     }
 }
 
@@ -267,11 +286,8 @@ fn commit_and_shorten<D: Disk>(
     ensures { CommitsAndShortens D.step D.log_step disk.old disk.new path.now log image.now result.0 result.1 }
 {
     let (committed, told) = commit_image(alloc, disk, path, hold, log, image);
-    if told.is_ok() && is_due(&committed) {
-        let (ended, _) = end_log(alloc, disk, path, hold, committed);
-        return (ended, told);
-    }
-    (committed, told)
+    let is_due = is_due(told, &committed);
+    (shorten(alloc, disk, path, hold, is_due, committed), told)
 }
 
 /// Writes what changed of a file that is held to the log beside it, or to a new log: the image of a segment that was

@@ -1,6 +1,7 @@
 -- What a disk was asked, and what it answered.
 use Rattle.std.specs.Prelude.{◌≡◌, ℕ, Bool, false, List, [], ◌∷◌, Option, None}
 use Rattle.raw_region.specs.Device.{ReaderHistory, ReadDelta, WriterHistory, WriteDelta}
+use Rattle.segment_log.specs.Crashes.{LoggedFile}
 use Rattle.segment_disk.specs.declared.presence.Comparison.{Comparison}
 use Rattle.segment_disk.specs.declared.presence.NotOpened.{NotOpened}
 use Rattle.segment_disk.specs.declared.presence.NotOpened.TheVariants.{Fault, ForeignLog}
@@ -45,11 +46,13 @@ pub data Event : Type 0 where
   Placed : List ℕ → Bool → Event
   -- it was to be removed
   Discarded : List ℕ → Event
-  -- a log without a record was to be put beside the file of this path, which stands for its bytes alone then; that was
-  -- done, the file has these bytes, and both last; or it was not, and the file stands for the same image as before
-  LogBegun : List ℕ → Option (List ℕ) → Event
+  -- a log was to be put beside the file of this path, with the records of the one that is there; that was done, the
+  -- file and the log have these bytes, and both last; or it was not. Both stand for the same image as before.
+  LogBegun : List ℕ → Option LoggedFile → Event
   -- the log that was put beside the file, and has no record, was to be removed
   LogEnded : List ℕ → Event
+  -- the file of this path and its log were to be written through, with their names; they were, or need not have been
+  Synced : List ℕ → Bool → Event
 
 -- a file was not opened for reading
 abbrev pub not_opened : List ℕ → NotOpened → Event

@@ -3,12 +3,13 @@
 ghost use Rattle.std.specs.Prelude.{◌≡◌, Bool, IfOk, MatchResult, None, Some, is_ok};
 ghost use Rattle.raw_region.specs.Device.{read_delta, write_delta};
 ghost use Rattle.segment_disk.specs.Events.{Event, Looked, Held, Released, Opened as WasOpened, Read, Compared, Made};
-ghost use Rattle.segment_disk.specs.Events.{LogBegun, LogEnded, New, Wrote, Placed, Discarded, create_mode_of};
+ghost use Rattle.segment_disk.specs.Events.{LogEnded, New, Wrote, Placed, Discarded, Synced, create_mode_of};
 ghost use Rattle.segment_disk.specs.Events.{not_opened, nothing_given, nothing_taken};
+ghost use Rattle.segment_disk.specs.Logs.{BeginsLog};
 
 use crate::presence::{AlreadyLocked, Comparison, NotOpened, Presence, SaveMode};
 use raw_region::{DeviceFault, Sink, Source};
-use segment_log::LogDisk;
+use segment_log::{CommittedImage, LogDisk};
 
 /// A file that was opened for reading.
 pub struct OpenedFile<R> {
@@ -96,19 +97,25 @@ pub trait Disk: LogDisk {
     fn discard_replacement(&mut self, path: &str, hold: &mut Self::Hold)
         ensures { step self.old (Discarded path.now) self.new };
 
-    /// Puts a log without a record beside a file, and returns the bytes of the file, which is what both stand for. The
-    /// commits of a log that is there are put into the file before. At Ok the file and the log last, and the file is
-    /// neither emptied nor replaced until the log is ended, but by calls of a `LogDisk`. At each moment, and after an
-    /// error, the file stands for the same image as before. An error if another file has taken the name of the one that
-    /// is held.
-    fn begin_log(&mut self, path: &str, hold: &mut Self::Hold) -> Result<Vec<u8>, DeviceFault>
-        ensures { MatchResult result
-            (λ image. step self.old (LogBegun path.now (Some image.items)) self.new)
-            (λ _. step self.old (LogBegun path.now None) self.new) };
+    /// Puts a log beside a file, with the records of the log that is there, and returns the image that both stand for
+    /// and where the records end. At Ok the file and the log last, and the file is neither emptied nor replaced until
+    /// the log is ended, but by calls of a `LogDisk`. At each moment, and after an error, both stand for the same image
+    /// as before. An error if another file has taken the name of the one that is held.
+    fn begin_log(
+        &mut self,
+        path: &str,
+        hold: &mut Self::Hold,
+    ) -> Result<CommittedImage, DeviceFault>
+        ensures { BeginsLog step self.old self.new path.now result };
 
     /// Removes the log that was put beside a file, and has no record, if it is still there and can be removed.
     fn end_log(&mut self, path: &str, hold: &mut Self::Hold)
         ensures { step self.old (LogEnded path.now) self.new };
+
+    /// Writes a file that is held through, and the log beside it, and their names. Ok says that what both stand for
+    /// lasts. An error if another file has taken the name of the one that is held.
+    fn sync(&mut self, path: &str, hold: &mut Self::Hold) -> Result<(), DeviceFault>
+        ensures { step self.old (Synced path.now (is_ok result)) self.new };
 }
 
 /// A writer that may keep back what it took, until it is flushed.

@@ -9,17 +9,17 @@ use crate::locks::{
     FileLock, Identity, PAUSE, are_different, has_bytes, is_written, leads_to, lock, lock_made,
     open_to_write, sync_file,
 };
-use crate::logs::{has_log, read_recovered};
+use crate::logs::{has_log, log_paths, read_recovered};
 use crate::open_log::OpenLog;
 use crate::presence::{AlreadyLocked, Comparison, FileProblem, NotOpened, Presence, SaveMode};
 use crate::replacement_file::ReplacementFile;
 use crate::settling::{drop_log, put_in_place, settle};
-use crate::spare_file::{SpareFile, sync_folder};
+use crate::spare_file::{SpareFile, is_folder_synced, sync_folder};
 use crate::sparse::{SparseFile, longest_file};
 use crate::std_output::StdOutput;
 use raw_region::DeviceFault;
 use raw_region::std_io::StdSource;
-use segment_log::{LogDisk, LogFault};
+use segment_log::{CommittedImage, LogDisk, LogFault};
 use std::fs::{self, File, Metadata, OpenFile, OpenOptions};
 use std::io::{self, ErrorKind};
 use std::rt::Files;
@@ -39,6 +39,8 @@ pub struct HostDisk<'a, R: Files> {
     naming: SaveMode,
     /// Whether its files may have logs.
     has_logs: bool,
+    /// Whether the log of a file that is locked stays beside it.
+    keeps_logs: bool,
     /// What the system said last of a file that was to be opened or made, or what became of it.
     trouble: Option<FileProblem>,
     /// The file that the right to write was given for last.
@@ -61,7 +63,7 @@ pub struct HostLock {
     lock: FileLock,
     /// The file that was made beside it last, while its fate is open.
     beside: Option<ReplacementFile>,
-    /// Why the file can't be written, if its log is still there.
+    /// Why the file can't be written other than by its log, if that is still there.
     log: Option<FileProblem>,
     /// The log that was begun for the file. The file changes by calls of the log alone meanwhile.
     begun: Option<OpenLog>,
@@ -93,9 +95,19 @@ impl<'a, R: Files> HostDisk<'a, R> {
             wait,
             naming,
             has_logs: true,
+            keeps_logs: false,
             trouble: None,
             held: None,
             unnamed: None,
+        }
+    }
+
+    /// Returns files whose logs stay beside them when they are locked, so that commits go on with the log. Such a file
+    /// is neither emptied nor replaced by a save.
+    pub fn keeping_logs(self) -> HostDisk<'a, R> {
+        HostDisk {
+            keeps_logs: true,
+            ..self
         }
     }
 
@@ -242,14 +254,47 @@ impl<'a, R: Files<File = File> + AllocGlobal + Clock> HostDisk<'a, R> {
     }
 
     /// Puts the commits of the log beside a file into the file that is held, and removes the log. If that can't be
-    /// done, the file can't be written.
+    /// done, or the log is to stay, the file can't be written other than by its log.
     fn settle(&self, path: &str, hold: &mut HostLock) {
         if !self.has_logs || matches!(hold.lock, FileLock::Absent) {
+            return;
+        }
+        if self.keeps_logs {
+            hold.log = match has_log(self.files, path) {
+                Ok(false) => None,
+                _ => Some(FileProblem::Log),
+            };
             return;
         }
         if let Err(trouble) = settle(self.files, path, &mut hold.lock) {
             hold.log = Some(trouble.unwrap_or(FileProblem::Unwritten));
         }
+    }
+
+    /// Tells whether the file that is held can be written, and stands with the log beside it for an image.
+    fn stands_for(&self, path: &str, hold: &HostLock, image: &[u8]) -> io::Result<bool> {
+        let file = fs::open(self.files, path)?;
+        if are_different(hold.lock.identity(), Identity::of(&file)) {
+            return Ok(false);
+        }
+        open_to_write(self.files, path)?;
+        match read_recovered(self.files, path, file) {
+            Ok(made) => Ok(made.image.as_slice() == image),
+            Err(_) => Ok(false),
+        }
+    }
+
+    /// Writes the file that is held, the log beside it and their folder through, and tells whether that was done.
+    fn sync_found(&self, path: &str, hold: &HostLock) -> io::Result<bool> {
+        let file = fs::open(self.files, path)?;
+        if are_different(hold.lock.identity(), Identity::of(&file)) {
+            return Ok(false);
+        }
+        let (real, log) = log_paths(self.files, path)?;
+        if hold.log.is_some() && !sync_file(&fs::open(self.files, log.as_str())?) {
+            return Ok(false);
+        }
+        Ok(sync_file(&file) && is_folder_synced(self.files, real.as_str()) == Some(true))
     }
 
     /// Returns a reader of a file that was opened, or of what it stands for with its log, and how many bytes it gives.
@@ -386,10 +431,14 @@ impl<'a, R: Files<File = File> + AllocGlobal + Clock> Disk for HostDisk<'a, R> {
             return Comparison::Other;
         }
         // a file that has a log may stand for another image than its bytes
-        if hold.log.is_some() || hold.begun.is_some() {
-            return Comparison::Different;
-        }
-        match has_bytes(self.files, path, hold.lock.identity(), image) {
+        let has_image = match hold.log {
+            None if hold.begun.is_none() => {
+                has_bytes(self.files, path, hold.lock.identity(), image)
+            }
+            Some(_) if self.keeps_logs => self.stands_for(path, hold, image),
+            _ => Ok(false),
+        };
+        match has_image {
             Ok(true) => Comparison::Equal,
             _ => Comparison::Different,
         }
@@ -456,28 +505,35 @@ impl<'a, R: Files<File = File> + AllocGlobal + Clock> Disk for HostDisk<'a, R> {
         }
     }
 
-    fn begin_log(&mut self, path: &str, hold: &mut HostLock) -> Result<Vec<u8>, DeviceFault> {
+    fn begin_log(
+        &mut self,
+        path: &str,
+        hold: &mut HostLock,
+    ) -> Result<CommittedImage, DeviceFault> {
         hold.begun = None;
         if !self.has_logs {
             return Err(self.not_written(None));
         }
-        match OpenLog::begin(self.files, path, &mut hold.lock) {
-            Ok((log, image)) => {
+        match OpenLog::begin(self.files, path, &hold.lock) {
+            Ok((log, kept)) => {
                 hold.log = None;
                 hold.begun = Some(log);
-                self.held = hold.lock.identity();
-                Ok(image)
+                Ok(kept)
             }
-            Err(trouble) => {
-                self.held = hold.lock.identity();
-                Err(self.not_written(trouble))
-            }
+            Err(trouble) => Err(self.not_written(trouble)),
         }
     }
 
     fn end_log(&mut self, _path: &str, hold: &mut HostLock) {
         if let Some(log) = hold.begun.take() {
             log.remove(self.files);
+        }
+    }
+
+    fn sync(&mut self, path: &str, hold: &mut HostLock) -> Result<(), DeviceFault> {
+        match self.sync_found(path, hold) {
+            Ok(true) => Ok(()),
+            _ => Err(self.not_written(None)),
         }
     }
 }

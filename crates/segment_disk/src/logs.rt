@@ -1,12 +1,15 @@
 //! Logs beside the files of the system: commits that the files do not have yet.
-ghost use Rattle.std.specs.Prelude.{◌≡◌, IfErr, IfOk, OnOk, Some};
+ghost use Rattle.std.specs.Prelude.{◌≡◌, ◌≤◌, ◌++◌, take, length, IfErr, IfOk, OnOk, Some};
+ghost use Rattle.segment_log.specs.{CommittedImages.IsCommitted, Crashes.with_log, Records.zeros};
 ghost use Rattle.segment_disk.specs.Logs.{Recovers, RefusesLog};
 
 use crate::file_problems::problem_of;
 use crate::locks::leads_to;
 use crate::presence::FileProblem;
-use segment_log::{RecoverError, RecoveredImage, recover};
-use std::alloc::Global;
+use segment_log::{
+    CommittedImage, RecoverError, RecoveredImage, recover, repaired_is_ready, shut_gate,
+};
+use std::alloc::{AllocError, Global};
 use std::fs::{self, File};
 use std::io::{self, ErrorKind, Read};
 use std::path::PathBuf;
@@ -126,15 +129,44 @@ pub(crate) fn recovered(
     }
 }
 
-/// Reads a file that is open, and returns what it stands for with the bytes of its log.
-pub(crate) fn recover_file(
+/// Returns the bytes of a log up to the end of its records, and a shut gate.
+fn shut_at(alloc: Global, log: &[u8], end: usize) -> Result<Vec<u8>, AllocError>
+    requires in_bounds { end ≤ length log.now }
+    ensures { IfOk result (λ bytes. bytes.items ≡ take end log.now ++ zeros 4096) }
+{
+    let mut bytes = Vec::new(alloc);
+    bytes.extend_from_slice(&log[..end])?;
+    bytes.extend_from_slice(&shut_gate(alloc)?)?;
+    Ok(bytes)
+}
+
+/// Returns the image that the bytes of a file stand for with those of its log, for further commits, and the bytes of
+/// the log up to the end of its records, with a shut gate. The log of another file is refused.
+pub(crate) fn committed(
     alloc: Global,
-    file: &mut File,
+    base: Vec<u8>,
     log: &[u8],
-) -> Result<RecoveredImage, LogTrouble> {
-    let mut base = Vec::new(alloc);
-    file.read_to_end(&mut base).map_err(trouble_of)?;
-    recovered(alloc, base, log)
+) -> Result<(CommittedImage, Vec<u8>), LogTrouble>
+    ensures { IfOk result (λ made. IsCommitted (with_log base.items made.1.items) made.0) }
+{
+    let made = recovered(alloc, base, log)?;
+    let Ok(gated) = shut_at(alloc, log, made.end) else {
+        return Err(None);
+    };
+    repaired_is_ready();
+    let kept = CommittedImage {
+        image: made.image,
+        end: made.end,
+        base: made.base,
+    };
+    Ok((kept, gated))
+}
+
+/// Reads a file that is open.
+pub(crate) fn read_file(alloc: Global, file: &mut File) -> Result<Vec<u8>, LogTrouble> {
+    let mut bytes = Vec::new(alloc);
+    file.read_to_end(&mut bytes).map_err(trouble_of)?;
+    Ok(bytes)
 }
 
 /// Returns what a file that was opened by a path stands for with its log, which is read first.
@@ -145,7 +177,7 @@ fn read_once<R: Files<File = File> + AllocGlobal>(
 ) -> Result<RecoveredImage, LogTrouble> {
     let (_, log) = log_paths(rt, path).map_err(trouble_of)?;
     let bytes = read_log(rt, log.as_str())?;
-    recover_file(rt.alloc(), file, &bytes)
+    recovered(rt.alloc(), read_file(rt.alloc(), file)?, &bytes)
 }
 
 /// Returns what the file of a path, which was opened, stands for with its log. Both are read again if another file took

@@ -1,13 +1,15 @@
 //! The log that is begun beside a file of the system, for the commits of a writer.
+ghost use Rattle.std.specs.Prelude.{IfOk};
+ghost use Rattle.segment_disk.specs.Logs.{StandsCommitted};
 
-use crate::locks::{FileLock, Identity, are_different, leads_to, sync_file};
-use crate::logs::{LogTrouble, log_paths, trouble_of};
+use crate::locks::{FileLock, Identity, are_different, leads_to, open_to_write, sync_file};
+use crate::logs::{LogTrouble, committed, has_log, log_paths, read_file, read_log, trouble_of};
 use crate::presence::FileProblem;
 use crate::replacement_file::take_rights;
-use crate::settling::settle;
+use crate::settling::renew_log;
 use crate::spare_file::{SpareFile, is_folder_synced};
-use crate::sparse::are_zeros;
-use segment_log::{GATE_LEN, LogFault, shut_gate};
+use crate::sparse::{are_zeros, longest_file};
+use segment_log::{CommittedImage, GATE_LEN, LogFault};
 use std::fs::{self, File};
 use std::io::{self, ErrorKind, Read, Write};
 use std::os::unix::fs::FileExt;
@@ -23,20 +25,27 @@ pub(crate) struct OpenLog {
     path: String,
     /// The path of the file, which leads through no link.
     file: PathBuf,
+    /// How many bytes the log may have.
+    longest: u64,
 }
 
-/// Returns the bytes of the file that is held, and writes it through, since it may have been written by another.
+/// Returns the bytes of the file that is held and may be written, and writes it through, since it may have been written
+/// by another.
 fn synced_bytes<R: Files<File = File> + AllocGlobal>(
     rt: &R,
     path: &str,
     lock: &FileLock,
 ) -> Result<(File, Vec<u8>), LogTrouble> {
+    // to open a pipe would wait for its other end
+    if !fs::metadata(rt, path).map_err(trouble_of)?.is_file() {
+        return Err(None);
+    }
+    open_to_write(rt, path).map_err(trouble_of)?;
     let mut file = fs::open(rt, path).map_err(trouble_of)?;
     if are_different(lock.identity(), Identity::of(&file)) {
         return Err(Some(FileProblem::Exists));
     }
-    let mut bytes = Vec::new(rt.alloc());
-    file.read_to_end(&mut bytes).map_err(trouble_of)?;
+    let bytes = read_file(rt.alloc(), &mut file)?;
     if sync_file(&file) {
         Ok((file, bytes))
     } else {
@@ -80,10 +89,11 @@ fn make_log<R: Files<File = File> + AllocGlobal + Clock>(
     rt: &R,
     path: &str,
     file: &File,
+    gate: &[u8],
 ) -> io::Result<File> {
-    let gate = shut_gate(rt.alloc())?;
+    remove_left(rt, path)?;
     let (mut log, spare, _) = SpareFile::make(rt, path, 0o600)?;
-    let named = match write_gate(&mut log, file, &gate) {
+    let named = match write_gate(&mut log, file, gate) {
         Ok(()) => spare.give_name(rt, path),
         Err(error) => Err(error),
     };
@@ -98,26 +108,50 @@ fn make_log<R: Files<File = File> + AllocGlobal + Clock>(
     }
 }
 
+/// Returns the bytes of the log of a path if it is beside its file and has a record, and none otherwise.
+fn records_of<R: Files<File = File> + AllocGlobal>(
+    rt: &R,
+    file: &str,
+    log: &str,
+) -> Result<Vec<u8>, LogTrouble> {
+    if has_log(rt, file).map_err(trouble_of)? {
+        read_log(rt, log)
+    } else {
+        Ok(Vec::new(rt.alloc()))
+    }
+}
+
 impl OpenLog {
-    /// Puts a log without a record beside the file that is held, and returns it with the bytes of the file. The commits
-    /// of a log that is there are put into the file before.
+    /// Puts a log beside the file that is held, with the records of the log that is there, and returns it with the
+    /// image that both stand for.
     pub(crate) fn begin<R: Files<File = File> + AllocGlobal + Clock>(
         rt: &R,
         path: &str,
-        lock: &mut FileLock,
-    ) -> Result<(OpenLog, Vec<u8>), LogTrouble> {
-        settle(rt, path, lock)?;
+        lock: &FileLock,
+    ) -> Result<(OpenLog, CommittedImage), LogTrouble>
+        ensures { IfOk result (λ begun. StandsCommitted begun.1) }
+    {
         let (real, log) = log_paths(rt, path).map_err(trouble_of)?;
         let (file, bytes) = synced_bytes(rt, real.as_str(), lock)?;
-        remove_left(rt, log.as_str()).map_err(trouble_of)?;
-        let made = make_log(rt, log.as_str(), &file).map_err(trouble_of)?;
+        let records = records_of(rt, real.as_str(), log.as_str())?;
+        let (kept, gated) = committed(rt.alloc(), bytes, &records)?;
+        let longest = longest_file(rt);
+        if gated.len() as u64 > longest {
+            return Err(Some(FileProblem::Unwritten));
+        }
+        let made = if kept.end > 0 {
+            renew_log(rt, log.as_str(), &gated)
+        } else {
+            make_log(rt, log.as_str(), &file, &gated)
+        };
         Ok((
             OpenLog {
-                log: made,
+                log: made.map_err(trouble_of)?,
                 path: log,
                 file: real,
+                longest,
             },
-            bytes,
+            kept,
         ))
     }
 
@@ -135,8 +169,12 @@ impl OpenLog {
             )
     }
 
-    /// Writes bytes at an offset of the log.
+    /// Writes bytes at an offset of the log, if it may be as long.
     pub(crate) fn write(&self, at: usize, bytes: &[u8]) -> Result<(), LogFault> {
+        let end = (at as u64).saturating_add(bytes.len() as u64);
+        if end > self.longest {
+            return Err(LogFault);
+        }
         self.log
             .write_all_at(bytes, at as u64)
             .map_err(|_| LogFault)

@@ -2,12 +2,12 @@
 ghost use Rattle.std.specs.Prelude.{⊤};
 
 use crate::locks::{FileLock, Identity, open_to_write, sync_file};
-use crate::logs::{LogTrouble, has_log, log_paths, read_log, recover_file, trouble_of};
+use crate::logs::{LogTrouble, committed, has_log, log_paths, read_file, read_log, trouble_of};
 use crate::presence::FileProblem;
 use crate::replacement_file::ReplacementFile;
 use crate::spare_file::is_folder_synced;
 use crate::sparse::{SparseFile, longest_file};
-use segment_log::{LogDisk, LogFault, checkpoint, next_record, shut_gate};
+use segment_log::{LogDisk, LogFault, checkpoint, next_record};
 use std::fs::{self, File};
 use std::io::{self, ErrorKind, Write};
 use std::os::unix::fs::FileExt;
@@ -93,16 +93,14 @@ impl<'a, R: Files<File = File> + AllocGlobal + Clock> LogDisk for LoggedFile<'a,
     }
 }
 
-/// Puts a copy of the records in the place of the log: a sync of the log may have failed, so that its bytes are read
-/// and are not on the disk.
-fn renew_log<R: Files<File = File> + AllocGlobal + Clock>(
+/// Puts a copy of the records in the place of the log, and opens it: a sync of the log may have failed, so that its
+/// bytes are read and are not on the disk.
+pub(crate) fn renew_log<R: Files<File = File> + AllocGlobal + Clock>(
     rt: &R,
     log: &str,
-    records: Vec<u8>,
+    bytes: &[u8],
 ) -> io::Result<File> {
-    let mut bytes = records;
-    bytes.extend_from_slice(&shut_gate(rt.alloc())?)?;
-    let (_, lasts) = put_in_place(rt, log, None, &bytes)?;
+    let (_, lasts) = put_in_place(rt, log, None, bytes)?;
     if !lasts {
         return Err(io::Error::from(ErrorKind::Other));
     }
@@ -116,23 +114,22 @@ fn settle_records<R: Files<File = File> + AllocGlobal + Clock>(
     log: &str,
     lock: &mut FileLock,
 ) -> Result<bool, LogTrouble> {
-    let mut records = read_log(rt, log)?;
+    let records = read_log(rt, log)?;
     let mut file = fs::open(rt, path).map_err(trouble_of)?;
     if lock.identity().is_some() && Identity::of(&file) != lock.identity() {
         return Err(Some(FileProblem::Exists));
     }
-    let made = recover_file(rt.alloc(), &mut file, &records)?;
-    if made.end == 0 {
+    let (kept, gated) = committed(rt.alloc(), read_file(rt.alloc(), &mut file)?, &records)?;
+    if kept.end == 0 {
         return Ok(false);
     }
-    records.truncate(made.end);
     let mut files = LoggedFile {
         rt,
         path,
-        log: renew_log(rt, log, records).map_err(trouble_of)?,
+        log: renew_log(rt, log, &gated).map_err(trouble_of)?,
         trouble: None,
     };
-    match checkpoint(rt.alloc(), &mut files, lock, &made.image) {
+    match checkpoint(rt.alloc(), &mut files, lock, &kept.image) {
         Ok(()) => Ok(true),
         Err(_) => Err(files.trouble),
     }

@@ -1,11 +1,12 @@
--- What stands under the path of a file: by what a disk was asked, one question after another.
+-- What stands under the path of a file, with the log beside it: by what a disk was asked, one question after another.
 use Rattle.std.specs.Prelude.{◌≡◌, ◌⊎◌, ◌&&◌, ⊤, ℕ, Bool, true, false, not, List, Option, Some, None, fold, take}
 use Rattle.std.specs.Prelude.{if◌then◌else◌}
 use Rattle.std.specs.Str.{bytes_eq}
 use Rattle.raw_region.specs.Device.{WriteDelta}
 use Rattle.segment_disk.specs.Events.{CreateMode, New, Truncate, Replacement}
 use Rattle.segment_disk.specs.Events.{Event, Looked, Held, Released, Opened, HasForeignLog, Read, Compared, Made, Wrote}
-use Rattle.segment_disk.specs.Events.{Placed, Discarded, LogBegun, LogEnded}
+use Rattle.segment_disk.specs.Events.{Placed, Discarded, LogBegun, LogEnded, Synced}
+use Rattle.segment_log.specs.Edits.{stands_for}
 use Rattle.segment_file.specs.Files.{WriteOutcome, Overtaken, Unchanged, NotMade, Closed, Offered, IsUnwritten}
 use Rattle.segment_file.specs.Files.{HasImage, whole_outcome, write_events}
 use Rattle.segment_disk.specs.declared.presence.Comparison.{Comparison}
@@ -83,9 +84,11 @@ after_event path s (Wrote taken lasts) = closed (lasting taken lasts) s.target s
 after_event path s (Placed p placed) =
     if bytes_eq p path then record s { named = in_place_of s.named s.beside placed } else s
 after_event path s (Discarded p) = if bytes_eq p path then record s { beside = None } else s
-after_event path s (LogBegun p (Some image)) = if bytes_eq p path then record s { named = Whole image } else s
+after_event path s (LogBegun p (Some files)) =
+    if bytes_eq p path then record s { named = Whole (stands_for files) } else s
 after_event path s (LogBegun p None) = s
 after_event path s (LogEnded p) = s
+after_event path s (Synced p lasts) = s
 
 -- what stands under the path after these events, if a whole file stood there before
 abbrev pub standing : List ℕ → List ℕ → List Event → PathContents

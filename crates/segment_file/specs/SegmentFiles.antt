@@ -24,6 +24,7 @@ use Rattle.segment_file.specs.declared.file_errors.FileError.{FileError}
 use Rattle.segment_file.specs.declared.file_errors.FileError.TheVariants.{Exists, BadSize, OutOfMemory, WriteFault}
 use Rattle.segment_file.specs.declared.file_errors.FileError.TheVariants.{InUse, Growth}
 use Rattle.segment_file.specs.declared.segment_files.SegmentFile.{SegmentFile}
+use Rattle.segment_file.specs.Committing.{log_of}
 use Rattle.segment_file.specs.Files.{WritesImage}
 use Rattle.segment_file.specs.Holding.{RunsLocked}
 use Rattle.segment_file.specs.Opening.{OpensFile}
@@ -139,7 +140,7 @@ pub record IsFileOf {H : Type 0} (path : List ℕ) (comes : Result SegmentState 
     → Type 0) (file : SegmentFile H) : Type 0 where
   pub path_is : string_bytes file.path ≡ path
   pub segment : comes (Ok file.segment)
-  pub log : file.log ≡ NoLog
+  pub log : log_of file ≡ NoLog
 
 -- memory for the path was refused, and nothing was asked
 pub record RefusesPath {D : Type 0} (old new : D) (path : List ℕ) (why : FileError) : Type 0 where

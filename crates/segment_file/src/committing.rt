@@ -1,12 +1,17 @@
 //! Commits a segment to the log beside its file.
 ghost use Rattle.std.specs.Prelude.{◌≡◌, string_bytes};
-ghost use Rattle.segment_file.specs.Committing.{CheckpointsFile, CommitsBegun, CommitsFile, CommitsFirst, EndsBegun};
-ghost use Rattle.segment_file.specs.Committing.{CommitsIfDifferent, EndsCommits, EndsIfCommitted, EndsLog, answer_of};
-ghost use Rattle.segment_file.specs.Committing.{begun_anew, log_after};
+ghost use Rattle.image_check.specs.Saving.{IsSaved};
+ghost use Rattle.segment_manager.specs.{Directory.Directory, State.DenotesCurrent};
+ghost use Rattle.segment_file.specs.Committing.{CheckpointsFile, CommitsAndShortens, CommitsBegun, CommitsFile};
+ghost use Rattle.segment_file.specs.Committing.{CommitsFirst, CommitsIfDifferent, CommitsSegment, EndsBegun};
+ghost use Rattle.segment_file.specs.Committing.{EndsCommits, EndsIfCommitted, EndsLog, answer_of, begun_anew};
+ghost use Rattle.segment_file.specs.Committing.{ShortensIf, SyncsFile, is_due, log_after, log_of};
 
 use crate::segment_files::SegmentFile;
+use image_check::laws::one_directory;
 use segment_disk::{Comparison, Disk};
 use segment_log::{CommitError, CommittedImage};
+use segment_manager::Segment;
 use std::alloc::Global;
 use std::mem;
 use thiserror::Error;
@@ -20,7 +25,8 @@ pub enum CommitFault {
     /// The log has 2^40 bytes or more. Nothing was written.
     #[error("the log is too long")]
     TooLong,
-    /// No log can be put beside the file, or another file has taken its name. The file stands for what it did.
+    /// No log can be put beside the file, or another file has taken its name; or the file has the image, and can't be
+    /// written through. The file stands for what it did.
     #[error("the log can't be made")]
     NotBegun,
     /// The log or the file can't be written, or need not last. The file stands for the image of the last commit, or
@@ -29,7 +35,10 @@ pub enum CommitFault {
     Unsure,
 }
 
-/// The log of a file that is held.
+/// A log of more bytes than a quarter of the image, and than this, is emptied by a checkpoint.
+const LONG_LOG: usize = 1 << 20;
+
+/// What is known of the log of a file that is held.
 #[derive(Drop)]
 pub(crate) enum CommitLog {
     /// None was begun.
@@ -71,7 +80,22 @@ fn commit_begun<D: Disk>(
     answered(kept, told)
 }
 
-/// Commits an image to a log that is put beside the file, after it was found what the file has.
+/// Writes a file that has the image through.
+fn sync_found<D: Disk>(
+    disk: &mut D,
+    path: &str,
+    hold: &mut D::Hold,
+) -> (CommitLog, Result<(), CommitFault>)
+    ensures { SyncsFile D.step disk.old disk.new path.now result.0 result.1 }
+{
+    match disk.sync(path, hold) {
+        Ok(()) => (CommitLog::Absent, Ok(())),
+        Err(_fault) => (CommitLog::Absent, Err(CommitFault::NotBegun)),
+    }
+}
+
+/// Commits an image to a log that is put beside the file, after it was found what the file has. A file that has the
+/// image is written through.
 fn commit_if_different<D: Disk>(
     alloc: Global,
     disk: &mut D,
@@ -84,9 +108,9 @@ fn commit_if_different<D: Disk>(
 {
     match found {
         Comparison::Other => (CommitLog::Absent, Err(CommitFault::NotBegun)),
-        Comparison::Equal => (CommitLog::Absent, Ok(())),
+        Comparison::Equal => sync_found(disk, path, hold),
         Comparison::Different => match disk.begin_log(path, hold) {
-            Ok(base) => commit_begun(alloc, disk, hold, CommittedImage::new(base), image),
+            Ok(first) => commit_begun(alloc, disk, hold, first, image),
             Err(_) => (CommitLog::Absent, Err(CommitFault::NotBegun)),
         },
     }
@@ -220,11 +244,81 @@ fn checkpoint_image<D: Disk>(
     end_if_committed(alloc, disk, path, hold, told, committed)
 }
 
+/// Tells whether a checkpoint is due behind a commit: it is done, and the log has become long.
+fn is_due(told: Result<(), CommitFault>, log: &CommitLog) -> bool
+    ensures { result ≡ is_due told log.now }
+{
+    match (told, log) {
+        (Ok(()), CommitLog::Begun(kept)) => kept.end > (kept.image.len() / 4).max(LONG_LOG),
+        _ => false,
+    }
+}
+
+/// Puts the image of the last commit into the file, and removes the log, if a checkpoint is due. Returns the log then.
+fn shorten<D: Disk>(
+    alloc: Global,
+    disk: &mut D,
+    path: &str,
+    hold: &mut D::Hold,
+    is_due: bool,
+    log: CommitLog,
+) -> CommitLog
+    ensures { ShortensIf D.step D.log_step disk.old disk.new path.now is_due log result }
+{
+    if is_due {
+        let (ended, _) = end_log(alloc, disk, path, hold, log);
+        ended
+    } else {
+        log
+    }
+}
+
+/// Commits an image of a file that is held, and puts it into the file if the log has become long. The answer is that of
+/// the commit.
+fn commit_and_shorten<D: Disk>(
+    alloc: Global,
+    disk: &mut D,
+    path: &str,
+    hold: &mut D::Hold,
+    log: CommitLog,
+    image: &[u8],
+) -> (CommitLog, Result<(), CommitFault>)
+    ensures { CommitsAndShortens D.step D.log_step disk.old disk.new path.now log image.now result.0 result.1 }
+{
+    let (committed, told) = commit_image(alloc, disk, path, hold, log, image);
+    let is_due = is_due(told, &committed);
+    (shorten(alloc, disk, path, hold, is_due, committed), told)
+}
+
+/// Writes what changed of a file that is held to the log beside it, or to a new log: the image of a segment that was
+/// read from the file. At Ok that lasts. If the log is longer then than a quarter of the image, and than 1 MiB, the
+/// image is put into the file, and the log is removed, if that can be done. A check of the image accepts it.
+///
+/// # Errors
+///
+/// Those of [`SegmentFile::commit`].
+pub fn commit_segment<D: Disk>(
+    alloc: Global,
+    disk: &mut D,
+    path: &str,
+    hold: &mut D::Hold,
+    segment: &Segment,
+) -> Result<(), CommitFault>
+    ensures effect { CommitsSegment D.step D.log_step disk.old disk.new path.now segment.now.cut.bytes result }
+    ensures acceptance { (d : Directory) → DenotesCurrent segment.now.cut.bytes d → IsSaved segment.now.cut.bytes d }
+{
+    let image = segment.as_bytes();
+    one_directory(image);
+    let (_, done) = commit_and_shorten(alloc, disk, path, hold, CommitLog::Absent, image);
+    done
+}
+
 impl<H: Drop> SegmentFile<H> {
     /// Writes what changed since the last commit to the log beside the file, FILE-log, which the first commit makes.
     /// At Ok that lasts: after each crash, opening the file finds the image of the segment. The file itself stays as
-    /// it was until [`checkpoint`](SegmentFile::checkpoint). If nothing changed, nothing is written. The first commit
-    /// also syncs nothing if the file already has the image. Meanwhile [`save`](SegmentFile::save) and
+    /// it was until a [`checkpoint`](SegmentFile::checkpoint). A commit makes one itself if the log is longer then than
+    /// a quarter of the image, and than 1 MiB; if that fails, the commit is done all the same. If nothing changed,
+    /// nothing is written: the first commit then writes the file through. Meanwhile [`save`](SegmentFile::save) and
     /// [`replace`](SegmentFile::replace) answer `WriteFault`. A commit compares the whole image with a copy of the last
     /// one.
     ///
@@ -239,15 +333,15 @@ impl<H: Drop> SegmentFile<H> {
         alloc: Global,
         disk: &mut D,
     ) -> Result<(), CommitFault>
-        ensures effect { CommitsFile D.step D.log_step disk.old disk.new (string_bytes self.old.path) self.old.log
-            self.old.segment.cut.bytes self.new.log result }
+        ensures effect { CommitsAndShortens D.step D.log_step disk.old disk.new (string_bytes self.old.path)
+            (log_of self.old) self.old.segment.cut.bytes (log_of self.new) result }
         ensures segment { self.new.segment ≡ self.old.segment }
         ensures path { self.new.path ≡ self.old.path }
     {
         let log = mem::replace(&mut self.log, CommitLog::Unsure);
         let path = self.path.as_str();
         let image = self.segment.as_bytes();
-        let (log, done) = commit_image(alloc, disk, path, &mut self.hold, log, image);
+        let (log, done) = commit_and_shorten(alloc, disk, path, &mut self.hold, log, image);
         self.log = log;
         done
     }
@@ -266,7 +360,7 @@ impl<H: Drop> SegmentFile<H> {
         disk: &mut D,
     ) -> Result<(), CommitFault>
         ensures effect { CheckpointsFile D.step D.log_step disk.old disk.new (string_bytes self.old.path)
-            self.old.log self.old.segment.cut.bytes self.new.log result }
+            (log_of self.old) self.old.segment.cut.bytes (log_of self.new) result }
         ensures segment { self.new.segment ≡ self.old.segment }
         ensures path { self.new.path ≡ self.old.path }
     {

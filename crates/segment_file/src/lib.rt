@@ -12,7 +12,7 @@ mod segment_files;
 mod theorems;
 mod writing;
 
-pub use committing::CommitFault;
+pub use committing::{CommitFault, commit_segment};
 pub use file_errors::FileError;
 pub use opening::open_file;
 pub use reading::{check, migrate, read};

@@ -18,21 +18,6 @@ use Rattle.segment_commands.specs.Telling.{WritesAndFlushes}
 
 -- ---- the line of a verdict
 
-abbrev pub message_of : ImageClass → List ℕ
-message_of Truncated = codes "the file ends before the image does"
-message_of BadMagic = codes "this byte is not that of the magic, MSEGFILE"
-message_of UnsupportedVersion = codes "the version is not the one that is read"
-message_of BadSize = codes "the size that stands at 16 is none of a segment, or the file goes on behind it"
-message_of BadReserved = codes "a reserved byte is not zero"
-message_of BadTag = codes "the tag of a block or gap, or the end tag, is wrong"
-message_of BadFreeTree = codes "the links from here on do not make up the tree of the gaps"
-message_of BadIndex = codes "an index has a wrong count, capacity, block or entry"
-message_of BadObject = codes "an object has a wrong kind, count, name, class, padding or value, or is not in its index"
-message_of SharedBlock = codes "two links lead to one block"
-message_of BadContainer = codes "the block, elements, pairs or counts of a container are wrong"
-message_of OrphanBlock = codes "a block belongs to nothing"
-
--- the line of a verdict
 abbrev pub verdict_text : Verdict → List ℕ
 verdict_text v = codes "at " ++ (decimal v.place ++ (codes ": " ++ (explanation_of v.class ++ (codes "\n" ++ []))))
 

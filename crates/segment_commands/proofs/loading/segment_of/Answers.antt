@@ -20,7 +20,7 @@ returns-clause-load c =
     let room = c.in_ok-room.ensures.room in
     inl (record {
       region = c.in_ok-region.region;
-      roomy = roomy-for c.args.size c.wanted_size.result c.in_ok-region.region c.wanted_size.ensures.request
+      roomy = roomy-for c.args.text.now c.args.size c.wanted_size.result c.in_ok-region.region c.wanted_size.ensures.request
           c.in_ok-region.ensures.room;
       room = length c.bytes_mut.result.now;
       wide = omega (arith, len, capacity, room);

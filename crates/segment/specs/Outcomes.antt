@@ -43,9 +43,9 @@ abbrev pub is_no_segment : Result ℕ CommandFault → Bool
 is_no_segment (Err (Session (Image class))) = true
 is_no_segment other = false
 
--- The answers that a problem of the file explains. Each problem explains a file in use, each but a log a read fault, and
--- each but a log, an owner and a writer a write fault. A writer explains bytes that are no segment, an owner and a log
--- come with a command that is done.
+-- The answers that a problem of the file explains. Each problem explains a file in use, each but a log a read fault,
+-- and each but a log, an owner and a writer a write fault. A writer explains bytes that are no segment. An owner and a
+-- log come with a command that is done.
 abbrev pub explains : FileProblem → Result ℕ CommandFault → Bool
 explains Log answer = is_locked answer || is_done answer
 explains Owner answer = is_locked answer || is_read_fault answer || is_done answer

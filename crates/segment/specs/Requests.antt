@@ -47,7 +47,7 @@ abbrev pub run_end : Bool → Until
 run_end strict = if strict then Refusal else End
 
 -- the run of a script on the file with this path, as the options of the command line say
-pub record IsRunOf (path : List ℕ) (mode : ModeName) (size : Option ℕ) (how : OptionValues) (request : RunRequest) :
+pub record IsRunFor (path : List ℕ) (mode : ModeName) (size : Option ℕ) (how : OptionValues) (request : RunRequest) :
     Type 0 where
   pub path_is : request.path.now ≡ path
   pub mode_is : request.mode ≡ mode

@@ -5,7 +5,7 @@ ghost use Rattle.std.specs.Prelude.{◌≡◌, ⊤, map, option_map};
 ghost use Rattle.segment_disk.specs.Events.{nothing_taken};
 ghost use Rattle.segment_invocation.specs.Invocations.{options_by, request_by};
 ghost use Rattle.segment.specs.Outcomes.{explains, fault_beside, is_quiet_end, problem_at};
-ghost use Rattle.segment.specs.Requests.{IsRunOf, is_among_pleas, only, stand_in_count, unusable_count};
+ghost use Rattle.segment.specs.Requests.{IsRunFor, is_among_pleas, only, stand_in_count, unusable_count};
 
 mod requests;
 
@@ -361,7 +361,7 @@ fn run_request<'a>(
     size: Option<u64>,
     how: &Options<'_>,
 ) -> RunRequest<'a>
-    ensures { IsRunOf path.now mode size (options_by how.now) result }
+    ensures { IsRunFor path.now mode size (options_by how.now) result }
 {
     let until = if how.answering.strict {
         Until::Refusal
@@ -382,8 +382,8 @@ fn run_request<'a>(
 fn fault_beside(trouble: Option<FileProblem>, fault: CommandFault) -> CommandFault
     ensures { result ≡ fault_beside trouble fault }
 {
-    match fault {
-        CommandFault::Session(SessionFault::Image(_)) if trouble == Some(FileProblem::Writer) => {
+    match (trouble, fault) {
+        (Some(FileProblem::Writer), CommandFault::Session(SessionFault::Image(_))) => {
             CommandFault::InUse
         }
         _ => fault,
@@ -398,14 +398,14 @@ fn is_told(answer: Result<u8, CommandFault>, trouble: FileProblem) -> bool
         Ok(_) => matches!(trouble, FileProblem::Owner | FileProblem::Log),
         Err(CommandFault::InUse) => true,
         Err(CommandFault::Session(fault)) => match fault {
-            SessionFault::ReadFault => trouble != FileProblem::Log,
+            SessionFault::ReadFault => !matches!(trouble, FileProblem::Log),
             SessionFault::WriteFault => {
                 !matches!(
                     trouble,
                     FileProblem::Writer | FileProblem::Owner | FileProblem::Log
                 )
             }
-            SessionFault::Image(_) => trouble == FileProblem::Writer,
+            SessionFault::Image(_) => matches!(trouble, FileProblem::Writer),
             _ => false,
         },
         Err(_) => false,

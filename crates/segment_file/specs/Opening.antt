@@ -33,8 +33,8 @@ use Rattle.segment_file.specs.ReadingOn.{IsReadUpTo, said_by}
 abbrev pub file_region : ℕ → ℕ → List ℕ → ℕ
 file_region len more image = region_len (max len (size_word image) + more)
 
--- the most bytes that one request takes: the capacity of a region for as many bytes as the disk tells of its file, or as
--- were read of the image if these are more, and for this many bytes more
+-- the most bytes of one request: the capacity of a region for as many bytes as the disk tells of its file, or as were
+-- read of the image if these are more, and for this many bytes more
 abbrev pub largest_request : ℕ → ℕ → List ℕ → ℕ
 largest_request len more image = region_len (max len (length image) + more)
 

@@ -1,4 +1,6 @@
+use Rattle.segment_dump.proofs.Common.{◌++◌, ◌∙◌, ap}
 use Rattle.segment_dump.proofs.reading.DumpSize.{no-lead, no-number, said}
+use Rattle.segment_dump.proofs.reading.PrefixLines.{before_size}
 use Rattle.segment_dump.proofs.saying.declared_size.Goals as goal
 
 pub returns-in_err-behind-clause-size : goal.returns-in_err-behind-clause-size
@@ -11,3 +13,9 @@ returns-in_err-size-clause-size c = no-number c.args.text.now c.in_ok-behind.fie
 pub returns-clause-size : goal.returns-clause-size
 returns-clause-size c = said c.args.text.now c.in_ok-behind.field-0.now c.in_ok-behind.ensures c.in_ok-size.size
     c.in_ok-size._rest.now c.in_ok-size.ensures.value
+
+pub returns-clause-spelled : goal.returns-clause-spelled
+returns-clause-spelled c = record {
+  rest = c.in_ok-size._rest.now;
+  begins = c.in_ok-behind.ensures ∙ ap (λ l. before_size ++ l) c.in_ok-size.ensures.spelled;
+}

@@ -1,4 +1,5 @@
 //! Scripts of lines, and what they print.
+ghost use Rattle.std.specs.Prelude.{◌≡◌, take};
 
 use crate::findings::Findings;
 use crate::lines::Line;
@@ -119,7 +120,9 @@ impl Script {
 }
 
 /// Returns the first `len` bytes, or all.
-pub fn prefix_of(bytes: &[u8], len: usize) -> &[u8] {
+pub fn prefix_of(bytes: &[u8], len: usize) -> &[u8]
+    ensures { result.now ≡ take len bytes.now }
+{
     bytes.get(..len).unwrap_or(bytes)
 }
 

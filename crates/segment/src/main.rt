@@ -1,8 +1,11 @@
 //! The program `segment`: keeps a segment in a file, and does to it what the command line asks for.
 #![tactic(auto)]
 
-ghost use Rattle.std.specs.Prelude.{◌≡◌, ⊤};
+ghost use Rattle.std.specs.Prelude.{◌≡◌, ⊤, map, option_map};
 ghost use Rattle.segment_disk.specs.Events.{nothing_taken};
+ghost use Rattle.segment_invocation.specs.Invocations.{options_by, request_by};
+ghost use Rattle.segment.specs.Outcomes.{explains, fault_beside, is_quiet_end, problem_at};
+ghost use Rattle.segment.specs.Requests.{IsRunFor, is_among_pleas, only, stand_in_count, unusable_count};
 
 mod requests;
 
@@ -74,7 +77,9 @@ fn tell_no_text(rt: &HostRuntime) -> u8 {
 }
 
 /// Returns how many words stand for words that are no UTF-8.
-fn count_stand_ins(words: &[&str]) -> usize {
+fn count_stand_ins(words: &[&str]) -> usize
+    ensures { result ≡ stand_in_count (map (λ s. s.now) words.now) }
+{
     words
         .iter()
         .filter(|argument| is_stand_in(argument))
@@ -82,7 +87,9 @@ fn count_stand_ins(words: &[&str]) -> usize {
 }
 
 /// Counts the stand-ins of paths that are no UTF-8, among the files of a command and its script.
-fn unusable_paths(options: &Options<'_>) -> usize {
+fn unusable_paths(options: &Options<'_>) -> usize
+    ensures { result ≡ unusable_count (options_by options.now) }
+{
     let files = count_stand_ins(options.files.as_slice());
     match options.script {
         Script::File(path) if is_stand_in(path) => files.saturating_add(1),
@@ -111,7 +118,7 @@ fn perform(rt: &HostRuntime, asked: &Request<'_>) -> Result<u8, NoAnswerMemory> 
     let answer = host.command(asked, out);
     let status = match answer {
         Ok(status) => status,
-        Err(fault) => tell(rt, host.told_as(fault)),
+        Err(fault) => tell(rt, fault_beside(host.disk.trouble(), fault)),
     };
     if host.is_verbose {
         host.explain(options, answer);
@@ -144,16 +151,6 @@ impl<'a> Host<'a> {
         }
         let file = file_of(options)?;
         Some((file, problem_with(file, self.disk.trouble())?))
-    }
-
-    /// Returns a fault as it is told: an image that another may have written while it was read is in use, whatever it
-    /// was found to be.
-    fn told_as(&self, fault: CommandFault) -> CommandFault {
-        match fault {
-            CommandFault::Session(SessionFault::Image(_))
-                if self.disk.trouble() == Some(FileProblem::Writer) => { CommandFault::InUse }
-            _ => fault,
-        }
     }
 
     /// Says in a second line why a command failed, as far as that is known, and of one that is done if the file has
@@ -399,7 +396,9 @@ fn run_request<'a>(
     mode: ModeName,
     size: Option<u64>,
     how: &Options<'_>,
-) -> RunRequest<'a> {
+) -> RunRequest<'a>
+    ensures { IsRunFor path.now mode size (options_by how.now) result }
+{
     let until = if how.answering.strict {
         Until::Refusal
     } else {
@@ -414,20 +413,35 @@ fn run_request<'a>(
     }
 }
 
+/// Returns the fault to print: `InUse` for an image that another writer may have changed while it was read, otherwise
+/// the fault itself.
+fn fault_beside(trouble: Option<FileProblem>, fault: CommandFault) -> CommandFault
+    ensures { result ≡ fault_beside trouble fault }
+{
+    match (trouble, fault) {
+        (Some(FileProblem::Writer), CommandFault::Session(SessionFault::Image(_))) => {
+            CommandFault::InUse
+        }
+        _ => fault,
+    }
+}
+
 /// Returns true if the problem of the file explains the answer.
-fn is_told(answer: Result<u8, CommandFault>, trouble: FileProblem) -> bool {
+fn is_told(answer: Result<u8, CommandFault>, trouble: FileProblem) -> bool
+    ensures { result ≡ explains trouble answer }
+{
     match answer {
         Ok(_) => matches!(trouble, FileProblem::Owner | FileProblem::Log),
         Err(CommandFault::InUse) => true,
         Err(CommandFault::Session(fault)) => match fault {
-            SessionFault::ReadFault => trouble != FileProblem::Log,
+            SessionFault::ReadFault => !matches!(trouble, FileProblem::Log),
             SessionFault::WriteFault => {
                 !matches!(
                     trouble,
                     FileProblem::Writer | FileProblem::Owner | FileProblem::Log
                 )
             }
-            SessionFault::Image(_) => trouble == FileProblem::Writer,
+            SessionFault::Image(_) => matches!(trouble, FileProblem::Writer),
             _ => false,
         },
         Err(_) => false,
@@ -435,7 +449,9 @@ fn is_told(answer: Result<u8, CommandFault>, trouble: FileProblem) -> bool {
 }
 
 /// Tells whether a command says nothing if the reader of standard output ended first, as other tools have it.
-fn ends_quietly(asked: &Request<'_>) -> bool {
+fn ends_quietly(asked: &Request<'_>) -> bool
+    ensures { result ≡ is_quiet_end (request_by asked.now) }
+{
     let prints = matches!(
         asked.command,
         Invocation::Tell(_, _)
@@ -448,7 +464,9 @@ fn ends_quietly(asked: &Request<'_>) -> bool {
 }
 
 /// Returns true for the lines by which people ask a program for help, or leave it.
-fn is_plea(line: &[u8]) -> bool {
+fn is_plea(line: &[u8]) -> bool
+    ensures { result ≡ is_among_pleas line.now }
+{
     let words = [
         b"help\n".as_slice(),
         b"quit\n".as_slice(),
@@ -493,7 +511,9 @@ impl<'a, R: Read> ReadOnce for Prompted<'a, R> {
 }
 
 /// Returns the problem to print for a file: `Unnamed` for a stand-in, otherwise the problem that the system gave.
-fn problem_with(path: &str, said: Option<FileProblem>) -> Option<FileProblem> {
+fn problem_with(path: &str, said: Option<FileProblem>) -> Option<FileProblem>
+    ensures { result ≡ problem_at path.now said }
+{
     if is_stand_in(path) {
         Some(FileProblem::Unnamed)
     } else {
@@ -502,7 +522,9 @@ fn problem_with(path: &str, said: Option<FileProblem>) -> Option<FileProblem> {
 }
 
 /// Returns the file that the command line names, if there is one alone.
-fn file_of<'a>(options: &Options<'a>) -> Option<&'a str> {
+fn file_of<'a>(options: &Options<'a>) -> Option<&'a str>
+    ensures { option_map (λ file. file.now) result ≡ only (options_by options.now).paths }
+{
     match options.files.as_slice() {
         [file] => Some(*file),
         _ => None,

@@ -1,5 +1,7 @@
 //! The requests for memory of the program itself, for its command line and its answers: each in a function that alone
 //! makes the token of its refusal.
+ghost use Rattle.std.specs.Prelude.{IfOk, MatchResult, map};
+ghost use Rattle.segment_invocation.specs.Invocations.{IsRequestedBy, IsWrongBy, request_by};
 
 use segment_commands::stand_in;
 use segment_invocation::{InvocationFault, Request, UsageError, request};
@@ -82,7 +84,11 @@ pub fn as_strs<'a>(alloc: Global, words: &'a [String]) -> Result<Vec<&'a str>, N
 pub fn read_request<'a>(
     alloc: Global,
     words: &'a [&'a str],
-) -> Result<Result<Request<'a>, UsageError>, NoAnswerMemory> {
+) -> Result<Result<Request<'a>, UsageError>, NoAnswerMemory>
+    ensures { IfOk result (λ read. MatchResult read
+        (λ asked. IsRequestedBy (map (λ s. s.now) words.now) (request_by asked))
+        (IsWrongBy (map (λ s. s.now) words.now))) }
+{
     match request(alloc, words) {
         Ok(asked) => Ok(Ok(asked)),
         Err(InvocationFault::Usage(wrong)) => Ok(Err(wrong)),

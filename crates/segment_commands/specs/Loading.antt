@@ -6,7 +6,7 @@ use Rattle.raw_region.specs.Refusals.{out_of_memory_of}
 use Rattle.block_tags.specs.Format.{is_legal_size}
 use Rattle.segment_manager.specs.Directory.{Directory}
 use Rattle.segment_manager.specs.State.{SegmentState, DenotesCurrent}
-use Rattle.segment_dump.specs.Counting.{AreCountable}
+use Rattle.segment_dump.specs.Counting.{AreCountable, BeginsWithSize}
 use Rattle.segment_dump.specs.Items.{Items, portable}
 use Rattle.segment_dump.specs.Loading.{IsLoaded, IsLoadCause, asked_of}
 use Rattle.segment_dump.specs.Need.{items_needs}
@@ -21,7 +21,7 @@ use Rattle.segment_cli.specs.declared.faults.SessionFault.TheVariants.{OutOfMemo
 use Rattle.segment_cli.specs.declared.faults.SessionFault.TheVariants.{ScriptTooLong}
 use Rattle.segment_commands.specs.declared.command_faults.CommandFault.{CommandFault}
 use Rattle.segment_commands.specs.declared.command_faults.CommandFault.TheVariants.{BadDump, NoSpace, Exists, Session}
-use Rattle.segment_commands.specs.Faults.{IsNoMemory}
+use Rattle.segment_commands.specs.Faults.{IsNoMemory, region_refused}
 use Rattle.segment_disk.specs.declared.presence.Presence.{Presence}
 use Rattle.segment_disk.specs.declared.presence.Presence.TheVariants.{There}
 use Rattle.segment_disk.specs.Events.{New, Event, Looked, After}
@@ -89,15 +89,27 @@ pub record IsLoadRefused (text : List ℕ) (size : Option ℕ) (fault : CommandF
   pub needs : NeedsRoom text needed
   pub fault_is : fault ≡ load_fault needed cause
 
--- the text is the dump of the segment, or there is none: for a reason of the load, or since memory was refused
-abbrev pub LoadsSegment : List ℕ → Option ℕ → Result SegmentState CommandFault → Type 0
-LoadsSegment text size result =
-    MatchResult result (IsLoaded (without_notes text) size) (λ fault. IsLoadRefused text size fault ⊎ IsNoMemory fault)
+-- the size is the requested one, or otherwise the one in the second line of the text, or 0 if the text has none
+abbrev pub IsRequestedOrWritten : List ℕ → Option ℕ → ℕ → Type 0
+IsRequestedOrWritten text None wanted = BeginsWithSize text wanted ⊎ (wanted ≡ 0)
+IsRequestedOrWritten text (Some size) wanted = wanted ≡ size
 
--- the size is the one that is asked for, or otherwise the one that the text says
+-- for the dump of a segment, the size is the requested one, or otherwise the size of that segment
 abbrev pub IsWantedSize : List ℕ → Option ℕ → ℕ → Type 0
 IsWantedSize text size wanted = (n : ℕ) (items : Items) → n < 2 ^ 64 → without_notes text ≡ dump_text n items
     → wanted ≡ asked_of size n
+
+-- memory was refused: for a buffer as long as the text, or for a region of the size that the segment gets
+pub record IsLoadUnallocated (text : List ℕ) (size : Option ℕ) (fault : CommandFault) : Type 0 where
+  pub asked : ℕ
+  pub request : (asked ≡ length text) ⊎ (IsRequestedOrWritten text size asked × IsWantedSize text size asked)
+  pub refused : fault ≡ Session (region_refused asked)
+
+-- the text is the dump of the segment, or there is none: for a reason of the load, or since memory was refused
+abbrev pub LoadsSegment : List ℕ → Option ℕ → Result SegmentState CommandFault → Type 0
+LoadsSegment text size result =
+    MatchResult result (IsLoaded (without_notes text) size)
+    (λ fault. IsLoadRefused text size fault ⊎ IsLoadUnallocated text size fault)
 
 -- the text is the dump of a segment, and a segment of the size that is wanted can have its objects
 pub record IsFitting (text : List ℕ) (size : Option ℕ) : Type 0 where

@@ -1,9 +1,9 @@
 //! The commands that make a segment of a dump: in a new file, or in the place of one that is there.
 ghost use Rattle.std.specs.Prelude.{◌≡◌, ◌^◌, ◌-◌, ◌<◌, ℕ, true, false, Some};
 ghost use Rattle.block_tags.specs.Format.{is_legal_size};
-ghost use Rattle.segment_dump.specs.Loading.{IsRequestedSize};
 ghost use Rattle.segment_commands.specs.LoadOver.{RunsLoadOver, LoadsOver};
-ghost use Rattle.segment_commands.specs.Loading.{IsFitting, IsMadeIfGiven, IsSizeFit, IsWantedSize, LoadsDump};
+ghost use Rattle.segment_commands.specs.Loading.{IsFitting, IsMadeIfGiven, IsRequestedOrWritten, IsSizeFit};
+ghost use Rattle.segment_commands.specs.Loading.{IsWantedSize, LoadsDump};
 ghost use Rattle.segment_commands.specs.Loading.{LoadsSegment, LoadsWhatFits, NeedsRoom, RunsLoad, load_fault};
 
 use crate::command_faults::{CommandFault, written};
@@ -19,9 +19,10 @@ use segment_file::write_image;
 use segment_manager::Segment;
 use std::alloc::Global;
 
-/// Returns how many bytes the segment of a dump is to have: as many as are asked for, or else as the dump says.
+/// Returns the size of a dump's segment in bytes: the requested one, or else the one in the dump, or 0 if the text has
+/// none.
 fn wanted_size(text: &[u8], size: Option<u64>) -> u64
-    ensures request { IsRequestedSize size result }
+    ensures request { IsRequestedOrWritten text.now size result }
     ensures size_request { IsWantedSize text.now size result }
 {
     match size {

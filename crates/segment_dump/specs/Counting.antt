@@ -1,7 +1,8 @@
 -- The counts of a text, and their meaning for a dump.
-use Rattle.std.specs.Prelude.{◌≡◌, ◌≢◌, ◌<◌, ◌^◌, ◌++◌, ℕ, List, [], Option, Some, Result, Ok, length}
+use Rattle.std.specs.Prelude.{◌≡◌, ◌≢◌, ◌<◌, ◌^◌, ◌++◌, ℕ, List, [], ◌∷◌, Option, Some, Result, Ok, length, codes}
 use Rattle.std.specs.List.{AllByRecursion}
 use Rattle.seg_types.specs.{declared.kinds.Class.TheVariants.Named, declared.kinds.Kind.Kind}
+use Rattle.segment_lang.specs.Texts.{number_text}
 use Rattle.segment_dump.specs.{declared.counting.Count.Count, declared.counting.DumpPrefix.DumpPrefix}
 use Rattle.segment_dump.specs.{declared.needs.Needs.Needs}
 use Rattle.segment_dump.specs.{Leads.IsSmall, Asked.AreAtMost, Asked.HasObjects, Need.texts_needs}
@@ -74,3 +75,8 @@ pub record IsCounted (text : List ℕ) (count : Count) : Type 0 where
 -- the size that it says, of whatever objects the text is the dump
 pub record SaysSize (text : List ℕ) (result : Option ℕ) : Type 0 where
   pub says : (n : ℕ) (items : Items) → n < 2 ^ 64 → text ≡ dump_text n items → result ≡ Some n
+
+-- the text begins with the line of the version, and the second line with this size
+pub record BeginsWithSize (text : List ℕ) (size : ℕ) : Type 0 where
+  pub rest : List ℕ
+  pub begins : text ≡ codes "segment dump 1" ++ 0x0A ∷ codes "size " ++ number_text size ++ rest

@@ -33,6 +33,11 @@ use Rattle.segment_file.specs.ReadingOn.{IsReadUpTo, said_by}
 abbrev pub file_region : ℕ → ℕ → List ℕ → ℕ
 file_region len more image = region_len (max len (size_word image) + more)
 
+-- the most bytes of one request: the capacity of a region for as many bytes as the disk tells of its file, or as were
+-- read of the image if these are more, and for this many bytes more
+abbrev pub largest_request : ℕ → ℕ → List ℕ → ℕ
+largest_request len more image = region_len (max len (length image) + more)
+
 -- ---- why there is none
 
 -- what was read of an image decides no class of it, and no read failed
@@ -40,7 +45,7 @@ pub record IsOpenYet (format : ℕ) (image : ReadDelta) : Type 0 where
   pub sound : image.failed ≡ false
   pub undecided : decided format image.bytes ≡ None
 
--- a request was refused, for the region or for what was read so far: for no more bytes than the region was to have
+-- a request was refused, for the region or for what was read so far: for at most this many bytes
 pub record IsWithoutMemory (format most : ℕ) (image : ReadDelta) (refusal : NoMemory) : Type 0 where
   pub yet : IsOpenYet format image
   pub asked : ℕ
@@ -61,10 +66,10 @@ pub record IsUnopened (format most : ℕ) (image : ReadDelta) (why : OpenError) 
   pub unfit : IsUnfitFor format most image why
   pub shown : IsShown format image.bytes why
 
--- an image of these versions
+-- an image of these versions is not opened; no request is larger than what the file has, whatever its front says
 abbrev pub IsUnopenedBy : AcceptedVersions → ℕ → ℕ → ReadDelta → OpenError → Type 0
 IsUnopenedBy versions len more image why =
-    IsUnopened (format_in versions image.bytes) (file_region len more image.bytes) image why
+    IsUnopened (format_in versions image.bytes) (largest_request len more image.bytes) image why
 
 -- ---- an image that is opened
 

@@ -43,13 +43,11 @@ pub record IsBroken (said : ℕ) (gave : ReaderHistory) : Type 0 where
   pub few : length gave.bytes ≤ said
   pub failed : 0 < gave.failures
 
--- the reader gave no more than these bytes, and there was no memory to keep them
+-- the reader gave no more than these bytes, and memory to keep what the reader gave was refused
 pub record IsUnkept (said : ℕ) (gave : ReaderHistory) (refusal : MemoryFault) : Type 0 where
   pub few : length gave.bytes ≤ said
   pub sound : gave.failures ≡ 0
-  pub asked : ℕ
-  pub within : asked ≤ said
-  pub refused : refusal ≡ Bytes (out_of_memory_of asked)
+  pub refused : refusal ≡ Bytes (out_of_memory_of (length gave.bytes))
 
 -- reading stopped before the end and before as many bytes as are said, for this reason
 abbrev pub IsWhyNotUpTo : ℕ → ReaderHistory → OpenError → Type 0

@@ -13,7 +13,7 @@ use Rattle.segment_dump.specs.declared.faults.LoadRefused.{LoadRefused}
 use Rattle.segment_dump.specs.Counting.{CountsDump}
 use Rattle.segment_dump.specs.declared.counting.Count.{Count}
 use Rattle.segment_dump.specs.Items.{portable}
-use Rattle.segment_dump.specs.Loading.{IsRequestedSize, asked_of}
+use Rattle.segment_dump.specs.Loading.{asked_of}
 use Rattle.segment_dump.specs.Need.{items_needs}
 use Rattle.segment_dump.specs.Notes.{without_notes}
 use Rattle.segment_dump.specs.Succeeding.{Succeeds}
@@ -25,17 +25,17 @@ use Rattle.segment_cli.specs.declared.faults.SessionFault.TheVariants.{ScriptToo
 use Rattle.segment_commands.specs.declared.command_faults.CommandFault.{CommandFault}
 use Rattle.segment_commands.specs.declared.command_faults.CommandFault.TheVariants.{Session}
 use Rattle.segment_commands.specs.Faults.{IsNoMemory}
-use Rattle.segment_commands.specs.Loading.{HasRoomForSize, IsFitting, IsReadWhole, IsWantedSize, IsWhyUnread}
-use Rattle.segment_commands.specs.Loading.{LoadsDump, NeedsRoom}
+use Rattle.segment_commands.specs.Loading.{HasRoomForSize, IsFitting, IsReadWhole, IsRequestedOrWritten, IsWantedSize}
+use Rattle.segment_commands.specs.Loading.{IsWhyUnread, LoadsDump, NeedsRoom}
 use Rattle.segment_commands.proofs.loading.LongTexts.{fits-room}
 
 -- ---- a segment of a text
 
 -- a region with room for the size that is wanted has room for the one that is asked for
-pub roomy-for : (size : Option ℕ) (wanted : ℕ) (region : List ℕ) → IsRequestedSize size wanted
+pub roomy-for : (text : List ℕ) (size : Option ℕ) (wanted : ℕ) (region : List ℕ) → IsRequestedOrWritten text size wanted
     → min wanted 1073741824 ≤ length region → HasRoomForSize size region
-roomy-for None wanted region asked room = tt
-roomy-for (Some n) wanted region asked room = rw asked at room
+roomy-for text None wanted region asked room = tt
+roomy-for text (Some n) wanted region asked room = rw asked at room
 
 legal-most : (n : ℕ) → is_legal_size n ≡ true → n ≤ 1073741824
 legal-most n e = grind (arith, nat_tests)

@@ -20,7 +20,7 @@ use Rattle.image_check.specs.Opening.{IsTooSmallFor, IsOpenCause, Opens, cause_o
 use Rattle.image_check.proofs.Facts.{all_decided}
 use Rattle.grow_shrink.specs.LargerRegion.{region_len}
 use Rattle.segment_disk.specs.Events.{nothing_given}
-use Rattle.segment_file.specs.Opening.{IsOpenedBy, IsUnopened, OpensIn, OpensReader, file_region}
+use Rattle.segment_file.specs.Opening.{IsOpenedBy, IsUnopened, OpensIn, OpensReader, largest_request}
 use Rattle.segment_file.specs.ReadingOn.{IsReadUpTo, replayed, said_by}
 use Rattle.segment_file.proofs.opening.Fronts.{few-undecided, image-said, image-size, said-is, said-most, said-says}
 use Rattle.segment_file.proofs.opening.Fronts.{said-stays, too-small-says}
@@ -157,7 +157,7 @@ module _ (versions : AcceptedVersions) (len more : ℕ) (mode : Mode) (image : R
     room = room ∙ ap (λ (n : ℕ). region_len (max len n + more)) (sym says ∙ image-said versions image.bytes o.denotes);
     opened = o;
   }
-  opens-reader (Err why) o = o (file_region len more image.bytes)
+  opens-reader (Err why) o = o (largest_request len more image.bytes)
 
 -- an opened segment is as long as its image says
 pub as-long : (image : ReadDelta) (region : List ℕ) (mode : Mode) (s : SegmentState) (versions : AcceptedVersions)

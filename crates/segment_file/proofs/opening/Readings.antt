@@ -13,18 +13,17 @@ use Rattle.image_check.specs.declared.errors.OpenError.{OpenError}
 use Rattle.image_check.specs.declared.errors.OpenError.TheVariants.{Image, OutOfMemory, ReadFault, RegionTooSmall}
 use Rattle.image_check.specs.declared.versions.AcceptedVersions.{AcceptedVersions}
 use Rattle.image_check.specs.Deciding.{decided}
-use Rattle.image_check.specs.EarlyTests.{size_word}
 use Rattle.image_check.specs.Formats.{format_in}
 use Rattle.image_check.specs.Opening.{IsRefusedAs}
 use Rattle.image_check.specs.Verdicts.{Shows}
 use Rattle.image_check.proofs.Facts.{all_decided}
 use Rattle.grow_shrink.specs.LargerRegion.{region_len}
 use Rattle.segment_disk.specs.Events.{nothing_given}
-use Rattle.segment_file.specs.Opening.{IsUnopened, IsUnopenedBy, file_region}
+use Rattle.segment_file.specs.Opening.{IsUnopened, IsUnopenedBy, largest_request}
 use Rattle.segment_file.specs.ReadingOn.{IsWhyNotUpTo, IsWhyNotWhole, Says, said_by}
 use Rattle.segment_file.proofs.opening.Fronts.{ends-early, few-undecided, goes-past, said-most, said-says, said-stays}
 use Rattle.segment_file.proofs.opening.Fronts.{says-stays, shown-is, undecided}
-use Rattle.segment_file.proofs.opening.Rooms.{holds-front, region-grows, region-holds}
+use Rattle.segment_file.proofs.opening.Rooms.{region-grows, region-holds}
 
 module _ (format most : ℕ) (gave : ReaderHistory) (none : decided format gave.bytes ≡ None) where
   abbrev image : ReadDelta
@@ -54,13 +53,13 @@ module _ (format most : ℕ) (gave : ReaderHistory) (none : decided format gave.
   }
 
   -- more bytes were wanted of the reader
-  pub not-up-to : (said : ℕ) (why : OpenError) → said ≤ most → IsWhyNotUpTo said gave why
+  pub not-up-to : (said : ℕ) (why : OpenError) → length gave.bytes ≤ most → IsWhyNotUpTo said gave why
       → IsUnopened format most image why
   not-up-to said (Image v) fits w = absurd w
   not-up-to said RegionTooSmall fits w = absurd w
   not-up-to said (OutOfMemory refusal) fits u =
       subst (λ (m : MemoryFault). IsUnopened format most image (OutOfMemory m)) (sym u.refused)
-      (unkept u.asked u.sound (let within = u.within in omega (arith, within, fits)))
+      (unkept (length gave.bytes) u.sound fits)
   not-up-to said ReadFault fits b = broken b.failed
 
 -- ---- the front, and the rest of an image that says more than was told
@@ -70,7 +69,13 @@ module _ (versions : AcceptedVersions) (len more : ℕ) (gave : ReaderHistory) w
   kind = format_in versions gave.bytes
 
   abbrev most : ℕ
-  most = file_region len more gave.bytes
+  most = largest_request len more gave.bytes
+
+  -- a request for the bytes that were read is no larger
+  read-fits : length gave.bytes ≤ 1073741824 → length gave.bytes ≤ most
+  read-fits few =
+      let read = le-max_right len (length gave.bytes) in
+      region-holds (length gave.bytes) (max len (length gave.bytes) + more) few (omega (arith, read))
 
   -- the front was not read
   pub no-front : (why : OpenError) → IsWhyNotUpTo 24 gave why
@@ -79,19 +84,19 @@ module _ (versions : AcceptedVersions) (len more : ℕ) (gave : ReaderHistory) w
   no-front RegionTooSmall w = absurd w
   no-front (OutOfMemory refusal) u =
       not-up-to kind most gave (few-undecided kind gave.bytes (let few = u.few in omega (arith, few))) 24
-      (OutOfMemory refusal) (holds-front (max len (size_word gave.bytes) + more)) u
+      (OutOfMemory refusal) (read-fits (let few = u.few in omega (arith, few))) u
   no-front ReadFault b =
       not-up-to kind most gave (few-undecided kind gave.bytes (let few = b.few in omega (arith, few))) 24 ReadFault
-      (holds-front (max len (size_word gave.bytes) + more)) b
+      (read-fits (let few = b.few in omega (arith, few))) b
 
   -- there was no memory for the region of what says no more than was told
   pub no-region : length gave.bytes ≤ 24 → gave.failures ≡ 0
       → IsUnopenedBy versions len more (read_delta nothing_given gave)
       (OutOfMemory (Bytes (out_of_memory_of (region_len (len + more)))))
   no-region few sound =
-      let told = le-max_left len (size_word gave.bytes) in
+      let told = le-max_left len (length gave.bytes) in
       unkept kind most gave (few-undecided kind gave.bytes (omega (arith, few))) (region_len (len + more)) sound
-      (region-grows (len + more) (max len (size_word gave.bytes) + more) (omega (arith, told)))
+      (region-grows (len + more) (max len (length gave.bytes) + more) (omega (arith, told)))
 
   module _ (front : List ℕ) (grows : AppendsBytes front gave.bytes) (said : ℕ) (is : said
       ≡ said_by versions front) (told : len < said) where
@@ -101,17 +106,9 @@ module _ (versions : AcceptedVersions) (len more : ℕ) (gave : ReaderHistory) w
     says-on : Says kind gave.bytes said
     says-on = says-stays front gave.bytes grows says.long versions said says
 
-    fits : (n : ℕ) → n ≤ said → region_len (n + more) ≤ most
-    fits n few =
-        let size = says-on.size in
-        region-grows (n + more) (max len (size_word gave.bytes) + more)
-        (let at = le-max_right len (size_word gave.bytes) in omega (arith, size, at, few))
-
-    within-most : said ≤ most
-    within-most =
-        let most_said = said-most kind gave.bytes said says-on in
-        let holds = region-holds said (said + more) most_said (omega arith) in
-        let grown = fits said (omega arith) in omega (arith, holds, grown)
+    within-most : length gave.bytes ≤ said → length gave.bytes ≤ most
+    within-most few =
+        let most_said = said-most kind gave.bytes said says-on in read-fits (omega (arith, most_said, few))
 
     none-yet : length gave.bytes ≤ said → decided kind gave.bytes ≡ None
     none-yet few = undecided kind gave.bytes said says-on few
@@ -138,15 +135,17 @@ module _ (versions : AcceptedVersions) (len more : ℕ) (gave : ReaderHistory) w
     }
     no-rest RegionTooSmall w = absurd w
     no-rest (OutOfMemory refusal) u =
-        not-up-to kind most gave (none-yet u.few) said (OutOfMemory refusal) within-most u
-    no-rest ReadFault b = not-up-to kind most gave (none-yet b.few) said ReadFault within-most b
+        not-up-to kind most gave (none-yet u.few) said (OutOfMemory refusal) (within-most u.few) u
+    no-rest ReadFault b = not-up-to kind most gave (none-yet b.few) said ReadFault (within-most b.few) b
 
     -- all of it was read, and there was no memory for its region
-    pub no-larger : length gave.bytes ≤ said → gave.failures ≡ 0
+    pub no-larger : length gave.bytes ≡ said → gave.failures ≡ 0
         → IsUnopenedBy versions len more (read_delta nothing_given gave)
         (OutOfMemory (Bytes (out_of_memory_of (region_len (said + more)))))
-    no-larger few sound =
-        unkept kind most gave (none-yet few) (region_len (said + more)) sound (fits said (omega arith))
+    no-larger whole sound =
+        let read = le-max_right len (length gave.bytes) in
+        unkept kind most gave (none-yet (omega (arith, whole))) (region_len (said + more)) sound
+        (region-grows (said + more) (max len (length gave.bytes) + more) (omega (arith, read, whole)))
 
     -- the text that was read whole says as much as its front
     pub said-whole : said_by versions gave.bytes ≡ said

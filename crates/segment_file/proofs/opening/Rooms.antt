@@ -15,7 +15,3 @@ region-grows m k h = omega arith
 -- a count that is cut off at the largest number of 64 bits says the same region
 pub region_capped : (n : ℕ) → region_len (min n 18446744073709551615) ≡ region_len n
 region_capped n = omega arith
-
--- no region is smaller than a front
-pub holds-front : (m : ℕ) → 24 ≤ region_len m
-holds-front m = omega arith

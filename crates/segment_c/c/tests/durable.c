@@ -9,7 +9,11 @@
 #include <stdlib.h>
 #include <sys/stat.h>
 #include <sys/wait.h>
+#include <time.h>
 #include <unistd.h>
+
+/* How many seconds another process may take for what it does at once: other programs may have the machine. */
+enum { PATIENCE = 600 };
 
 static int checks, wrong;
 static char path[400], log_path[410], other[410];
@@ -71,7 +75,8 @@ static void a_fork(const char *folder) {
     DONE(zx_file_close(&file));
 }
 
-/* A child commits, with checkpoints, and this process reads: n and m are always equal, and never become smaller. */
+/* A child commits, with checkpoints, and this process reads: n and m are always equal, and never become smaller. It reads
+   until it has seen commits of the child, which may begin late. */
 static void a_reader(const char *folder) {
     zx_file file = ZX_CLOSED_FILE, reader = ZX_CLOSED_FILE;
     make(&file, folder, 300000);
@@ -86,7 +91,8 @@ static void a_reader(const char *folder) {
         }
     }
     int64_t last = 1;
-    for (int i = 0; i < 3000; i++) {
+    const time_t until = time(NULL) + PATIENCE;
+    for (int i = 0; i < 3000 || (last == 1 && time(NULL) < until && waitpid(child, NULL, WNOHANG) == 0); i++) {
         zx_code code = zx_file_open(&reader, path, ZX_OPEN_READ_ONLY, 0);
         IS(code, ZX_DONE);
         if (code != ZX_DONE) continue;

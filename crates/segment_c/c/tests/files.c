@@ -80,6 +80,9 @@ static __thread int before_fork;
 static bool is_killed_then;
 static sem_t fork_wanted, fork_done;
 
+/* How many seconds another process may take for what it does at once: other programs may have the machine. */
+enum { PATIENCE = 600 };
+
 static void *fork_once(void *none) {
     sem_wait(&fork_wanted);
     if (fork() == 0)
@@ -622,10 +625,11 @@ static bool is_free_beside_a_child(const struct scene *scene, int at, bool is_ki
     IS(waitpid(parent, &status, 0), parent);
     bool is_hit = WIFSIGNALED(status) && WTERMSIG(status) == SIGKILL;
     if (!is_hit) IS(WIFEXITED(status) && WEXITSTATUS(status) == 3, true);
-    // a child closes its copies as soon as it runs
+    // a child closes its copies as soon as it runs, which may be late
     zx_code code = ZX_FILE_IN_USE;
     const uint32_t mode = ZX_OPEN_OR_CREATE | (scene->is_mapped ? ZX_MAPPED : 0);
-    for (int tries = 0; is_hit && tries < 1000 && code == ZX_FILE_IN_USE; tries++) {
+    const time_t until = time(NULL) + PATIENCE;
+    for (int tries = 0; is_hit && code == ZX_FILE_IN_USE && time(NULL) < until; tries++) {
         if (tries > 0) usleep(1000);
         code = zx_file_open(&file, the_file(), mode, 66560);
     }

@@ -57,8 +57,8 @@ def look(path, least):
     """Opens the file for reading, then for writing. Returns its number, `least` or one more, which both must find."""
     with zaluxhoni.open(path, "r") as file:
         read = file["n"], file["m"]
-    # the system may end the mapping of a killed process, and so its lock, a moment later
-    file = zaluxhoni.open(path, "w", durable=True, timeout=10)
+    # whoever looks at a killed process keeps its mapping, and so its lock, a moment longer
+    file = zaluxhoni.open(path, "w", durable=True, timeout=600)
     written = file["n"], file["m"]
     file.discard()
     if read != written or read[0] != read[1] or not least <= read[0] <= least + 1:

@@ -21,8 +21,8 @@ import time
 import file_driver
 import zaluxhoni
 
-# how long whoever is not killed may take to save: where a number of kills is wanted, other programs may have the machine
-WAIT = 20 if float(sys.argv[3]) else 600
+# how long whoever is not killed may take to save: other programs may have the machine
+WAIT = 600
 
 
 class Saver:
@@ -177,17 +177,13 @@ class Round:
         while True:
             # the program runs as a grandchild: after the kill it can live a moment longer, and leave its new file
             may_wait = "program" in self.commands and time.monotonic() < until
-            try:
-                zaluxhoni.open(self.path, "w", mapped=random.random() < 0.5).close()
-            except zaluxhoni.FileInUse:
-                if not may_wait:
-                    raise
-                continue
+            zaluxhoni.open(self.path, "w", mapped=random.random() < 0.5, timeout=WAIT).close()
             beside = set(os.listdir(self.folder)) - {"file"}
             if not beside:
                 break
             if not may_wait:
                 raise Wrong(f"there is {beside} beside the file")
+            time.sleep(0.001)
 
 
 def kill_maker(folder, name, command):

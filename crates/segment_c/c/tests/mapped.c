@@ -16,6 +16,7 @@
 #include <sys/stat.h>
 #include <sys/wait.h>
 #include <sys/xattr.h>
+#include <time.h>
 #include <unistd.h>
 
 static int wrong, cases;
@@ -63,6 +64,18 @@ static int64_t stands(void) {
 static int64_t length(void) {
     struct stat found;
     return stat(path, &found) == 0 ? (int64_t)found.st_size : -1;
+}
+
+/* How many seconds another process may take for what it does at once: other programs may have the machine. */
+enum { PATIENCE = 600 };
+
+/* Opens the file for writing behind the kill of a process that had it mapped. Whoever looks at that process meanwhile keeps
+   its mapping, and so its lock, a moment longer. */
+static zx_code open_behind_kill(zx_file *file) {
+    const time_t until = time(NULL) + PATIENCE;
+    zx_code code;
+    while ((code = zx_file_open(file, path, WRITE, 0)) == ZX_FILE_IN_USE && time(NULL) < until) usleep(1000);
+    return code;
 }
 
 static void seed(int64_t number) {
@@ -485,7 +498,7 @@ static void killed(void) {
     close(ends[1]);
     IS(stands(), 6);
     zx_file file = ZX_CLOSED_FILE;
-    DONE(zx_file_open(&file, path, WRITE, 0));
+    DONE(open_behind_kill(&file));
     IS(get(&file), 6);
     /* its image goes to another file too */
     char other[430];
@@ -531,7 +544,7 @@ static void killed_within_a_call(int kills) {
         zx_file file = ZX_CLOSED_FILE, mapped = ZX_CLOSED_FILE;
         zx_code code = zx_file_open(&file, path, ZX_OPEN_READ_ONLY, 0);
         IS(code == ZX_DONE || (code >= ZX_TRUNCATED && code <= ZX_ORPHAN_BLOCK), true);
-        zx_code opened = zx_file_open(&mapped, path, WRITE, 0);
+        zx_code opened = open_behind_kill(&mapped);
         if (code != ZX_BAD_IMAGE_SIZE || opened != ZX_DONE) IS(opened, code);
         if (opened == ZX_DONE) {
             IS(get(&mapped), 5);

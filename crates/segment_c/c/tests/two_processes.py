@@ -18,7 +18,8 @@ import subprocess
 import sys
 import time
 
-SECONDS = 10
+# how long an answer may take: other programs may have the machine
+SECONDS = 600
 
 TABLE = """
 = a second writer is told, and the lock goes over to the file that is saved

@@ -44,10 +44,16 @@ log_after kept (Err WriteFault) = Unsure
 abbrev pub is_long : ℕ → ℕ → Bool
 is_long end len = nat_lt (max (len / 4) 1_048_576) end
 
+-- a log was begun that is long
+abbrev pub has_long_log : CommitLog → Bool
+has_long_log Absent = false
+has_long_log (Begun kept) = is_long kept.end (length kept.image.items)
+has_long_log Unsure = false
+
 -- a checkpoint is due behind a commit: it is done, and the log is long
 abbrev pub is_due : Result (Unit {0}) CommitFault → CommitLog → Bool
-is_due (Ok done) (Begun kept) = is_long kept.end (length kept.image.items)
-is_due told log = false
+is_due (Ok done) log = has_long_log log
+is_due (Err why) log = false
 
 -- the answer of a commit of an image that the file has, by whether the file was written through
 abbrev pub synced_as : Bool → Result (Unit {0}) CommitFault

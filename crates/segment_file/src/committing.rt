@@ -5,7 +5,7 @@ ghost use Rattle.segment_manager.specs.{Directory.Directory, State.DenotesCurren
 ghost use Rattle.segment_file.specs.Committing.{CheckpointsFile, CommitsAndShortens, CommitsBegun, CommitsFile};
 ghost use Rattle.segment_file.specs.Committing.{CommitsFirst, CommitsIfDifferent, CommitsSegment, EndsBegun};
 ghost use Rattle.segment_file.specs.Committing.{EndsCommits, EndsIfCommitted, EndsLog, answer_of, begun_anew};
-ghost use Rattle.segment_file.specs.Committing.{ShortensIf, SyncsFile, is_due, log_after, log_of};
+ghost use Rattle.segment_file.specs.Committing.{ShortensIf, SyncsFile, has_long_log, is_due, log_after, log_of};
 
 use crate::segment_files::SegmentFile;
 use image_check::laws::one_directory;
@@ -244,13 +244,24 @@ fn checkpoint_image<D: Disk>(
     end_if_committed(alloc, disk, path, hold, told, committed)
 }
 
+/// Tells whether a log was begun that is long.
+fn has_long_log(log: &CommitLog) -> bool
+    ensures { result ≡ has_long_log log.now }
+{
+    match log {
+        CommitLog::Absent => false,
+        CommitLog::Begun(kept) => kept.end > (kept.image.len() / 4).max(LONG_LOG),
+        CommitLog::Unsure => false,
+    }
+}
+
 /// Tells whether a checkpoint is due behind a commit: it is done, and the log has become long.
 fn is_due(told: Result<(), CommitFault>, log: &CommitLog) -> bool
     ensures { result ≡ is_due told log.now }
 {
-    match (told, log) {
-        (Ok(()), CommitLog::Begun(kept)) => kept.end > (kept.image.len() / 4).max(LONG_LOG),
-        _ => false,
+    match told {
+        Ok(()) => has_long_log(log),
+        Err(_) => false,
     }
 }
 

@@ -67,8 +67,8 @@ fn open_held<D: Disk>(
 }
 
 /// A segment in memory, the path of the file that it was read from or made in, and the right to write that file. No
-/// other has that right until this one is closed or dropped. The file changes by `save`, `replace` and `checkpoint`
-/// alone, and with its log it stands for the image of the last `commit`.
+/// other has that right until this one is closed or dropped. The file changes by `save`, `replace`, `checkpoint` and a
+/// `commit` whose log has become long, and with its log it stands for the image of the last `commit`.
 #[derive(Drop)]
 pub struct SegmentFile<H> {
     /// The segment.

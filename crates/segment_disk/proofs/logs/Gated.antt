@@ -58,7 +58,7 @@ module _ (base log : List ℕ) (made : RecoveredImage) (r : Recovers base log ma
   gated : take made.end cut ++ zeros 4096 ++ drop (made.end + length (zeros 4096)) cut ≡ cut ++ zeros 4096
   gated = ap (λ (l : List ℕ). l ++ zeros 4096 ++ drop (made.end + length (zeros 4096)) cut) cut_again
       ∙ (ap (λ (l : List ℕ). cut ++ zeros 4096 ++ l) (nothing_behind (made.end + length (zeros 4096)) (omega arith))
-      ∙ ap (λ (l : List ℕ). cut ++ l) (append-nil (zeros 4096)))
+      ∙ append-nil (cut ++ zeros 4096))
 
   -- it stands with its file for the image that was recovered
   pub gated_stands : RepairedIsReady → IsCommitted (with_log base (cut ++ zeros 4096))

@@ -1,6 +1,6 @@
 -- What a session owes: what it prints and saves, and what each fault leaves.
 use Rattle.std.specs.Prelude.{◌≡◌, ◌⊎◌, ◌<◌, ◌≤◌, ℕ, ◌+◌, Bool, true, false, ⊤, List, [], ◌∷◌, ◌++◌, length, take}
-use Rattle.std.specs.Prelude.{IsTrue, None, Result, Ok, Err, MatchResult}
+use Rattle.std.specs.Prelude.{IsTrue, Result, Ok, Err, MatchResult}
 use Rattle.raw_region.specs.Device.{ReaderHistory, ReadDelta, WriterHistory, WriteDelta, IsProperPrefix, read_delta}
 use Rattle.raw_region.specs.Device.{write_delta}
 use Rattle.raw_region.specs.Format.{current}

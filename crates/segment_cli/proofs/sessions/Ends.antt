@@ -1,6 +1,6 @@
 -- Each end of a session is one that it may have.
 use Rattle.std.proofs.Common.{◌≡◌, ℕ, false, true, inl, inr, List, [], ◌++◌, length, take, drop, Result, Ok, Err}
-use Rattle.std.proofs.Common.{IsTrue, MatchResult, ◌+◌, ◌<◌, ◌≤◌, nat_lt, refl, sym, ap, subst, ◌∙◌, arith}
+use Rattle.std.proofs.Common.{IsTrue, MatchResult, ◌+◌, ◌≤◌, nat_lt, refl, sym, ap, subst, ◌∙◌, arith}
 use Rattle.std.proofs.lemmas.Bool.{false≢true}
 use Rattle.std.proofs.lemmas.List.{append-nil, take-append-drop, length-drop, drop_all}
 use Rattle.raw_region.specs.Device.{ReaderHistory, ReadDelta, WriterHistory, WriteDelta, IsProperPrefix, read_delta}

@@ -4,7 +4,5 @@
 pub use Rattle.segment_cli.proofs.sessions.Ends.{IsUnwritten, not_asked, not_written, prefix_added}
 -- a session by its steps: no segment, a script that was not run to its end, and what became of the image
 pub use Rattle.segment_cli.proofs.sessions.Ends.{unbegun_session, stopped_session, done_session, unsaved_session}
--- the gaps of what a session saved
-pub use Rattle.segment_cli.proofs.sessions.Ends.{done_zeros, no_zeros, unsaved_zeros}
 -- a migration by its steps
 pub use Rattle.segment_cli.proofs.migrations.Outcomes.{migrated, not-migrated, unmigrated}

@@ -1,8 +1,7 @@
 -- What a session owes: what it prints and saves, and what each fault leaves.
 use Rattle.std.specs.Prelude.{◌≡◌, ◌⊎◌, ◌<◌, ◌≤◌, ℕ, ◌+◌, Bool, true, false, ⊤, List, [], ◌∷◌, ◌++◌, length, take}
 use Rattle.std.specs.Prelude.{IsTrue, None, Result, Ok, Err, MatchResult}
-use Rattle.raw_region.specs.Device.{ReaderHistory, ReadDelta, WriterHistory, WriteDelta, IsProperPrefix, read_delta}
-use Rattle.raw_region.specs.Device.{write_delta}
+use Rattle.raw_region.specs.Device.{ReaderHistory, ReadDelta, WriteDelta, IsProperPrefix}
 use Rattle.raw_region.specs.Format.{current}
 use Rattle.block_tags.specs.Format.{is_legal_size}
 use Rattle.segment_manager.specs.declared.modes.Mode.{Mode}
@@ -32,16 +31,6 @@ pub record SessionIo : Type 0 where
   pub script : ReadDelta
   pub out : WriteDelta
   pub saved : WriteDelta
-
--- the same, from the histories of the four devices before the session and after it
-abbrev pub session_io : ReaderHistory → ReaderHistory → ReaderHistory → ReaderHistory → WriterHistory → WriterHistory
-    → WriterHistory → WriterHistory → SessionIo
-session_io image image' script script' out out' saved saved' = record {
-  image = read_delta image image';
-  script = read_delta script script';
-  out = write_delta out out';
-  saved = write_delta saved saved';
-}
 
 -- ---- where a session begins
 
@@ -115,6 +104,7 @@ pub record IsDone (start : Start) (mode : Mode) (t : SessionIo) : Type 0 where
   pub within : length t.script.bytes ≤ script_limit
   pub prints : t.out.bytes ≡ (run (whole_language current) mode from t.script.bytes).0
   pub saves : SavesImage mode t.saved.bytes (run (whole_language current) mode from t.script.bytes).1
+  pub zeros : mode ≡ Write → KeepsZeros start mode t.image from t.script.bytes t.saved.bytes
   pub failed : failures t ≡ none_failed
 
 -- all lines that ended in the script, within its limit, were answered, and nothing is saved
@@ -148,6 +138,7 @@ pub record IsCutInImage (start : Start) (mode : Mode) (t : SessionIo) : Type 0 w
   pub prints : t.out.bytes ≡ (run (whole_language current) mode from t.script.bytes).0
   pub image : List ℕ
   pub denotes : DenotesCurrent image (run (whole_language current) mode from t.script.bytes).1
+  pub zeros : KeepsZeros start mode t.image from t.script.bytes image
   pub part : IsProperPrefix t.saved.bytes image
 
 -- the image's reader failed, and what it gave before leaves the class open
@@ -210,19 +201,6 @@ pub record RunsSession (start : Start) (mode : Mode) (base capacity : ℕ) (t : 
   -- these two are answered wherever they apply
   pub bad_size : IsSizeRefused start → result ≡ Err BadSize
   pub too_small : IsTooSmall start t.image base capacity → result ≡ Err RegionTooSmall
-
--- ---- the gaps of a saved image
-
--- The gaps of the saved image are zero, if the script leaves them so. If the writer of the image failed, it was writing
--- an image of the last directory whose gaps are, and took a proper prefix of it.
-pub record LeavesZeros (start : Start) (mode : Mode) (t : SessionIo) (result : Result (Unit {0}) SessionFault)
-    : Type 0 where
-  pub done : result ≡ Ok tt → mode ≡ Write → (from : Directory) × StartsFrom start t.image from
-      × KeepsZeros start mode t.image from t.script.bytes t.saved.bytes
-  pub cut : t.saved.failed ≡ true → (from : Directory) × StartsFrom start t.image from × (image : List ℕ)
-      × DenotesCurrent image (run (whole_language current) mode from t.script.bytes).1
-      × KeepsZeros start mode t.image from t.script.bytes image
-      × IsProperPrefix t.saved.bytes image
 
 -- ---- the ends that the readers met
 

@@ -7,8 +7,7 @@ ghost use Rattle.raw_region.specs.Memory.{SameSurroundings, cut_at};
 ghost use Rattle.image_check.specs.Meaning.{HasOneDirectory};
 ghost use Rattle.segment_manager.specs.{declared.modes.Mode.TheVariants.Write, Directory.Directory};
 ghost use Rattle.segment_manager.specs.{State.DenotesCurrent};
-ghost use Rattle.segment_cli.specs.Session.{LeavesZeros, MeetsImageEnd, MeetsScriptEnd, RunsSession, SavesImage};
-ghost use Rattle.segment_cli.specs.Session.{session_io};
+ghost use Rattle.segment_cli.specs.Session.{MeetsImageEnd, MeetsScriptEnd, RunsSession, SavesImage};
 ghost use Rattle.segment_cli.specs.{Beginning.BeginsSession, Beginning.begun_size, Serving.Serves};
 ghost use Rattle.segment_scripts.specs.{Lines.script_limit, RunOutcome.MeetsEndOnce, Segments.IsMachineAt};
 ghost use Rattle.segment_scripts.specs.{Segments.MachineState};
@@ -129,12 +128,14 @@ pub fn session<I: Source, S: Source, O: Sink, W: Sink>(
     requires answer_writer { (O.history out.old).failures < 2 ^ 64 - 1 }
     requires image_writer { (W.history image_out.old).failures < 2 ^ 64 - 1 }
     ensures session { RunsSession start mode base (length region)
-        (session_io (I.history image.old) (I.history image.new) (S.history script.old) (S.history script.new)
-        (O.history out.old) (O.history out.new) (W.history image_out.old) (W.history image_out.new)) result }
+        (record {
+          image = read_delta (I.history image.old) (I.history image.new);
+          script = read_delta (S.history script.old) (S.history script.new);
+          out = write_delta (O.history out.old) (O.history out.new);
+          saved = write_delta (W.history image_out.old) (W.history image_out.new);
+        })
+        result }
     ensures unique { (b : List ℕ) → IsTrue (are_bytes b) → HasOneDirectory current b }
-    ensures zero_gaps { LeavesZeros start mode
-        (session_io (I.history image.old) (I.history image.new) (S.history script.old) (S.history script.new)
-        (O.history out.old) (O.history out.new) (W.history image_out.old) (W.history image_out.new)) result }
     ensures image_history { AppendsBytes (I.history image.old).bytes (I.history image.new).bytes }
     ensures image_end { MeetsImageEnd start (I.history image.old) (I.history image.new) }
     ensures script_history { AppendsBytes (S.history script.old).bytes (S.history script.new).bytes }

@@ -24,7 +24,7 @@ use Rattle.segment_commands.specs.declared.running.RunRequest.{RunRequest}
 use Rattle.segment_commands.specs.declared.command_faults.CommandFault.{CommandFault}
 use Rattle.segment_commands.specs.declared.command_faults.CommandFault.TheVariants.{Stopped, Exists, Session}
 use Rattle.segment_cli.specs.Serving.{ServesOk, ServesErr}
-use Rattle.segment_cli.specs.Session.{LeavesZeros, RunsSession, SessionIo, StartsFrom}
+use Rattle.segment_cli.specs.Session.{StartsFrom, RunsSession}
 use Rattle.segment_disk.specs.Events.{CreateMode, New, Replacement, create_mode_of}
 use Rattle.segment_disk.specs.declared.presence.Presence.{Presence}
 use Rattle.segment_disk.specs.declared.presence.Presence.TheVariants.{Absent, There}
@@ -75,14 +75,14 @@ pub record Act : Type 0 where
   pub script : ReadDelta
   pub out : WriteDelta
 
--- what went in and out of a run that saved this
-abbrev pub io_of : Act → WriteDelta → SessionIo
-io_of act saved = record { image = act.image; script = act.script; out = act.out; saved = saved }
-
 -- the run is a session that saved this
-pub record Ran (act : Act) (saved : WriteDelta) (result : Result (Unit {0}) SessionFault) : Type 0 where
-  pub session : RunsSession act.start act.mode 0 act.capacity (io_of act saved) result
-  pub zero_gaps : LeavesZeros act.start act.mode (io_of act saved) result
+abbrev pub Ran : Act → WriteDelta → Result (Unit {0}) SessionFault → Type 0
+Ran act saved result = RunsSession act.start act.mode 0 act.capacity (record {
+  image = act.image;
+  script = act.script;
+  out = act.out;
+  saved = saved;
+}) result
 
 -- the script was read to its end, and the output took every answer, from a directory that the run begins with
 pub record IsAnsweredAct (act : Act) : Type 0 where

@@ -1,7 +1,6 @@
 -- Each end of a session is one that it may have.
 use Rattle.std.proofs.Common.{◌≡◌, ℕ, false, true, inl, inr, List, [], ◌++◌, length, take, drop, Result, Ok, Err}
 use Rattle.std.proofs.Common.{IsTrue, MatchResult, ◌+◌, ◌<◌, ◌≤◌, nat_lt, refl, sym, ap, subst, ◌∙◌, arith}
-use Rattle.std.proofs.lemmas.Bool.{false≢true}
 use Rattle.std.proofs.lemmas.List.{append-nil, take-append-drop, length-drop, drop_all}
 use Rattle.raw_region.specs.Device.{ReaderHistory, ReadDelta, WriterHistory, WriteDelta, IsProperPrefix, read_delta}
 use Rattle.raw_region.specs.Device.{write_delta, AppendsBytes}
@@ -17,7 +16,7 @@ use Rattle.segment_lang.specs.Language.{whole_language}
 use Rattle.segment_cli.specs.declared.faults.SessionFault.TheVariants.{Image as Refused, RegionTooSmall, ScriptTooLong}
 use Rattle.segment_cli.specs.declared.faults.SessionFault.TheVariants.{BadSize, OutOfMemory, ReadFault, WriteFault}
 use Rattle.segment_cli.specs.Session.{SessionIo, KeepsZeros, SavesImage, IsSizeRefused, IsTooSmall, IsDone}
-use Rattle.segment_cli.specs.Session.{IsImageUnwritten, LeavesZeros, MeetsScriptEnd}
+use Rattle.segment_cli.specs.Session.{IsImageUnwritten, MeetsScriptEnd}
 use Rattle.segment_cli.specs.Beginning.{BeginsSession, BeginsSessionOk, IsWhyNotBegun, run_fault}
 use Rattle.segment_cli.specs.Serving.{ServesOk}
 use Rattle.segment_cli.specs.{declared.faults.SessionFault.SessionFault, Session.IsRefusedBefore, Session.AnswersFault}
@@ -133,14 +132,6 @@ pub images_mean_one : (b : List ℕ) → IsTrue (are_bytes b) → HasOneDirector
 unfolding current
 images_mean_one b h = one_directory current b (omega arith) h
 
--- of a session that failed before it saved anything there is nothing to say of gaps
-pub no_zeros : (start : Start) (mode : Mode) (t : SessionIo) (fault : SessionFault) → t.saved.failed ≡ false
-    → LeavesZeros start mode t (failed fault)
-no_zeros start mode t fault saved = record {
-  done = λ is. absurd (cc);
-  cut = λ is. absurd (false≢true (sym saved ∙ is));
-}
-
 -- ---- faults, as the call before answers them
 
 abbrev no_segment : SessionFault → Result SegmentState SessionFault
@@ -243,31 +234,15 @@ module _ (start : Start) (mode : Mode) (base capacity : ℕ) (t : SessionIo) whe
       → ((at : MachineState)
       → IsMachineAt s at → RunsWhole answer_line at t.script t.out (IsMachineAt s'))
       → ((d : Directory) → DenotesCurrent s'.cut.bytes d
-      → SavesImage s'.mode t.saved.bytes d) → t.saved.failed ≡ false
+      → SavesImage s'.mode t.saved.bytes d) → (s'.mode ≡ Write → t.saved.bytes ≡ s'.cut.bytes) → t.saved.failed ≡ false
       → RunsSession start mode base capacity t (Ok u)
-  done_session s s' u h leaves saves saved =
+  done_session s s' u h leaves saves bytes saved =
       let b = h.answers in let ran = leaves (first mode b.from) (at_first mode b.from s b.mode b.stands) in
       let last = stands_done mode b.from false t (IsMachineAt s') ran in
       let d = (run (whole_language current) mode b.from t.script.bytes).1 in
       begun_session s (Ok u) h (done start mode t b.from false b.begins (IsMachineAt s') b.read saved ran
-      (subst (λ (m : Mode). SavesImage m t.saved.bytes d) last.mode (saves d last.denotes)))
-
-  -- and its gaps are zero where the script leaves them so
-  pub done_zeros : (s s' : SegmentState) → BeginsSession start mode base capacity t.image (Ok s)
-      → ((at : MachineState) → IsMachineAt s at → RunsWhole answer_line at t.script t.out (IsMachineAt s'))
-      → (s'.mode ≡ Write → t.saved.bytes ≡ s'.cut.bytes) → t.saved.failed ≡ false
-      → (result : Result (Unit {0}) SessionFault) → LeavesZeros start mode t result
-  done_zeros s s' h leaves bytes saved result =
-      let b = h.answers in let ran = leaves (first mode b.from) (at_first mode b.from s b.mode b.stands) in
-      let last = stands_done mode b.from false t (IsMachineAt s') ran in
-      record {
-        done = λ is writes. (
-          b.from,
-          b.begins,
-          zeros_kept s s' b leaves t.saved.bytes (bytes (last.mode ∙ writes)),
-        );
-        cut = λ is. absurd (false≢true (sym saved ∙ is));
-      }
+      (subst (λ (m : Mode). SavesImage m t.saved.bytes d) last.mode (saves d last.denotes))
+      (λ writes. zeros_kept s s' b leaves t.saved.bytes (bytes (last.mode ∙ writes))))
 
   -- all was answered, and of the image a proper prefix was written
   unsaved : (s s' : SegmentState) → BeginsSessionOk start mode t.image s
@@ -287,6 +262,7 @@ module _ (start : Start) (mode : Mode) (base capacity : ℕ) (t : SessionIo) whe
           prints = prints_done mode b.from false t (IsMachineAt s') ran;
           image = s'.cut.bytes;
           denotes = last.denotes;
+          zeros = zeros_kept s s' b leaves s'.cut.bytes refl;
           part = part;
         };
         failed = rw (b.read, ran.read, ran.written, saved) refl;
@@ -300,23 +276,3 @@ module _ (start : Start) (mode : Mode) (base capacity : ℕ) (t : SessionIo) whe
       → t.saved.failed ≡ true → RunsSession start mode base capacity t (Err WriteFault)
   unsaved_session s s' h leaves how part saved = begun_session s (Err WriteFault) h
       (inr (unsaved s s' h.answers leaves how part saved))
-
-  -- and its image is one whose gaps are zero where the script leaves them so
-  pub unsaved_zeros : (s s' : SegmentState) (fault : SessionFault)
-      → BeginsSession start mode base capacity t.image (Ok s)
-      → ((at : MachineState) → IsMachineAt s at → RunsWhole answer_line at t.script t.out (IsMachineAt s'))
-      → IsProperPrefix t.saved.bytes s'.cut.bytes → LeavesZeros start mode t (Err fault)
-  unsaved_zeros s s' fault h leaves part =
-      let b = h.answers in let ran = leaves (first mode b.from) (at_first mode b.from s b.mode b.stands) in
-      let last = stands_done mode b.from false t (IsMachineAt s') ran in
-      record {
-        done = λ is. absurd (cc);
-        cut = λ is. (
-          b.from,
-          b.begins,
-          s'.cut.bytes,
-          last.denotes,
-          zeros_kept s s' b leaves s'.cut.bytes refl,
-          part,
-        );
-      }

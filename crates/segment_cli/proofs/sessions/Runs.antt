@@ -3,8 +3,8 @@ use Rattle.std.proofs.Common.{◌≡◌, ℕ, Bool, false, List, [], ◌∷◌, 
 use Rattle.std.proofs.lemmas.List.{take_all}
 use Rattle.raw_region.specs.{Device.IsProperPrefix, Format.current}
 use Rattle.segment_lang.specs.{Language.whole_language, Reading.reading}
-use Rattle.segment_manager.specs.{declared.modes.Mode.Mode, Directory.Directory}
-use Rattle.segment_cli.specs.Session.{SessionIo, StartsFrom, SavesImage, IsDone, AnswersEndedLines}
+use Rattle.segment_manager.specs.{declared.modes.Mode.Mode, declared.modes.Mode.TheVariants.Write, Directory.Directory}
+use Rattle.segment_cli.specs.Session.{SessionIo, StartsFrom, KeepsZeros, SavesImage, IsDone, AnswersEndedLines}
 use Rattle.segment_cli.specs.Session.{IsScriptUnread}
 use Rattle.segment_cli.specs.{declared.faults.Start.Start, Session.IsAnswerUnwritten, Session.IsScriptTooLong}
 use Rattle.segment_scripts.specs.ZeroGaps.{zeros_after, zeros_after_lines, zeros_after_run}
@@ -93,14 +93,16 @@ module _ (start : Start) (mode : Mode) (t : SessionIo) (from : Directory) (known
     (saved : t.saved.failed ≡ false) where
   -- a run to the end whose image is saved is a whole session
   pub done : RunsWhole answer_line (place mode from known) t.script t.out Stands
-      → SavesImage mode t.saved.bytes (run (whole_language current) mode from t.script.bytes).1 → IsDone start mode t
-  done h saves = record {
+      → SavesImage mode t.saved.bytes (run (whole_language current) mode from t.script.bytes).1
+      → (mode ≡ Write → KeepsZeros start mode t.image from t.script.bytes t.saved.bytes) → IsDone start mode t
+  done h saves zeros = record {
     from = from;
     begins = begins;
     whole = h.whole;
     within = h.within;
     prints = prints_done mode from known t Stands h;
     saves = saves;
+    zeros = zeros;
     failed = rw (image, h.read, h.written, saved) refl;
   }
 

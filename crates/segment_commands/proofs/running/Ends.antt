@@ -20,17 +20,16 @@ use Rattle.segment_scripts.specs.Segments.{MachineState, IsMachineAt, answer_lin
 use Rattle.segment_cli.specs.declared.faults.Start.{Start}
 use Rattle.segment_cli.specs.declared.faults.SessionFault.{SessionFault}
 use Rattle.segment_cli.specs.declared.faults.SessionFault.TheVariants.{WriteFault}
-use Rattle.segment_cli.specs.Beginning.{BeginsSession, run_fault}
+use Rattle.segment_cli.specs.Beginning.{BeginsSession}
 use Rattle.image_check.specs.Saving.{IsSaved}
-use Rattle.segment_cli.specs.Session.{StartsFrom, Failures, RunsSession, SavesImage}
+use Rattle.segment_cli.specs.Session.{StartsFrom, Failures, SavesImage}
 use Rattle.segment_cli.proofs.Laws.{stopped_session, done_session, unsaved_session}
-use Rattle.segment_cli.proofs.Laws.{done_zeros, no_zeros, unsaved_zeros}
 use Rattle.segment_disk.specs.Events.{CreateMode, New, Truncate, Replacement, Event, After}
 use Rattle.segment_file.specs.Files.{WriteOutcome, IsMade, IsUnwritten, HasImage}
 use Rattle.segment_file.specs.Files.{WritesImage, write_events, whole_outcome, all_of}
 use Rattle.segment_commands.specs.Running.{Act, AnswersScript, IsAnsweredAct, IsAnsweredTo, IsRefusedAct}
 use Rattle.segment_commands.specs.Running.{IsUnrefusedAct, LeavesUnsaved, LosesAnswers, StopsWithFault, EndsRun, Ran}
-use Rattle.segment_commands.specs.Running.{RunsScript, as_saved, io_of, saving}
+use Rattle.segment_commands.specs.Running.{RunsScript, as_saved, saving}
 
 -- lines leave the mode as it is
 mode_kept : (at : MachineState) (ls : List (List ℕ)) → (answer_all answer_line at ls).1.mode ≡ at.mode
@@ -89,8 +88,7 @@ Printed act = (from : Directory) × StartsFrom act.start act.image from
 abbrev refusing : WriteDelta
 refusing = record { bytes = []; failed = true }
 
-printed_by : (act : Act) → RunsSession act.start act.mode 0 act.capacity (io_of act refusing) (Err WriteFault)
-    → Printed act
+printed_by : (act : Act) → Ran act refusing (Err WriteFault) → Printed act
 printed_by act ran = elim ran.answers [
   | inl a ↦ absurd (false≢true (sym (ap (λ (f : Failures). f.saved) a.failed)))
   | inr u ↦ (u.cut.from, u.cut.begins, u.cut.prints)
@@ -154,11 +152,21 @@ module _ {D : Type 0} (step : D → Event → D
 
     printed : (s'.mode ≡ Write) ⊎ (s'.mode ≡ Write → ⊥) → Printed act
     printed (inl is) = printed_by act
-        (unsaved_session start mode 0 capacity (io_of act refusing) s s' h whole_run is
+        (unsaved_session start mode 0 capacity (record {
+          image = image;
+          script = script;
+          out = out;
+          saved = refusing;
+        }) s s' h whole_run is
         (s'.cut.bytes, refl, has_bytes s'.cut.bytes _ ran.answers.stands.denotes) refl)
     printed (inr keeps) =
-        let d = (done_session start mode 0 capacity (io_of act (all_of [])) s s' tt h whole_run
-        (λ d stands. saves_nothing s'.mode d keeps) refl).answers in
+        let d = (done_session start mode 0 capacity (record {
+          image = image;
+          script = script;
+          out = out;
+          saved = all_of [];
+        }) s s' tt h whole_run
+        (λ d stands. saves_nothing s'.mode d keeps) (λ e. absurd (keeps e)) refl).answers in
         (d.from, d.begins, d.prints)
 
     answered_act : IsAnsweredAct act
@@ -181,11 +189,12 @@ module _ {D : Type 0} (step : D → Event → D
       ⊎ LosesAnswers until s s' script out Flushed fault → EndsRun step old old how path act Flushed (Err fault)
   stopped old fault (inl p) = inl (record {
     asked = refl;
-    ran = rw p.unserved.why (record {
-      session = stopped_session start mode 0 capacity (io_of act (all_of [])) s s' p.unserved.stop h
-          (λ at there. (p.unserved.left at there).left) (record { bytes = refl; failed = refl });
-      zero_gaps = no_zeros start mode (io_of act (all_of [])) (run_fault p.unserved.stop) refl;
-    });
+    ran = rw p.unserved.why (stopped_session start mode 0 capacity (record {
+      image = image;
+      script = script;
+      out = out;
+      saved = all_of [];
+    }) s s' p.unserved.stop h (λ at there. (p.unserved.left at there).left) (record { bytes = refl; failed = refl }));
     ok = p.ok;
     flushed = p.flushed;
   })
@@ -210,12 +219,13 @@ module _ {D : Type 0} (step : D → Event → D
       written = whole_outcome how [];
       whole = inl refl;
       asked = asks_nothing step old mode how path (whole_outcome how []) keeps;
-      ran = record {
-        session = done_session start mode 0 capacity (io_of act (all_of [])) s s' tt h (whole_run true answered)
-            (λ d stands. saves_nothing s'.mode d kept) refl;
-        zero_gaps = done_zeros start mode 0 capacity (io_of act (all_of [])) s s' h (whole_run true answered)
-            (λ e. absurd (kept e)) refl (Ok tt);
-      };
+      ran = done_session start mode 0 capacity (record {
+        image = image;
+        script = script;
+        out = out;
+        saved = all_of [];
+      }) s s' tt h (whole_run true answered)
+          (λ d stands. saves_nothing s'.mode d kept) (λ e. absurd (kept e)) refl;
       unrefused = unrefused true answered;
       flushed = answered.flushed;
     }
@@ -226,13 +236,13 @@ module _ {D : Type 0} (step : D → Event → D
 
       done : ((d : Directory) → DenotesCurrent s'.cut.bytes d → IsSaved s'.cut.bytes d)
           → Ran act (all_of s'.cut.bytes) (Ok tt)
-      done good = record {
-        session = done_session start mode 0 capacity (io_of act (all_of s'.cut.bytes)) s s' tt h
-            (whole_run true answered)
-            (λ d stands. subst (λ (m : Mode). SavesImage m s'.cut.bytes d) (sym is_left) (good d stands)) refl;
-        zero_gaps = done_zeros start mode 0 capacity (io_of act (all_of s'.cut.bytes)) s s' h (whole_run true answered)
-            (λ e. refl) refl (Ok tt);
-      }
+      done good = done_session start mode 0 capacity (record {
+        image = image;
+        script = script;
+        out = out;
+        saved = all_of s'.cut.bytes;
+      }) s s' tt h (whole_run true answered)
+          (λ d stands. subst (λ (m : Mode). SavesImage m s'.cut.bytes d) (sym is_left) (good d stands)) (λ e. refl) refl
 
       -- the image is whole in its file
       pub saved : {E : Type 0} → WritesImage {E = E} step old new how path s'.cut.bytes (Ok tt)
@@ -256,12 +266,12 @@ module _ {D : Type 0} (step : D → Event → D
           subst (LeavesUnsaved step old new how path act Flushed) (sym e) (answered_act true answered)
       unsaved_by written (inr (inr (inl c))) good =
           subst (LeavesUnsaved step old new how path act Flushed) (sym c.closed)
-          (inl (record {
-            session = unsaved_session start mode 0 capacity (io_of act c.taken) s s' h (whole_run true answered)
-                is_left c.is_part.part c.is_part.failed;
-            zero_gaps = unsaved_zeros start mode 0 capacity (io_of act c.taken) s s' WriteFault h
-                (whole_run true answered) c.is_part.part;
-          }))
+          (inl (unsaved_session start mode 0 capacity (record {
+            image = image;
+            script = script;
+            out = out;
+            saved = c.taken;
+          }) s s' h (whole_run true answered) is_left c.is_part.part c.is_part.failed))
       unsaved_by written (inr (inr (inr (inl e)))) good =
           subst (LeavesUnsaved step old new how path act Flushed) (sym e) (inr (
             refl,

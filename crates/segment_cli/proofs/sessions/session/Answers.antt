@@ -6,7 +6,6 @@ use Rattle.segment_cli.proofs.sessions.Ends.{at_first, first, images_mean_one, n
 use Rattle.segment_cli.proofs.sessions.Ends.{read_on_fault, unread}
 use Rattle.segment_cli.proofs.sessions.Ends.{not_asked, not_written, served, unbegun_session}
 use Rattle.segment_cli.proofs.sessions.Ends.{stopped_session, done_session, unsaved_session}
-use Rattle.segment_cli.proofs.sessions.Ends.{done_zeros, no_zeros, unsaved_zeros}
 use Rattle.segment_cli.proofs.sessions.session.Goals as goal
 
 pub returns-in_err-segment-clause-session : goal.returns-in_err-segment-clause-session
@@ -33,7 +32,8 @@ returns-in_err-serve-clause-output_history g c =
 pub returns-clause-session : goal.returns-clause-session
 returns-clause-session g c = let saved = c.in_ok-save_segment.ensures in
     done_session _ _ _ _ _ c.in_ok-segment.segment c.serve.new.segment tt c.in_ok-segment.ensures.start
-    (served _ _ _ _ _ c.in_ok-serve.ensures.service) saved.on_ok (none_counted _ _ saved.failures)
+    (served _ _ _ _ _ c.in_ok-serve.ensures.service) saved.on_ok (λ writes. added _ _ _ (saved.bytes writes))
+    (none_counted _ _ saved.failures)
 
 pub returns-clause-output_history : goal.returns-clause-output_history
 returns-clause-output_history g c =
@@ -102,28 +102,3 @@ returns-in_err-save_segment-clause-unique g c = images_mean_one
 
 pub returns-clause-script_end : goal.returns-clause-script_end
 returns-clause-script_end g c = c.serve.ensures.script_end
-
-pub returns-in_err-segment-clause-zero_gaps : goal.returns-in_err-segment-clause-zero_gaps
-returns-in_err-segment-clause-zero_gaps g c =
-    let p = err_from_is_err_and c.from_residual.result c.from_residual.ensures.1 in
-    rw (p.1, p.2) (no_zeros _ _ _ _
-    (not_written (g.W.Sink.history c.args.image_out.now)).failed)
-
-pub returns-in_err-serve-clause-zero_gaps : goal.returns-in_err-serve-clause-zero_gaps
-returns-in_err-serve-clause-zero_gaps g c =
-    let p = err_from_is_err_and c.from_residual-in_err-serve.result c.from_residual-in_err-serve.ensures.1 in
-    rw (p.1, p.2) (no_zeros _ _ _ _
-    (not_written (g.W.Sink.history c.args.image_out.now)).failed)
-
-pub returns-clause-zero_gaps : goal.returns-clause-zero_gaps
-returns-clause-zero_gaps g c = let saved = c.in_ok-save_segment.ensures in
-    done_zeros _ _ _ _ _ c.in_ok-segment.segment c.serve.new.segment c.in_ok-segment.ensures.start
-    (served _ _ _ _ _ c.in_ok-serve.ensures.service) (λ writes. added _ _ _ (saved.bytes writes))
-    (none_counted _ _ saved.failures) _
-
-pub returns-in_err-save_segment-clause-zero_gaps : goal.returns-in_err-save_segment-clause-zero_gaps
-returns-in_err-save_segment-clause-zero_gaps g c =
-    let from = c.from_residual-in_err-save_segment in let p = err_from_is_err_and from.result from.ensures.1 in
-    rw (p.1, p.2) (unsaved_zeros _ _ _ _ _ c.in_ok-segment.segment c.serve.new.segment _
-    c.in_ok-segment.ensures.start (served _ _ _ _ _ c.in_ok-serve.ensures.service)
-    c.in_err-save_segment.ensures.on_error.1)

@@ -15,6 +15,7 @@ complete -c segment -n '__fish_seen_subcommand_from run grow shrink migrate load
 complete -c segment -n 'not __fish_seen_subcommand_from create lint language help' -l wait -x -d 'seconds for the file'
 complete -c segment -n '__fish_seen_subcommand_from run' -s r -l read-only \
     -d 'refuse commands that change the segment'
+complete -c segment -n '__fish_seen_subcommand_from run' -l commit -d 'write what changed to a log beside the file'
 complete -c segment -n '__fish_seen_subcommand_from run' -l strict -d 'stop at the first error, and save nothing'
 complete -c segment -n '__fish_seen_subcommand_from run' -l fail -d 'tell an error by the status'
 complete -c segment -n '__fish_seen_subcommand_from run' -l numbered -d 'number the answers'

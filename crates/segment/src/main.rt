@@ -14,7 +14,7 @@ use segment_cli::SessionFault;
 use segment_commands::{
     CheckRequest, CommandFault, RefusalWatch, RunRequest, change, check, check_all, create,
     explain, get, is_stand_in, lint, load, load_over, names, print, print_language, put_trouble,
-    report, report_no_memory, tell_segment,
+    report, report_no_memory, run_and_commit, tell_segment,
 };
 use segment_disk::{Disk, FileProblem, HostDisk, OpenedFile, StdOutput};
 use segment_invocation::{
@@ -95,10 +95,16 @@ fn unusable_paths(options: &Options<'_>) -> usize {
 fn perform(rt: &HostRuntime, asked: &Request<'_>) -> Result<u8, NoAnswerMemory> {
     let out = StdOutput::new(buffered_writer(rt.alloc(), io::writer(rt))?);
     let options = &asked.options;
+    let disk = HostDisk::with_options(rt, options.keeping.wait, options.keeping.saving);
     let mut host = Host {
         rt,
-        disk: HostDisk::with_options(rt, options.keeping.wait, options.keeping.saving),
+        disk: if options.keeping.commit {
+            disk.keeping_logs()
+        } else {
+            disk
+        },
         scripts: HostDisk::without_logs(rt),
+        is_committing: options.keeping.commit,
         is_verbose: options.verbose || rt.stderr().is_terminal() || var(rt, VERBOSE).is_ok(),
     };
     let answer = host.command(asked, out);
@@ -120,6 +126,8 @@ struct Host<'a> {
     disk: HostDisk<'a, HostRuntime>,
     /// The files of scripts.
     scripts: HostDisk<'a, HostRuntime>,
+    /// Whether a run commits what it changed.
+    is_committing: bool,
     /// Whether a fault of a file is followed by why it came.
     is_verbose: bool,
 }
@@ -352,7 +360,12 @@ impl<'a> Host<'a> {
         requires script { (S.history script.old).failures ≡ 0 }
         requires out { O.history out.old ≡ nothing_taken }
     {
-        segment_commands::run(self.rt.alloc(), &mut self.disk, request, script, out)?;
+        let (alloc, disk) = (self.rt.alloc(), &mut self.disk);
+        if self.is_committing {
+            run_and_commit(alloc, disk, request, script, out)?;
+        } else {
+            segment_commands::run(alloc, disk, request, script, out)?;
+        }
         Ok(0)
     }
 }

@@ -11,6 +11,7 @@ pub mod Resizing
 pub mod Migrating
 pub mod Changing
 pub mod Modes
+pub mod Committing
 pub mod Linting
 pub mod Reporting
 pub mod Explaining

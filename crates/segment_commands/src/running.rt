@@ -79,7 +79,7 @@ pub fn run<D: Disk, S: Source, O: LineOutput>(
 
 /// Tells whether a script can be read at all. A closed standard input can't, and a file that is opened then would take
 /// its place.
-fn can_be_read<S: Source>(script: &mut S) -> bool
+pub(crate) fn can_be_read<S: Source>(script: &mut S) -> bool
     requires { (S.history script.old).failures < 2 ^ 64 - 1 }
     ensures on_true { result ≡ true → S.history script.new ≡ S.history script.old }
     ensures on_false { result ≡ false → (S.history script.new).failures ≡ (S.history script.old).failures + 1 }
@@ -88,7 +88,7 @@ fn can_be_read<S: Source>(script: &mut S) -> bool
 }
 
 /// Tells whether a run came to the end of its script, and all answers went out.
-fn is_whole(ended: Result<End, SessionFault>) -> bool
+pub(crate) fn is_whole(ended: Result<End, SessionFault>) -> bool
     ensures complete { result ≡ true → ended ≡ Ok Complete }
     ensures early_stop { result ≡ false → ended ≢ Ok Complete }
 {
@@ -197,7 +197,7 @@ fn run_on_file<D: Disk, S: Source, O: LineOutput>(
 }
 
 /// Runs a script on an empty segment of `size` bytes, gives out its answers, and then writes the image to a new file.
-fn run_made<D: Disk, S: Source, O: LineOutput>(
+pub(crate) fn run_made<D: Disk, S: Source, O: LineOutput>(
     alloc: Global,
     disk: &mut D,
     request: &RunRequest<'_>,
@@ -260,7 +260,7 @@ fn run_on_file_or_new<D: Disk, S: Source, O: LineOutput>(
 }
 
 /// Returns what a run answered, as the program answers it.
-fn answered(answer: Result<End, SessionFault>) -> Result<(), CommandFault>
+pub(crate) fn answered(answer: Result<End, SessionFault>) -> Result<(), CommandFault>
     ensures { result ≡ as_program answer }
 {
     match answer {

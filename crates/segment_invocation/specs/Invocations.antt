@@ -1,7 +1,7 @@
 -- What the program may be asked on its command line, over the matches that clap states for its words.
 use Rattle.std.specs.Prelude.{◌≡◌, ◌⊎◌, ◌==◌, ◌∷◌, ◌++◌, ℕ, Bool, true, false, not, List, [], Option, Some, None}
 use Rattle.std.specs.Prelude.{is_some, Result, MatchResult, IsTrue, option_map, option_and_then, codes, fold}
-use Rattle.std.specs.Prelude.{◌&&◌, flat_map, length, map, nat_lt, unwrap_or}
+use Rattle.std.specs.Prelude.{◌&&◌, ◌||◌, flat_map, length, map, nat_lt, unwrap_or}
 use Rattle.std.specs.List.{list_all}
 use Rattle.std.specs.Prelude.{if◌then◌else◌}
 use Rattle.std.specs.Str.{bytes_eq}
@@ -36,7 +36,7 @@ use Rattle.segment_invocation.specs.declared.usage.UsageError.{UsageError}
 use Rattle.segment_invocation.specs.declared.usage.UsageError.TheVariants.{Arguments, Command, File, Number, Mode}
 use Rattle.segment_invocation.specs.declared.usage.UsageError.TheVariants.{Modes, Key}
 use Rattle.segment_invocation.specs.declared.usage.UsageError.TheVariants.{Size, Script as TwoScripts, Files}
-use Rattle.segment_invocation.specs.declared.usage.UsageError.TheVariants.{Capacities as JsonCapacities}
+use Rattle.segment_invocation.specs.declared.usage.UsageError.TheVariants.{Capacities as JsonCapacities, Commit}
 
 -- ---- the command line, as clap reads it
 
@@ -133,8 +133,8 @@ run_options = operand (codes "file") ∷ maybe (codes "script") ∷ option (code
 
 abbrev pub run_command : Shape
 run_command = taking (codes "run") (run_options
-    ++ (switch (codes "read-only") 114 ∷ flag (codes "replace") ∷ flag (codes "strict") ∷ flag (codes "fail")
-    ∷ flag (codes "numbered") ∷ option (codes "wait") ∷ []))
+    ++ (switch (codes "read-only") 114 ∷ flag (codes "replace") ∷ flag (codes "commit") ∷ flag (codes "strict")
+    ∷ flag (codes "fail") ∷ flag (codes "numbered") ∷ option (codes "wait") ∷ []))
 
 abbrev pub subcommands : List Shape
 subcommands = create_command ∷ run_command ∷ check_command ∷ grow_command ∷ kept_command (codes "shrink")
@@ -176,6 +176,7 @@ pub record OptionValues : Type 0 where
   pub origin : Origin
   pub paths : List Text
   pub saving : SaveMode
+  pub commits : Bool
   pub wait : ℕ
   pub strict : Bool
   pub fails : Bool
@@ -195,6 +196,7 @@ plain_options files = record {
   origin = input;
   paths = files;
   saving = InPlace;
+  commits = false;
   wait = 0;
   strict = false;
   fails = false;
@@ -244,6 +246,7 @@ options_by how = record {
   origin = origin_by how.script;
   paths = map (λ s. s.now) how.files.items;
   saving = how.keeping.saving;
+  commits = how.keeping.commit;
   wait = how.keeping.wait;
   strict = how.answering.strict;
   fails = how.answering.fail;
@@ -414,6 +417,7 @@ options_with words wait origin = record {
   origin = origin;
   paths = list_of (codes "file") words;
   saving = saving_of (first_of (codes "replace") words);
+  commits = is_set (first_of (codes "commit") words);
   wait = wait;
   strict = is_set (first_of (codes "strict") words);
   fails = is_set (first_of (codes "fail") words);
@@ -427,14 +431,25 @@ options_with words wait origin = record {
 abbrev pub explains_many : List Row → Bool
 explains_many words = is_set (first_of (codes "explain") words) && nat_lt 1 (length (list_of (codes "file") words))
 
+-- the mode of a run is one by which a file is made alone, read, or not saved
+abbrev pub saves_none : Option Text → Bool
+saves_none None = false
+saves_none (Some mode) = not (bytes_eq mode (codes "open_only")) && not (bytes_eq mode (codes "open_or_create"))
+
+-- a run is to commit that saves otherwise, or not at all
+abbrev pub commits_amiss : List Row → Bool
+commits_amiss words = is_set (first_of (codes "commit") words) && (is_set (first_of (codes "replace") words)
+    || (only_reads words || saves_none (first_of (codes "mode") words)))
+
 -- the script of words
 abbrev pub script_of : List Row → Option Origin
 script_of words = origin_of (first_of (codes "script") words) (list_of (codes "line") words)
 
--- the options of the words of a subcommand: their seconds are a number, they have one script, and explain one file
+-- the options of the words of a subcommand: their seconds are a number, they have one script, explain one file, and do
+-- not commit amiss
 abbrev pub options_of : List Row → Option OptionValues
 options_of words = option_and_then (λ wait. option_and_then (λ origin.
-    if explains_many words then None else Some (options_with words wait origin))
+    if explains_many words then None else if commits_amiss words then None else Some (options_with words wait origin))
     (script_of words)) (seconds_of (first_of (codes "wait") words))
 
 -- a command with its options
@@ -468,7 +483,7 @@ ParsesTo wanted result = MatchResult result (λ a. wanted ≡ Some a) (λ e. wan
 -- ---- what is wrong with words that ask for nothing
 
 -- there is no such command or mode, or no file, key, number or size; or two modes, two scripts, more files than are
--- explained, or a dump in JSON with capacities
+-- explained, a dump in JSON with capacities, or a commit of a run that saves otherwise
 pub data Wrong : Type 0 where
   no_command : Wrong
   no_file : Wrong
@@ -480,6 +495,7 @@ pub data Wrong : Type 0 where
   two_scripts : Wrong
   many_files : Wrong
   json_capacities : Wrong
+  amiss_commit : Wrong
 
 -- what an error says of the words, unless it is one of clap's
 abbrev pub wrong_by : UsageError → Option Wrong
@@ -494,6 +510,7 @@ wrong_by Size = Some no_size
 wrong_by TwoScripts = Some two_scripts
 wrong_by Files = Some many_files
 wrong_by JsonCapacities = Some json_capacities
+wrong_by Commit = Some amiss_commit
 
 -- what is wrong with a mode: there are two, or there is no such mode
 abbrev pub wrong_mode : List Row → Wrong
@@ -520,12 +537,14 @@ wrong_command subcommand words =
     if is_some (first_of (codes "file") words) then wrong_filed (command_called subcommand) words
     else no_file
 
--- of options the first of these: the seconds are no number, there are two scripts, many files are to be explained
+-- of options the first of these: the seconds are no number, there are two scripts, many files are to be explained, a
+-- commit is amiss
 abbrev pub wrong_options : List Row → Wrong
 wrong_options words =
     if not (is_some (seconds_of (first_of (codes "wait") words))) then no_number
-    else if is_some (script_of words) then many_files
-    else two_scripts
+    else if not (is_some (script_of words)) then two_scripts
+    else if explains_many words then many_files
+    else amiss_commit
 
 -- the command is looked at before its options
 abbrev pub wrong_in : Text → List Row → Wrong

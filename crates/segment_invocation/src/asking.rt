@@ -6,7 +6,8 @@ ghost use Rattle.clap.specs.declared.error.kind.ErrorKind.TheVariants.{DisplayVe
 ghost use Rattle.segment_lang.specs.Lexing.{number_of};
 ghost use Rattle.segment_invocation.specs.Invocations.{InvocationValue, IsAskedBy, IsRequestedBy, IsRequestWritten};
 ghost use Rattle.segment_invocation.specs.Invocations.{IsWritten, IsWrongBy, ParsesTo, RequestValue};
-ghost use Rattle.segment_invocation.specs.Invocations.{asked_as, asked_by, asked_in, asked_run, dumped_of, is_set};
+ghost use Rattle.segment_invocation.specs.Invocations.{asked_as, asked_by, asked_in, asked_run, commits_amiss};
+ghost use Rattle.segment_invocation.specs.Invocations.{dumped_of, is_set};
 ghost use Rattle.segment_invocation.specs.Invocations.{json_capacities, list_of, mode_in, no_number};
 ghost use Rattle.segment_invocation.specs.Invocations.{of_version, options_by, options_of, origin_by, origin_of};
 ghost use Rattle.segment_invocation.specs.Invocations.{request_by, requested_in, saving_of, seconds_of, size_of};
@@ -105,6 +106,7 @@ fn is_set(words: &ArgMatches<'_>, id: &str) -> bool
 /// Returns how the file of a command is taken and saved.
 fn keeping_in(words: &ArgMatches<'_>) -> Result<FileOptions, UsageError>
     ensures save { IfOk result (λ k. k.saving ≡ saving_of (first_of (codes "replace") (rows_of (found_of words.now)))) }
+    ensures commit { IfOk result (λ k. k.commit ≡ is_set (first_of (codes "commit") (rows_of (found_of words.now)))) }
     ensures read { MatchResult result (λ k. seconds_of (first_of (codes "wait") (rows_of (found_of words.now)))
         ≡ Some k.wait)
         (λ e. seconds_of (first_of (codes "wait") (rows_of (found_of words.now))) ≡ None) }
@@ -116,7 +118,28 @@ fn keeping_in(words: &ArgMatches<'_>) -> Result<FileOptions, UsageError>
     } else {
         SaveMode::InPlace
     };
-    Ok(FileOptions { saving, wait })
+    let commit = is_set(words, "commit");
+    Ok(FileOptions {
+        saving,
+        commit,
+        wait,
+    })
+}
+
+/// Tells whether a run is to commit that saves otherwise, or not at all.
+fn commits_amiss(words: &ArgMatches<'_>) -> bool
+    ensures { result ≡ commits_amiss (rows_of (found_of words.now)) }
+{
+    if !is_set(words, "commit") {
+        return false;
+    }
+    if is_set(words, "replace") || is_set(words, "read-only") {
+        return true;
+    }
+    match argument_of(words, "mode") {
+        Some(mode) => mode != "open_only" && mode != "open_or_create",
+        None => false,
+    }
 }
 
 /// Returns where the script of a run comes from, that has these lines on the command line.
@@ -245,6 +268,9 @@ fn options_in<'a>(
     let explain = is_set(words, "explain");
     if explain && files.len() > 1 {
         return Err(UsageError::Files);
+    }
+    if commits_amiss(words) {
+        return Err(UsageError::Commit);
     }
     Ok(Options {
         script,

@@ -198,6 +198,11 @@ const REPLACE: CommandArgument = CommandArgument::Flag(
     "The image goes to a new file beside FILE, which then takes its place: one of the two is whole at each moment",
 );
 
+const COMMIT: CommandArgument = CommandArgument::Flag(
+    "commit",
+    "Writes what changed to the log beside FILE, FILE-log; FILE gets it once the log is long, or by a command without this",
+);
+
 const WAIT: CommandArgument = CommandArgument::Option(
     "wait",
     "SECONDS",
@@ -298,8 +303,8 @@ static COMMANDS: [Row; 14] = [
         RUN,
         Some(HelpEnd::Modes),
         &[
-            FILE, SCRIPT, MODE, RUN_SIZE, LINE, READ_ONLY, REPLACE, STRICT, FAIL, NUMBERED, WAIT,
-            VERBOSE,
+            FILE, SCRIPT, MODE, RUN_SIZE, LINE, READ_ONLY, REPLACE, COMMIT, STRICT, FAIL, NUMBERED,
+            WAIT, VERBOSE,
         ],
     ),
     (

@@ -141,6 +141,8 @@ pub struct AnswerOptions {
 pub struct FileOptions {
     /// How a file that is there is saved: `--replace` says by a new one, which takes the place of the old.
     pub saving: SaveMode,
+    /// `--commit`: what a run changed of a file that is there goes to the log beside it. Such a run does not replace.
+    pub commit: bool,
     /// `--wait`: for how many seconds the right to write the file is waited for, if another has it.
     pub wait: u64,
 }
@@ -233,6 +235,7 @@ impl<'a> Options<'a> {
             files: Vec::new(alloc),
             keeping: FileOptions {
                 saving: SaveMode::InPlace,
+                commit: false,
                 wait: 0,
             },
             answering: AnswerOptions {

@@ -46,6 +46,9 @@ pub enum UsageError {
     /// A dump is to be JSON, and to tell capacities, which JSON has no place for.
     #[error("error: --json tells no capacities; leave --capacities out\n")]
     Capacities,
+    /// A run is to commit that saves otherwise, or not at all.
+    #[error("error: --commit takes --mode open_only or open_or_create, and neither --replace nor -r\n")]
+    Commit,
 }
 
 /// Why a command line asks for nothing that the program does.

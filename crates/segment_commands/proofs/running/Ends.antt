@@ -28,7 +28,8 @@ use Rattle.segment_disk.specs.Events.{CreateMode, New, Truncate, Replacement, Ev
 use Rattle.segment_file.specs.Files.{WriteOutcome, IsMade, IsUnwritten, HasImage}
 use Rattle.segment_file.specs.Files.{WritesImage, write_events, whole_outcome, all_of}
 use Rattle.segment_commands.specs.Running.{Act, AnswersScript, IsAnsweredAct, IsAnsweredTo, IsRefusedAct}
-use Rattle.segment_commands.specs.Running.{IsUnrefusedAct, LeavesUnsaved, LosesAnswers, StopsWithFault, EndsRun, Ran}
+use Rattle.segment_commands.specs.Running.{EndsRun, EndsRunLost, EndsRunStopped, IsUnrefusedAct, LeavesUnsaved}
+use Rattle.segment_commands.specs.Running.{LosesAnswers, StopsWithFault, Ran}
 use Rattle.segment_commands.specs.Running.{RunsScript, as_saved, saving}
 
 -- lines leave the mode as it is
@@ -138,7 +139,8 @@ module _ {D : Type 0} (step : D → Event → D
         (IsMachineAt s')
     ran = whole_run (record { mode = mode; directory = h.answers.from; zeros = false }) (at_first _ refl)
 
-    unrefused : IsUnrefusedAct act
+    -- the run was to end after none of its lines
+    pub unrefused : IsUnrefusedAct act
     unrefused = record {
       from = h.answers.from;
       begins = h.answers.begins;
@@ -185,9 +187,10 @@ module _ {D : Type 0} (step : D → Event → D
   answered_to Refused ok answered = refused_act ok answered
 
   -- a run that stopped with a fault ends with it
-  pub stopped : (old : D) (fault : SessionFault) → StopsWithFault until s s' script out Flushed fault
-      ⊎ LosesAnswers until s s' script out Flushed fault → EndsRun step old old how path act Flushed (Err fault)
-  stopped old fault (inl p) = inl (record {
+  pub halted : (old : D) (fault : SessionFault) → StopsWithFault until s s' script out Flushed fault
+      ⊎ LosesAnswers until s s' script out Flushed fault
+      → EndsRunStopped step old old how path act Flushed fault ⊎ EndsRunLost step old old how path act Flushed fault
+  halted old fault (inl p) = inl (record {
     asked = refl;
     ran = rw p.unserved.why (stopped_session start mode 0 capacity (record {
       image = image;
@@ -198,13 +201,17 @@ module _ {D : Type 0} (step : D → Event → D
     ok = p.ok;
     flushed = p.flushed;
   })
-  stopped old fault (inr p) = inr (inl (record {
+  halted old fault (inr p) = inr (record {
     why = p.why;
     asked = refl;
     end = p.end;
     answered = answered_to p.end false p.answered;
     flushed = p.answered.flushed;
-  }))
+  })
+
+  stopped : (old : D) (fault : SessionFault) → StopsWithFault until s s' script out Flushed fault
+      ⊎ LosesAnswers until s s' script out Flushed fault → EndsRun step old old how path act Flushed (Err fault)
+  stopped old fault why = elim (halted old fault why) [ inl h ↦ inl h | inr h ↦ inr (inl h) ]
 
   -- it ended at a refusal
   pub refusing_run : (old : D) → AnswersScript until s s' script out Flushed Refused true
@@ -234,7 +241,8 @@ module _ {D : Type 0} (step : D → Event → D
       is_left : s'.mode ≡ Write
       is_left = last_mode true answered ∙ writing
 
-      done : ((d : Directory) → DenotesCurrent s'.cut.bytes d → IsSaved s'.cut.bytes d)
+      -- a session that saved its last image ran so
+      pub done : ((d : Directory) → DenotesCurrent s'.cut.bytes d → IsSaved s'.cut.bytes d)
           → Ran act (all_of s'.cut.bytes) (Ok tt)
       done good = done_session start mode 0 capacity (record {
         image = image;

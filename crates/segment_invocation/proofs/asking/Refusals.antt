@@ -27,7 +27,7 @@ use Rattle.segment_invocation.specs.declared.usage.UsageError.{UsageError}
 use Rattle.segment_invocation.specs.declared.usage.UsageError.TheVariants.{Arguments, Command as NoCommand, File}
 use Rattle.segment_invocation.specs.declared.usage.UsageError.TheVariants.{Number}
 use Rattle.segment_invocation.specs.declared.usage.UsageError.TheVariants.{Key, Mode, Modes, Size, Script, Files}
-use Rattle.segment_invocation.specs.declared.usage.UsageError.TheVariants.{Capacities}
+use Rattle.segment_invocation.specs.declared.usage.UsageError.TheVariants.{Capacities, Commit}
 use Rattle.segment_invocation.specs.declared.usage.InvocationFault.TheVariants.{OutOfMemory, Usage}
 use Rattle.segment_invocation.proofs.command_lines.AllUnderstood.{IsUnderstood, WantsVersion, free, simple as plain}
 
@@ -148,6 +148,7 @@ wrong_if words f n Script e = (f, n, e)
 wrong_if words f n Files e = (f, n, e)
 wrong_if words f n Key e = (f, n, e)
 wrong_if words f n Capacities e = (f, n, e)
+wrong_if words f n Commit e = (f, n, e)
 
 -- a command line without a fault has a subcommand
 pub read_wrong : (words : List Text) → fault_of command_line words ≡ [] → (found : Option (Text × List Row))

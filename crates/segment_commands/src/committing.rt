@@ -1,0 +1,127 @@
+//! The command that runs a script on the segment in a file, and commits what the script changed.
+ghost use Rattle.std.specs.Prelude.{◌≡◌, ◌-◌, ◌<◌, ◌^◌};
+ghost use Rattle.segment_disk.specs.Events.{IsFlushed};
+ghost use Rattle.segment_commands.specs.{Running.as_saved};
+ghost use Rattle.segment_commands.specs.Committing.{CommitsHeld, CommitsInMode, CommitsOnFile, CommitsOpened};
+
+use crate::answering::run_script;
+use crate::command_faults::CommandFault;
+use crate::opening::open_segment;
+use crate::running::{RunRequest, answered, can_be_read, is_whole, run_made};
+use image_check::AcceptedVersions;
+use raw_region::Source;
+use segment_answers::LineOutput;
+use segment_cli::SessionFault;
+use segment_disk::{Disk, Presence};
+use segment_file::{CommitFault, commit_segment};
+use segment_invocation::ModeName;
+use segment_manager::Mode;
+use segment_scripts::End;
+use std::alloc::Global;
+
+/// Returns the result of a run whose script ended, by the result of its commit.
+fn committed(answer: Result<(), CommitFault>) -> Result<End, SessionFault>
+    ensures { result ≡ as_saved answer }
+{
+    match answer {
+        Ok(()) => Ok(End::Complete),
+        Err(_) => Err(SessionFault::WriteFault),
+    }
+}
+
+/// Runs a script on the segment in a file, gives out its answers, and commits it, unless the run ended at a refusal.
+fn commit_opened<D: Disk, S: Source, O: LineOutput>(
+    alloc: Global,
+    disk: &mut D,
+    request: &RunRequest<'_>,
+    hold: &mut D::Hold,
+    script: &mut S,
+    out: &mut O,
+) -> Result<End, SessionFault>
+    requires script { (S.history script.old).failures < 2 ^ 64 - 1 }
+    requires out { (O.history out.old).failures < 2 ^ 64 - 1 }
+    ensures { CommitsOpened D.step D.log_step disk.old disk.new request.now (S.history script.old)
+        (S.history script.new) O.history (IsFlushed O.history O.flushes out.new) out.old out.new result }
+{
+    let path = request.path;
+    let mut segment = open_segment(alloc, disk, path, AcceptedVersions::Current, Mode::Write, 0)?;
+    let ended = run_script(&mut segment, request.until, script, out);
+    if is_whole(ended) {
+        committed(commit_segment(alloc, disk, path, hold, &segment))
+    } else {
+        ended
+    }
+}
+
+/// Runs a script on the segment in a file, and commits it, under the lock of the file.
+fn commit_held<D: Disk, S: Source, O: LineOutput>(
+    alloc: Global,
+    disk: &mut D,
+    request: &RunRequest<'_>,
+    script: &mut S,
+    out: &mut O,
+) -> Result<(), CommandFault>
+    requires script { (S.history script.old).failures < 2 ^ 64 - 1 }
+    requires out { (O.history out.old).failures < 2 ^ 64 - 1 }
+    ensures { CommitsHeld D.step D.log_step disk.old disk.new request.now (S.history script.old) (S.history script.new)
+        O.history (IsFlushed O.history O.flushes out.new) out.old out.new result }
+{
+    let mut hold = disk.lock(request.path)?;
+    let answer = commit_opened(alloc, disk, request, &mut hold, script, out);
+    disk.unlock(hold);
+    answered(answer)
+}
+
+/// Runs a script that can be read on the segment in a file that is there, and commits it.
+fn commit_on_file<D: Disk, S: Source, O: LineOutput>(
+    alloc: Global,
+    disk: &mut D,
+    request: &RunRequest<'_>,
+    script: &mut S,
+    out: &mut O,
+) -> Result<(), CommandFault>
+    requires script { (S.history script.old).failures < 2 ^ 64 - 1 }
+    requires out { (O.history out.old).failures < 2 ^ 64 - 1 }
+    ensures { CommitsOnFile D.step D.log_step disk.old disk.new request.now (S.history script.old)
+        (S.history script.new) O.history (IsFlushed O.history O.flushes out.new) out.old out.new result }
+{
+    if !can_be_read(script) {
+        return Err(CommandFault::Session(SessionFault::ReadFault));
+    }
+    commit_held(alloc, disk, request, script, out)
+}
+
+/// Runs a script on the segment in a file, and gives out its answers. When all answers went out, what the script
+/// changed is committed to the log beside the file: at Ok it lasts, and a crash at any moment leaves the old image or
+/// the new one. A log that has become long is put into the file. With `open_or_create` and no file, the segment is made
+/// and saved as by [`run`](crate::run). The script is run to its end, or until a line is refused.
+///
+/// # Errors
+///
+/// `Usage` for a mode other than `open_only` and `open_or_create`, and for `open_or_create` without a size. Otherwise
+/// those of [`run`](crate::run). After `WriteFault` the file and its log stand for the old image, or for the new one if
+/// the log could not be written through.
+pub fn run_and_commit<D: Disk, S: Source, O: LineOutput>(
+    alloc: Global,
+    disk: &mut D,
+    request: &RunRequest<'_>,
+    script: &mut S,
+    out: &mut O,
+) -> Result<(), CommandFault>
+    requires script { (S.history script.old).failures < 2 ^ 64 - 1 }
+    requires out { (O.history out.old).failures < 2 ^ 64 - 1 }
+    ensures { CommitsInMode D.step D.log_step disk.old disk.new request.now (S.history script.old)
+        (S.history script.new) O.history (IsFlushed O.history O.flushes out.new) out.old out.new result
+        request.now.mode request.now.size }
+{
+    match (request.mode, request.size) {
+        (ModeName::OpenOnly, _) => commit_on_file(alloc, disk, request, script, out),
+        (ModeName::OpenOrCreate, Some(size)) => {
+            if disk.path_status(request.path) == Presence::Absent {
+                return answered(run_made(alloc, disk, request, size, script, out));
+            }
+            commit_on_file(alloc, disk, request, script, out)
+        }
+        _ => Err(CommandFault::Usage),
+    }
+}

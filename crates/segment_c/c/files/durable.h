@@ -442,8 +442,8 @@ static void map_committed(struct zx_held_file *held) {
     free_pages(commits, 0, pages_of(held->len));
 }
 
-/* Replaces the file by a new one that has the committed image, and empties the log. If the name of the new file can't be
-   synced, the log keeps its records. */
+/* Replaces the file by a new one that has the committed image, and empties the log. If the name of the new file can't
+   be synced, the log keeps its records. */
 static zx_code checkpoint(zx_file *file, struct zx_held_file *held) {
     struct commits *commits = held->commits;
     struct image image = { held->at, commits->len };

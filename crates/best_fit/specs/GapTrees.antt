@@ -13,7 +13,7 @@ use Rattle.best_fit.specs.Extents.{Gap}
 use Rattle.best_fit.specs.FreeTree.{IsTreeOf, payloads, sorted_gaps}
 use Rattle.best_fit.specs.GapNodes.{comes_before, gaps_in, gaps_of, is_good, is_kept, len_in, plain, tiles_in}
 
--- the name of a gap as a node
+-- a gap as a node of the free tree: the offset of its payload
 abbrev pub node_of : Gap → ℕ
 node_of g = g.offset + 16
 
@@ -21,7 +21,7 @@ node_of g = g.offset + 16
 abbrev pub is_long : ℕ → Gap → Bool
 is_long wanted g = nat_le wanted g.len
 
--- the first list gives each gap of the second its length
+-- `len_in` of the first list returns the length of each gap of the second
 abbrev pub HaveGapLengths : List Gap → List Gap → Type 0
 HaveGapLengths gs hs = AllByRecursion (λ (h : Gap). len_in gs (h.offset + 16) ≡ h.len) hs
 
@@ -47,7 +47,7 @@ pub record HasGapTree (c : WindowState) (hs : List Gap) : Type 0 where
 abbrev pub root_of_gaps : WindowState → Option ℕ
 root_of_gaps c = link_at (bytes_of c.bytes) 24
 
--- a point at which the removal of a node can begin: the root, or its exit
+-- the removal of the node can begin at `exit`, or at the root if `exit` is none
 pub record CanBeginRemoval (c : WindowState) (node : ℕ) (exit : Option ℕ) : Type 0 where
   pub begins : (hs : List Gap) (h : HasGapTree c hs)
       → IfSome exit (λ n. remove_point_of (comes_before (gaps_in c)) node h.tree.tree ≡ Some n)
@@ -83,7 +83,7 @@ abbrev pub tile_list : Option Tile → List Tile
 tile_list None = []
 tile_list (Some t) = t ∷ []
 
--- the offset of the free tile before, if there is one, otherwise this offset
+-- the offset of the previous tile if it is free, and otherwise `at`
 abbrev pub start_of : Option Tile → ℕ → ℕ
 start_of None at = at
 start_of (Some t) at = if is_free t then t.offset else at

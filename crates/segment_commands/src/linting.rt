@@ -9,13 +9,13 @@ use segment_answers::LineOutput;
 use segment_cli::SessionFault;
 use segment_scripts::{CommandRow, Lint, RunFault, run_followed};
 
-/// Tells which lines of a script are no commands, where, and what is expected there; the rows say what is expected
-/// after each command word. Nothing is executed.
+/// Reports each line of a script that is no command: its number, the column of the error, and what is expected there.
+/// `rows` has the expected form after each command word. Nothing is executed.
 ///
 /// # Errors
 ///
-/// `Misspelled` if a line is no command, `ReadFault` and `ScriptTooLong` of the script, and `WriteFault` if the output
-/// fails.
+/// `Misspelled` if a line is no command, `ReadFault` if the script cannot be read, `ScriptTooLong` if it is too long,
+/// and `WriteFault` if the output fails.
 pub fn lint<S: Source, O: LineOutput>(
     rows: &[CommandRow],
     script: &mut S,
@@ -32,7 +32,7 @@ pub fn lint<S: Source, O: LineOutput>(
     lint_answer(answered, went_out, machine.has_found())
 }
 
-/// Returns what a lint answers: a fault of its run, a failed output, or whether a line is no command.
+/// Returns the result of the lint: the fault of its run, else a failed output, else `Misspelled` if a line is wrong.
 fn lint_answer(
     answered: Result<(), RunFault>,
     went_out: bool,

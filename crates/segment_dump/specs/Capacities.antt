@@ -1,4 +1,4 @@
--- The capacities of a segment: which there are, and how they are told after its dump, each in a note.
+-- The capacities of a segment, and the notes after its dump that state them.
 use Rattle.std.specs.Prelude.{ℕ, List, [], ◌∷◌, ◌++◌, Option, Some, None, Result, Ok, Err, codes, map, option_to_list}
 use Rattle.std.specs.List.{flat_map}
 use Rattle.seg_types.specs.{declared.kinds.Class.Class, declared.kinds.Kind.Kind, Names.Key}
@@ -8,7 +8,7 @@ use Rattle.segment_manager.specs.Directory.{Value, Numbers, Elements, Bytes, Pai
 use Rattle.segment_manager.specs.{Directory.named_objects, Directory.object_at, Directory.unique_objects, Parts.part_of}
 use Rattle.segment_dump.specs.{Building.class_tokens, Items.anonymous_objects}
 
--- ---- which there are
+-- ---- the capacities
 
 -- the holder of a capacity: the index of names, the index of kinds, or an object, by its class, its name and its kind
 pub data CapacityHolder : Type 0 where
@@ -43,9 +43,9 @@ capacities d =
     ∷ (flat_map object_capacities (named_objects d)
     ++ (flat_map object_capacities (unique_objects d) ++ flat_map object_capacities (anonymous_objects d)))
 
--- ---- how they are told
+-- ---- the notes
 
--- an object as its line in the dump begins
+-- the text of a holder: `names`, `kinds`, or the start of the object's line in the dump
 abbrev pub holder_text : CapacityHolder → List ℕ
 holder_text Names = codes "names"
 holder_text Kinds = codes "kinds"
@@ -62,7 +62,7 @@ capacity_note c = capacity_tokens c ++ 0x0A ∷ []
 abbrev pub capacities_text : List Capacity → List ℕ
 capacities_text = flat_map capacity_note
 
--- ---- parts of it
+-- ---- parts of the notes
 
 -- the note of an object, if it has a capacity
 abbrev pub object_notes : Object → List ℕ
@@ -72,16 +72,16 @@ object_notes o = capacities_text (object_capacities o)
 abbrev pub notes_at : Directory → Key → List ℕ
 notes_at d key = part_of object_notes (object_at d key)
 
--- the places of the object of a key, if it has a capacity
+-- the capacity of an object, if there is an object and it has one
 abbrev pub slots_in : Option Object → Option ℕ
 slots_in None = None
 slots_in (Some o) = slots_of o.value
 
--- the places of a key's object
+-- the capacity of a key's object
 abbrev pub slots_at : Directory → Key → Option ℕ
 slots_at d key = slots_in (object_at d key)
 
--- the capacity in an object's measures
+-- the capacity in a result of `sizes_at`: a length and a capacity, or a refusal
 abbrev pub measured_slots : Result (ℕ × ℕ) Refusal → Option ℕ
 measured_slots (Ok (len, slots)) = Some slots
 measured_slots (Err r) = None

@@ -26,9 +26,9 @@ use segment_manager::{AnonymousInstance, ConstructKey, Segment, UniqueInstance};
 pub enum BuildError {
     /// The text is no dump.
     Syntax(SyntaxError),
-    /// From this offset on, objects need more space than was counted for them.
+    /// The segment is too small for the lines from this offset on.
     NoSpace(usize),
-    /// The text at this offset is longer than was counted for it.
+    /// The piece of a text at this offset does not fit into the caller's buffer.
     LongText(usize),
 }
 
@@ -159,7 +159,7 @@ fn start_named(
     }
 }
 
-/// Returns the name that a word stands for, or `None` if it stands for none.
+/// Returns the token's text as a name, or `None` if it is no valid name.
 fn name_of<'a>(token: Token<'a>, scratch: &'a mut LineBuffer) -> Option<Name<'a>>
     ensures { option_map name_seen result
         ≡ (if is_name current (bytes_said token.entry) then Some (bytes_said token.entry) else None) }
@@ -183,7 +183,7 @@ fn start_under<D: ConstructKey>(
     ensures in_place { IfOk result (λ made. HasObjectAt segment.new made.0) }
 {
     let shape = next_shape(tokens)?;
-    // The contract of `as_bytes` says that these are a segment's bytes, which `construct` requires.
+    // The contract of `as_bytes` gives `IsSegment`, which `construct` requires.
     let _ = segment.as_bytes();
     match construct(segment, under, shape) {
         Ok(handle) => Ok((handle, shape)),
@@ -203,7 +203,7 @@ fn next_shape(tokens: &mut LineTokens<'_>) -> Result<ObjectLine, SyntaxError>
     Ok(ObjectLine { kind, count, at })
 }
 
-/// Returns why an object is not made, or not filled.
+/// Converts a refusal by the segment into the error at offset `at`.
 pub fn build_error_of(why: Refusal, at: usize) -> BuildError {
     match why {
         Refusal::NoSpace => BuildError::NoSpace(at),

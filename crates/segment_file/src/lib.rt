@@ -1,5 +1,5 @@
-//! Segments in files: a segment with its file, which no other may write meanwhile, and the reading and writing of
-//! images, over any disk.
+//! Segments in files, on any disk: `SegmentFile`, a segment whose file is locked, and calls that read, check, write and
+//! commit images.
 #![tactic(auto)]
 
 mod committing;

@@ -89,12 +89,12 @@ value_extents (Texts ps t) = table_extents t ++ flat_map (λ (p : OwnedText). op
 abbrev pub extents_of : Object → List Extent
 extents_of o = o.extent ∷ value_extents o.value
 
--- the extents by their offsets
+-- the extents, sorted by offset
 abbrev pub sorted : List Extent → List Extent
 sorted [] = []
 sorted (x ∷ xs) = insert x (sorted xs)
 
--- the blocks of a directory, objects and indexes, by offset
+-- the blocks of a directory's objects and indexes, by offset
 unfoldable pub live : Directory → LiveSet
 live d = record {
   size = d.size;
@@ -116,7 +116,7 @@ has_key (ByKind k) o = is_class Unique o && same_kind k (kind_of o.value)
 has_key (ByHandle h) o = h == handle o.extent
 has_key NoKey o = false
 
--- the object of a key, of which there is at most one
+-- the first object with the key; a legal directory has at most one
 abbrev pub object_at : Directory → Key → Option Object
 object_at d key = find (has_key key) d.objects
 
@@ -183,8 +183,8 @@ has_own_block p =
 abbrev pub is_owned_text : OwnedText → Bool
 is_owned_text p = has_own_block p && list_all (λ b. nat_lt b 256) p.bytes
 
--- whether the numbers have their kind, the length of a vector or text is at most its capacity, and each block has room
--- for its contents
+-- whether each scalar is a value of its kind, an array has 1 to 1048576 scalars, map keys rise, no length exceeds its
+-- capacity, and each block has room for its contents
 abbrev pub is_good_value : Value → Bool
 is_good_value (Numbers k zs) = nat_le 1 (length zs) && nat_le (length zs) 1048576 && list_all (is_value k) zs
 is_good_value (Elements k zs t) = is_vector (size_of k) (is_value k) zs t
@@ -212,7 +212,7 @@ rises_from n (o ∷ os) = nat_le n o.extent.offset && rises_from (o.extent.offse
 
 -- all objects are legal, no two overlap, names and unique kinds differ, and no index exceeds its capacity
 pub record IsDirectory (format : ℕ) (d : Directory) : Type 0 where
-  -- no two extents meet, and all gaps can be free blocks
+  -- the size is legal, no two extents overlap, and each gap is long enough for a free block
   pub proper : IsTrue (is_proper (live d))
   pub objects : IsTrue (list_all (is_object format) d.objects)
   pub by_offset : IsTrue (rises_from 0 d.objects)

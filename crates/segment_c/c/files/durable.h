@@ -1,10 +1,10 @@
-/* A part of files.c: files that are committed. Their changes are private until a commit adds a record to the log. */
+/* A part of files.c: durable files. Changes are private to the process until a commit adds a record to the log. */
 
 static bool is_durable(const struct zx_held_file *held) { return held && held->commits; }
 
 /* ---- a private mapping, which may become longer than its file */
 
-/* Maps `len` bytes that begin as the file, and reserves addresses for `room`. */
+/* Maps `len` bytes privately, the file's bytes and then zeros, and reserves `room` bytes of addresses. */
 static bool map_private(struct zx_held_file *held, uint64_t file_len, uint64_t len, uint64_t room) {
     int flags = MAP_PRIVATE | MAP_ANONYMOUS | MAP_NORESERVE, protection = PROT_READ | PROT_WRITE;
     uint64_t end = pages_of(len) * PAGE, from_file = file_len < len ? file_len : len;
@@ -23,7 +23,7 @@ static bool map_private(struct zx_held_file *held, uint64_t file_len, uint64_t l
     return is_mapped;
 }
 
-/* Makes the part of the mapping that may be used as long as is wanted. */
+/* Lengthens the usable part of the mapping to `wanted` bytes, and attaches the segment again. */
 static zx_code lengthen(zx_file *file, struct zx_held_file *held, uint64_t size, uint64_t wanted) {
     zx_memory memory;
     uint64_t from = pages_of(held->len) * PAGE, end = pages_of(wanted) * PAGE;
@@ -39,7 +39,7 @@ static zx_code lengthen(zx_file *file, struct zx_held_file *held, uint64_t size,
 
 /* ---- commits */
 
-/* What a call returns that needs a name to be on the disk before it goes on. */
+/* Converts ZX_FILE_UNSYNCED to ZX_FILE_FAULT, for calls that cannot go on before the name is on the disk. */
 static zx_code synced(zx_code code) { return code == ZX_FILE_UNSYNCED ? (zx_code)ZX_FILE_FAULT : code; }
 
 static void free_pages(struct commits *commits, uint64_t first, uint64_t behind) {
@@ -49,19 +49,19 @@ static void free_pages(struct commits *commits, uint64_t first, uint64_t behind)
     }
 }
 
-/* Keeps the bytes of a page as committed. The room for them is there. */
+/* Stores the bytes of a page as committed, in commits->kept[page], which is allocated. */
 static void keep_page(struct commits *commits, const uint8_t *image, uint64_t size, uint64_t page) {
     size_t len = page_len(size, page);
     memcpy(commits->kept[page], image + page * PAGE, len);
     memset(commits->kept[page] + len, 0, PAGE - len);
 }
 
-/* The share that a page of a length has in a fingerprint. */
+/* Returns the share of a page in the fingerprint. `len` is the number of its bytes in the image. */
 static uint64_t share_of(uint64_t page, const uint8_t *bytes, size_t len) {
     return len > 0 ? zx_log_page_mark(page, bytes, len) : 0;
 }
 
-/* A note on a page that is its process' own, and has the bytes that its file has. */
+/* Marks a page that may be the process' own, but has the same bytes in the file. */
 enum { ALIKE = 2 };
 
 /* What a commit writes. */
@@ -101,8 +101,8 @@ static size_t same_words(const uint8_t *old, const uint8_t *now, size_t at, size
     return at - from;
 }
 
-/* Finds the next bytes of a page that changed, from `behind` on. They end before as many bytes that did not change as
-   another edit costs. Returns false if there are none. */
+/* Finds the next changed run of a page, from `behind` on. A run ends where more than EDIT unchanged bytes follow, since
+   another edit costs EDIT bytes. Returns false if no run is left. */
 static bool next_run(const uint8_t *old, const uint8_t *now, size_t len, size_t *from, size_t *behind) {
     size_t at = *behind + same_words(old, now, *behind, len);
     if (at == len) return false;
@@ -134,8 +134,8 @@ static zx_code add_page(const struct zx_held_file *held, struct record *record, 
     return code;
 }
 
-/* Compares a page with what the last commit left of it, and keeps that if they differ or the image's end moved. A page
-   that is as its file has it is noted by ALIKE. */
+/* Adds a page to the record, and keeps its committed bytes, if the page differs from them or `has_moved`. Otherwise
+   marks the page: ALIKE if its committed bytes are those of the file, and else 0. */
 static zx_code compare_page(zx_file *file, const struct zx_held_file *held, struct record *record, uint64_t page,
                             bool has_moved) {
     struct commits *commits = held->commits;
@@ -156,7 +156,7 @@ static zx_code compare_page(zx_file *file, const struct zx_held_file *held, stru
     return ZX_DONE;
 }
 
-/* Gives back the pages that are as their file has them, so that they are not compared again. */
+/* Drops the process' own copies of the ALIKE pages, so that they are not compared again. */
 static bool forget_alike(const struct zx_held_file *held, const struct record *record) {
     for (uint64_t page = 0; page < record->pages;) {
         const uint8_t *first = memchr(record->changed + page, ALIKE, record->pages - page);
@@ -168,8 +168,8 @@ static bool forget_alike(const struct zx_held_file *held, const struct record *r
     return true;
 }
 
-/* Notes the pages that may have changed since the last commit: those that were written, or all that are own. Returns
-   whether the system told. */
+/* Notes the pages that may have changed since the last commit: the written pages, or all own pages if the system did
+   not report all writes. Returns false if it did not report the own pages either: then all pages are noted. */
 static bool find_since(struct zx_held_file *held, uint64_t pages, uint8_t *noted) {
     struct commits *commits = held->commits;
     commits->is_untold |= !find_written(held, pages, commits->written);
@@ -178,7 +178,7 @@ static bool find_since(struct zx_held_file *held, uint64_t pages, uint8_t *noted
     return true;
 }
 
-/* Forgets what was written up to a commit that is done. */
+/* Clears the notes of written pages, after a commit is done. */
 static void forget_written(struct commits *commits, uint64_t pages) {
     memset(commits->written, 0, pages);
     commits->is_untold = false;
@@ -193,7 +193,7 @@ static zx_code find_record(zx_file *file, struct zx_held_file *held, struct reco
     record->changed = malloc(record->pages);
     if (!record->changed) return ZX_NO_MEMORY;
     bool is_told = find_since(held, record->pages, record->changed);
-    // behind an end that moved each page has another share
+    // if the image's end moved, each page from the lower end on has another length, and so another share
     uint64_t before = held->commits->len, moved = record->pages;
     if (before != record->size) moved = (before < record->size ? before : record->size) / PAGE;
     memset(record->changed + moved, 1, record->pages - moved);
@@ -215,8 +215,8 @@ static bool cut_shares(const struct zx_held_file *held, struct record *record) {
     return true;
 }
 
-/* Completes what the record writes behind its gate: the length of the payload, which is spelled as the offset of an edit,
-   in front of it; zeros up to whole blocks of a disk, so that each gate has its own; and the next gate, shut. */
+/* Completes the record behind its gate: the length (written as the offset of an edit) and the front of the payload,
+   zeros up to whole disk blocks, so that each gate has a block of its own, and the next gate, shut. */
 static zx_code end_record(struct commits *commits, struct record *record) {
     uint64_t gate = (record->len + GATE - 1) / GATE * GATE;
     if (!make_buffer(commits, record, gate + GATE)) return ZX_NO_MEMORY;
@@ -228,7 +228,7 @@ static zx_code end_record(struct commits *commits, struct record *record) {
     return code == ZX_DONE ? zx_log_gate(false, bytes + gate, GATE) : code;
 }
 
-/* Computes the fingerprint of the file, by which its log is known. */
+/* Computes the fingerprint of the file, if it is not known yet. The log's tags name the file by it. */
 static zx_code mark_base(zx_file *file, struct zx_held_file *held) {
     struct commits *commits = held->commits;
     if (commits->is_marked) return ZX_DONE;
@@ -278,15 +278,15 @@ static uint64_t longest_log(const struct commits *commits) {
     return commits->len / 4 > LONG_LOG ? commits->len / 4 : LONG_LOG;
 }
 
-/* Allocates blocks up to `end` in a log, and for the records after it: a sync of bytes that have blocks writes only these
-   bytes. If the disk refuses them, a write allocates them. */
+/* Allocates the log's blocks up to `end` and for later records. If bytes have their blocks already, a sync writes only
+   these bytes. If the disk refuses the blocks, a write allocates them. */
 static void allot_log(struct zx_held_file *held, uint64_t end) {
     struct commits *commits = held->commits;
     uint64_t step = (longest_log(commits) / 8 / GATE + 1) * GATE, room = (end / step + 1) * step;
     if (end > commits->room && fallocate(held->log, 0, 0, (off_t)room) == 0) commits->room = room;
 }
 
-/* Adds the record to the log. Behind the first byte that is synced nobody knows whether a failed one counts. */
+/* Adds the record to the log. If a call fails after the record is written, the record may count or not. */
 static zx_code write_record(zx_file *file, struct zx_held_file *held, const struct record *record) {
     struct commits *commits = held->commits;
     allot_log(held, commits->end + GATE + record->len);
@@ -318,7 +318,7 @@ static bool remove_log(struct zx_held_file *held) {
     return true;
 }
 
-/* Removes the log, and syncs that: its bytes on the disk may be others than those that were read. */
+/* Removes the log and syncs the folder, since the log's bytes on the disk may differ from those that were read. */
 static zx_code end_name(zx_file *file, struct zx_held_file *held) {
     return remove_log(held) ? synced(sync_name(file, held)) : fault(file);
 }
@@ -338,8 +338,8 @@ static bool copy_log(struct zx_held_file *held, uint64_t end) {
     return is_done;
 }
 
-/* Puts a copy in the place of a log that another process left. A sync of that may have failed: then its bytes are read,
-   and are not on the disk. */
+/* Replaces a log that another process left by a synced copy. A sync of the old log may have failed: then its bytes can
+   be read, but are not on the disk. */
 static zx_code renew_log(zx_file *file, struct zx_held_file *held, uint64_t end) {
     char log[PATH_MAX + 8], spare[40];
     if (!name_log(held->name, log)) return fault(file);
@@ -359,7 +359,7 @@ static zx_code renew_log(zx_file *file, struct zx_held_file *held, uint64_t end)
     return is_done ? synced(sync_name(file, held)) : code;
 }
 
-/* Puts what was surely committed into the file, in the place of a log that nobody trusts. */
+/* Replaces the file by the last commit that is certain, and removes the log, whose last record may count or not. */
 static zx_code end_log(zx_file *file, struct zx_held_file *held) {
     struct commits *commits = held->commits;
     struct image image = room_for(pages_of(commits->len) * PAGE);
@@ -378,7 +378,7 @@ static zx_code end_log(zx_file *file, struct zx_held_file *held) {
     return ZX_DONE;
 }
 
-/* Makes a log that another process left this one's own. One without a record is removed. */
+/* Takes over a log that another process left: replaces it by a copy, or removes it if it has no record. */
 static zx_code take_log(zx_file *file, struct zx_held_file *held) {
     struct commits *commits = held->commits;
     if (!commits->is_left) return ZX_DONE;
@@ -387,8 +387,8 @@ static zx_code take_log(zx_file *file, struct zx_held_file *held) {
     return code;
 }
 
-/* Brings what the opening found to the disk. Another process may have removed a log, or replaced or written the file, and
-   not have synced that: then a commit that has nothing to write would be lost all the same. */
+/* Syncs the file and its folder as the opening found them. Another process may have written or replaced the file, or
+   removed a log, without a sync: then a commit that has nothing to write could be lost. */
 static zx_code sync_found(zx_file *file, struct zx_held_file *held) {
     if (held->commits->is_synced) return ZX_DONE;
     if (!sync_one(held->file)) return fault(file);
@@ -426,7 +426,7 @@ static zx_code commit_pages(zx_file *file, struct zx_held_file *held) {
 
 /* ---- checkpoints: the file becomes the image, and the log empty */
 
-/* Shuts the first gate of a log whose image is the file's. */
+/* Empties the log by shutting its first gate. The file has the log's image already. */
 static zx_code empty_log(zx_file *file, struct zx_held_file *held) {
     if (write_gate(held, false, 0) && sync_log(held->log)) return ZX_DONE;
     if (held->commits) held->commits->is_unsure = true;
@@ -442,8 +442,8 @@ static void map_committed(struct zx_held_file *held) {
     free_pages(commits, 0, pages_of(held->len));
 }
 
-/* Replaces the file by a new one that has the committed image, and empties the log. If the name of the new file can't be
-   synced, the log keeps its records. */
+/* Replaces the file by a new one that has the committed image, and empties the log. If the name of the new file can't
+   be synced, the log keeps its records. */
 static zx_code checkpoint(zx_file *file, struct zx_held_file *held) {
     struct commits *commits = held->commits;
     struct image image = { held->at, commits->len };
@@ -459,8 +459,8 @@ static zx_code checkpoint(zx_file *file, struct zx_held_file *held) {
     return ZX_DONE;
 }
 
-/* Makes a checkpoint where the log is long, or where comparisons in vain took as much time as a checkpoint does. The
-   commit is done, whatever becomes of it. */
+/* Makes a checkpoint if no transaction is open and the log is long, or if comparing unchanged pages took as long as a
+   checkpoint takes. The commit is done even if the checkpoint fails. */
 static void shorten_log(zx_file *file, struct zx_held_file *held) {
     const struct commits *commits = held->commits;
     bool is_due = commits->end > longest_log(commits) || commits->compared / IN_VAIN > pages_of(commits->len);

@@ -1,5 +1,5 @@
-/* beside_std [COUNT [SEED]]: COUNT random calls (100000) of each container of zaluxhoni.hpp beside the same of one of
-   std's: what they answer, what they throw and what they have is the same. */
+/* beside_std [COUNT [SEED]]: makes COUNT (default 100000) random calls on each container of zaluxhoni.hpp and on one of
+   std: results and contents must be equal, and calls with a bad index, an absent key or an overflow must throw. */
 #include "zaluxhoni.hpp"
 
 #include <algorithm>
@@ -29,7 +29,7 @@ void same(bool truth, const char *what) {
     if (!truth) differs(what);
 }
 
-/// Whether both are refused, or neither. `ours` throws what a zaluxhoni does, `allowed` says whether it may.
+/// Makes the call `ours`, which must throw exactly if `allowed` is false. Returns true if the call did not throw.
 template <class Call> bool done(bool allowed, Call ours) {
     try {
         ours();
@@ -72,7 +72,7 @@ template <class T> std::vector<T> some(u64 most) {
     return all;
 }
 
-/// The segment, opened anew from its image now and then.
+/// Checks and saves the segment, and opens it again from its image.
 void reopened(segment &of) {
     same(of.sanity(), "sanity");
     segment again = segment::open(of.save());
@@ -80,7 +80,7 @@ void reopened(segment &of) {
     of = std::move(again);
 }
 
-/// Calls that vectors of scalars, of own types and of strings have.
+/// Makes a random call that vectors of scalars, of structs and of strings have.
 template <class T, class View> void call_vector(const View &ours, std::vector<T> &theirs) {
     const u64 size = theirs.size(), index = below(size + 2), last = index + below(4);
     const bool inside = index < size;
@@ -166,7 +166,7 @@ template <class T, class View> void call_vector(const View &ours, std::vector<T>
         same(ours == theirs && std::equal(ours.begin(), ours.end(), theirs.begin(), theirs.end()), "all");
 }
 
-/// What an iterator of some time before leads to.
+/// Reads an element, and sometimes sets it, through an iterator that may be some calls old.
 template <class T, class I> void call_iterator(const I &ours, std::vector<T> &theirs) {
     const u64 index = below(theirs.size() + 2);
     const std::ptrdiff_t at = static_cast<std::ptrdiff_t>(index);

@@ -20,7 +20,7 @@ use Rattle.segment_dump.proofs.texts.Lines.{measure-no_end, measure-short, name-
 -- ---- one object
 
 module _ {E F : Type 0} (old mid : SegmentState) (tokens : List ℕ) where
-  -- an object that was not made: nothing is built
+  -- if the object was not made, no item has this line, and `BuildsObject` holds
   pub object-unstarted : (new : SegmentState) (text rest : List ℕ) (room : ℕ) (e : E) (result : Result (Unit {0}) F)
       → StartsNext old mid tokens (Err e) → BuildsObject old new tokens text rest room result
   object-unstarted new text rest room e result s =
@@ -73,7 +73,7 @@ module _ {E F : Type 0} (old mid : SegmentState) (tokens : List ℕ) where
         (r.0, r.1.stands, r.1.text_is);
   }
 
--- ---- its line
+-- ---- the line of an object
 
 name-no_end : (name t : List ℕ) → IsName name t → HasNoEnd t
 name-no_end name t (said.bare c cs e n w f) = subst HasNoEnd (sym f) (token-no_end name w)
@@ -168,7 +168,7 @@ pub record InBuild (old now : SegmentState) (text rest : List ℕ) (most room co
 pub build-start : (s : SegmentState) (text : List ℕ) (most room : ℕ) → InBuild s s text text most room 0
 build-start s text most room = record { at = λ site items a l m. ([], items, refl, a, l, omega arith) }
 
--- what the next line is
+-- the tokens of the last line
 abbrev end_tokens : List ℕ
 end_tokens = codes "end"
 
@@ -196,7 +196,7 @@ item-line rest after r i more n e h =
     h.reads (head_tokens i) (content_text i.content ++ (items_text more ++ end_text)) (head-no_end i)
     (head-short i n) (e ∙ item-behind i more)
 
--- a line is shorter than the text
+-- the text after an object's line is shorter than the text from that line on
 line-long : (rest : List ℕ) (i : DumpItem) (more : List DumpItem) → rest ≡ items_text (i ∷ more) ++ end_text
     → length (content_text i.content ++ (items_text more ++ end_text)) < length rest
 line-long rest i more e =
@@ -278,7 +278,7 @@ module _ (old now : SegmentState) (text rest : List ℕ) (most room counter : �
         ),
       )
 
-  -- no line is left: the build fails
+  -- no line could be read: the build fails
   pub build-no_line : {E F : Type 0} (new : SegmentState) (e : E) (after : List ℕ) (result : Result (Unit {0}) F)
       → ReadsLine rest after (Err e) → BuildsAllObjects old new text most room result
   build-no_line new e after result h =
@@ -330,7 +330,7 @@ module _ (old now : SegmentState) (text rest : List ℕ) (most room counter : �
         absurd (omega (arith, q.5, long, c));
   }
 
--- a build with as much room is the same
+-- `BuildsObject` for one length of the buffer holds for an equal length
 pub as-long : {E : Type 0} (old new : SegmentState) (tokens text rest : List ℕ) (room room' : ℕ)
     (result : Result (Unit {0}) E) → room ≡ room' → BuildsObject old new tokens text rest room result
     → BuildsObject old new tokens text rest room' result

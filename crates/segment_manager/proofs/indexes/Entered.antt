@@ -13,7 +13,7 @@ use Rattle.segment_manager.proofs.{directory.LiveSet.of_each, objects.RankedPair
 use Rattle.segment_manager.proofs.{directory.IndexedParts.ordered-with}
 use Rattle.seg_index.specs.declared.index.Index.TheVariants as index
 
--- ---- one of the two, and the other
+-- ---- one index, and the other
 
 -- the other index
 abbrev pub other : Index → Index
@@ -25,17 +25,17 @@ pub record HasOne (i : Index) (m : Memory) (d : Directory) : Type 0 where
   pub is : IsTrue (is_index (table_of i d) (objects_of i d) (order_of i))
   pub at : IsIndexAt m (index_at i) (table_of i d) (entries_of i d)
 
--- a property of one index and of the other is a property of both
+-- both indexes are legal and encoded if one index and the other are
 pub has_both : (i : Index) {m : Memory} {d : Directory} → HasOne i m d → HasOne (other i) m d → HasIndexes m d
 has_both index.Named a b = record { named = a.is; unique = b.is; named_at = a.at; unique_at = b.at }
 has_both index.Unique a b = record { named = b.is; unique = a.is; named_at = b.at; unique_at = a.at }
 
--- the key of an object by which it has an entry
+-- the key of an object in an index: its name or its kind
 abbrev pub key_in : Index → Object → Key
 key_in index.Named o = ByName o.name
 key_in index.Unique o = ByKind (kind_of o.value)
 
--- an object of the class of one is not of the other's
+-- the class of an index is equal to itself, and differs from the class of the other index
 of_class : (i : Index) → (class_code (class_of_index i) == class_code (class_of_index i)) ≡ true
 of_class index.Named = refl
 of_class index.Unique = refl
@@ -75,7 +75,7 @@ own-with : (i : Index) {m : Memory} (d : Directory) {t : BackingArray} (o : Obje
 own-with index.Named d o a b = record { is = a; at = b }
 own-with index.Unique d o a b = record { is = a; at = b }
 
--- the index with the new object, if the bytes encode the entries in a table with enough capacity
+-- the index is legal with the new object, if its table has the capacity and the bytes encode its entries
 pub entered-own : {i : Index} {m : Memory} (d : Directory) {t : BackingArray} (o : Object) → o.class ≡ class_of_index i
     → object_at d (key_in i o) ≡ None → IsTrue (is_index (table_of i d) (objects_of i d) (order_of i))
     → IsTrue (has_backing IndexRole 8 t) → length (entries_of i (with_object d o)) ≤ t.capacity
@@ -96,7 +96,7 @@ other-one : (i : Index) {m : Memory} (d : Directory) (t : BackingArray) (o : Obj
 other-one index.Named d t o a b = record { is = a; at = b }
 other-one index.Unique d t o a b = record { is = a; at = b }
 
--- the other index with the object
+-- the other index stays when the object is added
 pub entered-other : (i : Index) {m : Memory} {d : Directory} (t : BackingArray) (o : Object)
     → o.class ≡ class_of_index i → HasOne (other i) m d → HasOne (other i) m (with_object (with_table_of i d t) o)
 entered-other i {m} {d} t o c h =
@@ -111,7 +111,7 @@ pub record OfRest (i : Index) (P : Extent → Type 0) (d : Directory) : Type 0 w
   pub objects : AllByRecursion P (flat_map extents_of d.objects)
   pub other_table : AllByRecursion P (table_extents (table_of (other i) d))
 
--- a property of all blocks except the index's own holds for the others
+-- a property holds for the blocks outside the index if it holds for all blocks once the index has no table
 pub of_rest : (i : Index) (P : Extent → Type 0) {d : Directory}
     → AllByRecursion P (live (with_table_of i d no_backing)).extents → OfRest i P d
 of_rest index.Named P {d} h =
@@ -124,7 +124,7 @@ pub of_all : (i : Index) (P : Extent → Type 0) {d : Directory} → AllByRecurs
 of_all index.Named P {d} h = let e = of_each P h in record { objects = e.objects; other_table = e.unique }
 of_all index.Unique P {d} h = let e = of_each P h in record { objects = e.objects; other_table = e.named }
 
--- the three words of the other index
+-- the three words of the other index stay
 pub other-words : (i : Index) {m m' : Memory} → SameBytes m m' 32 (index_at i) → SameBytes m m' (index_at i + 24) 128
     → SameBytes m m' (index_at (other i)) (index_at (other i) + 24)
 other-words index.Named {m} {m'} before behind = SameBytes-part m m' 56 128 56 80 behind (omega arith) (omega arith)

@@ -26,7 +26,7 @@ pub(crate) const MAX_COUNT: u32 = MAX_ARRAY_LEN as u32;
 pub struct ObjectShape {
     /// Its kind.
     pub kind: Kind,
-    /// The number of its elements.
+    /// The number of its elements if it is an array, and 1 otherwise.
     pub count: u32,
     /// The length of its value in its own block, in bytes.
     pub len: u64,
@@ -49,7 +49,7 @@ pub trait ObjectInit {
     ///
     /// # Errors
     ///
-    /// `NoSpace` if no gap is long enough for its elements. It frees what it allocated.
+    /// `NoSpace` if no gap is long enough for the elements. Then `fill` frees the blocks that it allocated.
     fn fill(&self, heap: &mut Heap, place: Place) -> Result<(), Refusal>
         requires object { stands self.now }
         requires heap { IsHeap current heap.old.bytes }
@@ -178,7 +178,7 @@ impl ObjectInit for NewMap {
         container(Kind::Map(self.keys, self.values))
     }
 
-    // An empty map is a map of any types.
+    // The bytes of an empty map are the same for all types.
     #[inline(always)]
     fn fill(&self, heap: &mut Heap, place: Place) -> Result<(), Refusal> {
         SegMap::<u8, u8>::new(heap, place);

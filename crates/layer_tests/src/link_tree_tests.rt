@@ -1,4 +1,4 @@
-//! The calls on trees, on a keeper of nodes.
+//! Tests of the calls on trees, with a table of nodes.
 
 ghost use Rattle.std.specs.Prelude.{◌≡◌, ◌≢◌, ℕ, ◌+◌, ◌<◌, ◌≤◌, Bool, true, false, Option, Some, None, length, nat_lt};
 ghost use Rattle.std.specs.Prelude.{nat_eq, refl};
@@ -10,7 +10,7 @@ use crate::node_tables::{Numbered, empty_table};
 use link_tree::{NodesMut, check, find_first_not_before, insert, remove, walk};
 use std::process::Abort;
 
-/// Tells whether the node is in the tree, if the links are one.
+/// Returns true if the node is in the tree. Fails if the links are no tree.
 fn has<R: Abort, N: Numbered>(rt: &R, nodes: &N, root: Option<u64>, node: u64) -> bool
     requires { leads (N.is_node nodes.now) root ≡ true }
     ensures { (t : Tree) × IsSearchTree (N.order nodes.now) (N.cells nodes.now) root t
@@ -24,7 +24,7 @@ fn has<R: Abort, N: Numbered>(rt: &R, nodes: &N, root: Option<u64>, node: u64) -
     found.node == Some(node)
 }
 
-/// Puts a node in, if the links are a tree and the node is not in it yet.
+/// Inserts a node and returns the new root. Fails if the links are no tree or the node is in it already.
 fn insert_node<R: Abort, N: Numbered>(
     rt: &R,
     nodes: &mut N,
@@ -41,7 +41,7 @@ fn insert_node<R: Abort, N: Numbered>(
     insert(nodes, root, node).root
 }
 
-/// Takes a node out, if the links are a tree and the node is in it.
+/// Removes a node and returns the new root. Fails if the links are no tree or the node is not in it.
 fn take<R: Abort, N: Numbered>(rt: &R, nodes: &mut N, root: Option<u64>, node: u64) -> Option<u64>
     requires root { leads (N.is_node nodes.old) root ≡ true }
     ensures { leads (N.is_node nodes.new) result ≡ true }
@@ -52,7 +52,7 @@ fn take<R: Abort, N: Numbered>(rt: &R, nodes: &mut N, root: Option<u64>, node: u
     remove(nodes, root, node).root
 }
 
-/// Walks over the tree; whether the walk met the numbers below `count` in their order, and nothing else.
+/// Returns true if a walk meets the numbers below `count` in order and nothing else. Fails if the links are no tree.
 fn meets_all<R: Abort, N: Numbered>(rt: &R, nodes: &N, root: Option<u64>, count: u64) -> bool
     requires root { leads (N.is_node nodes.now) root ≡ true }
 {
@@ -69,7 +69,7 @@ fn meets_all<R: Abort, N: Numbered>(rt: &R, nodes: &N, root: Option<u64>, count:
     steps == count && next == count
 }
 
-/// Puts 64 nodes in, walks over them, and takes them out, each in its order.
+/// Inserts the nodes `i * step % 64` for `i` from 0 to 63, walks over them, and removes the nodes `i * back % 64`.
 fn fill_and_empty<R: Abort, N: Numbered>(rt: &R, nodes: &mut N, step: u64, back: u64)
     requires step { step < 64 }
     requires return_path { back < 64 }
@@ -93,7 +93,7 @@ fn orders(rt: HostRuntime) {
     }
 }
 
-/// Checks links that are no tree: the check answers none, and ends.
+/// Checks cycles and a shared node, which are no tree: `check` ends and rejects them.
 #[test]
 fn no_trees(rt: HostRuntime) {
     let mut cycle = empty_table();

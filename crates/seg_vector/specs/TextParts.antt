@@ -28,7 +28,7 @@ pub record FreesBlocks (old new : WindowState) (xs : List Extent) : Type 0 where
 abbrev pub AreLive : List ℕ → List Extent → Type 0
 AreLive b xs = AllByRecursion (λ (x : Extent). extent_at (live_of b) (handle x) ≡ Some x) xs
 
--- the 16 bytes at an offset in a block begin with a link to the block of a text, which is in use
+-- the 16 bytes at an offset in a block begin with a text's link: to its block, which is in use, or null if it has none
 pub record IsHeldElement (b : List ℕ) (array at : ℕ) (q : OwnedText) : Type 0 where
   pub heap : IsHeap current b
   pub aligned : at % 8 ≡ 0
@@ -36,7 +36,7 @@ pub record IsHeldElement (b : List ℕ) (array at : ℕ) (q : OwnedText) : Type 
   pub link : link_at (bytes_of b) (array + at) ≡ option_map handle q.extent
   pub live : AreLive b (option_to_list q.extent)
 
--- the elements of n texts in one block, and each text in a block of its own
+-- one block holds the elements of n texts; the blocks of these texts are in use, and all blocks are distinct
 pub record AreHeldElements (b : List ℕ) (array n : ℕ) (ps : List OwnedText) : Type 0 where
   pub heap : IsHeap current b
   pub room : IsTrue (has_room (live_of b) array (16 * n))
@@ -50,12 +50,12 @@ pub record AreHeldElements (b : List ℕ) (array n : ℕ) (ps : List OwnedText) 
 abbrev pub AreEvenLinks : Memory → ℕ → ℕ → Type 0
 AreEvenLinks m at n = (j : ℕ) → j < n → IfSome (link_at m (at + 16 * j)) (λ target. target % 16 ≡ 0)
 
--- the 16 bytes at an offset in a block are an element of an array: a link and a length
+-- the 16 bytes at an offset in a block can be an element of an array: a link and a length
 pub record HasElement (b : List ℕ) (array at : ℕ) : Type 0 where
   pub whole : at % 8 ≡ 0
   pub room : IsTrue (has_room (live_of b) array (at + 16))
 
--- the element at an offset of an array has room there, and its link can be written
+-- a block has room for an element at an offset, and the element's link is null or leads to a multiple of 16
 pub record HasElementRoom (b : List ℕ) (array at : ℕ) (text : Option ℕ) : Type 0 where
   pub heap : IsHeap current b
   pub whole : at % 8 ≡ 0
@@ -82,7 +82,7 @@ pub record CarriesElements (old new : WindowState) (a b n : ℕ) : Type 0 where
   pub change : ChangesBytes current old new b (16 * n)
   pub carried : SameElements (bytes_of old.bytes) (bytes_of new.bytes) a b n
 
--- one block has n elements, and another has room for them; or it is the same block, and they move down
+-- a block has n elements; a target in a block has room for them, and begins at or below them or after their end
 pub record CanCarryDown (b : List ℕ) (from from_at to to_at n : ℕ) : Type 0 where
   pub heap : IsHeap current b
   pub from_whole : from_at % 8 ≡ 0
@@ -99,7 +99,7 @@ pub record CanCarryUp (b : List ℕ) (array at n : ℕ) : Type 0 where
   pub room : IsTrue (has_room (live_of b) array (at + 16 * n + 16))
   pub even : AreEvenLinks (bytes_of b) (array + at) n
 
--- a block of storage is allocated
+-- a block of storage is allocated, or there is no space and nothing changes
 abbrev pub TakesStorage : WindowState → WindowState → ℕ → Result ℕ Refusal → Type 0
 TakesStorage old new n result = MatchResult result (AllocatesOk current old new n Storage)
     (LacksFit old new (place (live_of old.bytes) n Storage))
@@ -129,7 +129,7 @@ abbrev pub PlacesText : WindowState → WindowState → List ℕ → Result (Opt
 PlacesText old new bytes result = MatchResult result (PlacesTextOk old new bytes)
     (LacksFit old new (placed_text (live_of old.bytes) bytes))
 
--- ---- an array with more places
+-- ---- an array of larger capacity
 
 -- The old array is long enough, or is lengthened in place; or a new block is allocated while the old array is in use.
 pub data ReservesArray (old new : WindowState) (o : Option Extent) (n g : ℕ) : Type 0 where
@@ -171,8 +171,8 @@ pub record IsArrayReserved (now : WindowState) (p : Place) (g n : ℕ) : Type 0 
   pub since : SwapsBlocks mid now [] loose
   pub still : loose ≡ [] → now ≡ mid
 
--- The vector has the reserved array and capacity n. Its elements are the same, and the blocks allocated since stay. No
--- byte of a gap changed if the array is the old block, and no other block was allocated.
+-- The vector has the reserved array and capacity n. Its elements are the same, and the blocks allocated since stay. If
+-- the array is the old block and no other block was allocated, no byte of a gap changed.
 pub record AdoptsOk (first old new : WindowState) (p : Place) (ps : List OwnedText) (t : BackingArray) (g n : ℕ)
     (loose : List Extent) : Type 0 where
   pub array : Extent
@@ -193,8 +193,8 @@ Adopts old new p g n = (r : IsArrayReserved old p g n) → AdoptsOk r.first old 
 
 -- ---- one text more
 
--- Since the first call blocks were exchanged: the array y, with capacity m, and the block of a text that is not in the
--- vector yet were allocated.
+-- Since the state `first` the vector got the array y, with capacity m, and the text z got its block. The vector has its
+-- old texts: z is not inserted yet.
 pub record PreparesPut (first now : WindowState) (p : Place) (ps : List OwnedText) (t : BackingArray) (y : Extent)
     (m : ℕ) (z : OwnedText) : Type 0 where
   pub texts : IsTexts first.bytes p ps t
@@ -231,11 +231,11 @@ InsertsElement old new p i block len =
 
 -- ---- a reservation that is undone
 
--- the length of the array's payload, by its block
+-- the length of an array's payload: 0 without a block
 abbrev pub room_of : Option Extent → ℕ
 room_of o = elim o [ None ↦ 0 | Some x ↦ x.len - 16 ]
 
--- the number is the length of the payload of the array of a vector of strings
+-- the number is the payload length of the vector's array
 abbrev pub HasArrayRoom : List ℕ → Place → ℕ → Type 0
 HasArrayRoom b p room = (ps : List OwnedText) (t : BackingArray) → IsTexts b p ps t → room ≡ room_of t.extent
 
@@ -249,7 +249,7 @@ pub record IsToBeGivenUp (now : WindowState) (p : Place) (g room : ℕ) : Type 0
   pub asked : ReservesArray first now t.extent (16 * n) g
   pub was : room ≡ room_of t.extent
 
--- a reserved array is freed, and the vector is unchanged
+-- a reservation is undone: the blocks in use and their bytes are as before it
 abbrev pub GivesUp : WindowState → WindowState → Place → ℕ → ℕ → Type 0
 GivesUp old new p g room =
     (first : WindowState) (ps : List OwnedText) (t : BackingArray) (n : ℕ) → IsTexts first.bytes p ps t
@@ -284,7 +284,7 @@ abbrev pub InsertsWithin : WindowState → WindowState → Place → ℕ → Lis
 InsertsWithin old new p i bytes result = (ps : List OwnedText) (t : BackingArray)
     → IsTexts old.bytes p ps t → i ≤ length ps → length ps < t.capacity → PutsInto old new p ps t i bytes result
 
--- the length of a vector of texts is its capacity, and an array of n places is needed
+-- the length of a vector of texts is its capacity, and n is the capacity for one text more
 pub record IsFullVector (b : List ℕ) (p : Place) (i n : ℕ) : Type 0 where
   pub ps : List OwnedText
   pub t : BackingArray

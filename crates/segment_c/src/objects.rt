@@ -27,10 +27,10 @@ use seg_types::{IndexKey, Key, Kind, MAX_ARRAY_LEN, Refusal, ScalarKind, ScalarV
 use segment_manager::Segment;
 use std::alloc::Global;
 
-/// The most scalars of an object.
+/// The most scalars of an array.
 pub(crate) const MOST: u32 = MAX_ARRAY_LEN as u32;
 
-/// Returns the value of `count` scalars.
+/// Returns the value, or the code of its error or of a wrong `count`.
 fn scalars(value: &CScalar, count: u32) -> Result<ScalarValue, u32>
     ensures { MatchResult result (λ new. (scalar_in value.now ≡ Some (kind_of_scalar new, value_of_scalar new))
         × (1 ≤ count) × (count ≤ 1048576))
@@ -57,7 +57,7 @@ fn map_kinds(keys: u32, values: u32) -> Result<(ScalarKind, ScalarKind), u32>
     }
 }
 
-/// Returns the kind of objects that a code says.
+/// Returns the kind of objects with this code, or `BAD_KIND`.
 #[tactic(auto, unfolding(crate::specs::Passed::kind_wrong, crate::specs::Passed::object_kind_in))]
 fn object_kind(code: u32) -> Result<Kind, u32>
     ensures { MatchResult result (λ kind. (kind_wrong code ≡ 0) × (kind ≡ object_kind_in code)) (λ wrong.
@@ -66,7 +66,7 @@ fn object_kind(code: u32) -> Result<Kind, u32>
     Kind::from_code(code).ok_or(BAD_KIND)
 }
 
-/// Makes `count` times a value.
+/// Makes an object of `count` scalars, each with the value.
 #[unsafe(no_mangle)]
 pub extern "C" fn zx_construct(
     alloc: Global,
@@ -88,7 +88,7 @@ pub extern "C" fn zx_construct(
     made(answer, handle, h, segment)
 }
 
-/// Returns the scalars of a key, or `count` times a value if no object has it.
+/// Finds the scalars of the key. If no object has the key, makes an object of `count` scalars, each with the value.
 #[unsafe(no_mangle)]
 pub extern "C" fn zx_find_or_construct(
     alloc: Global,
@@ -131,7 +131,7 @@ pub extern "C" fn zx_construct_string(
     made(segment.construct_string(&which, text), handle, h, segment)
 }
 
-/// Returns the string of a key, or a new one of these bytes if no object has it.
+/// Finds the string of the key. If no object has the key, makes a string of these bytes.
 #[unsafe(no_mangle)]
 pub extern "C" fn zx_find_or_construct_string(
     alloc: Global,
@@ -169,7 +169,7 @@ pub extern "C" fn zx_construct_strings(
     made(segment.construct_texts(&which, texts), handle, h, segment)
 }
 
-/// Returns the vector of strings of a key, or a new one of these if no object has it.
+/// Finds the vector of strings of the key. If no object has the key, makes a vector of these strings.
 #[unsafe(no_mangle)]
 pub extern "C" fn zx_find_or_construct_strings(
     alloc: Global,
@@ -212,7 +212,7 @@ pub extern "C" fn zx_construct_map(
     made(answer, handle, h, segment)
 }
 
-/// Returns the map of a key, or a new one if no object has it.
+/// Finds the map of the key. If no object has the key, makes an empty map.
 #[unsafe(no_mangle)]
 pub extern "C" fn zx_find_or_construct_map(
     alloc: Global,
@@ -238,7 +238,7 @@ pub extern "C" fn zx_find_or_construct_map(
     found(answer, handle, count_found, h, segment)
 }
 
-/// Returns the object of a kind under a key.
+/// Finds the object of the key, which must have this kind.
 #[unsafe(no_mangle)]
 pub extern "C" fn zx_find(
     alloc: Global,
@@ -260,8 +260,8 @@ pub extern "C" fn zx_find(
     found_or_absent(answer, handle, count, h, segment)
 }
 
-/// Destroys the object of a name or a kind, and says whether there was one; or that of a handle, if there is one. If
-/// there is none, nothing changes.
+/// Destroys the object of the key, and reports whether it existed. If no object has the key, nothing changes; for a
+/// handle this is the error `NotFound`.
 #[unsafe(no_mangle)]
 pub extern "C" fn zx_destroy(
     alloc: Global,
@@ -279,7 +279,7 @@ pub extern "C" fn zx_destroy(
     truth(destroy(&mut segment, &which), was_there, h, segment)
 }
 
-/// Destroys the object of a key in a segment, and says whether there was one.
+/// Destroys the object of a key, and returns whether it existed; `NotFound` if no object has the handle.
 fn destroy(segment: &mut Segment, which: &Key) -> Result<bool, Refusal>
     requires { key_seen which.now ≢ NoKey }
     ensures step { TakesStep segment.old segment.new (destroy_command (key_seen which.now)) (truth_answer result) }

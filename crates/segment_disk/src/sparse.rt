@@ -1,4 +1,4 @@
-//! Files of the system that keep no place for long runs of zeros.
+//! Sparse files: long runs of zeros take no space on the disk.
 ghost use Rattle.std.specs.Prelude.{◌≡◌, ◌<◌, ◌≤◌, length, take, true, false};
 ghost use Rattle.raw_region.specs.Memory.{AreZero, bytes_of};
 
@@ -6,25 +6,25 @@ use std::fs::{self, File, OpenFile};
 use std::io::{self, ErrorKind, Seek, SeekFrom, Write};
 use std::rt::Files;
 
-/// The most bytes that are passed over or written together as one piece.
+/// The length of the longest piece, in bytes. A piece is skipped or written.
 const PIECE: usize = 65_536;
 
-/// Where the system tells what this program may take.
+/// The file in which the system lists the limits of this process.
 const LIMITS: &str = "/proc/self/limits";
 
-/// A file that is written from its first byte on. If it is a file of a disk that was empty, pieces of zeros are passed
-/// over: what was never written reads as zeros, and takes no place.
+/// A file that is written from its first byte on. If it was an empty file on a disk, pieces of zeros are skipped: such
+/// a hole reads as zeros and takes no space.
 #[derive(Drop)]
 pub struct SparseFile {
     file: File,
-    /// Whether pieces may be passed over.
+    /// Whether pieces of zeros are skipped.
     has_holes: bool,
     /// How many bytes it may still take.
     left: u64,
 }
 
 impl SparseFile {
-    /// Wraps a file that was just created or emptied. A file of a disk may have at most `longest` bytes.
+    /// Wraps a file that was just created or emptied. A file on a disk can get at most `longest` bytes.
     pub(crate) fn new(file: File, longest: u64) -> SparseFile {
         let has_holes = match file.metadata() {
             Ok(found) => found.is_file() && found.len() == 0,
@@ -38,7 +38,7 @@ impl SparseFile {
         }
     }
 
-    /// Ends the file after all that it took: what was passed over last is a part of it.
+    /// Sets the length of the file, so that zeros skipped at its end belong to it.
     pub(crate) fn end(&self) -> io::Result<()> {
         if !self.has_holes {
             return Ok(());
@@ -54,7 +54,7 @@ impl SparseFile {
     }
 }
 
-/// Returns the first piece of some bytes, or all of them.
+/// Returns the first `PIECE` bytes, or all bytes if there are fewer.
 fn first_piece(bytes: &[u8]) -> &[u8]
     ensures in_bounds { length result.now ≤ length bytes.now }
     ensures prefix { result.now ≡ take (length result.now) bytes.now }
@@ -96,8 +96,8 @@ impl Write for SparseFile {
     }
 }
 
-/// Returns how many bytes a file may have that this program writes, as far as the system tells. One that writes after
-/// them is ended by a signal.
+/// Returns the system's limit on the length of a file that this process writes, in bytes; the largest number if the
+/// process has no limit, or it is unknown. A write past the limit ends the process by a signal.
 pub(crate) fn longest_file<R: Files + AllocGlobal>(rt: &R) -> u64 {
     match fs::read_to_string(rt, LIMITS) {
         Ok(text) => soft_limit(text.as_str()).unwrap_or(u64::MAX),
@@ -105,7 +105,7 @@ pub(crate) fn longest_file<R: Files + AllocGlobal>(rt: &R) -> u64 {
     }
 }
 
-/// Returns the limit that stands in a text of limits, if it is a number.
+/// Returns the soft limit on the length of a file from the text of `LIMITS`, if it is a number.
 fn soft_limit(text: &str) -> Option<u64> {
     let (_, behind) = text.split_once("Max file size")?;
     let word = behind.split_whitespace().next()?;

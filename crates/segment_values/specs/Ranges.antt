@@ -1,4 +1,4 @@
--- Elements of an array or a vector of scalars that one call reads: this many, from an index on.
+-- Reading a range of the elements of an array or a vector of scalars.
 use Rattle.std.specs.Prelude.{◌≡◌, ◌≤◌, ℕ, ◌+◌, ◌*◌, ℤ, IsTrue, Result, Ok, Err, List}
 use Rattle.std.specs.Prelude.{length, map}
 use Rattle.std.specs.List.{list_all}
@@ -24,7 +24,7 @@ pub record AreSpelled (k : ScalarKind) (zs : List ℤ) (bytes : List ℕ) : Type
   pub values : IsTrue (list_all (is_value k) zs)
   pub spelled_are : bytes ≡ spelled k zs
 
--- an object of a kind has as many elements as a run, and its bytes from the run's offset on encode them
+-- the run lies in the image, has as many elements as the object, and its bytes encode the object's elements
 pub record HasSlice (s : SegmentState) (o : Located) (k : ScalarKind) (run : ElementRun) : Type 0 where
   pub inside : run.offset + size_of k * run.count ≤ length s.cut.bytes
   pub short : length s.cut.bytes ≤ 1073741824
@@ -32,7 +32,7 @@ pub record HasSlice (s : SegmentState) (o : Located) (k : ScalarKind) (run : Ele
   pub spells : (d : Directory) → DenotesCurrent s.cut.bytes d
       → AreSpelled k (slice_of o d) (part s.cut.bytes run.offset (size_of k * run.count))
 
--- the elements that a call read into a row, or its error
+-- the elements that a call read into a slice, or its error
 abbrev pub read_into : {A : Type 0} → (A → ℤ) → List A → Result (Unit {0}) Refusal → Result (List ℤ) Refusal
 read_into whole series (Ok u) = Ok (map whole series)
 read_into whole series (Err why) = Err why

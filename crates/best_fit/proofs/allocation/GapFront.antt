@@ -1,4 +1,4 @@
--- A gap, or the front of one, that is allocated.
+-- The allocation of a gap, or of its first bytes.
 use Rattle.best_fit.proofs.Common.{◌≡◌, refl, sym, ap, subst, ◌∙◌, ℕ, ◌+◌, ◌-◌, ◌/◌, ◌%◌, Bool, true, false, ◌||◌}
 use Rattle.best_fit.proofs.Common.{not, List, [], ◌∷◌, ◌++◌, length, arith, nat_le, ◌==◌, IsTrue, Some, None}
 use Rattle.best_fit.proofs.Common.{false≢true, WindowState, SameBytes, bytes_of, word_at, Role, Tile, current}
@@ -16,7 +16,7 @@ use Rattle.best_fit.proofs.tags.TileJoins.{cuts_to, extents_of-append, extents_o
 use Rattle.best_fit.proofs.tags.TagsAndLiveSet.{SaysHeap, said_row}
 use Rattle.best_fit.proofs.tags.UnchangedTags.{around_keeps, step_header}
 
--- the allocated gap, and the window after each of the two steps
+-- the gap g is cut to the length wanted (window mid), and then gets its role (window new)
 module _ (old : WindowState) (says : SaysHeap old (tiles_in old)) (g : Tile) (front0 back0 : List Tile)
     (list0 : tiles_in old ≡ front0 ++ (g ∷ back0)) (free : g.use_of ≡ None) (black : g.red ≡ false)
     (wanted : ℕ) (role : Role) where
@@ -26,7 +26,7 @@ module _ (old : WindowState) (says : SaysHeap old (tiles_in old)) (g : Tile) (fr
   abbrev taken_tile : Tile
   taken_tile = record g { len = share g.len wanted; use_of = Some role }
 
-  -- an allocated gap: the remainder, and the lists of tiles
+  -- facts about the allocation: the remainder of the gap, and the tiles before and after
   pub record Taking : Type 0 where
     pub said : EncodesTiles old (front0 ++ (g ∷ back0))
     pub left : List Tile
@@ -37,7 +37,7 @@ module _ (old : WindowState) (says : SaysHeap old (tiles_in old)) (g : Tile) (fr
     pub splits : nat_le (wanted + 32) g.len ≡ true → left ≡ free_tile (g.offset + wanted) (g.len - wanted) ∷ []
     pub keeps : nat_le (wanted + 32) g.len ≡ false → left ≡ []
 
-  -- the remainder of an allocated gap
+  -- these facts hold
   pub taking : Taking
   taking =
       let said : EncodesTiles old (front0 ++ (g ∷ back0)) = subst (EncodesTiles old) list0 says.said in

@@ -1,4 +1,4 @@
--- Objects of a class whose keys rise, one after another.
+-- Lists of objects of one class in ascending order of their keys.
 use Rattle.image_check.proofs.Common.{List, Memory, None, Option, Some, [], and_from, and_parts, are_ranked, both_ways}
 use Rattle.image_check.proofs.Common.{cases_Bool, class_at, false, list_all, list_all-append, refl, rise_by, sym, true}
 use Rattle.image_check.proofs.Common.{ℕ, ◌++◌, ◌==◌, ◌∙◌, ◌∷◌, ◌≡◌}
@@ -19,7 +19,7 @@ last-of-more (x ∷ []) h = refl
 last-of-more (x ∷ y ∷ xs) h = last-of-more (y ∷ xs) h
 
 module _ (lt : ℕ → ℕ → Bool) where
-  -- a number follows the last one, if there is one
+  -- the number h comes after the last number; true if there is no last number
   abbrev behind : Option ℕ → ℕ → Bool
   behind last h = elim last [ None ↦ true | Some g ↦ lt g h ]
 
@@ -42,7 +42,7 @@ module _ (class : ℕ) (m : Memory) where
   abbrev is_of : ℕ → Bool
   is_of at = class_at m at == class
 
-  -- one more object
+  -- a list stays in order if an object that follows its last object is appended
   pub ranked-more : (xs : List ℕ) (h : ℕ) → are_ranked class m xs ≡ true → follows class m (last_of xs) h ≡ true
       → are_ranked class m (xs ++ h ∷ []) ≡ true
   ranked-more xs h r f =
@@ -62,7 +62,7 @@ module _ (class : ℕ) (m : Memory) where
       and_from (is_of h) (behind (key_before class m) (last_of xs) h)
       (and_parts (is_of h) (list_all is_of back) q.1).0 (rise-behind (key_before class m) xs h back p.1)
 
-  -- a handle that does not follow
+  -- a list is out of order if one of its handles does not follow the handle before
   pub ranked-broken : (xs : List ℕ) (h : ℕ) (back : List ℕ) → follows class m (last_of xs) h ≡ false
       → are_ranked class m (xs ++ h ∷ back) ≡ false
   ranked-broken xs h back f = elim (cases_Bool (are_ranked class m (xs ++ h ∷ back))) [

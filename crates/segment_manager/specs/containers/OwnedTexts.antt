@@ -12,7 +12,7 @@ abbrev pub text_needs : List (List ℕ) → List (ℕ × Role)
 text_needs [] = []
 text_needs (bs ∷ bss) = if length bs == 0 then text_needs bss else (length bs, Storage) ∷ text_needs bss
 
--- the texts, with these blocks for each text that is not empty
+-- the texts; each text that is not empty gets the next of these blocks
 abbrev pub owned_texts : List (List ℕ) → List Extent → List OwnedText
 owned_texts [] xs = []
 owned_texts (bs ∷ bss) [] = record { bytes = bs; extent = None } ∷ owned_texts bss []
@@ -27,7 +27,7 @@ with_blocks d l bss next None = (Refused NoSpace, d)
 with_blocks d l bss next (Some xs) = perform d (all_added l xs) (next (owned_texts bss xs))
 
 -- the law: a plan that allocates several texts continues with the extents of `place_all`, one for each text that is not
--- empty
+-- empty; it is refused if there is no space
 abbrev pub TextsArePlaced : Type 0
 TextsArePlaced = (d : Directory) (l : LiveSet) (bss : List (List ℕ)) (next : List OwnedText → Plan)
     → IsTrue (is_proper l)

@@ -1,4 +1,4 @@
-//! The properties of objects: one of them, or all at once, by keys and by places in the two indexes.
+//! The properties of an object, one or all of them, by its key or by its position in an index.
 ghost use Rattle.std.specs.Prelude.{length, true, MatchResult, ◌≡◌, Ok, Err, option_map};
 ghost use Rattle.raw_region.specs.Format.{current};
 ghost use Rattle.best_fit.specs.Heap.{IsHeap};
@@ -61,8 +61,8 @@ impl Segment {
         read_instance(&self.heap, handle)
     }
 
-    /// Returns true if an object of the segment has the handle, which can be any number. It searches all blocks, from
-    /// the nearest block hint on.
+    /// Returns true if an object of the segment has the handle, which can be any number. It finds a remembered handle
+    /// at once, and searches for any other from the nearest block hint on.
     ///
     /// Example: `if segment.is_object_handle(handle)`.
     pub fn is_object_handle(&self, handle: Handle) -> bool
@@ -176,7 +176,7 @@ fn read_instance(heap: &Heap, handle: Handle) -> Instance<'_>
 ///
 /// # Conditions
 ///
-/// An object of the segment has the handle. `instance` looks it up and has no condition.
+/// An object of the segment has the handle. `instance` with a `Key::Handle` looks it up and has no condition.
 pub fn instance_here(segment: &Segment, handle: Handle) -> Instance<'_>
     requires { AnswersWith segment.now (λ d. is_object_at d handle) true }
     ensures { SaysOf segment.now (ByHandle handle) result }

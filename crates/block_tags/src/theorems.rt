@@ -12,7 +12,7 @@ pub fn tags_say_one_list()
     ensures { SayOneList }
 {}
 
-/// States that the tiles of the tags are the tiles that a reading from the header on finds.
+/// States that a walk over the tags from the header on finds exactly the tiles that the tags describe.
 pub fn tiles_are_read_off()
     ensures { TilesAreReadOff }
 {}
@@ -22,7 +22,7 @@ pub fn tile_is_read_off()
     ensures { TileIsReadOff }
 {}
 
-/// States that tags are good exactly if they describe tiles of which no two free ones are neighbours.
+/// States that tags pass their check exactly if they describe tiles and no two free tiles are neighbours.
 pub fn good_tags_say_tiles()
     ensures { GoodTagsSayTiles }
 {}
@@ -47,12 +47,12 @@ pub fn tile_stands_in_list()
     ensures { TileStandsInList }
 {}
 
-/// States that each tile of the tags is the one at its offset.
+/// States that a search for the offset of a tile finds this tile.
 pub fn one_tile_at_an_offset()
     ensures { OneTileAtAnOffset }
 {}
 
-/// States that the last tile is the end of the list.
+/// States that a list consists of the tiles before its last tile, and the last tile.
 pub fn last_tile_ends_list()
     ensures { LastTileEndsList }
 {}
@@ -72,12 +72,12 @@ pub fn header_may_change()
     ensures { HeaderMayChange }
 {}
 
-/// States that the front of a window describes the same tiles as a window of its own.
+/// States that a prefix of a window describes the same tiles as a window of only these bytes.
 pub fn prefix_is_a_window()
     ensures { PrefixIsAWindow }
 {}
 
-/// States examples of the definitions, for the tiles of one window.
+/// States examples of the definitions: legal sizes, the words of tags, and the tiles of one window.
 pub fn worked_tiles()
     ensures { WorkedTiles }
 {}

@@ -77,7 +77,7 @@ fn is_zero(bytes: &[u8]) -> bool
     bytes.iter().all(|byte| *byte == 0)
 }
 
-/// Returns true if every scalar of the value is valid (true for containers). It takes one visit for each.
+/// Returns true if every scalar of the value is valid (true for containers). It visits each scalar at most once.
 pub(crate) fn has_spellings(
     window: &ImageWindow,
     visits: &mut VisitCounter,
@@ -96,8 +96,8 @@ pub(crate) fn has_spellings(
     }
 }
 
-/// Returns the offset of the link of the index that has an entry for the object at `at`. The object's block can have
-/// the number `guess`.
+/// Returns the header offset of the index that has an entry for the object at `at`, or `None`. The search for the
+/// object's block tries the block with the number `guess` first.
 fn index_of(blocks: &BlockTable, guess: usize, at: u64, visits: &mut VisitCounter) -> Option<u64>
     ensures test { result ≡ listing_index blocks.now.entries at }
     ensures visits { AddsVisits 1 visits.old visits.new }
@@ -112,8 +112,8 @@ fn index_of(blocks: &BlockTable, guess: usize, at: u64, visits: &mut VisitCounte
     }
 }
 
-/// Returns true if the object has an entry in the index of its class, or its class has no index. Its block can have the
-/// number `guess`.
+/// Returns true if the object has an entry in the index of its class, or its class has no index. The search for the
+/// object's block tries the block with the number `guess` first.
 pub(crate) fn is_indexed(
     window: &ImageWindow,
     blocks: &BlockTable,

@@ -1,4 +1,4 @@
-//! Laws of the words in the contracts. These functions do nothing: their contracts are the laws.
+//! Laws of the definitions in the contracts. These functions do nothing: their contracts are the laws.
 
 ghost use Rattle.link_tree.specs.Tree.{BoundsHeight, ReadsOff};
 
@@ -7,8 +7,8 @@ pub fn law_of_height()
     ensures { BoundsHeight }
 {}
 
-/// States the law of checks. The tree that the test reads from the links is the tree there; the test reads each tree
-/// within the depth; and its result for red-black trees is exact.
+/// States three laws of the check. A tree that it reads from links is the tree of the links, and has only valid nodes.
+/// It reads each tree of valid nodes within the depth. The test for red-black trees is exact.
 pub fn law_of_reading()
     ensures { ReadsOff }
 {}

@@ -11,7 +11,7 @@ use thiserror::Error;
 /// The word of a null link.
 pub const NULL: u64 = 1;
 
-/// The error of `checked`: the link's target is no offset at which a block's payload can begin.
+/// The error of `checked`: no block's payload can begin at the link's target.
 #[derive(Debug, Drop, Error)]
 #[error("bad link")]
 pub struct BadLink;
@@ -53,7 +53,7 @@ pub fn store_null(w: &mut Window, at: u64)
     w.write_u64(at, NULL);
 }
 
-/// Copies the link at `from` to `to`. The target is a multiple of 16, or the link is null.
+/// Copies the link at `from` to `to`. The link must be null or have a target that is a multiple of 16.
 pub fn copy(w: &mut Window, from: u64, to: u64)
     requires from_aligned { from % 8 ≡ 0 }
     requires to_aligned { to % 8 ≡ 0 }
@@ -70,7 +70,7 @@ pub fn copy(w: &mut Window, from: u64, to: u64)
     }
 }
 
-/// Returns the target of the link at `at` in a segment with any bytes, or `None` if the link is null.
+/// Returns the target of the link at `at`, or `None` if the link is null. The window can have any bytes.
 ///
 /// # Errors
 ///

@@ -13,7 +13,7 @@ pub record TookTo (W : Type 0) : Type 0 where
   pub inner : W
   pub history : WriterHistory
 
--- a code for the state of such a reader
+-- the code (`Coded`) of the state of a reader that wraps another
 abbrev pub gave_from_code : {R : Type 0} → Coded R → Coded (GaveFrom R)
 gave_from_code {R} r =
     code_by (R × (List ℕ × (Bool × (ℕ × ℕ))))

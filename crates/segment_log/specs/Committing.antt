@@ -1,4 +1,4 @@
--- What a disk was asked for a commit, an opening and a checkpoint, and what a crash leaves at each moment.
+-- The calls to a disk for a commit, an opening and a checkpoint, and what a crash leaves at each moment.
 use Rattle.std.specs.Prelude.{◌≡◌, ◌≢◌, ◌⊎◌, ◌<◌, ◌≤◌, ◌+◌, ◌&&◌, ◌^◌, ℕ, Bool, true, false, List, [], ◌∷◌, length}
 use Rattle.std.specs.Prelude.{take}
 use Rattle.std.specs.Prelude.{Result, Ok, Err, MatchResult, IfOk, OnOk, is_ok}
@@ -13,12 +13,12 @@ use Rattle.segment_log.specs.declared.committing.CommitError.{CommitError}
 use Rattle.segment_log.specs.declared.committing.CommitError.TheVariants.{OutOfMemory, TooLong, WriteFault}
 use Rattle.segment_log.specs.declared.log_disk.LogFault.{LogFault}
 
--- Of a disk, where one question leads from a state to a state: these were asked in this order, and no others.
+-- The disk got exactly these calls, in this order, and they led from the old state to the new one, each by a step.
 abbrev pub AsksFor : {D : Type 0} → (D → LogEvent → D → Type 0) → D → List LogEvent → D → Type 0
 AsksFor step old [] new = new ≡ old
 AsksFor {D} step old (e ∷ es) new = (next : D) × step old e next × AsksFor step next es new
 
--- the log took bytes at an offset, and all of it lasts if the answer is Ok
+-- the call writes bytes to the log at an offset, then syncs the log; the result is Ok exactly if both succeed
 pub record WritesThrough {D : Type 0} (step : D → LogEvent → D → Type 0) (old new : D) (at : ℕ) (bytes : List ℕ)
     (result : Result (Unit {0}) LogFault) : Type 0 where
   pub written : Bool
@@ -26,8 +26,8 @@ pub record WritesThrough {D : Type 0} (step : D → LogEvent → D → Type 0) (
   pub asked : AsksFor step old (through_events at bytes written synced) new
   pub answer : is_ok result ≡ (written && synced)
 
--- Of a call: whatever image the files of before stand for, and whatever the call does, each crash meanwhile leaves one
--- of these.
+-- If a file and its log are on the disk before these calls, a crash at any moment of the calls leaves a file and a log
+-- with the property P.
 abbrev pub CrashLeaves : LoggedFile → List LogEvent → (LoggedFile → Type 0) → Type 0
 CrashLeaves files events P = (k : ℕ) (c : LoggedFile) → leaves_after files (take k events) c → P c
 
@@ -43,12 +43,12 @@ pub record CommitsRecord {D : Type 0} (step : D → LogEvent → D → Type 0) (
       → IsPayloadFor files payload last image → EndsReady files events now image)
   -- the file itself is not written
   pub base : (files : LoggedFile) → (seen_in_the_end files events).base ≡ files.base
-  -- without a question, if it is refused
+  -- a commit that returns OutOfMemory or TooLong makes no call to the disk
   pub refused : (result ≡ Err OutOfMemory) ⊎ (result ≡ Err TooLong) → events ≡ []
   pub too_long : result ≡ Err TooLong → (2 ^ 40 ≤ end) ⊎ (2 ^ 40 ≤ length payload)
 
--- The call shuts the gate at the end of a log. A crash at any moment leaves the image, with its own log; after Ok the
--- log can take a record.
+-- The call shuts the gate at the end of a log. A crash at any moment leaves the same image, with its own log; after Ok
+-- the log can take a record.
 pub record ShutsGate {D : Type 0} (step : D → LogEvent → D → Type 0) (old new : D) (end : ℕ)
     (result : Result (Unit {0}) CommitError) : Type 0 where
   pub events : List LogEvent
@@ -58,8 +58,8 @@ pub record ShutsGate {D : Type 0} (step : D → LogEvent → D → Type 0) (old 
   pub on_ok : OnOk result ((files : LoggedFile) → IsEndOfLog 4096 files.log end → AreTogether files
       → EndsReady files events end (stands_for files))
 
--- The call puts the image in the place of the file, and empties the log. A crash at any moment leaves the image, with
--- its own log; after Ok the file has it, and the log can take a record.
+-- The call replaces the file by the image, and empties the log. A crash at any moment leaves the image, with its own
+-- log; after Ok the file has the image, and the log can take a record.
 pub record MakesCheckpoint {D : Type 0} (step : D → LogEvent → D → Type 0) (old new : D) (image : List ℕ)
     (result : Result (Unit {0}) CommitError) : Type 0 where
   pub events : List LogEvent

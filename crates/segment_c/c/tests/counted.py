@@ -1,6 +1,6 @@
-"""counted.py NAMES HEADER..: writes a library in C to standard output that stands before another one, which
-LIBRARY_BEHIND names: it has each call that the headers declare, hands it on, and adds its name to the file that CALLED
-names when the program ends. The names that the headers declare go to the file NAMES."""
+"""counted.py NAMES HEADER..: prints a C library with all functions that the headers declare, and writes their names to
+the file NAMES. The library forwards each call to the library at the path LIBRARY_BEHIND. When the program ends, it
+appends the names of the functions that were called to the file CALLED. Both are environment variables."""
 import re
 import sys
 
@@ -9,7 +9,7 @@ text = ""
 for header in headers:
     with open(header) as file:
         text += re.sub(r"/\*.*?\*/", "", file.read(), flags=re.DOTALL)
-# a call that looks for null slices is an inline function; what it calls then has the name in the library
+# an inline function that looks for null slices calls a function whose ZX_NAMED is the name in the library
 calls = re.findall(r"^(zx_code|void(?: \*)?|bool|u?int(?:32|64)_t|const char \*) ?(zx_\w+)\(([^()]*)\)"
                    r"(?:\s+ZX_NAMED\((\w+)\))?;", text, flags=re.MULTILINE)
 print("""#define _GNU_SOURCE

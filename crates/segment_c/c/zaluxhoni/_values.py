@@ -56,7 +56,7 @@ def code_of(kind: str) -> int:
 
 
 def _way_for_kind(kind: Any) -> str:
-    """Says how a segment keeps what has no kind."""
+    """Returns a hint for a message, or "": how a segment keeps values of this kind, which does not exist."""
     if isinstance(kind, str) and re.search(r"f(32|64)|float|double", kind):
         return _way_for(0.0)
     return _way_for("") if isinstance(kind, str) and re.match(r"map<(str|text)", kind) else ""
@@ -86,7 +86,7 @@ MapKind = Literal[
 # ---- one value
 
 def whole(number: Any) -> int:
-    """Returns a whole number, also from a type of another package."""
+    """Returns an integer, also of another package's type, as an int; raises WrongKind for any other value."""
     try:
         return operator.index(number)
     except TypeError:
@@ -94,7 +94,7 @@ def whole(number: Any) -> int:
 
 
 def _way_for(value: Any) -> str:
-    """Says how a segment keeps what is no scalar."""
+    """Returns a hint for a message, or "": how a segment keeps this value, which is not a scalar."""
     if isinstance(value, float):
         return '; records keep floats: segment.records(name, "d")'
     if isinstance(value, (str, bytes)):
@@ -103,7 +103,7 @@ def _way_for(value: Any) -> str:
 
 
 def natural(number: Any) -> int:
-    """Returns a number that fits 64 bits."""
+    """Returns an integer as an int; raises OutOfRange unless it is from 0 to 2**64 - 1, and WrongKind as whole()."""
     number = whole(number)
     if not 0 <= number < 2**64:
         raise OutOfRange(f"{shown(number)} is outside 0 to 2**64 - 1")
@@ -115,7 +115,7 @@ def is_truth(value: Any) -> bool:
 
 
 def scalar(code: int, value: Any, refused: Type[Error] = OutOfRange) -> int:
-    """Returns the number for a value of a kind; raises `refused`, or WrongKind, for a value outside it."""
+    """Returns the value as a number. Raises WrongKind for a wrong type, and `refused` outside the kind's range."""
     if (code == BOOL) != is_truth(value):
         raise WrongKind(f"{shown(value)} is no {KINDS[code]}{_way_for(value)}")
     number = int(value) if code == BOOL else whole(value)
@@ -168,7 +168,7 @@ def listed(values: Any) -> List[Any]:
 
 
 def _buffer_of(code: int, values: Any) -> Optional[memoryview]:
-    """Returns the bytes of an array of another package, if it has exactly this kind and is contiguous."""
+    """Returns the bytes of a contiguous buffer of one dimension, with elements of exactly this kind, or None."""
     if isinstance(values, (list, tuple, range)):
         return None
     try:
@@ -187,12 +187,12 @@ def _memory_of(view: memoryview) -> Any:
 
 
 def row(code: int, values: Any, refused: Type[Error] = OutOfRange) -> Row:
-    """Returns values of one kind side by side; raises `refused`, or WrongKind, for a value outside it."""
+    """Returns the values as a Row. Raises WrongKind for a wrong type, and `refused` outside the kind's range."""
     own = SCALARS[code]
     view = _buffer_of(code, values)
     if view is not None and code != BOOL:
         return Row(code, _memory_of(view), view.nbytes // own.size)
-    # takes the values of other packages' arrays as numbers of Python
+    # turns the arrays of other packages into lists of Python's numbers
     plain = values if type(values) in (list, range) else listed(getattr(values, "tolist", lambda: values)())
     memory = _spelled(own, code, plain)
     if memory is not None:
@@ -205,7 +205,7 @@ def row(code: int, values: Any, refused: Type[Error] = OutOfRange) -> Row:
 
 
 def _spelled(own: Scalar, code: int, plain: Any) -> Any:
-    """Returns memory with the values of a list whose items all have the exact type of the kind, or None."""
+    """Returns memory with the values of a list if they all have the exact type of the kind; otherwise None."""
     if not _library.HAS_PYTHON or type(plain) is not list:
         return None
     memory = ctypes.create_string_buffer(max(1, len(plain) * own.size))
@@ -213,7 +213,7 @@ def _spelled(own: Scalar, code: int, plain: Any) -> Any:
 
 
 def _packed(own: Scalar, code: int, plain: Any) -> Optional[bytes]:
-    """Returns the bytes of values that all have the exact type of the kind, or None."""
+    """Returns the bytes of a range, or of values that all have the exact type of the kind; otherwise None."""
     expected = bool if code == BOOL else int
     if type(plain) is not range and not set(map(type, plain)) <= {expected}:
         return None
@@ -230,7 +230,7 @@ def unpacked(code: int, memory: Any, count: int) -> List[int]:
 
 
 def words(code: int, values: Iterable[Any], refused: Type[Error] = OutOfRange) -> Any:
-    """Returns numbers of a kind in 64 bits each, as rows of pairs have them."""
+    """Returns memory with the values in 64 bits each, as zx_put_pairs takes map keys and values."""
     numbers, own = values if isinstance(values, list) else list(values), SCALARS[code]
     is_plain = set(map(type, numbers)) <= {bool if code == BOOL else int}
     if not is_plain or numbers and not own.least <= min(numbers) <= max(numbers) <= own.most:
@@ -240,13 +240,13 @@ def words(code: int, values: Iterable[Any], refused: Type[Error] = OutOfRange) -
 
 
 def from_words(code: int, memory: Any, count: int) -> List[int]:
-    """Returns `count` numbers of a kind from 64 bits each."""
+    """Returns the first `count` values in memory that has 64 bits for each."""
     numbers = unpacked(U64 if code == U64 else I64, memory, count)
     return list(map(bool, numbers)) if code == BOOL else numbers
 
 
 def pairs_of(code: int, value: Any) -> Tuple[Any, Any, int]:
-    """Returns keys, values and number of the pairs for a kind of map; WrongKind or OutOfRange for a pair outside it."""
+    """Returns the keys, values and number of the pairs; raises WrongKind or OutOfRange for a pair of another kind."""
     try:
         pairs = dict(value)
     except (TypeError, ValueError):

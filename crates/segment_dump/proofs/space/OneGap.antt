@@ -1,4 +1,4 @@
--- After all blocks there is one gap, and each request takes the front of it.
+-- There is no gap but the one after all blocks, and each request takes the front of that gap.
 use Rattle.segment_dump.proofs.Common.{◌≡◌, inl, inr, ℕ, ◌+◌, ◌-◌, ◌<◌, ◌≤◌, ◌==◌, ◌&&◌, Bool, true, false, nat_le}
 use Rattle.segment_dump.proofs.Common.{nat_lt, List, [], ◌∷◌, ◌++◌, Option, Some, if◌then◌else◌, refl, sym, ap, subst}
 use Rattle.segment_dump.proofs.Common.{◌∙◌, arith, IsTrue, filter, option_map, and_parts, ltb-true, ne_eqb, nat_tests}
@@ -12,7 +12,7 @@ pub use Rattle.segment_dump.specs.Building.{IsRest}
 
 -- ---- no gap but the one after all blocks
 
--- the last one ends where all their bytes are, or after it
+-- the end of the last block is at least the start plus the lengths of all blocks
 pub last-long : (from : ℕ) (xs : List Extent) (to : ℕ) → proper_from from xs to ≡ true
     → from + total xs ≤ last_end from xs
 unfolding total
@@ -22,12 +22,12 @@ last-long from (x ∷ xs) to p =
     let r = and_parts (is_hole from x.offset) (is_block x) q.0 in
     omega (arith, hole-rises from x.offset r.0, last-long (end_of x) xs to q.1)
 
--- the last end is no later than all blocks end
+-- if all blocks end by e, the last block does
 pub last-most : (from e : ℕ) (xs : List Extent) → EndBy e xs → from ≤ e → last_end from xs ≤ e
 last-most from e [] a l = l
 last-most from e (x ∷ xs) a l = last-most (end_of x) e xs a.1 a.0
 
--- they have no more bytes than there are up to there
+-- blocks between from and e have at most e - from bytes
 ended-total : (from : ℕ) (xs : List Extent) (to e : ℕ) → proper_from from xs to ≡ true → EndBy e xs → from ≤ e
     → from + total xs ≤ e
 ended-total from xs to e p a l = omega (arith, last-long from xs to p, last-most from e xs a l)
@@ -35,7 +35,7 @@ ended-total from xs to e p a l = omega (arith, last-long from xs to p, last-most
 gap-none : (a b : ℕ) → a ≡ b → gap_between a b ≡ []
 gap-none a b e = grind (arith, nat_tests)
 
--- where they have as many, nothing is left between them
+-- if blocks between from and e have e - from bytes, there is no gap but the one after e
 filled-gaps : (from : ℕ) (xs : List Extent) (to e : ℕ) → proper_from from xs to ≡ true → EndBy e xs → from ≤ e
     → e ≤ from + total xs → gaps_from from xs to ≡ gap_between e to
 unfolding total
@@ -49,7 +49,7 @@ filled-gaps from (x ∷ xs) to e p a l h =
     ap (λ l. l ++ gaps_from (end_of x) xs to) (gap-none from x.offset same)
     ∙ filled-gaps (end_of x) xs to e q.1 a.1 a.0 (omega (arith, same))
 
--- ---- what is taken of the gap
+-- ---- a block at the front of the gap
 
 share-if : (b : Bool) (available wanted rest : ℕ) → nat_lt available (wanted + 32) ≡ b → wanted + rest ≤ available
     → IsRest rest → (if b then available else wanted) + rest ≤ available
@@ -73,7 +73,7 @@ gap-some : (e to : ℕ) → e < to → gap_between e to ≡ last_gap e to ∷ []
 gap-some e to h = let t : nat_lt e to ≡ true = grind (arith, nat_tests)
     in ap (λ b. if b then last_gap e to ∷ [] else []) t
 
--- the front of it is taken, and there is still room for the rest
+-- the new block begins at e, at the front of the gap, and there is still room for the rest
 pub record IsTaken (o : Option Extent) (e rest size : ℕ) : Type 0 where
   pub extent : Extent
   pub is : o ≡ Some extent
@@ -105,7 +105,7 @@ proper-tiles : (d : Directory) → IsTrue (is_proper (live d))
 unfolding is_proper
 proper-tiles d h = (and_parts (is_legal_size (live d).size) (proper_from 128 (live d).extents ((live d).size - 16)) h).1
 
--- its one gap
+-- a directory with exact room has no gap but the one after all its blocks
 pub room-gaps : (d : Directory) (rest : ℕ) → IsTrue (is_proper (live d))
     → (h : HasExactRoom (all_extents d) d.size rest) → gaps (live d) ≡ gap_between h.end ((live d).size - 16)
 unfolding gaps
@@ -117,7 +117,7 @@ room-gaps d rest p h =
 room-long : (n : ℕ) → 0 < room n
 room-long n = omega arith
 
--- a request is met in front of it
+-- a request gets the front of this gap
 pub room-taken : (d : Directory) (n : ℕ) (role : Role) (rest : ℕ) → IsTrue (is_proper (live d))
     → (h : HasExactRoom (all_extents d) d.size (room n + rest)) → IsRest rest
     → IsTaken (place (live d) n role) h.end rest d.size
@@ -137,7 +137,7 @@ unfolding total
 total-between [] ys x = refl
 total-between (y ∷ xs) ys x = omega (arith, total-between xs ys x)
 
--- the front of the gap is a block now
+-- with one more block at the front of the gap, there is still no other gap
 pub room-with : (xs ys : List Extent) (x : Extent) (size more rest : ℕ) → (h : HasExactRoom (xs ++ ys) size more)
     → x.offset ≡ h.end → end_of x + 16 + rest ≤ size → HasExactRoom (xs ++ x ∷ ys) size rest
 room-with xs ys x size more rest h e f = record {
@@ -149,7 +149,7 @@ room-with xs ys x size more rest h e f = record {
   room = f;
 }
 
--- less is to come
+-- if there is room for more bytes, there is room for fewer
 pub room-less : (xs : List Extent) (size more rest : ℕ) → rest ≤ more → HasExactRoom xs size more
     → HasExactRoom xs size rest
 room-less xs size more rest l h =
@@ -161,23 +161,23 @@ block-if : (b : Bool) (n : ℕ) → IsRest (if b then 0 else room n)
 block-if true n = inl refl
 block-if false n = inr (omega arith)
 
--- the room of a block is a multiple of 16
+-- the room of a block is 0, or at least 32
 pub block-rest : (n : ℕ) → IsRest (block_room n)
 unfolding block_room
 block-rest n = block-if (n == 0) n
 
--- two multiples of 16 are one together
+-- if two numbers are each 0 or at least 32, so is their sum
 pub rest-both : (m n : ℕ) → IsRest m → IsRest n → IsRest (m + n)
 rest-both m n (inl p) (inl q) = inl (omega (arith, p, q))
 rest-both m n (inl p) (inr q) = inr (omega (arith, p, q))
 rest-both m n (inr p) q = inr (omega (arith, p))
 
--- a block with bytes needs room
+-- a block for at least one byte needs `room n` bytes
 pub block-some : (n : ℕ) → 0 < n → block_room n ≡ room n
 unfolding block_room
 block-some n h = ap (λ b. if b then 0 else room n) (ne_eqb n 0 (λ e. omega (arith, h, e)))
 
--- the needs of a list are a multiple of 16
+-- the room of a list is 0, or at least 32, if that holds for each item
 pub needs-rest : {X : Type 0} (needs : X → Needs) → ((x : X) → IsRest (needs x).room) → (xs : List X)
     → IsRest (all_needs needs xs).room
 needs-rest needs r [] = inl refl

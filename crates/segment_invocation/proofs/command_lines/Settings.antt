@@ -1,4 +1,4 @@
--- What a setting of the program's command changes: its own field.
+-- Each setting of the program's command changes only its own field.
 use Rattle.std.proofs.Common.{◌≡◌, ap, true, ◌∙◌, Some, ℕ, List}
 use denote.Ref.{Bor}
 use Rattle.clap.specs.Simple.{App, app_of_fields, on_top}

@@ -1,4 +1,4 @@
--- Seven steps: the neighbours leave the tree, the block becomes a gap with them, and this gap enters the tree.
+-- Seven steps: the free neighbours leave the tree, the block and they become one gap, and this gap enters the tree.
 use Rattle.best_fit.proofs.Common.{◌≡◌, sym, ap, ◌∙◌, ◌+◌, ◌*◌, ◌≤◌, ◌∷◌, ◌++◌, length, arith, refl, Option, Tile}
 use Rattle.best_fit.proofs.Common.{first_in, last_in, without_last, HasTileAt, EncodesTiles, bits, gaps_of, gaps_in}
 use Rattle.best_fit.proofs.Common.{HasGapTree, ChangesGapTree, gap_offset, tile_list, offset_of, start_of}
@@ -26,7 +26,7 @@ previous-before-requires-clause-tile c =
     (c.args.at + 16) c.args.at (live_block c.args.touches.now.gaps.now.window (c.args.at + 16) c.requires.heap
     c.requires.live) refl in rw e h
 
--- the block to free, among its neighbours
+-- the block to free, with the tiles before and after it
 abbrev block : (c : After-previous-before) → Block c.args.touches.now.gaps.now.window (c.args.at + 16)
 block c = live_block c.args.touches.now.gaps.now.window (c.args.at + 16) c.requires.heap c.requires.live
 
@@ -55,7 +55,7 @@ unlink_if_gap-requires-clause-tree c =
       rw e (first_tree w c.args.at c.requires.heap b),
     )
 
--- the gap after has left the tree
+-- the free tile after the block, if there is one, has left the tree
 half : (c : After-unlink_if_gap) (b : Block c.args.touches.now.gaps.now.window (c.args.at + 16))
     → c.next-behind.result ≡ first_in b.back
     → HalfUprooted c.args.touches.now.gaps.now.window c.args.at c.requires.heap b
@@ -96,7 +96,7 @@ unlink_if_gap-requires-2-clause-no_overflow c =
     few_steps c.args.touches.now.gaps.now.window c.args.at c.requires.heap
     (block p) in omega arith
 
--- and the gap before has left the tree
+-- the free tile before the block, if there is one, has left the tree too
 both : (c : After-unlink_if_gap-2) (b : Block c.args.touches.now.gaps.now.window (c.args.at + 16))
     → c.previous-before.result ≡ last_in b.front
     → HalfUprooted c.args.touches.now.gaps.now.window c.args.at c.requires.heap b
@@ -215,7 +215,7 @@ coalesce_previous-requires-clause-no_overflow c =
     let n1 = c.blacken.ensures.steps_exact in let n2 = c.set_use.ensures.steps_exact in
     let n3 = c.coalesce_next.ensures.steps_upper in omega arith
 
--- the block has become one gap with its neighbours
+-- the block has become one gap with its free neighbours
 freed : (c : After-coalesce_previous) (b : Block c.args.touches.now.gaps.now.window (c.args.at + 16))
     → Uprooted c.args.touches.now.gaps.now.window c.args.at c.requires.heap b
     c.unlink_if_gap-2.new.touches.gaps.now.window

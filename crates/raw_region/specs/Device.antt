@@ -59,6 +59,6 @@ pub record ReadsSource (old new : ReaderHistory) (failed : ℕ) : Type 0 where
 abbrev pub EndsAtMostOnce : ReaderHistory → ReaderHistory → Type 0
 EndsAtMostOnce old new = new.ends ≤ old.ends + 1
 
--- front is a proper prefix of all
+-- `prefix` is a proper prefix of `all`
 abbrev pub IsProperPrefix : List ℕ → List ℕ → Type 0
 IsProperPrefix prefix all = (rest : List ℕ) × (all ≡ prefix ++ rest) × (0 < length rest)

@@ -1,4 +1,4 @@
-//! A segment with its file, which no other may write meanwhile.
+//! A segment whose file is locked, so that nobody else writes it.
 ghost use Rattle.std.specs.Prelude.{◌≡◌, MatchResult, string_bytes};
 ghost use Rattle.segment_disk.specs.Events.{Released, Replacement, Truncate};
 ghost use Rattle.segment_file.specs.SegmentFiles.{ComesHeld, CreatesSegment, GrowsFile, IsEmptySegment, IsWhyNoSegment};

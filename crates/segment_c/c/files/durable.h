@@ -224,7 +224,9 @@ static zx_code end_record(struct commits *commits, struct record *record) {
     memset(bytes + record->len, 0, gate - record->len);
     record->len = gate + GATE;
     zx_code code = zx_log_edit(gate - 8, bytes, 0, bytes, EDIT);
-    if (code == ZX_DONE) code = zx_log_front(record->size, commits->base, commits->after + record->share, bytes + 8, FRONT);
+    if (code == ZX_DONE) {
+        code = zx_log_front(record->size, commits->base, commits->after + record->share, bytes + 8, FRONT);
+    }
     return code == ZX_DONE ? zx_log_gate(false, bytes + gate, GATE) : code;
 }
 

@@ -165,7 +165,7 @@ static bool old_page(const struct zx_held_file *held, uint64_t page, uint8_t byt
     return held->commits ? committed_page(held, page, bytes) : read_page(held->file, page, PAGE, bytes);
 }
 
-/* Whether the file may have changed since its last commit. */
+/* Whether the segment has not changed since its last commit. */
 static bool is_committed(const zx_file *file) {
     return file->held->saved == file->segment.changes && !file->segment.shared;
 }

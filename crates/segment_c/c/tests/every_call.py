@@ -495,6 +495,7 @@ def a_segment_as_a_dict():
     s["text"] = b"bytes"
     same((list(s["numbers"]), dict(s["pairs"]), s["text"]), ([3], {1: 11, 2: 20}, "bytes"))
     raises(zaluxhoni.WrongKind, set_item, s, "numbers", ["a"])
+    raises(zaluxhoni.WrongKind, set_item, s, "truths", range(3))
     raises(zaluxhoni.WrongKind, set_item, s, "new", 1.5)
     raises(zaluxhoni.NotFound, s.__getitem__, "other")
     raises(zaluxhoni.NotFound, delete_item, s, "other")

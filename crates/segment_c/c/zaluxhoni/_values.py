@@ -213,9 +213,9 @@ def _spelled(own: Scalar, code: int, plain: Any) -> Any:
 
 
 def _packed(own: Scalar, code: int, plain: Any) -> Optional[bytes]:
-    """Returns the bytes of a range, or of values that all have the exact type of the kind; otherwise None."""
+    """Returns the bytes of a range of numbers, or of values that all have the type of the kind; otherwise None."""
     expected = bool if code == BOOL else int
-    if type(plain) is not range and not set(map(type, plain)) <= {expected}:
+    if not (type(plain) is range and expected is int) and not set(map(type, plain)) <= {expected}:
         return None
     try:
         return struct.pack(f"{len(plain)}{own.letter}", *plain)

@@ -6,7 +6,8 @@ use Rattle.segment_commands.specs.declared.command_faults.CommandFault.TheVarian
 use Rattle.segment_commands.specs.Paths.{stands_in}
 use Rattle.segment_disk.specs.declared.presence.FileProblem.{FileProblem}
 use Rattle.segment_disk.specs.declared.presence.FileProblem.TheVariants.{Log, Owner, Unnamed, Writer}
-use Rattle.segment_invocation.specs.Invocations.{InvocationValue, RequestValue, get, language, lint, names, tell}
+use Rattle.segment_invocation.specs.Invocations.{InvocationValue, RequestValue, get, language, lint, names}
+use Rattle.segment_invocation.specs.Invocations.{salvage, tell}
 
 -- ---- the problem of a file
 
@@ -59,6 +60,7 @@ abbrev pub prints_text : InvocationValue → Bool
 prints_text (tell file what) = true
 prints_text (names file prefix most) = true
 prints_text (get file key index) = true
+prints_text (salvage file) = true
 prints_text lint = true
 prints_text language = true
 prints_text other = false

@@ -457,6 +457,7 @@ fn ends_quietly(asked: &Request<'_>) -> bool
         Invocation::Tell(_, _)
             | Invocation::Names(_, _, _)
             | Invocation::Get(_, _, _)
+            | Invocation::Salvage(_)
             | Invocation::Lint
             | Invocation::Language
     );

@@ -18,7 +18,7 @@ ghost use Rattle.segment_values.specs.Changes.{command_at};
 use crate::calls::{enter, enter_with, passed, take_at};
 use crate::changes::{ObjectChange, make_change};
 use crate::codes::{done, element};
-use crate::keys::ObjectKey;
+use crate::keys::{ObjectKey, PassedHandle};
 use crate::segment_slot::SegmentSlot;
 use crate::values::CScalar;
 use seg_types::{Handle, Key, Kind, Refusal, ScalarKind, ScalarValue, by_kind};
@@ -30,6 +30,28 @@ use std::alloc::Global;
 /// bytes.
 #[unsafe(no_mangle)]
 pub extern "C" fn zx_get(
+    alloc: Global,
+    h: &mut SegmentSlot,
+    key: &ObjectKey<'_>,
+    index: u64,
+    value: &mut CScalar,
+) -> u32
+    ensures call { AsksHandle (key_wrong key.now) result h.old h.new
+        (λ s t. AnswersWith s (λ d. scalar_reply s.mode d (key_of key.now) (Get (key_of key.now) index))
+        (answer_for result (element_in value.new))) }
+    ensures outputs_on_error { 1 ≤ result → value.new ≡ value.old }
+{
+    let Some(handle) = key.as_handle() else {
+        return get_any(alloc, h, key, index, value);
+    };
+    let segment = passed!(take_at(alloc, h, handle));
+    let answer = segment.get_any(&PassedHandle(handle), index);
+    element(answer, value, h, segment)
+}
+
+/// Returns the element at `index` in the object of a key, for any form of key.
+#[inline(never)]
+fn get_any(
     alloc: Global,
     h: &mut SegmentSlot,
     key: &ObjectKey<'_>,
@@ -97,7 +119,7 @@ fn push_number(segment: &mut Segment, handle: Handle, number: i64) -> Result<(),
     ensures step { TakesStep segment.old segment.new (Push (ByHandle handle) (Integer number)) (done_answer result) }
     ensures refused { OnErr result (segment.new ≡ segment.old) }
 {
-    match segment.vec_push::<i64, Key>(&Key::Handle(handle), number) {
+    match segment.vec_push(&PassedHandle(handle), number) {
         Ok(()) => Ok(()),
         Err(refusal) => match refusal {
             Refusal::WrongKind => add(

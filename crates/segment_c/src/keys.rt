@@ -84,19 +84,23 @@ impl<'a> ObjectKey<'a> {
 
 /// A handle that C passes, which can be any number. A call on its object is compiled for handles alone.
 #[derive(Clone, Copy)]
-pub struct PassedHandle(pub Handle);
+pub struct PassedHandle {
+    /// The handle.
+    pub handle: Handle,
+}
 
 impl ObjectRef for PassedHandle {
-    ghost key = { λ passed. ByHandle passed.0 };
+    ghost key = { λ passed. ByHandle passed.handle };
 
     // It can be used in each segment.
     ghost stands = { λ passed s. ⊤ };
 
     #[inline(always)]
     fn find(&self, segment: &Segment) -> Option<Object> {
-        if !segment.is_object_handle(self.0) {
-            return None;
+        if segment.is_object_handle(self.handle) {
+            Some(object_here(segment, self.handle))
+        } else {
+            None
         }
-        Some(object_here(segment, self.0))
     }
 }

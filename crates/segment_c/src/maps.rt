@@ -117,7 +117,7 @@ fn number_at(segment: &Segment, handle: Handle, at: i64) -> Result<Option<Scalar
     ensures { AnswersQueryOfKind segment.now (ByHandle handle) (MapOf I64 I64) (Lookup (ByHandle handle) (Integer at))
         (any_value_answer result) }
 {
-    match segment.map_get::<i64, i64, PassedHandle>(&PassedHandle(handle), at) {
+    match segment.map_get::<i64, i64, PassedHandle>(&PassedHandle { handle }, at) {
         Ok(None) => Ok(None),
         Ok(Some(value)) => Ok(Some(ScalarValue::I64(value))),
         Err(why) => Err(why),
@@ -145,7 +145,7 @@ pub extern "C" fn zx_map_put(
         return put_any(alloc, h, key, at, value, is_new);
     };
     let mut segment = passed!(take_at(alloc, h, handle));
-    let (object, key) = (PassedHandle(handle), Key::Handle(handle));
+    let (object, key) = (PassedHandle { handle }, Key::Handle(handle));
     let answer = put_numbers(&mut segment, &object, &key, number, new);
     truth(answer, is_new, h, segment)
 }
@@ -200,7 +200,7 @@ fn put_numbers<O: ObjectRef>(
     at: i64,
     value: i64,
 ) -> Result<bool, Refusal>
-    requires stands { O.stands object.now segment.old }
+    requires target { O.stands object.now segment.old }
     requires key { O.key object.now ≡ key_seen key.now }
     ensures step { TakesStep segment.old segment.new (Put (key_seen key.now) (Integer at) (Integer value))
         (truth_answer result) }

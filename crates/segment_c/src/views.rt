@@ -56,7 +56,7 @@ pub extern "C" fn zx_view(
         return view_any(alloc, h, key, view);
     };
     let segment = passed!(take_at(alloc, h, handle));
-    let code = fill_view(&segment, &PassedHandle(handle), h.marks.changes, view);
+    let code = fill_view(&segment, &PassedHandle { handle }, h.marks.changes, view);
     put(code, h, segment)
 }
 

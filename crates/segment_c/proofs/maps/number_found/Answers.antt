@@ -18,8 +18,9 @@ not-refused (Some v) e = cc
 found-of_number : (s : SegmentState) (h : ℕ) (its_at at : ℤ) (a out : Answer) → (a ≡ Refused WrongKind → ⊥)
     → its_at ≡ at → out ≡ a → AnswersQueryOfKind s (ByHandle h) (Map I64 I64) (Lookup (ByHandle h) (Integer its_at)) a
     → AnswersQuery s (Lookup (ByHandle h) (Integer at)) out
-found-of_number s h its_at at a out not e o m = subst (λ (x : Answer). AnswersQuery s (Lookup (ByHandle h) (Integer at)) x)
-    (sym o) (looked-up s (ByHandle h) (Map I64 I64) (Integer at) a not
+found-of_number s h its_at at a out not e o m =
+    subst (λ (x : Answer). AnswersQuery s (Lookup (ByHandle h) (Integer at)) x) (sym o)
+    (looked-up s (ByHandle h) (Map I64 I64) (Integer at) a not
     (subst (λ (z : ℤ). AnswersQueryOfKind s (ByHandle h) (Map I64 I64) (Lookup (ByHandle h) (Integer z)) a) e m))
 
 pub returns-in-Ok-clause-read : goal.returns-in-Ok-clause-read

@@ -44,28 +44,6 @@ pub extern "C" fn zx_get(
         (answer_for result (element_in value.new))) }
     ensures outputs_on_error { 1 ≤ result → value.new ≡ value.old }
 {
-    let Some(handle) = key.as_handle() else {
-        return get_any(alloc, h, key, index, value);
-    };
-    let segment = passed!(take_at(alloc, h, handle));
-    let answer = segment.get_any(&PassedHandle { handle }, index);
-    element(answer, value, h, segment)
-}
-
-/// Returns the element at `index` in the object of a key, for any form of key.
-#[inline(never)]
-fn get_any(
-    alloc: Global,
-    h: &mut SegmentSlot,
-    key: &ObjectKey<'_>,
-    index: u64,
-    value: &mut CScalar,
-) -> u32
-    ensures call { AsksHandle (key_wrong key.now) result h.old h.new
-        (λ s t. AnswersWith s (λ d. scalar_reply s.mode d (key_of key.now) (Get (key_of key.now) index))
-        (answer_for result (element_in value.new))) }
-    ensures outputs_on_error { 1 ≤ result → value.new ≡ value.old }
-{
     let (which, segment) = passed!(enter(alloc, h, key));
     element(segment.get_any(&which, index), value, h, segment)
 }

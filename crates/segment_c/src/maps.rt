@@ -1,5 +1,6 @@
 //! Maps: values at keys, and neighbours.
 ghost use Rattle.std.specs.Prelude.{◌≡◌, ◌≤◌, IsTrue, Ok, OnErr, Some, option_map};
+ghost use Rattle.std.specs.declared.option.Option.TheVariants.{Some as Held};
 ghost use Rattle.seg_types.specs.Commands.{Integer, Lookup, Put, Remove};
 ghost use Rattle.seg_types.specs.{Keys.key_seen, Names.ByHandle, Written.literal_seen};
 ghost use Rattle.seg_types.specs.declared.kinds.{Kind.TheVariants.Map as MapOf, ScalarKind.TheVariants.I64};
@@ -79,7 +80,7 @@ fn number_found(
         (answer_for result (element_in value.new)) }
     ensures answer { IsTrue (is_answer result) }
     ensures unchanged_on_error { 1 ≤ result → value.new ≡ value.old }
-    ensures effect { h.new.segment.value ≡ Some segment.value }
+    ensures effect { h.new.segment.value ≡ Held segment.value }
     ensures marks { h.new.marks ≡ h.old.marks }
 {
     match number_at(&segment, handle, at) {
@@ -104,7 +105,7 @@ fn number_found_in_any(
         (answer_for result (element_in value.new)) }
     ensures answer { IsTrue (is_answer result) }
     ensures unchanged_on_error { 1 ≤ result → value.new ≡ value.old }
-    ensures effect { h.new.segment.value ≡ Some segment.value }
+    ensures effect { h.new.segment.value ≡ Held segment.value }
     ensures marks { h.new.marks ≡ h.old.marks }
 {
     let answer = segment_values::look_up(&segment, &Key::Handle(handle), &ScalarValue::I64(at));

@@ -12,7 +12,7 @@ use Rattle.segment_manager.specs.{Directory.Bytes, Plan.bare, objects.Found.is_o
 use Rattle.segment_manager.specs.{State.AnswersWith, State.IsSegment, State.SegmentState, Parts.parts_until}
 use Rattle.segment_manager.specs.declared.objects.object_ref.Object.{Object as Located}
 use Rattle.seg_types.specs.Texts.{class_text, name_text, quoted_text}
-use Rattle.segment_lang.specs.{Tokens.next_token, LineTokens.Bare}
+use Rattle.segment_lang.specs.{Tokens.next_token, Lexing.Bare}
 use Rattle.segment_dump.specs.{declared.building.ObjectLine.ObjectLine, Building.measure_tokens}
 use Rattle.segment_dump.specs.Building.{AreNew, IsRest, Site, count_class, has_item_key, head_tokens, item_key}
 use Rattle.segment_dump.specs.Filling.{IsByteList, FillState, FillsAt, IsBuildable, IsBuildableContent, IsCounted}

@@ -3,8 +3,8 @@ use Rattle.std.specs.Prelude.{◌≡◌, ◌≤◌, ℕ, List, [], ◌++◌, Opt
 use Rattle.std.specs.Borrow.{Bor}
 use Rattle.seg_types.specs.{declared.kinds.ScalarKind.ScalarKind, Values.scalar_of}
 use Rattle.seg_types.specs.declared.values.ScalarValue.{ScalarValue}
-use Rattle.segment_lang.specs.{Reading.value_for, Seen.token_of, Tokens.next_token, LineTokens.Token, LineTokens.Bare}
-use Rattle.segment_lang.specs.{LineTokens.Text}
+use Rattle.segment_lang.specs.{Reading.value_for, Seen.token_of, Tokens.next_token, Lexing.Token, Lexing.Bare}
+use Rattle.segment_lang.specs.{Lexing.Text}
 use Rattle.segment_lang.specs.declared.tokens.Token.{Token as Held}
 use Rattle.segment_dump.specs.Reads.{HasNoEnd, ended}
 

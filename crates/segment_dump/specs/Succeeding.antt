@@ -6,7 +6,7 @@ use Rattle.best_fit.specs.{Ends.EndsAt, Extents.free_bytes}
 use Rattle.raw_region.specs.Memory.{cut_at}
 use Rattle.seg_types.specs.declared.kinds.Class.{Class}
 use Rattle.seg_types.specs.declared.kinds.Class.TheVariants.{Anonymous, Named, Unique}
-use Rattle.segment_lang.specs.{Tokens.next_token, LineTokens.Bare}
+use Rattle.segment_lang.specs.{Tokens.next_token, Lexing.Bare}
 use Rattle.segment_manager.specs.{declared.modes.Mode.TheVariants.Write, Directory.Directory, Directory.empty}
 use Rattle.segment_manager.specs.{Directory.live, blocks.Resized.shrunk, State.SegmentState, State.DenotesCurrent}
 use Rattle.segment_dump.specs.{declared.counting.Count.Count, declared.counting.DumpPrefix.DumpPrefix}

@@ -25,7 +25,7 @@ use Rattle.segment_manager.specs.declared.modes.Mode.{Mode}
 use Rattle.segment_manager.specs.Answers.{Answer, Made, Refused}
 use Rattle.segment_manager.specs.Plan.{New, Plan, Refuse, Reply, Request, bare, class_of, met, name_of, perform}
 use Rattle.segment_manager.specs.Plan.{with_entry, with_new_object, with_owned_text, with_owned_texts}
-use Rattle.segment_manager.specs.Plan.{with_place, with_storage, with_value}
+use Rattle.segment_manager.specs.Plan.{with_spare_entry, with_storage, with_value}
 use Rattle.segment_manager.specs.Step.{effect, is_read_only, plan, step}
 use Rattle.segment_manager.specs.State.{SegmentState, TakesStep}
 use Rattle.segment_values.specs.Contents.{ValueContent, Scalars, Vector, String, Map, Strings, bytes_in, content_of}
@@ -59,7 +59,7 @@ if-ends P true p q x y = x
 if-ends P false p q x y = y
 
 place-ends : (P : Directory → Type 0) (t : BackingArray) (count : ℕ) (next : BackingArray → Plan)
-    → ((u : BackingArray) → AllEnds P (next u)) → AllEnds P (with_place t count next)
+    → ((u : BackingArray) → AllEnds P (next u)) → AllEnds P (with_spare_entry t count next)
 place-ends P t count next h = if-ends P (nat_lt count t.capacity) _ _ (h t) (λ x. h _)
 
 entry-ends : (P : Directory → Type 0) (d : Directory) (c : Class) (next : Directory → Plan)

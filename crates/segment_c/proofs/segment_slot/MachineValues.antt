@@ -43,7 +43,7 @@ LZ = heap_laws.the_row_laws
 
 -- the allocator
 abbrev pub al : Al
-al = record { series = Z; laws = LZ; g = ghosts; d = impl [] tnil dnil; drops = impl [] tnil dnil }
+al = record { row = Z; laws = LZ; g = ghosts; d = impl [] tnil dnil; drops = impl [] tnil dnil }
 
 -- a null pointer is a value of the handle
 pub null_good : (h : Val) → Good (layout Z) h → T (has_ty (layout Z) h && true) × WT (both (ptr_val null_ptr) h)

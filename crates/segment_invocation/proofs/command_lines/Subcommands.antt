@@ -7,7 +7,7 @@ use Rattle.std.proofs.lemmas.Bool.{and_parts}
 use Rattle.std.proofs.lemmas.List.{append_assoc}
 use Rattle.clap.proofs.OnLiterals.{clap_on_literals}
 use Rattle.clap.specs.Walk.{Held, Row, Text, Waiting, Walk, finished, idle, option as waits, nothing_held}
-use Rattle.clap.specs.Walk.{plain_argument}
+use Rattle.clap.specs.Walk.{plain_word}
 use Rattle.clap.specs.Walk.{rows_after, settled, walk_from, walked}
 use Rattle.clap.specs.Simple.{Shape, built_leaf, inherited}
 use Rattle.clap.specs.Takes.{default_passes, is_valid, level_passes, settle_passes, step_passes, turn_passes}
@@ -73,7 +73,7 @@ after_file s f = plain_step s.rules (walk_from nothing_held) f
 -- the word passes that is a value, or goes to its place
 abbrev IsTaken : Shape → Held → Waiting → ℕ → Text → Type 0
 IsTaken s h waiting position argument =
-    (let met = plain_argument s.rules waiting argument h in step_passes s position met.0 met.1) ≡ true
+    (let met = plain_word s.rules waiting argument h in step_passes s position met.0 met.1) ≡ true
 
 module _ (s : Shape) where
   walk-behind : (words : List Text) (w : Walk) (more : List Text)

@@ -117,11 +117,11 @@ module _ (s : SegmentState) (old mid new : WriterHistory) (prefix : List ℕ) (m
           let t = was.told d k in
           let line = listed_line prefix left name in
           let rest = listed prefix (left_after prefix left name) (drop (at + 1) (names_of d)) in
-          let prefix : Writes {A = Unit {0}} {E = E} old mid (Ok tt) t.said =
+          let before : Writes {A = Unit {0}} {E = E} old mid (Ok tt) t.said =
           record { ok = t.bytes; err = tt; counted = omega (arith, was.failures) } in
           subst (λ text. Writes old new result text)
           (ap (λ l. t.said ++ l) (sym (rest-here d k)) ∙ (t.rest ∙ listed-first prefix most (names_of d)))
-          (writes-then old mid new tt result t.said (line ++ rest) prefix (writes-cut mid new x result line rest h w));
+          (writes-then old mid new tt result t.said (line ++ rest) before (writes-cut mid new x result line rest h w));
       counted = omega (arith, w.counted, failures_in-err result h, was.failures);
     }
 

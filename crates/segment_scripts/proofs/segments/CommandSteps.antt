@@ -80,7 +80,7 @@ module _ (s : SegmentState) where
   reads c reply e says =
       let same = λ (d : Directory). step-reads s.mode d c e in
       record {
-        stays = record { mode = refl; state = record { before = refl; after = refl } };
+        stays = record { mode = refl; place = record { before = refl; after = refl } };
         answers = λ d h. ap (λ (x : Directory). answer_seen x reply) (same d) ∙ says d h;
         denotes = λ d h. subst (DenotesCurrent s.cut.bytes) (sym (same d)) h;
         reads = λ _. refl;

@@ -101,7 +101,7 @@ answered : (s : SegmentState) (c : Command) (asked : Reading) → is_changing c 
 answered s c asked r e =
     led s s c asked e
     (record {
-      stays = record { mode = refl; state = record { before = refl; after = refl } };
+      stays = record { mode = refl; place = record { before = refl; after = refl } };
       denotes = λ d st. subst (DenotesCurrent s.cut.bytes) (sym (step-reads s.mode d c r)) st;
       refused = λ _ _ _. refl;
     })

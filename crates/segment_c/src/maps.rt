@@ -185,7 +185,8 @@ fn put_pair(
 {
     match (at, value) {
         (ScalarValue::I64(number), ScalarValue::I64(new)) => {
-            put_numbers(segment, key, key, number, new)
+            let object = *key;
+            put_numbers(segment, &object, key, number, new)
         }
         _ => segment_values::put_pair(segment, key, &at, &value),
     }

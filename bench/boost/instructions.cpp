@@ -65,7 +65,9 @@ void must(zx_code code) {
 /// The calls of C on a vector and a map, which a key names.
 class InC {
   public:
-    explicit InC(zx_segment *segment, zx_key vector, zx_key map) : segment_(segment), vector_(vector), map_(map) {}
+    explicit InC(zx_segment *segment, zx_key vector, zx_key map) : segment_(segment), vector_(vector), map_(map) {
+        must(zx_look_up(segment_, &vector_, &object_));
+    }
 
     bool get(int i) {
         zx_value value;
@@ -78,6 +80,12 @@ class InC {
     bool push(int i) {
         const zx_value value = zx_i64(i);
         return zx_push(segment_, &vector_, &value) == ZX_DONE;
+    }
+    /// A read of an element by an object that was looked up, after a call that changed the segment.
+    bool push_and_get(int i) {
+        Number number;
+        return push(i) && zx_i64_at(segment_, &object_, static_cast<std::uint64_t>(i % ELEMENTS), &number) == ZX_DONE &&
+               number == i % ELEMENTS;
     }
     bool look_up(Number key) {
         const zx_value at = zx_i64(key);
@@ -98,6 +106,7 @@ class InC {
   private:
     zx_segment *segment_;
     zx_key vector_, map_;
+    zx_object object_{};
 };
 
 /// Fills a segment as the other side does, and returns the handles of the vector and of the maps.
@@ -132,6 +141,8 @@ void count_vectors(zaluxhoni::segment &segment, InC kept, InC named) {
     count("v.push_back(x)", "C++ by name", [&](int i) { return segment.vector<Number>("v").push_back(i), true; });
     count("v.push_back(x)", "C by handle", [&](int i) { return kept.push(i); });
     count("v.push_back(x)", "C by name", [&](int i) { return named.push(i); });
+    count("v.push_back(x) and v.get(i)", "C++ by handle", [&](int i) { return vector.push_back(i), vector.get(at(i)) == i % ELEMENTS; });
+    count("v.push_back(x) and v.get(i)", "C by handle", [&](int i) { return kept.push_and_get(i); });
 }
 
 void count_maps(zaluxhoni::segment &segment, InC kept, InC named, int pairs) {
@@ -199,6 +210,7 @@ void count_vectors(ipc::managed_mapped_file &segment) {
     });
     count("v.push_back(x)", "Boost by pointer", [&](int i) { return vector->push_back(i), true; });
     count("v.push_back(x)", "Boost by name", [&](int i) { return named().push_back(i), true; });
+    count("v.push_back(x) and v.get(i)", "Boost by pointer", [&](int i) { return vector->push_back(i), vector->at(at(i)) == i % ELEMENTS; });
 }
 
 void count_maps(ipc::managed_mapped_file &segment, int pairs) {

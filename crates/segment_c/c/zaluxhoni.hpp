@@ -876,7 +876,7 @@ template <class T> struct values {
     }
     static placed_spot located(const spot &of) noexcept {
         placed_spot found(of);
-        zx_elements there{};
+        zx_elements there; // the call fills it, if it is done
         if (of.code_of(zx_view, &there) == ZX_DONE && there.kind == stored<T>::kind &&
             there.count % stored<T>::width == 0) {
             found.at = const_cast<void *>(there.at);

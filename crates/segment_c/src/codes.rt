@@ -140,8 +140,8 @@ pub fn done(done: Result<(), Refusal>, h: &mut SegmentSlot, segment: Box<Segment
     ensures effect { h.new.segment.value ≡ Held segment.value }
     ensures marks { h.new.marks ≡ raised h.old.marks }
 {
-    put_changed(DONE, h, segment);
-    code_for!(done, () => {})
+    let code = code_for!(done, () => {});
+    put_changed(code, h, segment)
 }
 
 /// Returns the code of a call that makes an object. Its handle goes out.
@@ -157,8 +157,8 @@ pub fn made(
     ensures effect { h.new.segment.value ≡ Held segment.value }
     ensures marks { h.new.marks ≡ raised h.old.marks }
 {
-    put_changed(DONE, h, segment);
-    code_for!(made, at => *handle = at)
+    let code = code_for!(made, at => *handle = at);
+    put_changed(code, h, segment)
 }
 
 /// Returns the code of a test. Whether it holds goes out.
@@ -174,8 +174,8 @@ pub fn truth(
     ensures effect { h.new.segment.value ≡ Held segment.value }
     ensures marks { h.new.marks ≡ raised h.old.marks }
 {
-    put_changed(DONE, h, segment);
-    code_for!(truth, it => *holds = it)
+    let code = code_for!(truth, it => *holds = it);
+    put_changed(code, h, segment)
 }
 
 /// Returns the code of a call for an element. It goes out.
@@ -191,8 +191,8 @@ pub fn element(
     ensures effect { h.new.segment.value ≡ Held segment.value }
     ensures marks { h.new.marks ≡ h.old.marks }
 {
-    put(DONE, h, segment);
-    code_for!(element, it => *value = CScalar::of(it))
+    let code = code_for!(element, it => *value = CScalar::of(it));
+    put(code, h, segment)
 }
 
 /// Returns the code of a call that finds or makes an object. Its handle and how many elements it has go out.
@@ -209,8 +209,8 @@ pub fn found(
     ensures effect { h.new.segment.value ≡ Held segment.value }
     ensures marks { h.new.marks ≡ raised h.old.marks }
 {
-    put_changed(DONE, h, segment);
-    code_for!(found, (at, many) => { *handle = at; *count = many; })
+    let code = code_for!(found, (at, many) => { *handle = at; *count = many; });
+    put_changed(code, h, segment)
 }
 
 /// Returns the code of a search that may find nothing. If an object was found, its handle and its number of elements go
@@ -228,8 +228,8 @@ pub fn found_or_absent(
     ensures effect { h.new.segment.value ≡ Held segment.value }
     ensures marks { h.new.marks ≡ h.old.marks }
 {
-    put(DONE, h, segment);
-    code_for!(found, Some((at, many)) => { *handle = at; *count = many; })
+    let code = code_for!(found, Some((at, many)) => { *handle = at; *count = many; });
+    put(code, h, segment)
 }
 
 /// Returns the code of a look-up. The value goes out if it is there.
@@ -245,6 +245,6 @@ pub fn value_found(
     ensures effect { h.new.segment.value ≡ Held segment.value }
     ensures marks { h.new.marks ≡ h.old.marks }
 {
-    put(DONE, h, segment);
-    code_for!(found, Some(it) => *value = CScalar::of(it))
+    let code = code_for!(found, Some(it) => *value = CScalar::of(it));
+    put(code, h, segment)
 }

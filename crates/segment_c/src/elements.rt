@@ -1,10 +1,13 @@
 //! Elements of objects of scalars, of vectors and of strings.
-ghost use Rattle.std.specs.Prelude.{◌≡◌, ◌≤◌, OnErr};
+ghost use Rattle.std.specs.Prelude.{◌≡◌, ◌≤◌, IsTrue, OnErr};
+ghost use Rattle.std.specs.declared.option.Option.TheVariants.{Some as Held};
 ghost use Rattle.seg_types.specs.Commands.{Erase, Get, Insert, Integer, Pop, Push, Set};
 ghost use Rattle.seg_types.specs.{Keys.key_seen, Names.ByHandle, Written.literal_seen};
 ghost use Rattle.seg_types.specs.declared.kinds.Kind.TheVariants.{Strings as StringsKind, Vector as VectorOf};
 ghost use Rattle.segment_c.specs.Handles.{ChangesHandle, AsksHandle};
-ghost use Rattle.segment_c.specs.Codes.{answer_for};
+ghost use Rattle.segment_c.specs.Calls.{HoldsSegment};
+ghost use Rattle.segment_c.specs.Codes.{answer_for, is_answer};
+ghost use Rattle.segment_c.specs.Marked.{raised};
 ghost use Rattle.segment_c.specs.Passed.{element_in, key_of, key_wrong, literal_in, or_else, value_wrong};
 ghost use Rattle.segment_c.specs.Reads.{vector_kind, vector_kind_at};
 ghost use Rattle.segment_manager.specs.Answers.{Done, refusal_of};
@@ -18,7 +21,7 @@ ghost use Rattle.segment_values.specs.Changes.{command_at};
 use crate::calls::{enter, enter_with, passed, take_at};
 use crate::changes::{ObjectChange, make_change};
 use crate::codes::{done, element};
-use crate::keys::ObjectKey;
+use crate::keys::{ObjectKey, PassedHandle};
 use crate::segment_slot::SegmentSlot;
 use crate::values::CScalar;
 use seg_types::{Handle, Key, Kind, Refusal, ScalarKind, ScalarValue, by_kind};
@@ -76,8 +79,8 @@ pub extern "C" fn zx_push(
     let (Some(handle), Some(number)) = (key.as_handle(), value.as_i64()) else {
         return push_any(alloc, h, key, value);
     };
-    let mut segment = passed!(take_at(alloc, h, handle));
-    done(push_number(&mut segment, handle, number), h, segment)
+    let segment = passed!(take_at(alloc, h, handle));
+    number_pushed(h, segment, handle, number)
 }
 
 /// Puts a value after the last element of the vector of a key, for any form of key and any value.
@@ -90,25 +93,39 @@ fn push_any(alloc: Global, h: &mut SegmentSlot, key: &ObjectKey<'_>, value: &CSc
     done(push(&mut segment, &which, new), h, segment)
 }
 
-/// Puts a number after the last element of the vector of a handle in a segment. It looks the vector up once if that is
-/// of `i64`.
+/// Puts a number after the last element of the vector of a handle, and answers so. It looks the vector up once if that
+/// is of `i64`.
 #[inline(always)]
-fn push_number(segment: &mut Segment, handle: Handle, number: i64) -> Result<(), Refusal>
-    ensures step { TakesStep segment.old segment.new (Push (ByHandle handle) (Integer number)) (done_answer result) }
-    ensures refused { OnErr result (segment.new ≡ segment.old) }
+fn number_pushed(h: &mut SegmentSlot, segment: Box<Segment>, handle: Handle, number: i64) -> u32
+    ensures step { HoldsSegment h.new.segment.value (λ t. TakesStep segment.value t
+        (Push (ByHandle handle) (Integer number)) (answer_for result Done)) }
+    ensures answer { IsTrue (is_answer result) }
+    ensures unchanged_on_error { 1 ≤ result → h.new.segment.value ≡ Held segment.value }
+    ensures marks { h.new.marks ≡ raised h.old.marks }
 {
-    match segment.vec_push::<i64, Key>(&Key::Handle(handle), number) {
-        Ok(()) => Ok(()),
+    let mut segment = segment;
+    match segment.vec_push(&PassedHandle { handle }, number) {
+        Ok(()) => done(Ok(()), h, segment),
         Err(refusal) => match refusal {
-            Refusal::WrongKind => add(
-                segment,
-                &Key::Handle(handle),
-                InsertSpot::End,
-                ScalarValue::I64(number),
-            ),
-            _ => Err(refusal),
+            Refusal::WrongKind => number_added(h, segment, handle, number),
+            _ => done(Err(refusal), h, segment),
         },
     }
+}
+
+/// Puts a number after the last element of the vector of a handle, of whatever kind, and answers so.
+#[inline(never)]
+fn number_added(h: &mut SegmentSlot, segment: Box<Segment>, handle: Handle, number: i64) -> u32
+    ensures step { HoldsSegment h.new.segment.value (λ t. TakesStep segment.value t
+        (Push (ByHandle handle) (Integer number)) (answer_for result Done)) }
+    ensures answer { IsTrue (is_answer result) }
+    ensures unchanged_on_error { 1 ≤ result → h.new.segment.value ≡ Held segment.value }
+    ensures marks { h.new.marks ≡ raised h.old.marks }
+{
+    let mut segment = segment;
+    let value = ScalarValue::I64(number);
+    let answer = add(&mut segment, &Key::Handle(handle), InsertSpot::End, value);
+    done(answer, h, segment)
 }
 
 /// Puts a value after the last element of the vector of a key in a segment. It looks the vector up once if that is of

@@ -1,5 +1,5 @@
 //! The keys that C passes.
-ghost use Rattle.std.specs.Prelude.{◌≡◌, ◌≢◌, ◌≤◌, IfSome, MatchResult};
+ghost use Rattle.std.specs.Prelude.{◌≡◌, ◌≢◌, ◌≤◌, ⊤, IfSome, MatchResult};
 ghost use Rattle.seg_types.specs.Keys.{index_key_seen, key_seen};
 ghost use Rattle.seg_types.specs.Names.{ByHandle, NoKey};
 ghost use Rattle.segment_c.specs.Passed.{entry_of, entry_wrong, key_of, key_wrong};
@@ -7,6 +7,8 @@ ghost use Rattle.segment_manager.specs.objects.NewObjects.{IsOfKind};
 
 use crate::codes::{BAD_KEY, BAD_KIND, BAD_NAME, NULL_SLICE};
 use seg_types::{Handle, IndexKey, Key, Kind, Name};
+use segment_manager::unchecked::object_here;
+use segment_manager::{Object, ObjectRef, Segment};
 
 /// Which object, by `how`. It is the one of the name (0), the unique one of the kind (1), the one of the handle (2), or
 /// a new one with no key (3). 4 stands for a null name.
@@ -76,6 +78,29 @@ impl<'a> ObjectKey<'a> {
             }
             4 => Err(NULL_SLICE),
             _ => Err(BAD_KEY),
+        }
+    }
+}
+
+/// A handle that C passes, which can be any number. A call on its object is compiled for handles alone.
+#[derive(Clone, Copy)]
+pub struct PassedHandle {
+    /// The handle.
+    pub handle: Handle,
+}
+
+impl ObjectRef for PassedHandle {
+    ghost key = { λ passed. ByHandle passed.handle };
+
+    // It can be used in each segment.
+    ghost stands = { λ passed s. ⊤ };
+
+    #[inline(always)]
+    fn find(&self, segment: &Segment) -> Option<Object> {
+        if segment.is_object_handle(self.handle) {
+            Some(object_here(segment, self.handle))
+        } else {
+            None
         }
     }
 }

@@ -1,10 +1,11 @@
 //! Maps: values at keys, and neighbours.
-ghost use Rattle.std.specs.Prelude.{◌≡◌, ◌≤◌, Ok, OnErr, Some, option_map};
+ghost use Rattle.std.specs.Prelude.{◌≡◌, ◌≤◌, IsTrue, Ok, OnErr, Some, option_map};
+ghost use Rattle.std.specs.declared.option.Option.TheVariants.{Some as Held};
 ghost use Rattle.seg_types.specs.Commands.{Integer, Lookup, Put, Remove};
 ghost use Rattle.seg_types.specs.{Keys.key_seen, Names.ByHandle, Written.literal_seen};
 ghost use Rattle.seg_types.specs.declared.kinds.{Kind.TheVariants.Map as MapOf, ScalarKind.TheVariants.I64};
 ghost use Rattle.segment_c.specs.{Calls.ReachesSegment, Handles.ChangesHandle, Handles.AsksHandle, Handles.ReadsHandle};
-ghost use Rattle.segment_c.specs.Codes.{answer_for};
+ghost use Rattle.segment_c.specs.Codes.{answer_for, is_answer};
 ghost use Rattle.segment_c.specs.Passed.{element_in, key_of, key_wrong, literal_in, or_else, value_wrong};
 ghost use Rattle.segment_c.specs.Reads.{TellsPair, TellsPairOf, first_at, next_at};
 ghost use Rattle.segment_manager.specs.Answers.{Boolean};
@@ -17,13 +18,13 @@ ghost use Rattle.segment_values.specs.Absent.{LacksLiteral};
 
 use crate::calls::{enter, enter_pair, enter_with, passed, take_at};
 use crate::codes::{ABSENT, DONE, NOT_FOUND, WRONG_KIND, code_of, truth, value_found};
-use crate::keys::ObjectKey;
+use crate::keys::{ObjectKey, PassedHandle};
 use crate::segment_slot::{SegmentSlot, put};
 use crate::values::CScalar;
 use seg_types::theorems::holds_value;
 use seg_types::{Handle, Key, Kind, Refusal, ScalarValue, WrittenValue};
 use segment_manager::unchecked::{first_pair, next_pair};
-use segment_manager::{Segment, locate};
+use segment_manager::{ObjectRef, Segment, locate};
 use std::alloc::Global;
 
 /// Returns the value at a key of the map of a key.
@@ -44,8 +45,7 @@ pub extern "C" fn zx_map_get(
         return get_any(alloc, h, key, at, value);
     };
     let segment = passed!(take_at(alloc, h, handle));
-    let answer = look_up_number(&segment, &Key::Handle(handle), number);
-    value_found(answer, value, h, segment)
+    number_found(h, segment, handle, number, value)
 }
 
 /// Returns the value at a key of the map of a key, for any form of key and any value.
@@ -67,28 +67,58 @@ fn get_any(
     value_found(answer, value, h, segment)
 }
 
-/// Returns the value of a number in the map of a key in a segment. It looks the map up once if that is from `i64` to
-/// `i64`.
+/// Answers the value of a number in the map of a handle. It looks the map up once if that is from `i64` to `i64`.
 #[inline(always)]
-fn look_up_number(segment: &Segment, key: &Key, at: i64) -> Result<Option<ScalarValue>, Refusal>
-    ensures { AnswersQuery segment.now (Lookup (key_seen key.now) (Integer at)) (any_value_answer result) }
+fn number_found(
+    h: &mut SegmentSlot,
+    segment: Box<Segment>,
+    handle: Handle,
+    at: i64,
+    value: &mut CScalar,
+) -> u32
+    ensures read { AnswersQuery segment.value (Lookup (ByHandle handle) (Integer at))
+        (answer_for result (element_in value.new)) }
+    ensures answer { IsTrue (is_answer result) }
+    ensures unchanged_on_error { 1 ≤ result → value.new ≡ value.old }
+    ensures effect { h.new.segment.value ≡ Held segment.value }
+    ensures marks { h.new.marks ≡ h.old.marks }
 {
-    match number_at(segment, key, at) {
-        Ok(value) => Ok(value),
+    match number_at(&segment, handle, at) {
+        Ok(found) => value_found(Ok(found), value, h, segment),
         Err(why) => match why {
-            Refusal::WrongKind => { segment_values::look_up(segment, key, &ScalarValue::I64(at)) }
-            _ => Err(why),
+            Refusal::WrongKind => number_found_in_any(h, segment, handle, at, value),
+            _ => value_found(Err(why), value, h, segment),
         },
     }
 }
 
+/// Answers the value of a number in the map of a handle, of whatever kinds.
+#[inline(never)]
+fn number_found_in_any(
+    h: &mut SegmentSlot,
+    segment: Box<Segment>,
+    handle: Handle,
+    at: i64,
+    value: &mut CScalar,
+) -> u32
+    ensures read { AnswersQuery segment.value (Lookup (ByHandle handle) (Integer at))
+        (answer_for result (element_in value.new)) }
+    ensures answer { IsTrue (is_answer result) }
+    ensures unchanged_on_error { 1 ≤ result → value.new ≡ value.old }
+    ensures effect { h.new.segment.value ≡ Held segment.value }
+    ensures marks { h.new.marks ≡ h.old.marks }
+{
+    let answer = segment_values::look_up(&segment, &Key::Handle(handle), &ScalarValue::I64(at));
+    value_found(answer, value, h, segment)
+}
+
 /// Returns the value of a number in a map from `i64` to `i64`.
 #[inline(always)]
-fn number_at(segment: &Segment, key: &Key, at: i64) -> Result<Option<ScalarValue>, Refusal>
-    ensures { AnswersQueryOfKind segment.now (key_seen key.now) (MapOf I64 I64) (Lookup (key_seen key.now) (Integer at))
+fn number_at(segment: &Segment, handle: Handle, at: i64) -> Result<Option<ScalarValue>, Refusal>
+    ensures { AnswersQueryOfKind segment.now (ByHandle handle) (MapOf I64 I64) (Lookup (ByHandle handle) (Integer at))
         (any_value_answer result) }
 {
-    match segment.map_get::<i64, i64, Key>(key, at) {
+    match segment.map_get::<i64, i64, PassedHandle>(&PassedHandle { handle }, at) {
         Ok(None) => Ok(None),
         Ok(Some(value)) => Ok(Some(ScalarValue::I64(value))),
         Err(why) => Err(why),
@@ -116,7 +146,8 @@ pub extern "C" fn zx_map_put(
         return put_any(alloc, h, key, at, value, is_new);
     };
     let mut segment = passed!(take_at(alloc, h, handle));
-    let answer = put_numbers(&mut segment, &Key::Handle(handle), number, new);
+    let (object, key) = (PassedHandle { handle }, Key::Handle(handle));
+    let answer = put_numbers(&mut segment, &object, &key, number, new);
     truth(answer, is_new, h, segment)
 }
 
@@ -153,20 +184,31 @@ fn put_pair(
     ensures refused { OnErr result (segment.new ≡ segment.old) }
 {
     match (at, value) {
-        (ScalarValue::I64(number), ScalarValue::I64(new)) => put_numbers(segment, key, number, new),
+        (ScalarValue::I64(number), ScalarValue::I64(new)) => {
+            let object = *key;
+            put_numbers(segment, &object, key, number, new)
+        }
         _ => segment_values::put_pair(segment, key, &at, &value),
     }
 }
 
 /// Puts a number at a number in the map of a key in a segment, and returns true if that is new. It looks the map up
-/// once if that is from `i64` to `i64`.
+/// once, as `object`, if that is from `i64` to `i64`.
 #[inline(always)]
-fn put_numbers(segment: &mut Segment, key: &Key, at: i64, value: i64) -> Result<bool, Refusal>
+fn put_numbers<O: ObjectRef>(
+    segment: &mut Segment,
+    object: &O,
+    key: &Key,
+    at: i64,
+    value: i64,
+) -> Result<bool, Refusal>
+    requires target { O.stands object.now segment.old }
+    requires key { O.key object.now ≡ key_seen key.now }
     ensures step { TakesStep segment.old segment.new (Put (key_seen key.now) (Integer at) (Integer value))
         (truth_answer result) }
     ensures refused { OnErr result (segment.new ≡ segment.old) }
 {
-    match segment.map_put::<i64, i64, Key>(key, at, value) {
+    match segment.map_put::<i64, i64, O>(object, at, value) {
         Ok(is_new) => Ok(is_new),
         Err(refusal) => match refusal {
             Refusal::WrongKind => {

@@ -11,12 +11,12 @@ ghost use Rattle.segment_manager.specs.Directory.{Directory};
 ghost use Rattle.segment_manager.specs.State.{DenotesCurrent};
 ghost use Rattle.segment_manager.specs.containers.ElementRuns.{run_at};
 
-use crate::calls::{enter, passed};
+use crate::calls::{enter, passed, take_at};
 use crate::codes::{DONE, READ_ONLY, code_of};
-use crate::keys::ObjectKey;
+use crate::keys::{ObjectKey, PassedHandle};
 use crate::segment_slot::{SegmentSlot, put};
 use seg_types::Key;
-use segment_manager::{Mode, Segment};
+use segment_manager::{Mode, ObjectRef, Segment};
 use std::alloc::Global;
 
 /// Elements that stand one after another. The fields say where the first stands, its offset in the segment, how many
@@ -52,12 +52,27 @@ pub extern "C" fn zx_view(
     ensures current { result ≡ 0 → view.new.changes ≡ h.old.marks.changes }
     ensures outputs_on_error { 1 ≤ result → view.new ≡ view.old }
 {
+    let Some(handle) = key.as_handle() else {
+        return view_any(alloc, h, key, view);
+    };
+    let segment = passed!(take_at(alloc, h, handle));
+    let code = fill_view(&segment, &PassedHandle { handle }, h.marks.changes, view);
+    put(code, h, segment)
+}
+
+/// Says where the elements of the object of a key stand, for any form of key.
+#[inline(always)]
+fn view_any(alloc: Global, h: &mut SegmentSlot, key: &ObjectKey<'_>, view: &mut CView) -> u32
+    ensures read { ReadsHandle (key_wrong key.now) result h.old h.new
+        (λ s. (d : Directory) → DenotesCurrent s.cut.bytes d
+        → IsCoded (IsView view.new) result (run_at d (key_of key.now))) }
+    ensures bytes { result ≡ 0 → HoldsSegment h.old.segment.value (λ s. HasView s (key_of key.now) view.new) }
+    ensures current { result ≡ 0 → view.new.changes ≡ h.old.marks.changes }
+    ensures outputs_on_error { 1 ≤ result → view.new ≡ view.old }
+{
     let (which, segment) = passed!(enter(alloc, h, key));
-    put(
-        fill_view(&segment, &which, h.marks.changes, view),
-        h,
-        segment,
-    )
+    let code = fill_view(&segment, &which, h.marks.changes, view);
+    put(code, h, segment)
 }
 
 /// Says where the elements of the object of a key stand, for C to write there; the handle notes it.
@@ -99,10 +114,11 @@ fn fill_view_mut(segment: &Segment, key: &Key, changes: u64, view: &mut CView) -
 }
 
 /// Returns where the elements of an object of a segment stand.
-fn fill_view(segment: &Segment, key: &Key, changes: u64, view: &mut CView) -> u32
+fn fill_view<O: ObjectRef>(segment: &Segment, key: &O, changes: u64, view: &mut CView) -> u32
+    requires { O.stands key.now segment.now }
     ensures read { (d : Directory) → DenotesCurrent segment.now.cut.bytes d
-        → IsCoded (IsView view.new) result (run_at d (key_seen key.now)) }
-    ensures bytes { result ≡ 0 → HasView segment.now (key_seen key.now) view.new }
+        → IsCoded (IsView view.new) result (run_at d (O.key key.now)) }
+    ensures bytes { result ≡ 0 → HasView segment.now (O.key key.now) view.new }
     ensures current { result ≡ 0 → view.new.changes ≡ changes }
     ensures unchanged_on_error { 1 ≤ result → view.new ≡ view.old }
 {

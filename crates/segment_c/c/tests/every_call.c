@@ -934,6 +934,80 @@ static void looked_up_once(void) {
     IS(zx_bool_at(&s, &truths, 0, &truth), ZX_CLOSED);
 }
 
+/* What was looked up is found again after each kind of change, or the read says why not. */
+static void looked_up_again(void) {
+    static uint8_t image[1024];
+    const int64_t first[] = { 1, 2, 3 }, second[] = { -1, -2, -3 };
+    const int32_t third[] = { 1, 2, 3, 4, 5, 6 };
+    zx_segment s = ZX_CLOSED_HANDLE, before = ZX_CLOSED_HANDLE;
+    zx_key a = zx_name("a"), b = zx_name("b"), other = zx_name("v");
+    zx_value five = zx_i64(5), six = zx_i64(6);
+    zx_values row = zx_i64s(first, 3), none = zx_i64s(first, 0);
+    zx_object object;
+    int64_t number = 0;
+    bool was_there;
+    uint64_t handle, again;
+    DONE(zx_create(&s, 1024));
+    DONE(zx_construct_vector(&s, &other, &none, &handle));
+    DONE(zx_construct_array(&s, &a, &row, &handle));
+    DONE(zx_look_up(&s, &a, &object));
+
+    /* a save changes nothing */
+    DONE(zx_save(&s, image, sizeof image));
+    IS(zx_is_current(&s, &object.there), true);
+    DONE(zx_i64_at(&s, &object, 0, &number));
+    IS(number, 1);
+
+    /* a change of the element, of another object, and of the segment's length */
+    DONE(zx_set(&s, &a, 0, &five));
+    IS(zx_is_current(&s, &object.there), false);
+    DONE(zx_i64_at(&s, &object, 0, &number));
+    IS(number, 5);
+    DONE(zx_push(&s, &other, &six));
+    IS(zx_is_current(&s, &object.there), false);
+    DONE(zx_i64_at(&s, &object, 2, &number));
+    IS(number, 3);
+    DONE(zx_grow(&s, 4096));
+    IS(zx_is_current(&s, &object.there), false);
+    DONE(zx_i64_at(&s, &object, 0, &number));
+    IS(number, 5);
+
+    /* what a transaction changed and destroyed is back after it */
+    DONE(zx_begin(&s, &before));
+    DONE(zx_set(&s, &a, 0, &six));
+    DONE(zx_i64_at(&s, &object, 0, &number));
+    IS(number, 6);
+    DONE(zx_destroy(&s, &a, &was_there));
+    number = 0;
+    IS(zx_i64_at(&s, &object, 0, &number), ZX_NOT_FOUND);
+    IS(number, 0);
+    DONE(zx_rollback(&s, &before));
+    DONE(zx_i64_at(&s, &object, 0, &number));
+    IS(number, 5);
+
+    /* another object with the handle: of the kind, and of another one */
+    DONE(zx_destroy(&s, &a, &was_there));
+    row = zx_i64s(second, 3);
+    DONE(zx_construct_array(&s, &b, &row, &again));
+    IS(again, handle);
+    DONE(zx_i64_at(&s, &object, 0, &number));
+    IS(number, -1);
+    DONE(zx_destroy(&s, &b, &was_there));
+    row = zx_i32s(third, 6);
+    DONE(zx_construct_array(&s, &b, &row, &again));
+    IS(again, handle);
+    IS(zx_i64_at(&s, &object, 0, &number), ZX_WRONG_KIND);
+    IS(number, -1);
+
+    /* a closed handle, and another segment in it */
+    zx_close(&s);
+    IS(zx_i64_at(&s, &object, 0, &number), ZX_CLOSED);
+    DONE(zx_open(&s, image, sizeof image, sizeof image, ZX_READ));
+    DONE(zx_i64_at(&s, &object, 0, &number));
+    IS(number, 1);
+    zx_close(&s);
+}
+
 /* Several calls as one. */
 static void transactions(void) {
     static uint8_t image[1024], again[1024];
@@ -1532,6 +1606,7 @@ int main(int count, char **arguments) {
     in_lent_memory();
     views();
     looked_up_once();
+    looked_up_again();
     transactions();
     names_from();
     what_is_no_image();

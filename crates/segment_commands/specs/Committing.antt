@@ -8,7 +8,6 @@ use Rattle.segment_log.specs.Events.{LogEvent}
 use Rattle.segment_cli.specs.declared.faults.Start.TheVariants.{Image}
 use Rattle.segment_cli.specs.declared.faults.SessionFault.{SessionFault}
 use Rattle.segment_cli.specs.declared.faults.SessionFault.TheVariants.{WriteFault}
-use Rattle.segment_disk.specs.declared.presence.Presence.{Presence}
 use Rattle.segment_disk.specs.declared.presence.Presence.TheVariants.{Absent}
 use Rattle.segment_disk.specs.Events.{Event, After, Truncate}
 use Rattle.segment_file.specs.declared.committing.CommitFault.{CommitFault}
@@ -22,7 +21,6 @@ use Rattle.segment_commands.specs.declared.command_faults.CommandFault.{CommandF
 use Rattle.segment_commands.specs.declared.running.RunRequest.{RunRequest}
 use Rattle.segment_commands.specs.Holding.{HoldsLock}
 use Rattle.segment_commands.specs.Modes.{RefusesMissingSize}
-use Rattle.segment_commands.specs.Opening.{OpensFile}
 use Rattle.segment_commands.specs.Running.{Act, EndsRunLost, EndsRunRefused, EndsRunStopped, FailsScript, IsAnswerOf}
 use Rattle.segment_commands.specs.Running.{IsRunBehind, IsUnrefusedAct, Ran, RunsMade, RunsOpenedErr}
 

@@ -1,5 +1,5 @@
 -- A run goes on from the segment that a file was opened with, or that was made.
-use Rattle.std.proofs.Common.{◌≡◌, ◌≢◌, ℕ, Bool, refl, sym, ap, subst, ◌∙◌, inl, inr, List, length, Result, Ok, Err}
+use Rattle.std.proofs.Common.{◌≡◌, ◌≢◌, ℕ, Bool, refl, sym, ap, subst, ◌∙◌, inl, inr, length, Result, Ok, Err}
 use Rattle.raw_region.specs.Device.{ReaderHistory, ReadDelta, WriterHistory, read_delta, write_delta}
 use Rattle.segment_manager.specs.declared.modes.Mode.{Mode}
 use Rattle.segment_manager.specs.declared.modes.Mode.TheVariants.{Write, ReadOnly, CopyOnWrite}

@@ -22,9 +22,10 @@ module _ (s : SegmentState) (at most : ℕ) where
       → (d : Directory) → DenotesCurrent s.cut.bytes d → false ≡ nat_lt most (length d.objects)
   no_more h e d stands = let end = h d stands in grind (arith, nat_tests)
 
--- a number is above another, or not, as a test of the two tells
+-- more than 10000, as a test tells
 pub are_many : (n : ℕ) → true ≡ nat_lt 10000 n → 10000 < n
 are_many n e = grind (arith, nat_tests)
 
+-- no more than 10000, as a test tells
 pub are_few : (n : ℕ) → false ≡ nat_lt 10000 n → n ≤ 10000
 are_few n e = grind (arith, nat_tests)

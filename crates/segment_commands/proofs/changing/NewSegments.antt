@@ -1,5 +1,5 @@
 -- A new segment of a legal size is made, in a region that has room for it.
-use Rattle.std.proofs.Common.{◌≡◌, ◌≤◌, ℕ, false, Err, IsTrue, subst, min, arith}
+use Rattle.std.proofs.Common.{◌≡◌, ◌≤◌, ℕ, Err, IsTrue, subst, min, arith}
 use Rattle.std.proofs.lemmas.Bool.{false≢true}
 use Rattle.raw_region.specs.Device.{ReadDelta}
 use Rattle.block_tags.specs.Format.{is_legal_size}

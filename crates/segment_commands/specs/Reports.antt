@@ -1,5 +1,5 @@
 -- What the program says of a fault, and the status that it ends with.
-use Rattle.std.specs.Prelude.{◌≡◌, ◌⊎◌, ◌∷◌, ◌+◌, ◌++◌, ⊤, ℕ, List, [], codes, decimal, Option, Some, None}
+use Rattle.std.specs.Prelude.{◌++◌, ℕ, List, [], codes, decimal, Option, Some, None}
 use Rattle.segment_dump.specs.declared.faults.BadDump.{BadDump as Bad}
 use Rattle.segment_dump.specs.declared.faults.DumpFault.{DumpFault}
 use Rattle.segment_dump.specs.declared.faults.DumpFault.TheVariants as dump

@@ -1,5 +1,5 @@
 //! The command that writes what is right of a damaged image as a dump.
-ghost use Rattle.std.specs.Prelude.{◌≡◌, ◌^◌, ◌-◌, ◌<◌, MatchResult, Some, None, flat_map, true};
+ghost use Rattle.std.specs.Prelude.{◌≡◌, ◌^◌, ◌-◌, ◌<◌, MatchResult, Ok, Err, Some, None, flat_map, true};
 ghost use Rattle.raw_region.specs.Device.{Writes};
 ghost use Rattle.block_tags.specs.Format.{is_legal_size};
 ghost use Rattle.segment_lang.specs.Pieces.{piece_text};
@@ -43,7 +43,8 @@ fn roomy_size(len: u64) -> u64
 
 /// Returns the bytes that a file has, which is opened for reading and closed.
 fn read_file<D: Disk>(alloc: Global, disk: &mut D, path: &str) -> Result<Vec<u8>, SessionFault>
-    ensures { ReadsFile D.step disk.old disk.new path.now result }
+    ensures { MatchResult result (λ image. ReadsFile D.step disk.old disk.new path.now (Ok image.items))
+        (λ fault. ReadsFile D.step disk.old disk.new path.now (Err fault)) }
 {
     let opened = match disk.open(path) {
         Ok(opened) => opened,

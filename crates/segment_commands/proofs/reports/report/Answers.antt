@@ -1,4 +1,4 @@
-use Rattle.std.proofs.Common.{◌≡◌, List, ℕ, Result, Ok, Err, inl, inr, sym, subst, arith}
+use Rattle.std.proofs.Common.{List, ℕ, Result, Ok, Err, inl, inr, sym, subst, arith}
 use Rattle.raw_region.specs.Device.{WriterHistory, Writes}
 use Rattle.segment_cli.specs.Reports.{WritesText}
 use Rattle.segment_commands.specs.declared.command_faults.CommandFault.{CommandFault}

@@ -1,6 +1,5 @@
-use Rattle.std.proofs.Common.{◌++◌, [], codes, decimal, flat_map, length}
 use Rattle.raw_region.proofs.Laws.{writes-cut, writes-then}
-use Rattle.segment_commands.specs.Salvaging.{count_line, loss_line}
+use Rattle.segment_commands.specs.Salvaging.{count_line}
 use Rattle.segment_commands.proofs.salvaging.put_all_losses.Goals as goal
 
 pub returns-in_err-put_losses : goal.returns-in_err-put_losses

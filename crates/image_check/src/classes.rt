@@ -8,7 +8,8 @@ use thiserror::Error;
 /// The reason why bytes are not the image of a directory, in the order in which the check looks for them.
 #[derive(Clone, Copy, Debug, PartialEq, Eq, Error)]
 pub enum ImageClass {
-    /// There are fewer than 144 bytes, the least size of a segment, or fewer than the header's size.
+    /// There are fewer than 144 bytes, the least size of a segment, or the first 24 are right and there are fewer than
+    /// their size.
     Truncated,
     /// The first eight bytes are not `MSEGFILE`.
     BadMagic,

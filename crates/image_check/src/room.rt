@@ -7,9 +7,8 @@ use crate::rows::Row;
 use indexmap::IndexMap;
 use std::alloc::{AllocError, Global};
 
-/// The error of the allocation for the blocks of an image. Its private field means that only `table_for` makes it,
-/// after
-/// a refusal.
+/// The error of the allocation for the blocks of an image. Its field is private, so only `table_for` makes it, after a
+/// refusal.
 #[derive(Clone, Copy, Debug, PartialEq, Eq)]
 pub struct NoBlockMemory {
     /// The number of blocks of the request.

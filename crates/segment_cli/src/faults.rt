@@ -33,7 +33,7 @@ pub enum SessionFault {
     /// The region ends before base plus size.
     #[error("region too small")]
     RegionTooSmall,
-    /// Memory was refused. A session and a migration ask for that of the check of an image alone.
+    /// Memory for the check of an image was refused.
     #[error("{0}")]
     OutOfMemory(MemoryFault),
     /// A reader failed.

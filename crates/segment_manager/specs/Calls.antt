@@ -79,7 +79,7 @@ pub record IsTileOfIndex (s : SegmentState) (index : ℕ) (result : Option Tile)
   pub tile : result ≡ slice_get (tiles_of (bytes_of s.cut.bytes) (length s.cut.bytes)) index
   pub span : AnswersWith s (λ d. slice_get (spans (live d)) index) (option_map span_of result)
 
--- the free bytes of all gaps are 0
+-- in each gap all bytes after its tag and its links are 0
 pub record HasZeroGaps (s : SegmentState) : Type 0 where
   pub zeros : (d : Directory) → DenotesCurrent s.cut.bytes d
       → AllByRecursion (λ (g : Gap). AreZero (bytes_of s.cut.bytes) (g.offset + gap_head current) (g.offset + g.len))

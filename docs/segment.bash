@@ -24,7 +24,7 @@ _segment() {
         --size | --wait | --prefix | --most) return ;;
     esac
     case ${COMP_WORDS[1]} in
-        run) options='-c -r --mode --read-only --size --replace --strict --fail --numbered --wait' more=2 ;;
+        run) options='-c -r --mode --read-only --size --replace --commit --strict --fail --numbered --wait' more=2 ;;
         check) options='--explain --quiet --wait' more=99 ;;
         create) options='--replace' more=1 ;;
         grow) options='--replace --wait' more=1 ;;

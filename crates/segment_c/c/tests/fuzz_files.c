@@ -186,6 +186,7 @@ struct model {
     ino_t inode;     /* of its file, as far as this knows */
     int64_t number;  /* in memory */
     bool is_mapped, is_written;
+    bool is_unsure;  /* whether others acted as the inode was noted, which may be of their file */
     zx_step step;    /* a transaction, if one is open */
     bool is_in_step;
     int64_t number_before;
@@ -340,6 +341,7 @@ static bool is_done(zx_code code) { return code == ZX_DONE || code == ZX_FILE_UN
 static void note_inode(struct model *of) {
     struct stat found;
     of->inode = (stat)(paths[of->name], &found) == 0 ? found.st_ino : 0;
+    of->is_unsure = is_disturbed;
 }
 
 /* Returns true if its name leads to the file that it has; a mapped file keeps its bytes under any name. */
@@ -381,7 +383,7 @@ static void save_one(struct model *of, bool closes) {
     fails_at = fails, acts_at = acts, calls = 0;
     zx_code code = closes ? zx_file_close(&of->file) : zx_file_save(&of->file);
     bool is_saved = was_open && of->is_written && is_done(code);
-    bool is_certain = was_open && of->is_written && !is_disturbed;
+    bool is_certain = was_open && of->is_written && !is_disturbed && !of->is_unsure;
     if (is_certain && is_done(code) != was_home) fail("home and code differ", (int)code);
     check(before, of->name, of->number, was_open && of->is_written, is_saved, of->is_mapped);
     if (is_saved && !closes && !of->is_mapped) note_inode(of);

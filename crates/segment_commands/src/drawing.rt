@@ -31,12 +31,12 @@ fn has_more_objects(segment: &Segment, most: u64) -> bool
     false
 }
 
-/// Says what is told of the segment in a file, as [`tell_segment`](crate::tell_segment) does, if it has at most 10000
-/// objects: a picture or a page of more is larger than people can use.
+/// Reports on the segment in a file, as [`tell_segment`](crate::tell_segment) does, if it has at most 10000 objects.
+/// People cannot use a larger picture or page.
 ///
 /// # Errors
 ///
-/// `TooManyObjects` if the segment has more objects; nothing is written then. Otherwise those of
+/// `TooManyObjects`, with nothing written, if the segment has more objects. Otherwise the errors of
 /// [`check`](crate::check).
 pub fn tell_few<D: Disk, O: Output>(
     alloc: Global,

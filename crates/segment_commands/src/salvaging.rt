@@ -29,7 +29,7 @@ const LARGEST: u64 = 67108864;
 /// The length of an object's head without its name.
 const HEAD_LEN: u64 = 16;
 
-/// What a segment has beside its objects, at least, in units of 16.
+/// What a fresh segment gets beyond twice the length of the image, in units of 16 bytes.
 const SPARE: u64 = 256;
 
 /// Returns how many bytes the segment of the objects of an image of this length has: twice as many, since objects may
@@ -41,7 +41,7 @@ fn roomy_size(len: u64) -> u64
     (len / 16 * 2 + SPARE).min(LARGEST) * 16
 }
 
-/// Returns the bytes that a file has, which is opened for reading and closed.
+/// Opens a file for reading, returns its bytes, and closes it.
 fn read_file<D: Disk>(alloc: Global, disk: &mut D, path: &str) -> Result<Vec<u8>, SessionFault>
     ensures { MatchResult result (λ image. ReadsFile D.step disk.old disk.new path.now (Ok image.items))
         (λ fault. ReadsFile D.step disk.old disk.new path.now (Err fault)) }
@@ -220,10 +220,9 @@ fn salvage_image<O: Output, E: Sink>(
     }
 }
 
-/// Writes the dump of the segment in a file, which is opened for reading. If its image is refused, writes the dump of
-/// a segment with those of its objects that can be reached and are right by themselves. Then it writes to `err` a line
-/// for each object that is left out, and how many they are. Returns the status: 0 if no object is left out, otherwise
-/// 1.
+/// Opens a file for reading and writes the dump of its segment. If the image is refused, the dump has the objects that
+/// an index or a tag leads to and whose own bytes are right. Then `err` gets a line for each object that is left out,
+/// and their number. Returns the status: 0 if no object is left out, otherwise 1.
 ///
 /// Each object of the dump stands in the bytes of the file: its kind, class and name, and its values.
 ///

@@ -1,4 +1,4 @@
--- What a file stands for with the log beside it, as a disk answers it.
+-- The image of a file with its log, as a disk returns it.
 use Rattle.std.specs.Prelude.{◌≡◌, ℕ, List, Option, Some, None, Result, MatchResult}
 use Rattle.segment_log.specs.CommittedImages.{IsCommitted}
 use Rattle.segment_log.specs.Crashes.{LoggedFile, with_log}
@@ -23,7 +23,7 @@ pub record Recovers (base log : List ℕ) (made : RecoveredImage) : Type 0 where
 abbrev pub RefusesLog : List ℕ → List ℕ → Option FileProblem → Type 0
 RefusesLog base log why = why ≡ Some ForeignLog → AreTogether (with_log base log) → ⊥
 
--- some file stands, with its own log, for the image that is kept, and the log can take a record where it is to be
+-- some file and its own log have the kept image, and the log can take the next record at the kept end
 pub record StandsCommitted (kept : CommittedImage) : Type 0 where
   pub files : LoggedFile
   pub committed : IsCommitted files kept

@@ -112,8 +112,8 @@ pub trait Disk: LogDisk {
     fn end_log(&mut self, path: &str, hold: &mut Self::Hold)
         ensures { step self.old (LogEnded path.now) self.new };
 
-    /// Writes a file that is held through, and the log beside it, and their names. Ok says that what both stand for
-    /// lasts. An error if another file has taken the name of the one that is held.
+    /// Syncs a locked file, the log beside it, and their folder. After Ok, a crash leaves the image of both. Fails if a
+    /// sync fails, or another file has taken the name of the locked file.
     fn sync(&mut self, path: &str, hold: &mut Self::Hold) -> Result<(), DeviceFault>
         ensures { step self.old (Synced path.now (is_ok result)) self.new };
 }

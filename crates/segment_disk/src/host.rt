@@ -39,7 +39,7 @@ pub struct HostDisk<'a, R: Files> {
     naming: SaveMode,
     /// Whether its files may have logs.
     has_logs: bool,
-    /// Whether the log of a file that is locked stays beside it.
+    /// Whether locking a file keeps its log.
     keeps_logs: bool,
     /// What the system said last of a file that was to be opened or made, or what became of it.
     trouble: Option<FileProblem>,
@@ -271,7 +271,7 @@ impl<'a, R: Files<File = File> + AllocGlobal + Clock> HostDisk<'a, R> {
         }
     }
 
-    /// Tells whether the file that is held can be written, and stands with the log beside it for an image.
+    /// Returns true if the locked file can be written, and if the file and its log have this image.
     fn stands_for(&self, path: &str, hold: &HostLock, image: &[u8]) -> io::Result<bool> {
         let file = fs::open(self.files, path)?;
         if are_different(hold.lock.identity(), Identity::of(&file)) {
@@ -284,7 +284,8 @@ impl<'a, R: Files<File = File> + AllocGlobal + Clock> HostDisk<'a, R> {
         }
     }
 
-    /// Writes the file that is held, the log beside it and their folder through, and tells whether that was done.
+    /// Syncs the locked file, its log and their folder. Returns false if a sync fails, or another file has
+    /// taken the name.
     fn sync_found(&self, path: &str, hold: &HostLock) -> io::Result<bool> {
         let file = fs::open(self.files, path)?;
         if are_different(hold.lock.identity(), Identity::of(&file)) {

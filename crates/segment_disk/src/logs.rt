@@ -140,8 +140,8 @@ fn shut_at(alloc: Global, log: &[u8], end: usize) -> Result<Vec<u8>, AllocError>
     Ok(bytes)
 }
 
-/// Returns the image that the bytes of a file stand for with those of its log, for further commits, and the bytes of
-/// the log up to the end of its records, with a shut gate. The log of another file is refused.
+/// Recovers the image of a file and its log, ready for the next commit. Also returns the bytes of the log up to the end
+/// of its records, with a shut gate. Refuses the log of another file.
 pub(crate) fn committed(
     alloc: Global,
     base: Vec<u8>,

@@ -53,7 +53,7 @@ fn synced_bytes<R: Files<File = File> + AllocGlobal>(
     }
 }
 
-/// Tells whether a file begins with a gate of zeros, as a log without a record does.
+/// Returns true if a file begins with a shut gate. The log has no record then.
 fn is_shut(mut log: File) -> io::Result<bool> {
     let mut gate = [1; GATE_LEN];
     match log.read_exact(&mut gate) {

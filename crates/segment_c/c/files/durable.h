@@ -135,7 +135,7 @@ static zx_code add_page(const struct zx_held_file *held, struct record *record, 
 }
 
 /* Adds a page to the record, and keeps its committed bytes, if the page differs from them or `has_moved`. Otherwise
-   marks the page: ALIKE if its committed bytes are those of the file, and else 0. */
+   marks the page: with ALIKE if the file has the same bytes as the last commit, and with 0 if not. */
 static zx_code compare_page(zx_file *file, const struct zx_held_file *held, struct record *record, uint64_t page,
                             bool has_moved) {
     struct commits *commits = held->commits;

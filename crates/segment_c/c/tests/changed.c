@@ -37,8 +37,8 @@ zx_code __wrap_zx_attach_explained(zx_segment *segment, zx_memory *memory, uint6
     return code;
 }
 
-/* Opens a file with a wrong word. After the check another program puts the right bytes there. The code and the place are
-   still those of the check, and no segment is open. */
+/* Opens a file with a wrong word. After the check another program puts the right bytes there. The opening still returns
+   the code and the place that the check found, and opens no segment. */
 static void is_refused(const char *path, uint32_t how, size_t at, uint64_t word, zx_code code, uint64_t place) {
     zx_file opened = ZX_CLOSED_FILE;
     uint64_t size = 7;

@@ -33,7 +33,7 @@ pub record SessionIo : Type 0 where
   pub out : WriteDelta
   pub saved : WriteDelta
 
--- the same, from the histories of the four devices before the session and after it
+-- what the four devices gave and took, from their histories before the session and after it
 abbrev pub session_io : ReaderHistory → ReaderHistory → ReaderHistory → ReaderHistory → WriterHistory → WriterHistory
     → WriterHistory → WriterHistory → SessionIo
 session_io image image' script script' out out' saved saved' = record {

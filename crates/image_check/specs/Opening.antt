@@ -67,8 +67,8 @@ pub record IsUndecided (format : ℕ) (image : ReadDelta) : Type 0 where
   pub failed : image.failed ≡ true
   pub open_class : (c : ImageClass) → DecidesClass format image.bytes c → ⊥
 
--- The allocator refused memory for the check of the blocks: the image was read to its end, it shows none of the classes
--- before the eighth, and a tile is in use.
+-- The check of the blocks ended for want of memory: the image was read to its end, it shows none of the classes before
+-- the eighth, and a tile is in use.
 pub record IsOutOfMemory (format : ℕ) (image : ReadDelta) : Type 0 where
   pub read : IsReadToEnd image
   pub early : has_early_class format image.bytes ≡ false

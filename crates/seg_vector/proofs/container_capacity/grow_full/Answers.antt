@@ -1,6 +1,6 @@
 -- The capacity is the word.
 use Rattle.seg_vector.proofs.{◌∙◌, arith, at-least, capacity-bytes}
-use Rattle.seg_vector.proofs.container_capacity.grow_for_one.Goals as goal
+use Rattle.seg_vector.proofs.container_capacity.grow_full.Goals as goal
 
 pub capacity_for_one-requires : goal.capacity_for_one-requires
 capacity_for_one-requires c =

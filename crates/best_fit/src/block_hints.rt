@@ -70,6 +70,7 @@ impl BlockHints {
     }
 
     /// Returns true if the handle is remembered.
+    #[inline(always)]
     pub(crate) fn is_known(&self, handle: u64) -> bool
         ensures { result ≡ true → IsHinted self.now handle }
     {

@@ -96,12 +96,14 @@ impl Heap {
         self.hints.insert(handle);
     }
 
-    /// Remembers a handle, which can be any number, if a block in use has it: `is_live` then needs no search for it. No
-    /// byte changes.
-    pub fn remember(&mut self, handle: u64)
-        ensures { self.new ≡ self.old }
+    /// Returns true if a block in use has this handle, which can be any number, and remembers it then: `is_live` needs
+    /// no search for it. No byte changes.
+    #[inline(always)]
+    pub fn remember(&mut self, handle: u64) -> bool
+        ensures unchanged { self.new ≡ self.old }
+        ensures live { result ≡ is_live_in (live_of self.new.bytes) handle }
     {
-        tile_walk::remember(&self.gaps.window, &mut self.hints, handle);
+        tile_walk::remember(&self.gaps.window, &mut self.hints, handle)
     }
 
     /// Returns the heap's window with its current bytes. The room for hints goes with it.
@@ -158,6 +160,7 @@ impl Heap {
     }
 
     /// Returns true if a block in use has this handle, which can be any number.
+    #[inline(always)]
     pub fn is_live(&self, handle: u64) -> bool
         ensures { result ≡ is_live_in (live_of self.now.bytes) handle }
     {

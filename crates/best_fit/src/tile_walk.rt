@@ -11,7 +11,8 @@ use block_tags::{TAG_LEN, Tile, first, next, tile_at};
 use raw_region::Window;
 
 /// Returns true if a block in use has this handle, which can be any number. It finds a remembered handle at once, and
-/// searches for any other from the nearest block hint on.
+/// searches for any other from the nearest block hint on. It is inlined, and the search is not.
+#[inline(always)]
 pub fn is_live(window: &Window, hints: &BlockHints, handle: u64) -> bool
     requires { IsHintedHeap window.now.bytes hints.now }
     ensures { result ≡ is_live_in (live_of window.now.bytes) handle }
@@ -23,6 +24,7 @@ pub fn is_live(window: &Window, hints: &BlockHints, handle: u64) -> bool
 }
 
 /// Searches for a handle from the nearest block hint on, and returns true if a block in use has it.
+#[inline(never)]
 fn is_reached(window: &Window, hints: &BlockHints, handle: u64) -> bool
     requires { IsHintedHeap window.now.bytes hints.now }
     ensures { result ≡ is_live_in (live_of window.now.bytes) handle }
@@ -40,14 +42,32 @@ fn is_reached(window: &Window, hints: &BlockHints, handle: u64) -> bool
     false
 }
 
-/// Remembers a handle, which can be any number, if a block in use has it: `is_live` then needs no search for it.
-pub fn remember(window: &Window, hints: &mut BlockHints, handle: u64)
+/// Returns true if a block in use has this handle, which can be any number, and remembers it then: `is_live` needs no
+/// search for it.
+#[inline(always)]
+pub fn remember(window: &Window, hints: &mut BlockHints, handle: u64) -> bool
     requires { IsHintedHeap window.now.bytes hints.old }
-    ensures { LeadToBlocks hints.new window.now.bytes }
+    ensures hints { LeadToBlocks hints.new window.now.bytes }
+    ensures live { result ≡ is_live_in (live_of window.now.bytes) handle }
 {
-    if !hints.is_known(handle) && is_reached(window, hints, handle) {
+    if hints.is_known(handle) {
+        return true;
+    }
+    remember_reached(window, hints, handle)
+}
+
+/// Searches for a handle. Returns true if a block in use has it, and remembers it then.
+#[inline(never)]
+fn remember_reached(window: &Window, hints: &mut BlockHints, handle: u64) -> bool
+    requires { IsHintedHeap window.now.bytes hints.old }
+    ensures hints { LeadToBlocks hints.new window.now.bytes }
+    ensures live { result ≡ is_live_in (live_of window.now.bytes) handle }
+{
+    let is_live = is_reached(window, hints, handle);
+    if is_live {
         hints.insert_known(handle);
     }
+    is_live
 }
 
 /// Notes the first block in use of each piece of a heap's window. It reads all tiles.

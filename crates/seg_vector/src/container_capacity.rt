@@ -142,7 +142,23 @@ pub fn capacity_for_more(len: u64, more: u64, capacity: u64) -> u64
 /// # Errors
 ///
 /// `NoSpace` if the storage cannot be regrown. Nothing changes.
+#[inline(always)]
 pub fn grow_for_one(heap: &mut Heap, place: Place, each: u64, len: u64) -> Result<(), Refusal>
+    requires container { IsStanding heap.old.bytes place each }
+    requires non_empty { 1 ≤ each }
+    requires max_len { each ≤ 4096 }
+    requires len { len ≡ len_at heap.old.bytes place }
+    ensures { GrowsForOne heap.old heap.new place each result }
+{
+    if len < capacity_of(heap, place) {
+        return Ok(());
+    }
+    grow_full(heap, place, each, len)
+}
+
+/// Makes room for one element as `grow_for_one` does. It is not inlined, since few calls need it.
+#[inline(never)]
+fn grow_full(heap: &mut Heap, place: Place, each: u64, len: u64) -> Result<(), Refusal>
     requires container { IsStanding heap.old.bytes place each }
     requires non_empty { 1 ≤ each }
     requires max_len { each ≤ 4096 }

@@ -651,15 +651,15 @@ struct state {
     }
 
     /// Makes a call that may need space. If there is none, and the segment grows by itself, makes the segment longer.
-    template <class Call> void change(Call call) {
-        const zx_code code = call(raw());
+    template <class Call> void change(Call call) { change_after(call(raw()), call); }
+    /// Goes on after such a call returned a code.
+    template <class Call> void change_after(zx_code code, Call call) {
         if (code == ZX_NO_SPACE && grows) check(in_more_space(call));
         else check_code(code);
     }
-    /// Makes a call that adds elements to storage, which asks for twice the capacity. If there is no gap for that, and
-    /// the segment cannot have one, `has_room` asks for less.
-    template <class Call, class Room> void lengthen(Call call, Room has_room) {
-        zx_code code = call(raw());
+    /// Goes on after a call that adds elements to storage, which asks for twice the capacity, returned a code. If there
+    /// is no gap for that, and the segment cannot have one, `has_room` asks for less.
+    template <class Call, class Room> void lengthen_after(zx_code code, Call call, Room has_room) {
         if (code == ZX_NO_SPACE) {
             if (grows) code = in_more_space(call);
             if ((code == ZX_NO_SPACE || code == ZX_TOO_LARGE) && has_room()) code = call(raw());
@@ -739,17 +739,33 @@ struct spot {
     }
     template <class Call, class... Args> void ask(Call call, Args... args) const { check_code(code_of(call, args...)); }
     template <class Call, class... Args> void change(Call call, Args... args) const {
-        const zx_key at = zx_handle(handle);
-        of->change([&](zx_segment *raw) { return call(raw, &at, args...); });
+        const zx_code code = code_of(call, args...);
+        if (__builtin_expect(code != ZX_DONE, false)) change_after(of, handle, code, call, args...);
     }
     /// Makes a call that adds `more` elements to a vector or bytes to a string.
     template <class Call, class... Args> void lengthen(std::uint64_t more, Call call, Args... args) const {
-        const zx_key at = zx_handle(handle);
-        of->lengthen([&](zx_segment *raw) { return call(raw, &at, args...); }, [&] { return has_room(more); });
+        const zx_code code = code_of(call, args...);
+        if (__builtin_expect(code != ZX_DONE, false)) lengthen_after(of, handle, code, more, call, args...);
     }
     friend bool operator==(const spot &a, const spot &b) { return a.of == b.of && a.handle == b.handle; }
 
   private:
+    // these take a spot in parts, so that the calls above keep it in registers
+
+    template <class Call, class... Args>
+    [[gnu::noinline, gnu::cold]] static void change_after(state *segment, std::uint64_t object, zx_code code, Call call,
+                                                          Args... args) {
+        const zx_key at = zx_handle(object);
+        segment->change_after(code, [&](zx_segment *raw) { return call(raw, &at, args...); });
+    }
+    template <class Call, class... Args>
+    [[gnu::noinline, gnu::cold]] static void lengthen_after(state *segment, std::uint64_t object, zx_code code,
+                                                            std::uint64_t more, Call call, Args... args) {
+        const zx_key at = zx_handle(object);
+        segment->lengthen_after(
+            code, [&](zx_segment *raw) { return call(raw, &at, args...); },
+            [&] { return spot{segment, object}.has_room(more); });
+    }
     /// Gets storage for `more` elements at least: for half of the capacity more, a fourth, and so on.
     [[gnu::noinline, gnu::cold]] bool has_room(std::uint64_t more) const {
         std::uint64_t len = 0, places = 0;
@@ -1905,12 +1921,31 @@ template <class Of, class Access> class const_row : public object, public in_seg
         if (__builtin_expect(!Access::is_located(here_, state().get()), false)) locate();
         return here_;
     }
+    /// Keeps where the elements are, after a call that appended one and changed nothing else. They stayed in place if
+    /// the storage had room for one more.
+    void appended() const noexcept {
+        const std::uint64_t changes = state()->raw()->changes;
+        if (here_.changes + 1 != changes) return;
+        if (__builtin_expect(here_.count >= room_, false)) return locate_with_room();
+        here_.count++;
+        here_.changes = changes;
+    }
 
   private:
     // not inlined, so that a loop keeps its own in registers
-    [[gnu::noinline, gnu::cold]] void locate() const noexcept { here_ = Access::located(spot()); }
+    [[gnu::noinline, gnu::cold]] void locate() const noexcept {
+        here_ = Access::located(spot());
+        room_ = 0;
+    }
+    [[gnu::noinline, gnu::cold]] void locate_with_room() const noexcept {
+        locate();
+        std::uint64_t len = 0;
+        static_cast<void>(spot().code_of(zx_measure, &len, &room_));
+    }
 
     mutable typename Access::target here_;
+    // the number of elements that the storage has room for, as long as `here_` is kept; 0 if nobody asked
+    mutable std::uint64_t room_ = 0;
 };
 
 /// Elements from index 0 on, for reading and writing.
@@ -2055,6 +2090,7 @@ template <class T> class vector : public detail::row<const_vector<T>, detail::va
         if constexpr (is_scalar<T>) {
             const zx_value passed = stored<T>::value(of);
             this->spot().lengthen(1, zx_push, &passed);
+            this->appended();
         } else {
             append_range(slice<T>(&of, 1));
         }

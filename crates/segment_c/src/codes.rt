@@ -134,6 +134,7 @@ pub fn code_of(why: Refusal) -> u32
 
 /// Returns the code of a command that is done, or refused. This and those below put the segment back into the handle,
 /// and those whose command may change it count that.
+#[inline(always)]
 pub fn done(done: Result<(), Refusal>, h: &mut SegmentSlot, segment: Box<Segment>) -> u32
     ensures outcome { answer_for result Done ≡ done_answer done }
     ensures answer { IsTrue (is_answer result) }

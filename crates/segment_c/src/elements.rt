@@ -1,5 +1,5 @@
 //! Elements of objects of scalars, of vectors and of strings.
-ghost use Rattle.std.specs.Prelude.{◌≡◌, ◌≤◌, IsTrue, OnErr};
+ghost use Rattle.std.specs.Prelude.{◌≡◌, ◌≤◌, IsTrue, OnErr, true};
 ghost use Rattle.std.specs.declared.option.Option.TheVariants.{Some as Held};
 ghost use Rattle.seg_types.specs.Commands.{Erase, Get, Insert, Integer, Pop, Push, Set};
 ghost use Rattle.seg_types.specs.{Keys.key_seen, Names.ByHandle, Written.literal_seen};
@@ -15,14 +15,14 @@ ghost use Rattle.segment_manager.specs.Calls.{scalar_reply};
 ghost use Rattle.segment_manager.specs.State.{AnswersWith, TakesStep, TakesStepOfKind, Transitions, done_answer};
 ghost use Rattle.segment_manager.specs.State.{scalar_answer};
 ghost use Rattle.segment_manager.specs.Step.{step_of_kind};
-ghost use Rattle.segment_manager.specs.containers.TextLists.{LeadsOnOfKind};
+ghost use Rattle.segment_manager.specs.{containers.TextLists.LeadsOnOfKind, objects.Found.is_object_at};
 ghost use Rattle.segment_values.specs.Changes.{command_at};
 
-use crate::calls::{enter, enter_with, passed, take_at};
+use crate::calls::{enter, enter_with, passed};
 use crate::changes::{ObjectChange, make_change};
 use crate::codes::{done, element};
-use crate::keys::{ObjectKey, PassedHandle};
-use crate::segment_slot::SegmentSlot;
+use crate::keys::{FoundHandle, ObjectKey};
+use crate::segment_slot::{SegmentSlot, take};
 use crate::values::CScalar;
 use seg_types::{Handle, Key, Kind, Refusal, ScalarKind, ScalarValue, by_kind};
 use segment_manager::{Segment, locate};
@@ -76,11 +76,18 @@ pub extern "C" fn zx_push(
     ensures call { ChangesHandle (or_else (key_wrong key.now) (value_wrong value.now)) result h.old h.new
         (λ s t. TakesStep s t (Push (key_of key.now) (literal_in value.now)) (answer_for result Done)) }
 {
-    let (Some(handle), Some(number)) = (key.as_handle(), value.as_i64()) else {
+    let Some(handle) = key.as_handle() else {
         return push_any(alloc, h, key, value);
     };
-    let segment = passed!(take_at(alloc, h, handle));
-    number_pushed(h, segment, handle, number)
+    let Some(number) = value.as_i64() else {
+        return push_any(alloc, h, key, value);
+    };
+    let mut segment = passed!(take(alloc, h));
+    if segment.remember(handle) {
+        number_pushed(h, segment, handle, number)
+    } else {
+        number_added(h, segment, handle, number)
+    }
 }
 
 /// Puts a value after the last element of the vector of a key, for any form of key and any value.
@@ -93,10 +100,11 @@ fn push_any(alloc: Global, h: &mut SegmentSlot, key: &ObjectKey<'_>, value: &CSc
     done(push(&mut segment, &which, new), h, segment)
 }
 
-/// Puts a number after the last element of the vector of a handle, and answers so. It looks the vector up once if that
-/// is of `i64`.
+/// Puts a number after the last element of the vector of an object's handle, and answers so. It looks the vector up
+/// once if that is of `i64`.
 #[inline(always)]
 fn number_pushed(h: &mut SegmentSlot, segment: Box<Segment>, handle: Handle, number: i64) -> u32
+    requires { AnswersWith segment.value (λ d. is_object_at d handle) true }
     ensures step { HoldsSegment h.new.segment.value (λ t. TakesStep segment.value t
         (Push (ByHandle handle) (Integer number)) (answer_for result Done)) }
     ensures answer { IsTrue (is_answer result) }
@@ -104,7 +112,7 @@ fn number_pushed(h: &mut SegmentSlot, segment: Box<Segment>, handle: Handle, num
     ensures marks { h.new.marks ≡ raised h.old.marks }
 {
     let mut segment = segment;
-    match segment.vec_push(&PassedHandle { handle }, number) {
+    match segment.vec_push(&FoundHandle { handle }, number) {
         Ok(()) => done(Ok(()), h, segment),
         Err(refusal) => match refusal {
             Refusal::WrongKind => number_added(h, segment, handle, number),

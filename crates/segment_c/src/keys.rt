@@ -1,9 +1,10 @@
 //! The keys that C passes.
-ghost use Rattle.std.specs.Prelude.{◌≡◌, ◌≢◌, ◌≤◌, ⊤, IfSome, MatchResult};
+ghost use Rattle.std.specs.Prelude.{◌≡◌, ◌≢◌, ◌≤◌, ⊤, IfSome, MatchResult, true};
 ghost use Rattle.seg_types.specs.Keys.{index_key_seen, key_seen};
 ghost use Rattle.seg_types.specs.Names.{ByHandle, NoKey};
 ghost use Rattle.segment_c.specs.Passed.{entry_of, entry_wrong, key_of, key_wrong};
-ghost use Rattle.segment_manager.specs.objects.NewObjects.{IsOfKind};
+ghost use Rattle.segment_manager.specs.objects.{Found.is_object_at, NewObjects.IsOfKind};
+ghost use Rattle.segment_manager.specs.State.{AnswersWith};
 
 use crate::codes::{BAD_KEY, BAD_KIND, BAD_NAME, NULL_SLICE};
 use seg_types::{Handle, IndexKey, Key, Kind, Name};
@@ -102,5 +103,24 @@ impl ObjectRef for PassedHandle {
         } else {
             None
         }
+    }
+}
+
+/// The handle of an object of the segment. A call on the object does not look for it again.
+#[derive(Clone, Copy)]
+pub struct FoundHandle {
+    /// The handle.
+    pub handle: Handle,
+}
+
+impl ObjectRef for FoundHandle {
+    ghost key = { λ found. ByHandle found.handle };
+
+    // It can be used in a segment that has the object.
+    ghost stands = { λ found s. AnswersWith s (λ d. is_object_at d found.handle) true };
+
+    #[inline(always)]
+    fn find(&self, segment: &Segment) -> Option<Object> {
+        Some(object_here(segment, self.handle))
     }
 }

@@ -108,6 +108,7 @@ impl Marks {
     }
 
     /// Counts a change.
+    #[inline(always)]
     pub fn raise(&mut self)
         ensures { self.new ≡ raised self.old }
     {
@@ -117,6 +118,7 @@ impl Marks {
 }
 
 /// Takes the segment out of a handle, which has none then, for the time of a call; or answers that it is closed.
+#[inline(always)]
 pub fn take(alloc: Global, handle: &mut SegmentSlot) -> Result<Box<Segment>, u32>
     ensures transfer { MatchResult result (λ segment. (handle.old.segment.value ≡ Some segment.value)
         × (handle.new.segment.value ≡ None)) (λ code.
@@ -130,6 +132,7 @@ pub fn take(alloc: Global, handle: &mut SegmentSlot) -> Result<Box<Segment>, u32
 }
 
 /// Puts a segment into a handle at the end of a call, and returns the call's code. What the handle had is freed.
+#[inline(always)]
 pub fn put(code: u32, handle: &mut SegmentSlot, segment: Box<Segment>) -> u32
     ensures effect { handle.new.segment.value ≡ Some segment.value }
     ensures code { result ≡ code }
@@ -140,6 +143,7 @@ pub fn put(code: u32, handle: &mut SegmentSlot, segment: Box<Segment>) -> u32
 }
 
 /// Puts a segment into a handle at the end of a call that may have changed it, and returns the call's code.
+#[inline(always)]
 pub fn put_changed(code: u32, handle: &mut SegmentSlot, segment: Box<Segment>) -> u32
     ensures effect { handle.new.segment.value ≡ Some segment.value }
     ensures code { result ≡ code }

@@ -11,10 +11,10 @@ ghost use Rattle.segment_manager.specs.Directory.{Directory};
 ghost use Rattle.segment_manager.specs.State.{DenotesCurrent};
 ghost use Rattle.segment_manager.specs.containers.ElementRuns.{run_at};
 
-use crate::calls::{enter, passed, take_at};
+use crate::calls::{enter, passed};
 use crate::codes::{DONE, READ_ONLY, code_of};
-use crate::keys::{ObjectKey, PassedHandle};
-use crate::segment_slot::{SegmentSlot, put};
+use crate::keys::{FoundHandle, ObjectKey};
+use crate::segment_slot::{SegmentSlot, put, take};
 use seg_types::Key;
 use segment_manager::{Mode, ObjectRef, Segment};
 use std::alloc::Global;
@@ -55,8 +55,13 @@ pub extern "C" fn zx_view(
     let Some(handle) = key.as_handle() else {
         return view_any(alloc, h, key, view);
     };
-    let segment = passed!(take_at(alloc, h, handle));
-    let code = fill_view(&segment, &PassedHandle { handle }, h.marks.changes, view);
+    let mut segment = passed!(take(alloc, h));
+    let changes = h.marks.changes;
+    let code = if segment.remember(handle) {
+        fill_view(&segment, &FoundHandle { handle }, changes, view)
+    } else {
+        fill_view(&segment, &Key::Handle(handle), changes, view)
+    };
     put(code, h, segment)
 }
 

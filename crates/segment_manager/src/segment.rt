@@ -2,11 +2,13 @@
 ghost use Rattle.std.specs.Prelude.{◌≡◌, ◌+◌, ◌-◌, ◌%◌, IsTrue, length};
 ghost use Rattle.raw_region.specs.Memory.{whole};
 ghost use Rattle.seg_types.specs.Commands.{Free, Size};
-ghost use Rattle.segment_manager.specs.{Answers.Number, State.AnswersQuery, State.IsSegment, Step.is_read_only};
+ghost use Rattle.segment_manager.specs.{Answers.Number, objects.Found.is_object_at, Step.is_read_only};
+ghost use Rattle.segment_manager.specs.State.{AnswersQuery, AnswersWith, IsSegment};
 
 use crate::layout::SIZE_AT;
 use crate::modes::Mode;
 use best_fit::Heap;
+use block_tags::Role;
 use raw_region::{RawRegion, Window};
 use seg_types::Handle;
 use std::marker::Model;
@@ -89,13 +91,18 @@ impl Segment {
     }
 
     /// Remembers a handle, which can be any number, if a block of the segment has it: calls with this handle then need
-    /// no search for it. No byte changes.
+    /// no search for it. Returns true if an object has it. No byte changes.
     ///
-    /// Example: `segment.remember(handle)`.
-    pub fn remember(&mut self, handle: Handle)
-        ensures { self.new ≡ self.old }
+    /// Example: `let is_object = segment.remember(handle)`.
+    #[inline(always)]
+    pub fn remember(&mut self, handle: Handle) -> bool
+        ensures unchanged { self.new ≡ self.old }
+        ensures object { AnswersWith self.new (λ d. is_object_at d handle) result }
     {
-        self.heap.remember(handle);
+        if self.heap.remember(handle) {
+            return self.heap.role(handle) == Role::Object;
+        }
+        false
     }
 
     /// Returns true if the segment is open for reading.

@@ -771,3 +771,12 @@ insert-fits c {each} {len} k i {t} s e inside space link =
     let whole : (i + 1) + (k - i) ≡ len + 1 = omega (arith, below, is) in
     let split : each * ((i + 1) + (k - i)) ≡ each * i + each + each * (k - i) = omega arith in
     fitting c i (each * (k - i)) (len + 1) s link (omega (arith, room)) (sym split ∙ ap (λ j. each * j) whole)
+
+stays-if : (b : Bool) (len capacity : ℕ) → nat_lt len capacity ≡ b → len < capacity
+    → (if b then capacity else max 4 (2 * capacity)) ≤ capacity
+stays-if true len capacity e f = omega (arith)
+stays-if false len capacity e f = grind arith
+
+-- one element fits: the capacity stays
+pub less-stays : (len capacity : ℕ) → len < capacity → capacity_for_one len capacity ≤ capacity
+less-stays len capacity f = stays-if (nat_lt len capacity) len capacity refl f

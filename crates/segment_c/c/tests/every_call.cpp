@@ -325,6 +325,35 @@ void storage_is_lengthened_then_replaced() {
     IS((s.vector<i64>("v").to_vector() == std::vector<i64>{1, 2, 3, 4, 5, 6, 7, 8, 9}), true);
 }
 
+/// A vector knows where its elements are after a push; also where they moved, and where another call changed them.
+void elements_are_read_between_pushes() {
+    segment s = segment::create(1024);
+    s.set_growing(true);
+    const zaluxhoni::vector<i64> v = s.vector<i64>("v"), same = s.vector<i64>("v");
+    const zaluxhoni::vector<i64> other = s.vector<i64>("other");
+    for (i64 i = 0; i < 300; i++) {
+        v.push_back(i);
+        IS(v.get(static_cast<u64>(i)), i);
+        IS(v.size(), static_cast<u64>(i) + 1);
+        THROWS(out_of_range, v.get(static_cast<u64>(i) + 1));
+        if (i % 7 == 0) other.push_back(i);
+        if (i % 11 == 0) v.shrink_to_fit();
+        if (i % 13 == 0) v.reserve(v.size() + 5);
+        if (i % 5 == 0) {
+            same.push_back(-i);
+            IS(v.get(v.size() - 1), -i);
+            IS(v.pop_back(), -i);
+        }
+        v[0] = i;
+        IS(same.get(0), i);
+    }
+    const i64 last = v.emplace_back(7);
+    IS(last, 7);
+    s.destroy("v");
+    THROWS(not_found, v.push_back(8));
+    THROWS(not_found, v.get(0));
+}
+
 void a_string_grows_and_shrinks() {
     segment s = segment::create(1024);
     IS(s.construct_string("s", "ab"), 192);
@@ -872,9 +901,10 @@ int main(int count, char **arguments) {
     void (*const cases[])() = {
         an_anonymous_object, names, files, mapped_files, durable_files, index_and_object_do_not_both_fit, arrays,
         the_only_object_of_its_kind, places_reserved_in_the_indexes, best_fit, storage_is_lengthened_then_replaced,
-        a_string_grows_and_shrinks, a_map, refusals_of_a_vector, a_vector_of_strings, objects_found_or_made, many_at_once,
-        another_kind_under_the_handle, one_of_each, size_and_region, modes, calls_of_c, what_is_refused, what_shows_a_class,
-        segments_move, segments_end_before_their_objects, errors_say_what};
+        elements_are_read_between_pushes, a_string_grows_and_shrinks, a_map, refusals_of_a_vector, a_vector_of_strings,
+        objects_found_or_made, many_at_once, another_kind_under_the_handle, one_of_each, size_and_region, modes,
+        calls_of_c, what_is_refused, what_shows_a_class, segments_move, segments_end_before_their_objects,
+        errors_say_what};
     for (void (*each)() : cases) {
         try {
             each();

@@ -47,6 +47,7 @@ impl Segment {
 }
 
 /// Returns the place of an object's elements.
+#[inline(always)]
 fn read_run(heap: &Heap, object: Object) -> Result<ElementRun, Refusal>
     requires heap { IsHeap current heap.now.bytes }
     requires object { HasObject heap.now.bytes object.handle }
@@ -68,6 +69,7 @@ fn read_run(heap: &Heap, object: Object) -> Result<ElementRun, Refusal>
 }
 
 /// Returns the elements in the storage of the container whose three words are at `at` in a block.
+#[inline(always)]
 fn storage_run(heap: &Heap, handle: u64, at: u64, kind: ScalarKind) -> ElementRun
     requires aligned { at % 8 ≡ 0 }
     requires max_value { at ≤ 4096 }

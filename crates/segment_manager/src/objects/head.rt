@@ -23,6 +23,7 @@ pub(crate) struct Head {
 }
 
 /// Returns the head of an object.
+#[inline(always)]
 pub(crate) fn read_head(heap: &Heap, handle: u64) -> Head
     requires { HasObject heap.now.bytes handle }
     ensures { (o : Object) → IsObjectInBlock heap.now.bytes handle o → IsHeadOf o result }
@@ -84,6 +85,7 @@ fn write_name(heap: &mut Heap, handle: u64, name: &[u8])
 }
 
 /// Returns the kind with a code, or `String` if no kind has it.
+#[inline(always)]
 fn kind_of_code(code: u32) -> Kind
     ensures { (k : KindOf) → code ≡ code_of k → result ≡ k }
 {

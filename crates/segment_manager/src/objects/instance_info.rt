@@ -65,6 +65,7 @@ impl Segment {
     /// at once, and searches for any other from the nearest block hint on.
     ///
     /// Example: `if segment.is_object_handle(handle)`.
+    #[inline(always)]
     pub fn is_object_handle(&self, handle: Handle) -> bool
         ensures { AnswersWith self.now (λ d. is_object_at d handle) result }
     {

@@ -141,6 +141,7 @@ impl Segment {
 }
 
 /// Returns the object at a handle, from its head.
+#[inline(always)]
 fn read_object(heap: &Heap, handle: Handle) -> Object
     requires { HasObject heap.now.bytes handle }
     ensures handle { result.handle ≡ handle }
@@ -179,6 +180,7 @@ pub fn locate<O: ObjectRef>(segment: &Segment, key: &O) -> Result<Object, Refusa
 /// # Conditions
 ///
 /// An object of the segment has the handle. `locate` looks it up and has no condition.
+#[inline(always)]
 pub fn object_here(segment: &Segment, handle: Handle) -> Object
     requires { AnswersWith segment.now (λ d. is_object_at d handle) true }
     ensures handle { result.handle ≡ handle }

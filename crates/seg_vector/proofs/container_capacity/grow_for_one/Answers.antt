@@ -1,9 +1,9 @@
--- The capacity is the word.
-use Rattle.seg_vector.proofs.{◌∙◌, arith, at-least, capacity-bytes}
+-- A container that is not full stays as it is.
+use Rattle.seg_vector.proofs.{◌∙◌, arith, capacity_for_one, grows-not, less-stays}
 use Rattle.seg_vector.proofs.container_capacity.grow_for_one.Goals as goal
 
-pub capacity_for_one-requires : goal.capacity_for_one-requires
-capacity_for_one-requires c =
-    let s = c.requires.container.1.1.1 in let few = capacity-bytes c.args.heap.now s.heap s in
-    let least = at-least c.args.each c.requires.container.1.0.capacity c.requires.non_empty in
-    omega (arith, few, least, (c.capacity_of-capacity.ensures ∙ s.words.capacity))
+pub returns-then-len-capacity_of : goal.returns-then-len-capacity_of
+returns-then-len-capacity_of c len t bytes s =
+    let capacity = c.capacity_of.ensures ∙ s.words.capacity in let own = c.requires.len ∙ s.words.len_word in
+    grows-not c.args.heap.now (capacity_for_one len t.capacity)
+    (less-stays len t.capacity (omega (arith, own, capacity, c.if-len-capacity_of.true))) s

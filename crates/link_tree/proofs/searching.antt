@@ -3,3 +3,4 @@
 pub mod Neighbours
 pub mod ChangePoints
 pub mod PathWalk
+pub mod PathEnd

@@ -1,8 +1,10 @@
 -- Where the change of a tree begins when a node is inserted or removed: no node above that one changes.
-use Rattle.std.specs.Prelude.{ℕ, Bool, not, ◌&&◌, ◌==◌, Option, Some, None, if◌then◌else◌}
+use Rattle.std.specs.Prelude.{◌≡◌, ℕ, Bool, true, false, not, ◌&&◌, ◌==◌, Option, Some, None, MatchOption}
+use Rattle.std.specs.Prelude.{if◌then◌else◌}
 use Rattle.std.specs.Option.{option_or}
-use Rattle.link_tree.specs.Tree.{Tree, leaf, fork, has_black_root}
+use Rattle.link_tree.specs.Tree.{Cell, Tree, leaf, fork, has_black_root}
 use Rattle.link_tree.specs.declared.change_points.Passed.{Passed}
+use Rattle.link_tree.specs.declared.change_points.Reached.{Reached}
 use Rattle.link_tree.specs.declared.change_points.Followed.{Followed}
 
 -- the point found below a node; if there is none, the node itself if it is black and the path continues to no red node
@@ -17,12 +19,29 @@ insert_point_of before (fork red left n right) =
     if before n then entry_over red n right (insert_point_of before right) else entry_over red n left
     (insert_point_of before left)
 
+-- the node is the last one on the path of a search: an insertion at the end of the path begins at it if it is black
+pub record IsPathEnd (good : ℕ → Bool) (cells : ℕ → Cell) (before : ℕ → Bool) (t : Tree) (n : ℕ) : Type 0 where
+  pub node : good n ≡ true
+  pub black : (cells n).red ≡ false → insert_point_of before t ≡ Some n
+
+-- the last node on the path of a search; none if the tree is empty, so that an insertion begins at the root
+abbrev pub EndsPath : (ℕ → Bool) → (ℕ → Cell) → (ℕ → Bool) → Tree → Option ℕ → Type 0
+EndsPath good cells before t last =
+    MatchOption last (insert_point_of before t ≡ None) (IsPathEnd good cells before t)
+
 -- the state of a search after one more node of its path
 abbrev pub passed : Passed → ℕ → Bool → Bool → Passed
 passed folded n red before = record {
   node = if before then folded.node else Some n;
   above = if red then None else Some n;
   entry = if red then folded.entry else option_or folded.above folded.entry;
+}
+
+-- the state of a search that notes the end of its path, after one more node
+abbrev pub reached : Reached → ℕ → Bool → Bool → Reached
+reached folded n red before = record {
+  node = if before then folded.node else Some n;
+  last = Some n;
 }
 
 -- the point found below a node; if there is none, the node itself if the path continues to a red node

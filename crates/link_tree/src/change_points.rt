@@ -6,7 +6,7 @@ ghost use Rattle.std.specs.Option.{option_or};
 ghost use Rattle.link_tree.specs.Tree.{Tree, IsSearchTree, nodes_of, bits};
 ghost use Rattle.link_tree.specs.Nodes.{leads, first_not_before};
 ghost use Rattle.link_tree.specs.Searching.{path_length};
-ghost use Rattle.link_tree.specs.Ways.{insert_point_of, remove_point_of, passed, followed};
+ghost use Rattle.link_tree.specs.Ways.{EndsPath, insert_point_of, remove_point_of, passed, reached, followed};
 
 use crate::cursor::NodeCursor;
 use crate::descending::{PathFold, descend};
@@ -63,6 +63,46 @@ impl PathFold for Passed {
             entry: self.end(),
         }
     }
+}
+
+/// The result of `find_path_end`: the node found, and the end of the path.
+#[derive(Clone, Copy, Debug, PartialEq, Eq)]
+pub struct PathEnd {
+    /// The first node that does not precede the probe; none if every node precedes it.
+    pub node: Option<u64>,
+    /// The last node on the path; none if the tree is empty.
+    pub last: Option<u64>,
+    /// The number of nodes visited.
+    pub steps: u64,
+}
+
+/// The node found and the last node on the path, as far as the search has come.
+#[derive(Clone, Copy)]
+struct Reached {
+    /// The last node on the path that does not precede the probe.
+    node: Option<u64>,
+    /// The last node on the path.
+    last: Option<u64>,
+}
+
+impl PathFold for Reached {
+    ghost passed = { reached };
+
+    fn fold_node<N: Nodes>(self, _visits: &mut NodeCursor<N>, node: u64, before: bool) -> Reached {
+        Reached {
+            node: if before { self.node } else { Some(node) },
+            last: Some(node),
+        }
+    }
+}
+
+/// The result of `find_entry`: where an insertion begins.
+#[derive(Clone, Copy, Debug, PartialEq, Eq)]
+pub struct EntryPoint {
+    /// The node at which `insert_at` begins; none if it begins at the root.
+    pub entry: Option<u64>,
+    /// The number of nodes visited.
+    pub steps: u64,
 }
 
 /// The result of `find_remove_point`: the node found, and where its removal begins.
@@ -131,6 +171,75 @@ pub fn find_insert_point<N: Nodes>(nodes: &N, root: Option<u64>, probe: &N::Prob
         node: way.folded.node,
         entry: way.folded.end(),
         steps: way.steps,
+    }
+}
+
+/// Finds the first node that does not precede the probe, and the last node on the path.
+///
+/// It takes the path and the number of steps of `find_first_not_before`, and reads no colour. `find_entry` finds where
+/// an insertion begins, if the caller needs one.
+pub fn find_path_end<N: Nodes>(nodes: &N, root: Option<u64>, probe: &N::Probe) -> PathEnd
+    requires root { leads (N.is_node nodes.now) root ≡ true }
+    requires tree { (t : Tree) × IsSearchTree (N.order nodes.now) (N.cells nodes.now) root t }
+    // None if every node precedes the probe.
+    ensures first { (t : Tree) → IsSearchTree (N.order nodes.now) (N.cells nodes.now) root t
+        → result.node ≡ first_not_before (N.before nodes.now probe.now) (nodes_of t) }
+    // An insertion begins at the last node on the path if that node is black.
+    ensures last { (t : Tree) → IsSearchTree (N.order nodes.now) (N.cells nodes.now) root t
+        → EndsPath (N.is_node nodes.now) (N.cells nodes.now) (N.before nodes.now probe.now) t result.last }
+    ensures steps { (t : Tree) → IsSearchTree (N.order nodes.now) (N.cells nodes.now) root t
+        → result.steps ≤ 2 * bits (length (nodes_of t) + 1) }
+    ensures steps_exact { (t : Tree) → IsSearchTree (N.order nodes.now) (N.cells nodes.now) root t
+        → result.steps ≡ path_length (N.before nodes.now probe.now) t }
+{
+    let start = Reached {
+        node: None,
+        last: None,
+    };
+    let way = descend(nodes, root, probe, start);
+    PathEnd {
+        node: way.folded.node,
+        last: way.folded.last,
+        steps: way.steps,
+    }
+}
+
+/// Finds where the insertion of a node at the probe's place begins, from the `last` node that `find_path_end` returned.
+///
+/// It begins at this node if the node is black, which is the case for about half of the places in a tree. For the other
+/// places it searches once more, and reads the colours on the path.
+pub fn find_entry<N: Nodes>(
+    nodes: &N,
+    root: Option<u64>,
+    probe: &N::Probe,
+    last: Option<u64>,
+) -> EntryPoint
+    requires root { leads (N.is_node nodes.now) root ≡ true }
+    requires tree { (t : Tree) × IsSearchTree (N.order nodes.now) (N.cells nodes.now) root t
+        × EndsPath (N.is_node nodes.now) (N.cells nodes.now) (N.before nodes.now probe.now) t last }
+    // The lowest black node on the path that has no red node after it there.
+    ensures entry { (t : Tree) → IsSearchTree (N.order nodes.now) (N.cells nodes.now) root t
+        → result.entry ≡ insert_point_of (N.before nodes.now probe.now) t }
+    ensures steps { (t : Tree) → IsSearchTree (N.order nodes.now) (N.cells nodes.now) root t
+        → result.steps ≤ 2 * bits (length (nodes_of t) + 1) }
+{
+    let Some(node) = last else {
+        return EntryPoint {
+            entry: None,
+            steps: 0,
+        };
+    };
+    let mut visits = NodeCursor::new(nodes);
+    if !visits.red(node) {
+        return EntryPoint {
+            entry: last,
+            steps: visits.steps(),
+        };
+    }
+    let way = find_insert_point(nodes, root, probe);
+    EntryPoint {
+        entry: way.entry,
+        steps: visits.steps() + way.steps,
     }
 }
 

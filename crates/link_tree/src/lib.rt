@@ -20,7 +20,10 @@ mod searching;
 mod theorems;
 mod walking;
 
-pub use change_points::{InsertPoint, RemovePoint, find_insert_point, find_remove_point};
+pub use change_points::{
+    EntryPoint, InsertPoint, PathEnd, RemovePoint, find_entry, find_insert_point, find_path_end,
+    find_remove_point,
+};
 pub use checking::{CheckedTree, check};
 pub use insertion::{TreeChange, insert, insert_at};
 pub use nodes::{Nodes, NodesMut};

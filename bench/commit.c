@@ -291,6 +291,22 @@ static void time_syncs(int count) {
     unlink(path);
 }
 
+/* Times the check of a file's image, which is what an undo costs at most. */
+static void time_check(zx_file *file) {
+    uint64_t size = 0;
+    done((int)zx_size(&file->segment, &size), "size");
+    uint8_t *image = malloc(size);
+    if (!image) exit(1);
+    done((int)zx_save(&file->segment, image, size), "save");
+    for (int i = 0; i < 5; i++) {
+        double from = now();
+        done((int)zx_check(image, size), "check");
+        times[0][i] = now() - from;
+    }
+    print("the check of it", times[0], 5);
+    free(image);
+}
+
 static void time_transactions(uint32_t how, const char *name, uint64_t size, int count) {
     zx_file file = ZX_CLOSED_FILE;
     zx_step before = ZX_NO_STEP;
@@ -322,6 +338,7 @@ static void time_transactions(uint32_t how, const char *name, uint64_t size, int
     }
     snprintf(what, sizeof what, "one that is undone, %s, %llu MB", name, (unsigned long long)size / 1000000);
     print(what, times[0], 5);
+    if (how & ZX_DURABLE) time_check(&file);
     zx_file_discard(&file);
     unlink(path);
     unlink(in_folder("steps.seg-log"));

@@ -1,8 +1,10 @@
-/* commit FOLDER COUNT: the times of bench/commit.sh. */
+/* commit FOLDER COUNT [ROW..]: the times of bench/commit.sh, of all rows or of those that are named. */
 #include "zaluxhoni_files.h"
 
+#include <fcntl.h>
 #include <stdio.h>
 #include <stdlib.h>
+#include <string.h>
 #include <time.h>
 #include <unistd.h>
 #ifdef HAS_LMDB
@@ -14,23 +16,48 @@
 
 enum { MOST = 10000, CONTENDERS = 4 };
 
-static char folder[300];
-static double times[CONTENDERS][MOST];
+static char folder[300], **rows_wanted;
+static double times[CONTENDERS][MOST], worked[CONTENDERS][MOST];
 
-static double now(void) {
+static bool is_wanted(const char *row) {
+    for (char **word = rows_wanted; *word; word++)
+        if (strcmp(*word, row) == 0) return true;
+    return !*rows_wanted;
+}
+
+static double read_clock(clockid_t clock) {
     struct timespec at;
-    clock_gettime(CLOCK_MONOTONIC, &at);
+    clock_gettime(clock, &at);
     return (double)at.tv_sec * 1e3 + (double)at.tv_nsec / 1e6;
 }
+
+static double now(void) { return read_clock(CLOCK_MONOTONIC); }
+
+/* How long the processor worked for this process, in the system too. */
+static double work(void) { return read_clock(CLOCK_PROCESS_CPUTIME_ID); }
 
 static int compared(const void *a, const void *b) {
     double one = *(const double *)a, other = *(const double *)b;
     return one < other ? -1 : one > other;
 }
 
-static void print(const char *what, double *all, int count) {
+static double median(double *all, int count) {
     qsort(all, (size_t)count, sizeof *all, compared);
-    printf("%-56s %9.3f ms  least %9.3f\n", what, all[count / 2], all[0]);
+    return all[count / 2];
+}
+
+static void print(const char *what, double *all, int count) {
+    double middle = median(all, count);
+    printf("%-56s %9.3f ms  least %9.3f\n", what, middle, all[0]);
+    fflush(stdout);
+}
+
+/* Prints what a contender took, and how long the processor worked for that. */
+static void print_both(const char *what, int k, int count) {
+    double middle = median(times[k], count), of_work = median(worked[k], count), mean = 0, mean_of_work = 0;
+    for (int i = 0; i < count; i++) mean += times[k][i] / count, mean_of_work += worked[k][i] / count;
+    printf("%-40s %9.3f ms  least %9.3f  mean %9.3f  processor %9.3f  mean %9.3f\n", what, middle, times[k][0], mean,
+           of_work, mean_of_work);
     fflush(stdout);
 }
 
@@ -213,17 +240,16 @@ static void time_commits(uint64_t mib, int rows, enum change change, int count) 
     for (int k = 0; k < MANY; k++) contenders[k].begin(mib << 20);
     for (int i = 0; i < count; i++) {
         for (int k = 0; k < MANY; k++) {
-            double from = now();
+            double from = now(), before = work();
             contenders[k].commit(rows, change);
+            worked[k][i] = work() - before;
             times[k][i] = now() - from;
         }
     }
     for (int k = 0; k < MANY; k++) {
-        double sum = 0;
-        for (int i = 0; i < count; i++) sum += times[k][i];
-        snprintf(what, sizeof what, "%s, %d %s in %d MiB, mean %.3f", contenders[k].name, rows,
-                 change == ONE_NUMBER ? "changes" : "rows", (int)mib, sum / count);
-        print(what, times[k], count);
+        snprintf(what, sizeof what, "%s, %d %s in %d MiB", contenders[k].name, rows,
+                 change == ONE_NUMBER ? "changes" : "rows", (int)mib);
+        print_both(what, k, count);
         contenders[k].end();
     }
 }
@@ -244,6 +270,41 @@ static void time_whole(uint64_t mib, int count) {
     print(what, times[0], count);
     zx_file_discard(&file);
     unlink(path);
+}
+
+/* Times what a durable commit has at least: a page written and synced, twice. */
+static void time_syncs(int count) {
+    static const char page[4096];
+    char *path = in_folder("synced");
+    int file = open(path, O_RDWR | O_CREAT | O_TRUNC | O_CLOEXEC, 0600);
+    done(file < 0, "open");
+    for (int i = -1; i < count; i++) {
+        double from = now();
+        for (int turn = 1; turn <= 2; turn++) {
+            done(pwrite(file, page, sizeof page, (off_t)sizeof page * turn) != sizeof page, "write");
+            done(fdatasync(file), "sync");
+        }
+        times[0][i < 0 ? 0 : i] = now() - from;
+    }
+    print("a page written and synced, twice", times[0], count);
+    close(file);
+    unlink(path);
+}
+
+/* Times the check of a file's image, which is what an undo costs at most. */
+static void time_check(zx_file *file) {
+    uint64_t size = 0;
+    done((int)zx_size(&file->segment, &size), "size");
+    uint8_t *image = malloc(size);
+    if (!image) exit(1);
+    done((int)zx_save(&file->segment, image, size), "save");
+    for (int i = 0; i < 5; i++) {
+        double from = now();
+        done((int)zx_check(image, size), "check");
+        times[0][i] = now() - from;
+    }
+    print("the check of it", times[0], 5);
+    free(image);
 }
 
 static void time_transactions(uint32_t how, const char *name, uint64_t size, int count) {
@@ -277,6 +338,7 @@ static void time_transactions(uint32_t how, const char *name, uint64_t size, int
     }
     snprintf(what, sizeof what, "one that is undone, %s, %llu MB", name, (unsigned long long)size / 1000000);
     print(what, times[0], 5);
+    if (how & ZX_DURABLE) time_check(&file);
     zx_file_discard(&file);
     unlink(path);
     unlink(in_folder("steps.seg-log"));
@@ -319,49 +381,70 @@ static void time_opening(uint64_t mib, int count) {
     done((int)zx_save(&file.segment, image, size), "save");
     zx_file_discard(&file);
     for (int i = 0; i < 2 * count; i++) {
-        double from = now();
+        double from = now(), before = work();
         if (i % 2) done((int)zx_file_open(&file, path, ZX_OPEN_ONLY | ZX_DURABLE, 0), "open");
         else done((int)zx_check(image, size), "check");
+        worked[i % 2][i / 2] = work() - before;
         times[i % 2][i / 2] = now() - from;
         if (i % 2) zx_file_discard(&file);
     }
     snprintf(what, sizeof what, "the check of %d MiB", (int)mib);
-    print(what, times[0], count);
+    print_both(what, 0, count);
     snprintf(what, sizeof what, "an opening with a log of %.1f MiB", (double)mib * 19 / 80);
-    print(what, times[1], count);
+    print_both(what, 1, count);
     done((int)zx_file_open(&file, path, ZX_OPEN_ONLY | ZX_DURABLE, 0), "open");
     done((int)zx_file_close(&file), "close");
     for (int i = 0; i < count; i++) {
-        double from = now();
+        double from = now(), before = work();
         done((int)zx_file_open(&file, path, ZX_OPEN_ONLY | ZX_DURABLE, 0), "open");
+        worked[0][i] = work() - before;
         times[0][i] = now() - from;
         zx_file_discard(&file);
     }
-    print("an opening without a log", times[0], count);
+    print_both("an opening without a log", 0, count);
     free(image);
     unlink(path);
+}
+
+/* Times commits in an image of a size, by the rows one, numbers, rows and whole with the size behind them. */
+static void time_size(uint64_t mib, int count) {
+    const struct {
+        const char *name;
+        int rows, count;
+        enum change change;
+    } all[] = { { "one", 1, count, ONE_NUMBER },
+                { "numbers", 1000, count / 4 + 1, ONE_NUMBER },
+                { "rows", 1000, count / 4 + 1, ALL_OF_IT } };
+    char row[40];
+    for (int i = 0; i < 3; i++) {
+        snprintf(row, sizeof row, "%s%d", all[i].name, (int)mib);
+        if (is_wanted(row)) time_commits(mib, all[i].rows, all[i].change, all[i].count);
+    }
+    snprintf(row, sizeof row, "whole%d", (int)mib);
+    if (is_wanted(row)) time_whole(mib, 5);
 }
 
 int main(int words, char **word) {
     if (words < 3) return 2;
     int count = atoi(word[2]);
     if (count < 1 || count > MOST) return 2;
+    rows_wanted = word + 3;
     snprintf(folder, sizeof folder, "%s", word[1]);
     double load = 0;
     (void)getloadavg(&load, 1);
     printf("medians of %d or %d, in turns; load %.1f\n", count, count / 4 + 1, load);
-    for (uint64_t mib = 32; mib <= 256; mib *= 8) {
-        time_commits(mib, 1, ONE_NUMBER, count);
-        time_commits(mib, 1000, ONE_NUMBER, count / 4 + 1);
-        time_commits(mib, 1000, ALL_OF_IT, count / 4 + 1);
-        time_whole(mib, 5);
-    }
-    time_opening(32, 9);
+    time_size(32, count);
+    time_size(256, count);
+    if (is_wanted("opening")) time_opening(32, 9);
     const uint64_t sizes[] = { 1000000, 64000000, 200000000 };
     for (int i = 0; i < 3; i++) {
+        char row[40];
+        snprintf(row, sizeof row, "steps%d", (int)(sizes[i] / 1000000));
+        if (!is_wanted(row)) continue;
         time_transactions(0, "by copy", sizes[i], count);
         time_transactions(ZX_MAPPED, "mapped", sizes[i], count);
         time_transactions(ZX_DURABLE, "durable", sizes[i], count);
+        time_syncs(count);
     }
     return 0;
 }

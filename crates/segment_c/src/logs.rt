@@ -7,10 +7,10 @@ ghost use Rattle.segment_log.specs.Records.{body_at, number_bytes};
 ghost use Rattle.segment_log.specs.Tags.{AreTogether, tag_text};
 ghost use Rattle.segment_c.specs.Logs.{OpensWithLog, WritesOut, gate_of};
 
-use crate::codes::{LOG_FOREIGN, NO_MEMORY, TOO_LARGE};
+use crate::codes::{LOG_FOREIGN, NO_MEMORY, SHORT_BUFFER, TOO_LARGE};
 use crate::images::copy_out;
 use segment_log::{
-    MAX_LOG_LEN, RecoverError, begin_payload, fingerprint, open_gate, page_mark, push_edit,
+    MAX_LOG_LEN, RecoverError, begin_payload, edit_head, fingerprint, open_gate, page_mark,
     record_body, recover, shut_gate,
 };
 use std::alloc::{AllocError, Global};
@@ -56,21 +56,24 @@ pub extern "C" fn zx_log_front(
     write_out(begin_payload(alloc, len as usize, base, after), out)
 }
 
-/// Returns the bytes of an edit.
-fn edit_of(alloc: Global, at: u64, bytes: &[u8]) -> Result<Vec<u8>, AllocError>
-    ensures { IfOk result (λ edit. edit.items ≡ edit_text at bytes.now) }
+/// Copies two texts, one behind the other, to the front of a buffer, if it has room for both.
+fn copy_both(first: &[u8], second: &[u8], out: &mut [u8]) -> u32
+    ensures { WritesOut (first.now ++ second.now) out.old out.new result }
 {
-    let mut edit = Vec::new(alloc);
-    push_edit(&mut edit, at as usize, bytes)?;
-    Ok(edit)
+    if out.len() < first.len() || out.len() - first.len() < second.len() {
+        return SHORT_BUFFER;
+    }
+    out[..first.len()].copy_from_slice(first);
+    copy_out(second, &mut out[first.len()..])
 }
 
-/// Writes an edit of a payload: an offset, and the bytes that the image has there.
+/// Writes an edit of a payload: an offset, and the bytes that the image has there. They are copied once, since a commit
+/// of many pages writes many edits.
 #[unsafe(no_mangle)]
-pub extern "C" fn zx_log_edit(alloc: Global, at: u64, bytes: &[u8], out: &mut [u8]) -> u32
+pub extern "C" fn zx_log_edit(at: u64, bytes: &[u8], out: &mut [u8]) -> u32
     ensures { WritesOut (edit_text at bytes.now) out.old out.new result }
 {
-    write_out(edit_of(alloc, at, bytes), out)
+    copy_both(&edit_head(at, bytes.len() as u64), bytes, out)
 }
 
 /// Writes what stands behind the gate of a record: the length of the payload, the payload, and the next gate, shut.

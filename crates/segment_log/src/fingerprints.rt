@@ -1,8 +1,9 @@
 //! Numbers that tell images apart. That of an image is the sum of its pages' marks, so that whoever knows the pages
 //! that changed computes it from these alone.
-ghost use Rattle.std.specs.Prelude.{◌≡◌, ◌≤◌, ◌/◌, length};
+ghost use Rattle.std.specs.Prelude.{◌≡◌, ◌≤◌, ◌+◌, ◌*◌, ◌/◌, drop, length};
 ghost use Rattle.segment_log.specs.Fingerprints.{fingerprint, mark_word, marked_bytes, marked_words, page_mark};
 ghost use Rattle.segment_log.specs.Fingerprints.{FingerprintOfAChange, with_page};
+ghost use Rattle.segment_log.specs.Records.{number_of};
 
 use crate::records::number_of;
 
@@ -18,13 +19,51 @@ fn mark_word(mark: u64, word: u64) -> u64
         .wrapping_add(word / 4_294_967_296)
 }
 
+/// Adds two words to a mark. What the words add does not wait for the mark, so that a processor has it ready.
+fn mark_pair(mark: u64, first: u64, second: u64) -> u64
+    ensures { result ≡ mark_word (mark_word mark first) second }
+{
+    mark.wrapping_mul(7_520_897_724_310_334_953)
+        .wrapping_add(mark_word(mark_word(0, first), second))
+}
+
+/// Returns the word at an offset. A slice of exactly its bytes is read at once.
+fn word_at(bytes: &[u8], at: usize) -> u64
+    requires in_bounds { at + 8 ≤ length bytes.now }
+    ensures { result ≡ number_of (drop at bytes.now) }
+{
+    number_of(&bytes[at..at + 8])
+}
+
+/// Adds four words to a mark in the same way.
+fn mark_four(mark: u64, first: u64, second: u64, third: u64, fourth: u64) -> u64
+    ensures { result ≡ mark_word (mark_word (mark_word (mark_word mark first) second) third) fourth }
+{
+    mark.wrapping_mul(18_108_194_425_815_612_945)
+        .wrapping_add(mark_pair(mark_pair(0, first, second), third, fourth))
+}
+
+/// Returns the mark of the first words of a page, four at a time.
+fn mark_fours(page: &[u8]) -> u64
+    ensures { result ≡ marked_words (4 * (length page.now / 32)) page.now }
+{
+    let mut mark = page.len() as u64;
+    'fours: for index in 0..page.len() / 32 {
+        let at = 32 * index;
+        let (first, second) = (word_at(page, at), word_at(page, at + 8));
+        let (third, fourth) = (word_at(page, at + 16), word_at(page, at + 24));
+        mark = mark_four(mark, first, second, third, fourth);
+    }
+    mark
+}
+
 /// Returns the mark of the whole words of a page.
 fn mark_words(page: &[u8]) -> u64
     ensures { result ≡ marked_words (length page.now / 8) page.now }
 {
-    let mut mark = page.len() as u64;
-    'words: for at in 0..page.len() / 8 {
-        mark = mark_word(mark, number_of(&page[8 * at..]));
+    let mut mark = mark_fours(page);
+    'words: for at in page.len() / 32 * 4..page.len() / 8 {
+        mark = mark_word(mark, word_at(page, 8 * at));
     }
     mark
 }

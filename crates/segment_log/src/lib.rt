@@ -23,7 +23,7 @@ pub use committing::{CommitError, checkpoint, commit, shut};
 pub use edits::apply;
 pub use fingerprints::{PAGE_LEN, fingerprint, fingerprint_of_a_change, page_mark, with_page};
 pub use log_disk::{LogDisk, LogFault};
-pub use payloads::{begin_payload, changes, fill, push_edit};
+pub use payloads::{begin_payload, changes, edit_head, fill, push_edit};
 pub use records::{GATE_LEN, MAX_LOG_LEN, next_record, open_gate, record_body, shut_gate};
 pub use recovery::{RecoverError, RecoveredImage, recover};
 pub use replaying::{is_ajar, replay};

@@ -9,6 +9,16 @@ use crate::fingerprints::{PAGE_LEN, fingerprint};
 use crate::records::{GATE_LEN, number_bytes, zeros};
 use std::alloc::{AllocError, Global};
 
+/// Returns what stands in front of the bytes of an edit: their offset, and how many they are.
+pub fn edit_head(at: u64, len: u64) -> [u8; 16]
+    ensures { result ≡ number_bytes at ++ number_bytes len }
+{
+    let mut head = [0; 16];
+    head[..8].copy_from_slice(&number_bytes(at));
+    head[8..].copy_from_slice(&number_bytes(len));
+    head
+}
+
 /// Appends an edit to a payload: an offset, and the bytes that the image has there.
 pub fn push_edit(payload: &mut Vec<u8>, at: usize, bytes: &[u8]) -> Result<(), AllocError>
     ensures { OnOk result (payload.new.items ≡ payload.old.items ++ edit_text at bytes.now) }

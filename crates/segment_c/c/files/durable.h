@@ -42,9 +42,33 @@ static zx_code lengthen(zx_file *file, struct zx_held_file *held, uint64_t size,
 /* Converts ZX_FILE_UNSYNCED to ZX_FILE_FAULT, for calls that cannot go on before the name is on the disk. */
 static zx_code synced(zx_code code) { return code == ZX_FILE_UNSYNCED ? (zx_code)ZX_FILE_FAULT : code; }
 
+/* A longer buffer is freed after a commit, and so are pages that are kept no more, if they take more memory. */
+enum { LONG_BUFFER = 1 << 24 };
+
+/* Returns memory for a page that is to be kept. Pages that a checkpoint gave back are used again, since the system clears
+   each page that it gives. */
+static uint8_t *new_page(struct commits *commits) {
+    struct idle_page *page = commits->idle;
+    if (!page) return malloc(sizeof *page);
+    commits->idle = page->next;
+    commits->idle_count--;
+    return (uint8_t *)page;
+}
+
+static void drop_page(struct commits *commits, uint8_t *bytes) {
+    struct idle_page *page = (struct idle_page *)bytes;
+    if (!page || commits->idle_count == LONG_BUFFER / PAGE) {
+        free(page);
+        return;
+    }
+    page->next = commits->idle;
+    commits->idle = page;
+    commits->idle_count++;
+}
+
 static void free_pages(struct commits *commits, uint64_t first, uint64_t behind) {
     for (uint64_t page = first; page < behind; page++) {
-        free(commits->kept[page]);
+        drop_page(commits, commits->kept[page]);
         commits->kept[page] = NULL;
     }
 }
@@ -72,10 +96,8 @@ struct record {
     uint8_t *changed;     /* of each page: 1 if it changed, or ALIKE */
     uint64_t share;       /* what the fingerprint gains by these pages */
     uint64_t len;         /* of its bytes, which are in the buffer */
+    uint64_t edits;       /* where its edits end there */
 };
-
-/* A longer buffer is freed after a commit. */
-enum { LONG_BUFFER = 1 << 24 };
 
 /* Makes the buffer long enough for `len` bytes of a record. */
 static bool make_buffer(struct commits *commits, const struct record *record, uint64_t len) {
@@ -139,11 +161,11 @@ static zx_code add_page(const struct zx_held_file *held, struct record *record, 
 static zx_code compare_page(zx_file *file, const struct zx_held_file *held, struct record *record, uint64_t page,
                             bool has_moved) {
     struct commits *commits = held->commits;
-    uint8_t *old = commits->kept[page] ? commits->kept[page] : malloc(PAGE);
+    uint8_t *old = commits->kept[page] ? commits->kept[page] : new_page(commits);
     if (!old) return ZX_NO_MEMORY;
     if (!commits->kept[page] && !committed_page(held, page, old)) {
         zx_code code = fault(file);
-        free(old);
+        drop_page(commits, old);
         return code;
     }
     if (has_moved || memcmp(old, held->at + page * PAGE, page_len(record->size, page)) != 0) {
@@ -152,7 +174,7 @@ static zx_code compare_page(zx_file *file, const struct zx_held_file *held, stru
     }
     record->changed[page] = commits->kept[page] ? 0 : ALIKE;
     if (commits->kept[page]) commits->compared++;
-    else free(old);
+    else drop_page(commits, old);
     return ZX_DONE;
 }
 
@@ -222,6 +244,7 @@ static zx_code end_record(struct commits *commits, struct record *record) {
     if (!make_buffer(commits, record, gate + GATE)) return ZX_NO_MEMORY;
     uint8_t *bytes = commits->buffer.bytes;
     memset(bytes + record->len, 0, gate - record->len);
+    record->edits = record->len;
     record->len = gate + GATE;
     zx_code code = zx_log_edit(gate - 8, bytes, 0, bytes, EDIT);
     if (code == ZX_DONE) {
@@ -298,11 +321,22 @@ static zx_code write_record(zx_file *file, struct zx_held_file *held, const stru
     return faulty(file, ZX_FILE_UNSURE, errno);
 }
 
+/* Puts the edits of a record into the kept pages, which hold what they held before it. Behind the image they are 0. */
+static void keep_record(struct commits *commits, const struct record *record) {
+    const uint8_t *edit = commits->buffer.bytes + 8 + FRONT, *behind = commits->buffer.bytes + record->edits;
+    while (edit < behind) {
+        uint64_t at = number_at(edit), len = number_at(edit + 8);
+        memcpy(commits->kept[at / PAGE] + at % PAGE, edit + EDIT, len);
+        edit += EDIT + len;
+    }
+    uint64_t last = record->size / PAGE, len = record->size % PAGE;
+    if (len > 0 && commits->kept[last]) memset(commits->kept[last] + len, 0, PAGE - len);
+}
+
 /* Notes what was committed. */
 static void note_record(const zx_file *file, struct zx_held_file *held, const struct record *record) {
     struct commits *commits = held->commits;
-    for (uint64_t page = 0; (page = next_noted(record->changed, record->pages, page)) < record->pages; page++)
-        keep_page(commits, held->at, record->size, page);
+    keep_record(commits, record);
     free_pages(commits, record->pages, pages_of(commits->len));
     forget_written(commits, pages_of(record->size > commits->len ? record->size : commits->len));
     commits->len = record->size;
@@ -428,6 +462,11 @@ static zx_code commit_pages(zx_file *file, struct zx_held_file *held) {
 
 /* ---- checkpoints: the file becomes the image, and the log empty */
 
+/* Has the system map all pages at once. Linux has that from 5.14 on. */
+#ifndef MADV_POPULATE_READ
+#define MADV_POPULATE_READ 22
+#endif
+
 /* Empties the log by shutting its first gate. The file has the log's image already. */
 static zx_code empty_log(zx_file *file, struct zx_held_file *held) {
     if (write_gate(held, false, 0) && sync_log(held->log)) return ZX_DONE;
@@ -451,6 +490,8 @@ static zx_code checkpoint(zx_file *file, struct zx_held_file *held) {
     struct image image = { held->at, commits->len };
     if (commits->end == 0) return held->state == SAVED ? (zx_code)ZX_DONE : sync_name(file, held);
     zx_code code = take_log(file, held);
+    // else each page is a fault of its own, since the system maps no neighbours of a page that is watched
+    (void)madvise(held->at, commits->len, MADV_POPULATE_READ);
     if (code == ZX_DONE) code = replace(file, held, &image);
     if (code != ZX_DONE) return code;
     map_committed(held);
@@ -487,6 +528,7 @@ static void leave_log(struct zx_held_file *held) {
 static void free_commits(struct zx_held_file *held) {
     if (!held->commits) return;
     free_pages(held->commits, 0, pages_of(held->len));
+    while (held->commits->idle) free(new_page(held->commits));
     free_buffer(held->commits);
     munmap(held->commits, commits_size());
     held->commits = NULL;

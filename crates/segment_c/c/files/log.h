@@ -76,8 +76,11 @@ static zx_code recover_image(const uint8_t *image, uint64_t len, const struct im
     uint64_t room = len + log->len < LARGEST ? len + log->len : LARGEST;
     made->image = room_for(room);
     if (!made->image.bytes) return ZX_NO_MEMORY;
+    rattle_ask_long_pages(made->image.bytes, room);
+    rattle_fillers++;
     zx_code code = zx_log_recover(image, len, log->bytes, log->len, made->image.bytes, room, &made->image.len,
                                   &made->end, &made->base);
+    rattle_fillers--;
     bool has_size = made->end == 0 || (made->image.len > 0 && made->image.len % 16 == 0);
     if (code == ZX_SHORT_BUFFER || (code == ZX_DONE && !has_size)) code = ZX_FILE_LOG_FOREIGN;
     if (code != ZX_DONE) free(made->image.bytes);

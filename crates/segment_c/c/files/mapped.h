@@ -74,12 +74,15 @@ static bool cut(int file, uint64_t size) {
     return fstat(file, &found) == 0 && ((uint64_t)found.st_size == size || set_length(file, size));
 }
 
-/* Returns the size in an image's header (docs/FORMAT.md). */
-static uint64_t size_said(const uint8_t *image) {
-    uint64_t size = 0;
-    for (int i = 7; i >= 0; i--) size = size << 8 | image[16 + i];
-    return size;
+/* Returns the number in 8 bytes (docs/FORMAT.md). */
+static uint64_t number_at(const uint8_t *bytes) {
+    uint64_t number = 0;
+    for (int i = 7; i >= 0; i--) number = number << 8 | bytes[i];
+    return number;
 }
+
+/* Returns the size in an image's header. */
+static uint64_t size_said(const uint8_t *image) { return number_at(image + 16); }
 
 /* The addresses at which this process maps files of one length again and again: a gap between two pages that stay
    mapped. A short file lies near the start of the range that one page table of the system covers. The two pages keep

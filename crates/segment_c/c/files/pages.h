@@ -129,6 +129,11 @@ static bool read_page(int file, uint64_t page, size_t len, uint8_t bytes[PAGE]) 
 
 /* ---- what a file has that is durable: a private mapping of the file, and what its commits left */
 
+struct idle_page {
+    struct idle_page *next;
+    uint8_t rest[PAGE - sizeof(struct idle_page *)];
+};
+
 struct commits {
     uint64_t len;    /* of the image that was committed last */
     uint64_t base;   /* the fingerprint of the file when the log began */
@@ -141,6 +146,8 @@ struct commits {
     uint64_t room;   /* the length up to which this process allocated the log's blocks */
     uint64_t compared; /* pages that commits found the same since the last checkpoint */
     struct image buffer; /* room for a record */
+    struct idle_page *idle; /* pages that are kept no more: a list, for those that are kept next */
+    uint64_t idle_count;
     uint8_t *written;    /* of each page: 1 if it may have changed since the last commit, by what the system told so far */
     bool is_untold;      /* it told not all since then */
     uint8_t *kept[]; /* of each page that a commit changed, what it left; null for those that are the file's */

@@ -26,7 +26,7 @@ static zx_code recover(zx_file *file, const struct zx_held_file *held, uint64_t 
    that the file has of that page. */
 static bool keep_recovered(struct commits *commits, const struct image *image, uint64_t page, const uint8_t *old,
                            size_t len) {
-    commits->kept[page] = malloc(PAGE);
+    commits->kept[page] = new_page(commits);
     if (!commits->kept[page]) return errno = 0, false;
     keep_page(commits, image->bytes, image->len, page);
     commits->after -= share_of(page, old, len);

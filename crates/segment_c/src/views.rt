@@ -66,7 +66,7 @@ pub extern "C" fn zx_view(
 }
 
 /// Says where the elements of the object of a key stand, for any form of key.
-#[inline(always)]
+#[inline(never)]
 fn view_any(alloc: Global, h: &mut SegmentSlot, key: &ObjectKey<'_>, view: &mut CView) -> u32
     ensures read { ReadsHandle (key_wrong key.now) result h.old h.new
         (λ s. (d : Directory) → DenotesCurrent s.cut.bytes d

@@ -70,6 +70,11 @@ abbrev pub TreeSteps : {K V : Type 0} → Plain K → Plain V → WindowState �
 TreeSteps {K} {V} k v old h at more before after = (ps : List (Pair K V)) → HoldsMap k v old.bytes h at ps
     → after ≤ before + 30 * bits (length ps + 1) + 32 + more
 
+-- the steps of an insertion into the tree
+abbrev pub InsertSteps : {K V : Type 0} → Plain K → Plain V → WindowState → ℕ → ℕ → ℕ → ℕ → Type 0
+InsertSteps {K} {V} k v old h at before after = (ps : List (Pair K V)) → HoldsMap k v old.bytes h at ps
+    → after ≤ before + 28 * bits (length ps + 1) + 32
+
 -- the pair of a key is removed, and its block is freed
 pub record ErasesPair {K V : Type 0} (k : Plain K) (v : Plain V) (old new : WindowState) (h at : ℕ)
     (ps : List (Pair K V)) (p : Pair K V) (key : K) : Type 0 where

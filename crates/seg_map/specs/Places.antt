@@ -85,6 +85,10 @@ abbrev pub FindsKey : {K V : Type 0} → Plain K → Plain V → List ℕ → �
 FindsKey {K} {V} k v b h at key r = (ps : List (Pair K V)) → HoldsMap k v b h at ps
     → r ≡ option_map pair_node (pair_at k.order ps key)
 
+-- no pair of the map has the key
+abbrev pub IsNewKey : {K V : Type 0} → Plain K → Plain V → List ℕ → ℕ → ℕ → K → Type 0
+IsNewKey {K} {V} k v b h at key = (ps : List (Pair K V)) → HoldsMap k v b h at ps → pair_at k.order ps key ≡ None
+
 -- the steps of a search, at most `2 * bits (pairs + 1)`, and n more
 abbrev pub SearchSteps : {K V : Type 0} → Plain K → Plain V → List ℕ → Place → ℕ → ℕ → ℕ → Type 0
 SearchSteps {K} {V} k v b at more before after = (ps : List (Pair K V)) → HoldsMap k v b at.handle at.at ps

@@ -2,11 +2,12 @@
 use Rattle.std.specs.Prelude.{◌≡◌, ℕ, ◌+◌, ◌≤◌, Bool, true, false, Option, Some, None, List, IfSome, IsTrue}
 use Rattle.std.specs.{Prelude.if◌then◌else◌, Prelude.option_and_then, Prelude.option_map, List.AllByRecursion}
 use Rattle.raw_region.specs.Memory.{WindowState, Memory, bytes_of, read}
-use Rattle.link_tree.specs.{Searching.path_length, Tree.Tree, Tree.nodes_of, Ways.insert_point_of, Ways.remove_point_of}
+use Rattle.link_tree.specs.{Searching.path_length, Tree.Tree, Tree.nodes_of, Ways.EndsPath, Ways.insert_point_of}
+use Rattle.link_tree.specs.{Ways.remove_point_of}
 use Rattle.best_fit.specs.{Heap.has_room, Heap.live_of, declared.places.Place.Place}
 use Rattle.seg_types.specs.{declared.plain.Plain.Ghosts as Plain, Plain.value_in}
 use Rattle.seg_map.specs.{Linking.IsKeyTree, Linking.keys_in, Map.Pair}
-use Rattle.seg_map.specs.PairNodes.{both, comes_before, stands_before}
+use Rattle.seg_map.specs.PairNodes.{both, comes_before, is_pair_node, pair_cells, stands_before}
 use Rattle.seg_map.specs.Places.{FindsKey, HoldsMap, SearchSteps, final_pair, first_pair, item_of, last_pair, pair_node}
 
 -- the number of nodes that a search visits for the first pair whose key is not below a key, or is above it
@@ -98,6 +99,12 @@ pub record LooksFor {K V : Type 0} (k : Plain K) (v : Plain V) (c : WindowState)
 
 -- ---- where a change of the tree begins
 
+-- the search for a key among these nodes ends at this one
+abbrev pub EndsPathOf : {K : Type 0} → Plain K → List ℕ → WindowState → K → Tree → Option ℕ → Type 0
+EndsPathOf k ns c key t last =
+    EndsPath (is_pair_node (16 + k.SIZE) ns c) (pair_cells (16 + k.SIZE) ns c)
+    (stands_before k.order (keys_in k ns c) false key) t last
+
 -- where the insertion of a node at the end of the search for a key begins
 abbrev pub entry_in : {K : Type 0} → Plain K → WindowState → K → Tree → Option ℕ
 entry_in k c key t = insert_point_of (stands_before k.order (keys_in k (nodes_of t) c) false key) t
@@ -116,3 +123,9 @@ abbrev pub FindsExit : {K V : Type 0} → Plain K → Plain V → WindowState �
 FindsExit {K} {V} k v c at node start =
     (ps : List (Pair K V)) (s : HoldsMap k v c.bytes at.handle at.at ps)
     → IfSome node (λ n. start ≡ exit_in k c n s.map.tree.tree)
+
+-- the search for a key ends its path at this node; none if the map is empty
+abbrev pub EndsSearch : {K V : Type 0} → Plain K → Plain V → WindowState → Place → K → Option ℕ → Type 0
+EndsSearch {K} {V} k v c at key last =
+    (ps : List (Pair K V)) (s : HoldsMap k v c.bytes at.handle at.at ps)
+    → EndsPathOf k (nodes_of s.map.tree.tree) c key s.map.tree.tree last

@@ -5,7 +5,7 @@ ghost use Rattle.offset_link.specs.Link.{link_at};
 ghost use Rattle.link_tree.specs.Nodes.{leads};
 ghost use Rattle.best_fit.specs.Heap.{has_room, live_of};
 ghost use Rattle.seg_map.specs.Searches.{FindsEntry, FindsExit, OpensPairTree, LastTakes, LookBackTakes, LookupSteps};
-ghost use Rattle.seg_map.specs.Searches.{LooksFor, LooksUp, item_at, node_with, path_in, reading_steps};
+ghost use Rattle.seg_map.specs.Searches.{EndsSearch, LooksFor, LooksUp, item_at, node_with, path_in, reading_steps};
 ghost use Rattle.seg_map.specs.Places.{FindsItem, FindsItemBefore, FindsLastItem, FindsValue, IsSomeMap, SearchSteps};
 ghost use Rattle.seg_map.specs.{Linking.HasKeyTree, PairNodes.is_pair_node, Places.first_pair, Places.last_pair};
 
@@ -14,7 +14,7 @@ use crate::nodes::{NodeSet, PairTree};
 use crate::reading::{KEY_OFFSET, KeyProbe, value_at};
 use best_fit::Heap;
 use link_tree::{
-    SearchResult, find_first_not_before, find_insert_point, find_last, find_last_before,
+    SearchResult, find_entry, find_first_not_before, find_last, find_last_before, find_path_end,
     find_remove_point,
 };
 use raw_region::Steps;
@@ -31,6 +31,15 @@ pub struct KeyCursor {
     pub node: Option<u64>,
     /// The node at which the change begins; none if it begins at the root.
     pub start: Option<u64>,
+}
+
+/// The result of a search for a key that is to be put.
+#[derive(Clone, Copy)]
+pub struct KeyPath {
+    /// The node; none if the map lacks the key.
+    pub node: Option<u64>,
+    /// The last node on the path of the search; none if the map is empty.
+    pub last: Option<u64>,
 }
 
 impl<K: Plain, V: Plain> SegMap<K, V> {
@@ -142,20 +151,43 @@ impl<K: Plain, V: Plain> SegMap<K, V> {
         read_found(heap, found, steps)
     }
 
-    /// Returns the node of a key, and where the insertion of a node with this key begins.
-    pub(crate) fn find_for_put(self, heap: &Heap, key: K, steps: &mut Steps) -> KeyCursor
+    /// Returns the node of a key, and the last node on the path of the search. It reads no colour.
+    pub(crate) fn find_for_put(self, heap: &Heap, key: K, steps: &mut Steps) -> KeyPath
         requires map { IsSomeMap K.Plain V.Plain heap.now.bytes self.place.handle self.place.at }
         ensures search { LooksFor K.Plain V.Plain heap.now self.place key result.node steps.old steps.new }
         ensures value { IfSome result.node (λ node. K.is_value key ≡ true) }
-        ensures root { result.root ≡ link_at (bytes_of heap.now.bytes) (self.place.handle + self.place.at) }
-        ensures entry { FindsEntry K.Plain V.Plain heap.now self.place key result.start }
+        ensures last { EndsSearch K.Plain V.Plain heap.now self.place key result.last }
     {
         let pairs = self.open(heap);
-        let way = find_insert_point(&pairs, pairs.root, &KeyProbe { key, past: false });
+        let end = find_path_end(&pairs, pairs.root, &KeyProbe { key, past: false });
+        steps.add(end.steps);
+        KeyPath {
+            node: with_key(heap, end.node, key, steps),
+            last: end.last,
+        }
+    }
+
+    /// Returns where the insertion of a node with a key begins, from the end of the path of the search for the key.
+    pub(crate) fn find_put_entry(
+        self,
+        heap: &Heap,
+        key: K,
+        last: Option<u64>,
+        steps: &mut Steps,
+    ) -> KeyCursor
+        requires map { IsSomeMap K.Plain V.Plain heap.now.bytes self.place.handle self.place.at }
+        requires last { EndsSearch K.Plain V.Plain heap.now self.place key last }
+        ensures root { result.root ≡ link_at (bytes_of heap.now.bytes) (self.place.handle + self.place.at) }
+        ensures entry { FindsEntry K.Plain V.Plain heap.now self.place key result.start }
+        ensures steps_lower { steps.old ≤ steps.new }
+        ensures steps { SearchSteps K.Plain V.Plain heap.now.bytes self.place 0 steps.old steps.new }
+    {
+        let pairs = self.open(heap);
+        let way = find_entry(&pairs, pairs.root, &KeyProbe { key, past: false }, last);
         steps.add(way.steps);
         KeyCursor {
             root: pairs.root,
-            node: with_key(heap, way.node, key, steps),
+            node: None,
             start: way.entry,
         }
     }

@@ -2,7 +2,8 @@
 ghost use Rattle.std.specs.Prelude.{◌≡◌, ◌+◌, ◌%◌, ◌<◌, IfSome, IsTrue};
 ghost use Rattle.best_fit.specs.{Extents.is_proper, Heap.has_room, Heap.heap_touches, Heap.live_of};
 ghost use Rattle.seg_map.specs.PairNodes.{own_nodes};
-ghost use Rattle.seg_map.specs.Changing.{CanUnlinkPair, CanLinkPair, Drops, WritesMapHeader, LinksPair, TreeSteps};
+ghost use Rattle.seg_map.specs.Changing.{CanUnlinkPair, CanLinkPair, Drops, InsertSteps, LinksPair};
+ghost use Rattle.seg_map.specs.Changing.{TreeSteps, WritesMapHeader};
 
 use crate::finding::KeyCursor;
 use crate::maps::SegMap;
@@ -64,7 +65,7 @@ impl<K: Plain, V: Plain> SegMap<K, V> {
             trace.now.start node }
         ensures tree { LinksPair K.Plain V.Plain heap.old heap.new self.place.handle self.place.at node }
         ensures steps_lower { steps.old < steps.new }
-        ensures steps { TreeSteps K.Plain V.Plain heap.old self.place.handle self.place.at 0 steps.old steps.new }
+        ensures steps { InsertSteps K.Plain V.Plain heap.old self.place.handle self.place.at steps.old steps.new }
     {
         let count = self.len(&*heap);
         let mut pairs = lend::<K>(heap, trace.root, Some(node));

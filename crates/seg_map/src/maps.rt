@@ -1,8 +1,9 @@
 //! Maps whose keys and values have a fixed number of bytes.
 ghost use Rattle.std.specs.Prelude.{◌≡◌, ◌+◌, ◌%◌, ◌<◌, ◌≤◌, IfOk, IsTrue, false, true};
-ghost use Rattle.best_fit.specs.{Extents.is_proper, Heap.has_room, Heap.live_of};
+ghost use Rattle.best_fit.specs.{Extents.is_proper, Heap.has_room, Heap.heap_touches, Heap.live_of};
 ghost use Rattle.seg_map.specs.Changing.{ChangeSteps, CountsPairs, ErasesKey, InitsMap, PutsPair, ReleasesMap};
-ghost use Rattle.seg_map.specs.{Places.IsSomeMap, Searches.LookupSteps, Searches.LooksUpFirst};
+ghost use Rattle.seg_map.specs.{Changing.TreeSteps, Places.IsSomeMap, Places.IsNewKey, Searches.EndsSearch};
+ghost use Rattle.seg_map.specs.{Searches.LookupSteps, Searches.LooksUpFirst};
 
 use crate::finding::KeyCursor;
 use crate::linking::{COUNT, write_map_header};
@@ -72,11 +73,38 @@ impl<K: Plain, V: Plain> SegMap<K, V> {
         ensures steps_exact { IfOk result (λ new. new ≡ false
             → LookupSteps K.Plain V.Plain heap.old self.place false key steps.old steps.new) }
     {
-        let trace = self.find_for_put(&*heap, key, steps);
-        if let Some(node) = trace.node {
+        let found = self.find_for_put(&*heap, key, steps);
+        if let Some(node) = found.node {
             write_value::<V>(heap, node, KEY_OFFSET + K::SIZE, value);
             return Ok(false);
         }
+        self.put_new(heap, key, value, found.last, steps)
+    }
+
+    /// Puts a pair whose key is new. The search for the key ended at the node `last`.
+    ///
+    /// # Errors
+    ///
+    /// `NoSpace` if no gap is long enough for the pair's block. Nothing changes.
+    #[inline(never)]
+    fn put_new(
+        self,
+        heap: &mut Heap,
+        key: K,
+        value: V,
+        last: Option<u64>,
+        steps: &mut Steps,
+    ) -> Result<bool, NoSpace>
+        requires map { IsSomeMap K.Plain V.Plain heap.old.bytes self.place.handle self.place.at }
+        requires fresh { IsNewKey K.Plain V.Plain heap.old.bytes self.place.handle self.place.at key }
+        requires last { EndsSearch K.Plain V.Plain heap.old self.place key last }
+        ensures effect { PutsPair K.Plain V.Plain heap.old heap.new self.place.handle self.place.at key value result }
+        ensures steps_lower { steps.old ≤ steps.new }
+        ensures progress { IfOk result (λ new. (new ≡ true) × (steps.old + 2 ≤ steps.new)) }
+        ensures steps { TreeSteps K.Plain V.Plain heap.old self.place.handle self.place.at
+            (heap_touches (live_of heap.old.bytes)) steps.old steps.new }
+    {
+        let trace = self.find_put_entry(&*heap, key, last, steps);
         let node = allocate_node::<K, V>(heap, key, value, steps)?;
         self.link_pair(heap, &trace, node, steps);
         Ok(true)

@@ -14,6 +14,7 @@ use Rattle.seg_map.proofs.pairs.Lists.{all_reversed, each, last_mapped, by_key, 
 use Rattle.std.specs.Prelude.{option_and_then}
 use Rattle.link_tree.specs.{Searching.path_length, Ways.remove_point_of}
 use Rattle.seg_map.specs.Searches.{path_in, reading_steps, FindsExit, OpensPairTree, IsRead, LooksFor, LooksUp, item_at}
+use Rattle.seg_map.specs.Searches.{EndsPathOf, EndsSearch}
 use Rattle.seg_map.specs.{Searches.last_path, Searches.node_with, PairNodes.both}
 use Rattle.best_fit.specs.declared.places.Place.{Place}
 use Rattle.seg_map.specs.Places.{IsSomeMap, SearchSteps, item_of, value_of_pair, FindsItem}
@@ -150,6 +151,35 @@ module _ {K V : Type 0} {k : Plain K} {v : Plain V} {now c : WindowState} {at : 
       → (ps : List (Pair K V)) (s : HoldsMap k v c.bytes at.handle at.at ps) → start ≡ entry_in k c key s.map.tree.tree
   entry_is key entry ps s = entry s.map.tree.tree (o.tree ps s).tree
       ∙ ap (λ ks. insert_point_of (stands_before k.order ks false key) s.map.tree.tree) (keys_are ps s)
+
+  -- the steps of a search, by the number of pairs
+  pub few_searched : {taken : ℕ} → Asked (λ t. taken ≤ 2 * bits (length (nodes_of t) + 1))
+      → SearchSteps k v c.bytes at 0 0 taken
+  few_searched most = few most
+
+  -- the nodes of a search and the state are those of the map
+  nodes_are : (ps : List (Pair K V)) (s : HoldsMap k v c.bytes at.handle at.at ps)
+      → ◌≡◌ {A = List ℕ × WindowState} (own, now) (nodes_of s.map.tree.tree, c)
+  nodes_are ps s = λ i. (o.nodes ps s i, o.same i)
+
+  -- the end of the path, by the keys of the map
+  pub ends_is : (key : K) (last : Option ℕ) → Asked (λ t. EndsPathOf k own now key t last)
+      → EndsSearch k v c at key last
+  ends_is key last ends ps s =
+      subst (λ (w : List ℕ × WindowState). EndsPathOf k w.0 w.1 key s.map.tree.tree last) (nodes_are ps s)
+      (ends s.map.tree.tree (o.tree ps s).tree)
+
+  -- the end of the path, for a later search among the nodes
+  pub ended : (key : K) (last : Option ℕ) → EndsSearch k v c at key last → (ps : List (Pair K V))
+      → HoldsMap k v c.bytes at.handle at.at ps → (t : Tree)
+      × IsSearchTree (comes_before k.order (keys_in k own now)) (pair_cells (16 + k.SIZE) own now) root t
+      × EndsPathOf k own now key t last
+  ended key last ends ps s = (
+    s.map.tree.tree,
+    (o.tree ps s).tree,
+    subst (λ (w : List ℕ × WindowState). EndsPathOf k w.0 w.1 key s.map.tree.tree last) (sym (nodes_are ps s))
+        (ends ps s),
+  )
 
   -- the point at which a removal begins
   pub exit_is : (r found start : Option ℕ) → IfSome r (λ n. found ≡ Some n)

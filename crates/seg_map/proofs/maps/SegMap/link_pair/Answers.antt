@@ -1,5 +1,6 @@
 -- The node is linked into the tree, and the three words are written.
-use Rattle.seg_map.proofs.{sym, ap, ◌∙◌, ◌+◌, ◌-◌, Some, arith, bits, laws, can_link, few_steps, fewer, kept_proper}
+use Rattle.seg_map.proofs.{sym, ap, ◌∙◌, ◌+◌, ◌-◌, Some, arith, bits, laws, can_link, fewer, kept_proper, length}
+use Rattle.seg_map.proofs.{length-map, pair_node}
 use Rattle.seg_map.proofs.{kept_room, own_nodes, planted, planted_tree, relinked, rules, top_whole, Relinked}
 use Rattle.seg_map.proofs.{pairs.SearchTree.few_in_map, maps.SegMap.link_pair.Goals.After-add}
 use Rattle.link_tree.specs.Nodes.{insert_in_order}
@@ -49,7 +50,9 @@ returns-clause-tree g c = λ ps p s loose is. planted (laws g.met.K.Plain) c.arg
 
 pub returns-clause-steps : goal.returns-clause-steps
 returns-clause-steps g c = λ ps s.
-    let r = c.requires.there in let u = entered g (goal.at.returns-clause-steps g c).After-add in
+    let r = c.requires.there in let lent = c.lend-pairs.ensures in
     let t = planted_tree (laws g.met.K.Plain) c.args.heap.now r.map c.requires.leads r.loose r.is in
+    let few = c.insert_at-changed.ensures.steps r.map.map.tree.tree (rw (lent.ownership, lent.heap) t.tree) in
+    let nodes = ap (λ n. bits (n + 1)) (ap length r.map.map.tree.lists ∙ length-map r.pairs pair_node) in
     let digits = ap (λ n. bits (n + 1)) (sym r.map.map.count ∙ s.map.count) in
-    omega (arith, few_steps r.map t u, digits, c.add.ensures, c.insert_at-changed.ensures.steps_lower)
+    omega (arith, few, nodes, digits, c.add.ensures)

@@ -35,7 +35,7 @@ pub use Rattle.image_check.specs.Checking.{IsWhyRefused, OpensWindow}
 pub use Rattle.image_check.specs.Classes.{class_of, classes}
 pub use Rattle.image_check.specs.Containers.{AreFollowed, block_weight, container_block_rates, container_walk_rates}
 pub use Rattle.image_check.specs.Containers.{has_container, rooted_weight}
-pub use Rattle.image_check.specs.Counting.{AreCounted}
+pub use Rattle.image_check.specs.Owners.{AreCounted}
 pub use Rattle.image_check.specs.Deciding.{decided_by}
 pub use Rattle.image_check.specs.EarlyTests.{has_free_tree, has_front, has_magic, has_reserved, has_size, has_version}
 pub use Rattle.image_check.specs.EarlyTests.{is_among, is_tiled, is_zero, size_word}
@@ -61,7 +61,7 @@ pub use Rattle.image_check.specs.ObjectTests.{object_tiles, payload, rise_by, ta
 pub use Rattle.image_check.specs.Opening.{IsHandedBack, IsImage, IsOpenCause, IsTooSmallFor, failed_reads}
 pub use Rattle.image_check.specs.Opening.{as_given, has_early_class}
 pub use Rattle.image_check.specs.Upgrading.{UpgradesFormat}
-pub use Rattle.image_check.specs.OwnerOffsets.{IsSharedAt}
+pub use Rattle.image_check.specs.Owners.{IsSharedAt}
 pub use Rattle.image_check.specs.Owners.{AreBlocks, BlockMap, Blocks, IsBlockAt, IsFollowed, IsMarkedLink, IsMarking}
 pub use Rattle.image_check.specs.Owners.{IsMarkingOf, IsRooted, IsSharedIn, IsTileAt, IsUnmarked, IsWholeMarking}
 pub use Rattle.image_check.specs.Owners.{IsWholeMarkingOf, MarksLink, MayCount, block_at, debts, entries_of, entry_in}

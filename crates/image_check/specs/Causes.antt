@@ -1,9 +1,8 @@
 -- The reason why an image is refused, and the offset that shows it.
 use Rattle.std.specs.Prelude.{◌≡◌, ℕ, List, Result, Ok, Err, ⊤}
 use Rattle.image_check.specs.declared.classes.ImageClass.{ImageClass}
-use Rattle.image_check.specs.declared.classes.ImageClass.TheVariants.{Truncated, BadSize}
 use Rattle.image_check.specs.declared.errors.OpenError.{OpenError}
-use Rattle.image_check.specs.declared.errors.OpenError.TheVariants.{Image, RegionTooSmall, OutOfMemory, ReadFault}
+use Rattle.image_check.specs.declared.errors.OpenError.TheVariants.{Image}
 use Rattle.image_check.specs.declared.verdict.Verdict.{Verdict}
 use Rattle.image_check.specs.Verdicts.{Shows}
 
@@ -15,20 +14,9 @@ class_in (Err v) = Err v.class
 -- the reported offset shows the class
 abbrev pub IsShown : ℕ → List ℕ → OpenError → Type 0
 IsShown format b (Image v) = Shows format b v.class v.place
-IsShown format b RegionTooSmall = ⊤
-IsShown format b (OutOfMemory refusal) = ⊤
-IsShown format b ReadFault = ⊤
+IsShown format b cause = ⊤
 
--- the reported offset of bytes that end too early is their end
-abbrev pub IsEnd : ℕ → OpenError → Type 0
-IsEnd n (Image v) = (v.class ≡ Truncated) × (v.place ≡ n)
-IsEnd n RegionTooSmall = ⊤
-IsEnd n (OutOfMemory refusal) = ⊤
-IsEnd n ReadFault = ⊤
-
--- the reported offset of bytes that continue after their size is this size
-abbrev pub IsExcess : ℕ → OpenError → Type 0
-IsExcess n (Image v) = (v.class ≡ BadSize) × (v.place ≡ n)
-IsExcess n RegionTooSmall = ⊤
-IsExcess n (OutOfMemory refusal) = ⊤
-IsExcess n ReadFault = ⊤
+-- a reported verdict is this class, at this offset
+abbrev pub IsAt : ImageClass → ℕ → OpenError → Type 0
+IsAt class at (Image v) = (v.class ≡ class) × (v.place ≡ at)
+IsAt class at cause = ⊤

@@ -10,7 +10,7 @@ use Rattle.image_check.specs.Fields.{is_shared, is_orphaned, has_containers}
 use Rattle.image_check.specs.Owners.{Blocks, entries_of, frames}
 use Rattle.image_check.specs.Passes.{CountsTiles, HasTiles, IsMapRefused, Spends, tiles_in, has_block}
 use Rattle.image_check.specs.declared.errors.OpenError.{OpenError}
-use Rattle.image_check.specs.declared.errors.OpenError.TheVariants.{Image, RegionTooSmall, OutOfMemory, ReadFault}
+use Rattle.image_check.specs.declared.errors.OpenError.TheVariants.{Image, OutOfMemory}
 use Rattle.image_check.specs.declared.errors.OpenRefused.{OpenRefused}
 use Rattle.segment_manager.specs.declared.modes.Mode.{Mode}
 use Rattle.segment_manager.specs.State.{SegmentState}
@@ -37,8 +37,7 @@ abbrev pub IsWhyRefused : ℕ → List ℕ → OpenError → Type 0
 IsWhyRefused format b (Image v) = IsVerdict format b v
 IsWhyRefused format b (OutOfMemory refusal) =
     (has_early_class format b ≡ false) × IsTrue (has_block b) × IsMapRefused b refusal
-IsWhyRefused format b RegionTooSmall = ⊥
-IsWhyRefused format b ReadFault = ⊥
+IsWhyRefused format b cause = ⊥
 
 -- all passes over an image succeeded: the map has its blocks, and the passes kept within their bound of visits
 pub record PassesImage (b : List ℕ) (es : Blocks) (old new : ℕ) : Type 0 where

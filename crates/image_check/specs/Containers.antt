@@ -6,7 +6,7 @@ use Rattle.block_tags.specs.declared.tile.Role.TheVariants.{Object, Storage, Nod
 use Rattle.block_tags.specs.declared.tile.Tile.{Tile}
 use Rattle.seg_types.specs.declared.kinds.ScalarKind.{ScalarKind}
 use Rattle.seg_types.specs.declared.kinds.Kind.{Kind}
-use Rattle.seg_types.specs.declared.kinds.Kind.TheVariants.{Scalar, Map}
+use Rattle.seg_types.specs.declared.kinds.Kind.TheVariants.{Map}
 use Rattle.image_check.specs.declared.owners.Block.{Block}
 use Rattle.image_check.specs.declared.owners.Owner.{Owner}
 use Rattle.image_check.specs.ObjectTests.{is_object_tile, is_use, kind_at, payload, tile_of, value_offset}
@@ -58,11 +58,6 @@ pub record IsLinkNoted (m : Memory) (ts : List Tile) (es : Blocks) (kind : Kind)
   pub root : (k v : ScalarKind) → kind ≡ Map k v → IsMarkedLink m ts es Node at at
 
 -- ---- the walk over the tiles
-
--- whether the kind is a scalar kind
-abbrev pub is_scalar : Kind → Bool
-is_scalar (Scalar k) = true
-is_scalar kind = false
 
 -- whether the tile holds no object with a wrong container
 abbrev pub has_container : ℕ → Memory → List Tile → Tile → Bool

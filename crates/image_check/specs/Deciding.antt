@@ -20,19 +20,14 @@ decided format front = decided_by (nat_lt (length front) 144) (has_magic front) 
     (has_size front)
 
 -- the law: the test finds the class that is decided, and none if none is
-pub record IsDecided (format : ℕ) (front : List ℕ) : Type 0 where
-  pub some : (c : ImageClass) → decided format front ≡ Some c → DecidesClass format front c
-  pub none : decided format front ≡ None → (c : ImageClass) → DecidesClass format front c → ⊥
+pub record IsDecided (found : Option ImageClass) (Decides : ImageClass → Type 0) : Type 0 where
+  pub some : (c : ImageClass) → found ≡ Some c → Decides c
+  pub none : found ≡ None → (c : ImageClass) → Decides c → ⊥
 
 -- the law: the bytes read so far decide a class exactly if it is the result of `decided`
 abbrev pub AllDecided : Type 0
-AllDecided = (format : ℕ) (front : List ℕ) → IsDecided format front
-
--- the result of `decided` for these first bytes holds for images of any of the three formats
-pub record IsDecidedAny (front : List ℕ) : Type 0 where
-  pub some : (c : ImageClass) → decided (format_of front) front ≡ Some c → DecidesAny front c
-  pub none : decided (format_of front) front ≡ None → (c : ImageClass) → DecidesAny front c → ⊥
+AllDecided = (format : ℕ) (front : List ℕ) → IsDecided (decided format front) (DecidesClass format front)
 
 -- the law for images of any of the three formats
 abbrev pub AllDecidedAny : Type 0
-AllDecidedAny = (front : List ℕ) → IsDecidedAny front
+AllDecidedAny = (front : List ℕ) → IsDecided (decided (format_of front) front) (DecidesAny front)

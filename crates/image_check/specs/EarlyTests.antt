@@ -6,7 +6,7 @@ use Rattle.std.specs.Cmp.Lexicographic.{pointwise}
 use Rattle.raw_region.specs.Memory.{Memory, bytes_of, read, word_at, half_word_at}
 use Rattle.offset_link.specs.Link.{link_at}
 use Rattle.link_tree.specs.Tree.{nodes_of, tree_from, is_red_black}
-use Rattle.block_tags.specs.Tiles.{has_tags, is_free}
+use Rattle.block_tags.specs.Tiles.{has_tags, is_free, tiles_of}
 use Rattle.block_tags.specs.declared.tile.Tile.{Tile}
 use Rattle.best_fit.specs.Extents.{Gap}
 use Rattle.block_tags.specs.Format.{is_legal_size}
@@ -72,3 +72,18 @@ has_free_tree (suc format) m ts =
       | None ↦ false
       | Some t ↦ is_red_black t && pointwise nat_eq (nodes_of t) (free_payloads ts)
     ]
+
+-- ---- the header, the tags and the free tree together
+
+-- whether the size word is a legal size, and is the number of bytes
+abbrev pub has_whole_size : List ℕ → Bool
+has_whole_size b = is_legal_size (size_word b) && (size_word b == length b)
+
+-- whether the tree of the free tiles is valid
+abbrev pub has_tree : ℕ → List ℕ → Bool
+has_tree format b = has_free_tree format (bytes_of b) (tiles_of (bytes_of b) (size_word b))
+
+-- whether the bytes show none of the classes before the eighth, in a format
+unfoldable pub has_frame : ℕ → List ℕ → Bool
+has_frame format b = has_magic b && has_version format b && has_whole_size b && has_reserved b && is_tiled format b
+    && has_tree format b

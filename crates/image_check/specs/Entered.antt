@@ -12,7 +12,7 @@ use Rattle.image_check.specs.declared.owners.Block.{Block}
 use Rattle.image_check.specs.declared.owners.Owner.{Owner}
 use Rattle.image_check.specs.EarlyTests.{is_among}
 use Rattle.image_check.specs.ObjectTests.{good_for, targets, has_index, are_distinct}
-use Rattle.image_check.specs.Owners.{Blocks, AreBlocks, block_at, entry_at, frames, owner, owner_at}
+use Rattle.image_check.specs.Owners.{Blocks, AreBlocks, block_at, entry_in, frames, owner, owner_at}
 
 -- the offset of the index's own link, for a block with an entry
 abbrev pub root_in : Option Owner → Option ℕ
@@ -21,7 +21,7 @@ root_in (Some o) = Some o.root
 
 -- the index of the entry that leads to an object
 abbrev pub index_of : Blocks → ℕ → Option ℕ
-index_of es n = root_in (entry_at es n)
+index_of es n = root_in (entry_in (block_at es n))
 
 -- the index that lists a number, if the named index lists the first numbers and the unique index the second
 abbrev pub listed : List ℕ → List ℕ → ℕ → Option ℕ

@@ -1,7 +1,7 @@
 -- The laws of the offsets at which a payload can begin, as nodes.
-use Rattle.std.proofs.Common.{◌≡◌, refl, sym, ap, subst, ℕ, zero, suc, ◌+◌, ◌*◌, ◌/◌, ◌%◌, ◌^◌, ◌<◌, ◌≤◌, ◌⊎◌, inl, inr}
+use Rattle.std.proofs.Common.{◌≡◌, ◌∙◌, refl, ap, subst, ℕ, zero, suc, ◌+◌, ◌*◌, ◌/◌, ◌%◌, ◌^◌, ◌<◌, ◌≤◌, inl, inr}
 use Rattle.std.proofs.Common.{true, false, ◌&&◌, List, [], ◌∷◌, length, arith, nat_le, ◌==◌, IsTrue}
-use Rattle.std.specs.Prelude.{Option, Some, None, if◌then◌else◌}
+use Rattle.std.specs.Prelude.{Option, Some, None}
 use Rattle.std.proofs.lemmas.Bool.{both_ways, cases_Bool, cases_lt, and_parts, and_from, or_left, or_right, leb-true}
 use Rattle.std.proofs.lemmas.Bool.{eqb-true, eq-eqb, cond-true, cond-false}
 use Rattle.raw_region.specs.Memory.{Memory, WindowState, bytes_of}
@@ -25,13 +25,10 @@ length-multiples (suc k) = ap suc (length-multiples k)
 in_multiples : (k i : ℕ) → i < k → is_in (16 * i) (multiples k) ≡ true
 unfolding multiples
 in_multiples zero i l = absurd (omega arith)
-in_multiples (suc k) i l = by_test (cases_lt i k) (in_multiples k i)
-  where
-    by_test : (i < k) ⊎ (k ≤ i) → (i < k → is_in (16 * i) (multiples k) ≡ true)
-        → is_in (16 * i) (multiples (suc k)) ≡ true
-    by_test (inl h) rest = or_right (16 * i == 16 * k) (is_in (16 * i) (multiples k)) (rest h)
-    by_test (inr h) rest = or_left (16 * i == 16 * k) (is_in (16 * i) (multiples k))
-        (eq-eqb (16 * i) (16 * k) (omega arith))
+in_multiples (suc k) i l = elim (cases_lt i k) [
+  | inl h ↦ or_right (16 * i == 16 * k) (is_in (16 * i) (multiples k)) (in_multiples k i h)
+  | inr h ↦ or_left (16 * i == 16 * k) (is_in (16 * i) (multiples k)) (eq-eqb (16 * i) (16 * k) (omega arith))
+]
 
 pub small_size : (n : ℕ) → IsTrue (is_legal_size n) → n ≤ 1073741824
 small_size n h = grind arith
@@ -71,19 +68,17 @@ target_listed c n p =
 
 pub targets_finite : (c : WindowState) → (ns : List ℕ) × (length ns ≤ 2 ^ 40)
     × ((n : ℕ) → is_target c n ≡ true → is_in n ns ≡ true)
-targets_finite c = by_test (cases_Bool (is_legal_size (length c.bytes)))
-  where
-    by_test : (is_legal_size (length c.bytes) ≡ true) ⊎ (is_legal_size (length c.bytes) ≡ false)
-        → (ns : List ℕ) × (length ns ≤ 2 ^ 40) × ((n : ℕ) → is_target c n ≡ true → is_in n ns ≡ true)
-    by_test (inl e) =
-        let small = small_size (length c.bytes) e in
-        let len = length-multiples (length c.bytes / 16) in
-        (multiples (length c.bytes / 16), omega arith, λ n h. target_listed c n (is_target-PayloadBounds c n h))
-    by_test (inr e) = (
-      [],
-      omega arith,
-      λ n h. absurd (both_ways (is_legal_size (length c.bytes)) e (is_target-PayloadBounds c n h).size),
-    )
+targets_finite c = elim (cases_Bool (is_legal_size (length c.bytes))) [
+  | inl e ↦
+      let small = small_size (length c.bytes) e in
+      let len = length-multiples (length c.bytes / 16) in
+      (multiples (length c.bytes / 16), omega arith, λ n h. target_listed c n (is_target-PayloadBounds c n h))
+  | inr e ↦ (
+    [],
+    omega arith,
+    λ n h. absurd (both_ways (is_legal_size (length c.bytes)) e (is_target-PayloadBounds c n h).size),
+  )
+]
 
 -- ---- links lead to places
 
@@ -91,14 +86,11 @@ pub target_leads : (c : WindowState) (link : Option ℕ) → IsTrue (is_legal_si
     → leads (is_target c) (good_target (length c.bytes) link) ≡ true
 unfolding good_target
 target_leads c None size = refl
-target_leads c (Some n) size = by_test (cases_Bool (is_handle_offset (length c.bytes) n))
-  where
-    by_test : (is_handle_offset (length c.bytes) n ≡ true) ⊎ (is_handle_offset (length c.bytes) n ≡ false)
-        → leads (is_target c) (if is_handle_offset (length c.bytes) n then Some n else None) ≡ true
-    by_test (inl e) = subst (λ o. leads (is_target c) o
-        ≡ true) (sym (cond-true (is_handle_offset (length c.bytes) n) (Some n) None e)) (is_target-from c n size e)
-    by_test (inr e) = subst (λ o. leads (is_target c) o
-        ≡ true) (sym (cond-false (is_handle_offset (length c.bytes) n) (Some n) None e)) refl
+target_leads c (Some n) size = elim (cases_Bool (is_handle_offset (length c.bytes) n)) [
+  | inl e ↦ ap (leads (is_target c)) (cond-true (is_handle_offset (length c.bytes) n) (Some n) None e)
+      ∙ is_target-from c n size e
+  | inr e ↦ ap (leads (is_target c)) (cond-false (is_handle_offset (length c.bytes) n) (Some n) None e)
+]
 
 pub targets_left : (c : WindowState) (n : ℕ) → is_target c n ≡ true → leads (is_target c) (target_cells c n).left ≡ true
 unfolding target_cells

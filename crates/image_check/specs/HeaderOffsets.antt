@@ -3,9 +3,7 @@ use Rattle.std.specs.Prelude.{◌≡◌, ◌≢◌, ◌<◌, ◌≤◌, ◌⊎�
 use Rattle.raw_region.specs.Memory.{AreZero, Memory, bytes_of}
 use Rattle.block_tags.specs.Format.{is_legal_size}
 use Rattle.image_check.specs.declared.classes.ImageClass.{ImageClass}
-use Rattle.image_check.specs.declared.classes.ImageClass.TheVariants.{Truncated, BadMagic, UnsupportedVersion, BadSize}
-use Rattle.image_check.specs.declared.classes.ImageClass.TheVariants.{BadReserved, BadTag, BadFreeTree, BadIndex}
-use Rattle.image_check.specs.declared.classes.ImageClass.TheVariants.{BadObject, SharedBlock, BadContainer, OrphanBlock}
+use Rattle.image_check.specs.declared.classes.ImageClass.TheVariants.{BadMagic, UnsupportedVersion, BadSize}
 use Rattle.image_check.specs.EarlyTests.{size_word}
 
 -- the first byte that differs from the byte of the list at its offset
@@ -36,12 +34,4 @@ abbrev pub IsFrontOffset : List ℕ → ImageClass → ℕ → Type 0
 IsFrontOffset b BadMagic at = IsFirstOther b (codes "MSEGFILE") at
 IsFrontOffset b UnsupportedVersion at = at ≡ 8
 IsFrontOffset b BadSize at = (at ≡ 16) × (is_legal_size (size_word b) ≡ false)
-IsFrontOffset b Truncated at = ⊥
-IsFrontOffset b BadReserved at = ⊥
-IsFrontOffset b BadTag at = ⊥
-IsFrontOffset b BadFreeTree at = ⊥
-IsFrontOffset b BadIndex at = ⊥
-IsFrontOffset b BadObject at = ⊥
-IsFrontOffset b SharedBlock at = ⊥
-IsFrontOffset b BadContainer at = ⊥
-IsFrontOffset b OrphanBlock at = ⊥
+IsFrontOffset b class at = ⊥

@@ -82,6 +82,3 @@ keys_irreflexive m k n = elim (cases_Bool (key_before m k n n)) [
 pub keys_transitive : (m : Memory) (k : ScalarKind) (a b c : ℕ) → key_before m k a b ≡ true
     → key_before m k b c ≡ true → key_before m k a c ≡ true
 keys_transitive m k a b c x y = int_lt-trans (key_at m k a) (key_at m k b) (key_at m k c) x y
-
-pub nothing_before : (a b : ℕ) → false ≡ true → false ≡ true
-nothing_before a b h = h

@@ -16,7 +16,7 @@ use Rattle.image_check.specs.declared.classes.ImageClass.{ImageClass}
 use Rattle.image_check.specs.EarlyTests.{has_front, size_word}
 use Rattle.image_check.specs.Classes.{holds, classes, class_of, number_of, DecidesClass}
 use Rattle.image_check.specs.Upgrading.{UpgradesFormat}
-use Rattle.image_check.specs.Passes.{IsMapRefused, has_block}
+use Rattle.image_check.specs.Passes.{CountsBlocks, CountsTiles, IsMapRefused, has_block}
 
 -- ---- the bytes
 
@@ -152,10 +152,13 @@ size_or_least b = if is_legal_size (size_word b) then size_word b else 144
 -- whether the image is refused after a pass over its blocks in use: by a class from the eighth on
 abbrev pub is_late : OpenError → Bool
 is_late (Image v) = nat_lt 7 (number_of v.class)
-is_late RegionTooSmall = false
-is_late (OutOfMemory refusal) = false
-is_late ReadFault = false
+is_late cause = false
 
 -- a count rises by at most 64 for each 16 bytes of the size, and 64
 abbrev pub IsRaisedFor : ℕ → ℕ → ℕ → Type 0
 IsRaisedFor size old new = (old ≤ new) × (new ≤ old + 64 * (size / 16 + 1))
+
+-- a count rises by at least one for each tile, if the image is refused late, and also for each block, if it is opened
+abbrev pub CountsOpening : {S : Type 0} → List ℕ → Result S OpenRefused → ℕ → ℕ → Type 0
+CountsOpening b result old new = MatchResult result (λ opened. CountsBlocks b old new)
+    (λ refused. is_late refused.cause ≡ true → CountsTiles b old new)

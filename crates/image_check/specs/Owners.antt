@@ -1,7 +1,7 @@
 -- The owners of blocks: the map of them, and its state while links are followed.
 use Rattle.std.specs.Prelude.{◌≡◌, ◌≢◌, ℕ, filter_map, map, ◌+◌, ◌*◌, ◌/◌, ◌%◌, ◌≤◌, ◌<◌, ◌⊎◌, ◌||◌, not, Bool, is_some}
 use Rattle.std.specs.Prelude.{IsTrue, Contains, Option, Some, None, List, [], ◌∷◌, length, nat_eq, IsSome}
-use Rattle.std.specs.Prelude.{if◌then◌else◌}
+use Rattle.std.specs.Prelude.{Result, MatchResult, if◌then◌else◌}
 use Rattle.std.specs.Map.{lookup}
 use Rattle.raw_region.specs.Memory.{Memory, bytes_of, word_at}
 use Rattle.offset_link.specs.Link.{link_at}
@@ -9,8 +9,10 @@ use Rattle.block_tags.specs.declared.tile.Role.{Role}
 use Rattle.block_tags.specs.declared.tile.Role.TheVariants.{Object, Index, Storage, Node}
 use Rattle.block_tags.specs.declared.tile.Tile.{Tile}
 use Rattle.best_fit.specs.Extents.{LiveSet}
+use Rattle.best_fit.specs.GapNodes.{gaps_of}
 use Rattle.best_fit.specs.Heap.{is_live_in}
 use Rattle.best_fit.specs.Table.{same_role}
+use Rattle.image_check.specs.declared.counting.Counts.{Counts}
 use Rattle.image_check.specs.declared.owners.Block.{Block}
 use Rattle.image_check.specs.declared.owners.Owner.{Owner}
 use Rattle.seg_types.specs.declared.kinds.ScalarKind.{ScalarKind}
@@ -20,7 +22,6 @@ use Rattle.image_check.specs.ObjectTests.{tile_of, good_for, payload, index_capa
 use Rattle.image_check.specs.Fields.{values, has_storage, needs_owner}
 use Rattle.image_check.specs.Passes.{tiles_in}
 use Rattle.image_check.specs.Meaning.{LeadsTo, IsCountedLink}
-use Rattle.image_check.specs.OwnerOffsets.{IsSharedAt}
 
 -- the entries of the map
 abbrev pub Blocks : Type 0
@@ -30,6 +31,12 @@ Blocks = List (ℕ × Block)
 pub record BlockMap : Type 0 where
   pub entries : Blocks
   pub room : ℕ
+
+-- the state while links are followed: the entries, the first waiting node, and the number of waiting nodes
+pub record OwnerState : Type 0 where
+  pub entries : Blocks
+  pub pending : Option ℕ
+  pub waiting : ℕ
 
 -- the block of a payload
 abbrev pub block_at : Blocks → ℕ → Option Block
@@ -46,10 +53,6 @@ entry_in (Some b) = if same_role b.role Object then b.owner else None
 -- the link that leads to the payload of an index, a storage or a node
 abbrev pub owner_at : Blocks → ℕ → Option Owner
 owner_at es n = owner_in (block_at es n)
-
--- the entry of an index that leads to an object
-abbrev pub entry_at : Blocks → ℕ → Option Owner
-entry_at es n = entry_in (block_at es n)
 
 -- the tile at this offset has the role and the length of the block
 pub record IsTileAt (ts : List Tile) (n : ℕ) (b : Block) : Type 0 where
@@ -89,13 +92,14 @@ abbrev pub unspent_budget : Blocks → ℕ
 unspent_budget [] = 0
 unspent_budget (e ∷ es) = due_of e.1 + unspent_budget es
 
-abbrev pub tile_due : Tile → ℕ
-tile_due t = elim t.use_of [ None ↦ 0 | Some role ↦ visit_budget role t.len ]
+-- and six for each waiting node
+abbrev pub visits_due : OwnerState → ℕ
+visits_due s = 6 * s.waiting + unspent_budget s.entries
 
 -- the sum over all tiles
 abbrev pub debts : List Tile → ℕ
 debts [] = 0
-debts (t ∷ ts) = tile_due t + debts ts
+debts (t ∷ ts) = (elim t.use_of [ None ↦ 0 | Some role ↦ visit_budget role t.len ]) + debts ts
 
 -- ---- the blocks of tiles, before a link is entered
 
@@ -109,6 +113,11 @@ entry_of t = elim t.use_of [ None ↦ None | Some role ↦ Some (t.offset + 16, 
 -- the entries of all tiles
 abbrev pub entries_of : List Tile → Blocks
 entries_of ts = filter_map entry_of ts
+
+-- the number of the free tiles and of the tiles in use
+pub record AreCounted (ts : List Tile) (c : Counts) : Type 0 where
+  pub free : c.free ≡ length (gaps_of ts)
+  pub used : c.used ≡ length (entries_of ts)
 
 -- the payload, the role and the length of a block
 abbrev pub frame_of : ℕ × Block → ℕ × Role × ℕ
@@ -184,91 +193,103 @@ abbrev pub AreAligned : List Tile → Type 0
 AreAligned ts = (n : ℕ) (t : Tile) → tile_of ts Node n ≡ Some t → n % 16 ≡ 0
 
 -- Each entered link counts. The links of each owned node are entered, unless the node waits or is the current one.
-pub record IsMarking (format : ℕ) (m : Memory) (ts : List Tile) (now : Option ℕ) (es : Blocks) (pending : Option ℕ)
-    (waiting : ℕ) : Type 0 where
-  pub blocks : AreBlocks ts es
-  pub frame : frames es ≡ frames (entries_of ts)
+pub record IsMarking (format : ℕ) (m : Memory) (ts : List Tile) (now : Option ℕ) (s : OwnerState) : Type 0 where
+  pub blocks : AreBlocks ts s.entries
+  pub frame : frames s.entries ≡ frames (entries_of ts)
   pub aligned : AreAligned ts
-  pub counts : (n : ℕ) (o : Owner) → owner_at es n ≡ Some o → IsCountedLink format m ts o.at n
-  pub rooted : (n : ℕ) (o : Owner) → owner_at es n ≡ Some o → IsRooted ts es o
+  pub counts : (n : ℕ) (o : Owner) → owner_at s.entries n ≡ Some o → IsCountedLink format m ts o.at n
+  pub rooted : (n : ℕ) (o : Owner) → owner_at s.entries n ≡ Some o → IsRooted ts s.entries o
   pub chain : List ℕ
-  pub linked : IsChain es pending chain
-  pub count : length chain ≡ waiting
-  pub room : 6 * waiting + unspent_budget es ≤ debts ts
-  pub followed : (n : ℕ) (o : Owner) (t : Tile) → tile_of ts Node n ≡ Some t → owner_at es n ≡ Some o
-      → IsMember n chain ⊎ ((now ≡ Some n) ⊎ IsFollowed m ts es n o.root)
+  pub linked : IsChain s.entries s.pending chain
+  pub count : length chain ≡ s.waiting
+  pub room : visits_due s ≤ debts ts
+  pub followed : (n : ℕ) (o : Owner) (t : Tile) → tile_of ts Node n ≡ Some t → owner_at s.entries n ≡ Some o
+      → IsMember n chain ⊎ ((now ≡ Some n) ⊎ IsFollowed m ts s.entries n o.root)
+
+-- the link at this offset counts, and another link that counts has the same target
+pub record IsSharedAt (format : ℕ) (m : Memory) (ts : List Tile) (place : ℕ) : Type 0 where
+  pub target : ℕ
+  pub other : ℕ
+  pub apart : place ≢ other
+  pub here : IsCountedLink format m ts place target
+  pub there : IsCountedLink format m ts other target
 
 -- all entered links stay entered
-abbrev pub KeepsMarks : Blocks → Blocks → Type 0
-KeepsMarks old es = (n : ℕ) (o : Owner) → owner_at old n ≡ Some o → owner_at es n ≡ Some o
+abbrev pub KeepsMarks : OwnerState → OwnerState → Type 0
+KeepsMarks old s = (n : ℕ) (o : Owner) → owner_at old.entries n ≡ Some o → owner_at s.entries n ≡ Some o
 
 -- one more link is entered, and all entered links stay
 pub record MarksLink (format : ℕ) (m : Memory) (ts : List Tile) (now : Option ℕ) (role : Role) (link : Owner)
-    (old : Blocks) (waited : ℕ) (es : Blocks) (pending : Option ℕ) (waiting : ℕ) : Type 0 where
-  pub marking : IsMarking format m ts now es pending waiting
-  pub noted : IsMarkedLink m ts es role link.at link.root
-  pub keeps : KeepsMarks old es
-  pub only : (n : ℕ) (o : Owner) → owner_at es n ≡ Some o → (owner_at old n ≡ Some o) ⊎ (o ≡ link)
-  pub less : 6 * waiting + unspent_budget es ≤ 6 * waited + unspent_budget old
+    (old s : OwnerState) : Type 0 where
+  pub marking : IsMarking format m ts now s
+  pub noted : IsMarkedLink m ts s.entries role link.at link.root
+  pub keeps : KeepsMarks old s
+  pub only : (n : ℕ) (o : Owner) → owner_at s.entries n ≡ Some o → (owner_at old.entries n ≡ Some o) ⊎ (o ≡ link)
+  pub less : visits_due s ≤ visits_due old
   -- the visits allowed for a newly entered storage are subtracted
   pub paid : role ≡ Storage → (target : ℕ) (t : Tile) → link_at m link.at ≡ Some target
-      → tile_of ts Storage target ≡ Some t → owner_at old target ≡ None
-      → 6 * waiting + unspent_budget es + 3 * (t.len / 16) ≤ 6 * waited + unspent_budget old
+      → tile_of ts Storage target ≡ Some t → owner_at old.entries target ≡ None
+      → visits_due s + 3 * (t.len / 16) ≤ visits_due old
 
 -- ---- of an image
 
 -- the entered links of an image count, and the links of owned nodes are entered
-abbrev pub IsMarkingOf : ℕ → List ℕ → Option ℕ → Blocks → Option ℕ → ℕ → Type 0
-IsMarkingOf format b now es pending waiting = IsMarking format (bytes_of b) (tiles_in b) now es pending waiting
+abbrev pub IsMarkingOf : ℕ → List ℕ → OwnerState → Type 0
+IsMarkingOf format b s = IsMarking format (bytes_of b) (tiles_in b) None s
 
 -- the link at the offset counts, and another link that counts has its target
 abbrev pub IsSharedIn : ℕ → List ℕ → ℕ → Type 0
 IsSharedIn format b at = IsSharedAt format (bytes_of b) (tiles_in b) at
+
+-- the pass has this effect, or finds a link that shares its block
+abbrev pub MarksUnlessShared : {A : Type 0} → ℕ → List ℕ → Type 0 → Result A ℕ → Type 0
+MarksUnlessShared format b Done result = MatchResult result (λ done. Done) (IsSharedIn format b)
 
 -- the next waiting node of a block
 abbrev pub next_in : Option Block → Option ℕ
 next_in None = None
 next_in (Some b) = b.next
 
--- the node that waits after a node
-abbrev pub next_at : Blocks → ℕ → Option ℕ
-next_at es n = next_in (block_at es n)
-
 -- the first link of a block
 abbrev pub root_in : Option Block → ℕ → ℕ
 root_in block n = elim (owner_in block) [ None ↦ n | Some o ↦ o.root ]
 
 -- the links of one node were entered
-pub record IsTurn (format : ℕ) (b : List ℕ) (old : Blocks) (waited : ℕ) (es : Blocks) (pending : Option ℕ)
-    (waiting : ℕ) : Type 0 where
-  pub marking : IsMarkingOf format b None es pending waiting
-  pub keeps : KeepsMarks old es
-  pub less : 6 * waiting + unspent_budget es + 6 ≤ 6 * waited + unspent_budget old
+pub record IsTurn (format : ℕ) (b : List ℕ) (old s : OwnerState) : Type 0 where
+  pub marking : IsMarkingOf format b s
+  pub keeps : KeepsMarks old s
+  pub less : visits_due s + 6 ≤ visits_due old
 
 -- no node waits any more
-pub record FollowsAll (format : ℕ) (b : List ℕ) (old es : Blocks) (pending : Option ℕ) (waiting : ℕ) : Type 0 where
-  pub marking : IsMarkingOf format b None es pending waiting
-  pub none : pending ≡ None
-  pub keeps : KeepsMarks old es
+pub record FollowsAll (format : ℕ) (b : List ℕ) (old s : OwnerState) : Type 0 where
+  pub marking : IsMarkingOf format b s
+  pub none : s.pending ≡ None
+  pub keeps : KeepsMarks old s
 
 -- ---- all links that count
 
 -- The links of the indexes, of storage, of elements and of roots are entered, and the links of the owned nodes.
-pub record IsWholeMarking (format : ℕ) (m : Memory) (ts : List Tile) (es : Blocks) (waiting : ℕ) : Type 0 where
-  pub marking : IsMarking format m ts None es None waiting
-  pub named : 0 < index_capacity m 32 → IsMarkedLink m ts es Index 32 32
-  pub unique : 0 < index_capacity m 56 → IsMarkedLink m ts es Index 56 56
+pub record IsWholeMarking (format : ℕ) (m : Memory) (ts : List Tile) (s : OwnerState) : Type 0 where
+  pub marking : IsMarking format m ts None s
+  pub none : s.pending ≡ None
+  pub named : 0 < index_capacity m 32 → IsMarkedLink m ts s.entries Index 32 32
+  pub unique : 0 < index_capacity m 56 → IsMarkedLink m ts s.entries Index 56 56
   pub storage : (k : Kind) (at : ℕ) → Contains (values format m ts) (k, at) → IsTrue (has_storage k)
-      → 0 < word_at m (at + 16) → IsMarkedLink m ts es Storage at at
+      → 0 < word_at m (at + 16) → IsMarkedLink m ts s.entries Storage at at
   pub element : (array : Tile) (i at : ℕ) → Contains (values format m ts) (Strings, at) → 0 < word_at m (at + 16)
       → good_for ts Storage (link_at m at) ≡ Some array
       → i < word_at m (at + 8) → 16 * i + 32 ≤ array.len
-      → IsMarkedLink m ts es Storage (payload array + 16 * i) (payload array + 16 * i)
-  pub root : (k v : ScalarKind) (at : ℕ) → Contains (values format m ts) (Map k v, at) → IsMarkedLink m ts es Node at at
+      → IsMarkedLink m ts s.entries Storage (payload array + 16 * i) (payload array + 16 * i)
+  pub root : (k v : ScalarKind) (at : ℕ) → Contains (values format m ts) (Map k v, at)
+      → IsMarkedLink m ts s.entries Node at at
 
 -- all links of an image that count are entered
-abbrev pub IsWholeMarkingOf : ℕ → List ℕ → Blocks → ℕ → Type 0
-IsWholeMarkingOf format b es waiting = IsWholeMarking format (bytes_of b) (tiles_in b) es waiting
+abbrev pub IsWholeMarkingOf : ℕ → List ℕ → OwnerState → Type 0
+IsWholeMarkingOf format b s = IsWholeMarking format (bytes_of b) (tiles_in b) s
+
+-- whether the block has an owner or needs none
+abbrev pub is_owned : Block → Bool
+is_owned b = same_role b.role Object || is_some b.owner
 
 -- whether the tile has an owner or needs none
 abbrev pub has_owner : Blocks → Tile → Bool

@@ -5,13 +5,10 @@ use Rattle.raw_region.specs.Memory.{WindowState, SameSurroundings, cut_at, whole
 use Rattle.raw_region.specs.Device.{ReadDelta}
 use Rattle.block_tags.specs.Format.{is_legal_size}
 use Rattle.image_check.specs.declared.errors.OpenError.{OpenError}
-use Rattle.image_check.specs.declared.errors.OpenError.TheVariants.{Image, RegionTooSmall, OutOfMemory, ReadFault}
+use Rattle.image_check.specs.declared.errors.OpenError.TheVariants.{Image, RegionTooSmall, ReadFault}
 use Rattle.image_check.specs.declared.errors.OpenRefused.{OpenRefused}
 use Rattle.image_check.specs.declared.classes.ImageClass.{ImageClass}
 use Rattle.image_check.specs.declared.classes.ImageClass.TheVariants.{Truncated, BadMagic, UnsupportedVersion, BadSize}
-use Rattle.image_check.specs.declared.versions.AcceptedVersions.{AcceptedVersions}
-use Rattle.image_check.specs.Causes.{IsShown}
-use Rattle.image_check.specs.Formats.{format_in}
 use Rattle.image_check.specs.EarlyTests.{has_magic, has_version, has_front, size_word}
 use Rattle.image_check.specs.Opening.{IsHandedBack, IsReadToEnd, IsOpenCause, IsTooSmallFor, as_given, is_late}
 
@@ -29,16 +26,14 @@ front_of format b =
 -- the reason why fewer bytes were read than requested: the reader failed, or it ended
 abbrev pub IsShort : Bool → OpenError → Type 0
 IsShort ended (Image v) = (v.class ≡ Truncated) × (ended ≡ true)
-IsShort ended RegionTooSmall = ⊥
-IsShort ended (OutOfMemory refusal) = ⊥
 IsShort ended ReadFault = ⊤
+IsShort ended cause = ⊥
 
 -- The reason why a read of one byte after the image did not meet the end: the reader failed, or it returned a byte.
 abbrev pub ReadsPastEnd : List ℕ → List ℕ → OpenError → Type 0
 ReadsPastEnd old new (Image v) = (v.class ≡ BadSize) × ((byte : ℕ) × (new ≡ old ++ byte ∷ []))
-ReadsPastEnd old new RegionTooSmall = ⊥
-ReadsPastEnd old new (OutOfMemory refusal) = ⊥
 ReadsPastEnd old new ReadFault = new ≡ old
+ReadsPastEnd old new cause = ⊥
 
 -- the reason why no image is in the region, after these bytes were read
 pub record Stops (format : ℕ) (image : ReadDelta) (base capacity : ℕ) (cause : OpenError) : Type 0 where
@@ -74,24 +69,6 @@ pub record IsNotRead (format : ℕ) (image : ReadDelta) (region : List ℕ) (bas
   pub stops : Stops format image base (length region) refused.cause
   pub handed_back : IsHandedBack format image region base refused.region
 
--- ---- by the format in the first words, if that is an accepted one
-
--- reading an image of the accepted versions stops, for this reason
-abbrev pub StopsBy : AcceptedVersions → ReadDelta → ℕ → ℕ → OpenError → Type 0
-StopsBy versions image = Stops (format_in versions image.bytes) image
-
--- an image of the accepted versions is at its place in the region
-abbrev pub IsReadBy : AcceptedVersions → ReadDelta → List ℕ → ℕ → WindowState → Type 0
-IsReadBy versions image = IsImageRead (format_in versions image.bytes) image
-
--- no image of the accepted versions is in the region, for this reason
-abbrev pub IsNotReadBy : AcceptedVersions → ReadDelta → List ℕ → ℕ → OpenRefused → Type 0
-IsNotReadBy versions image = IsNotRead (format_in versions image.bytes) image
-
--- the reported offset shows the class, by the accepted versions
-abbrev pub IsShownBy : AcceptedVersions → ReadDelta → OpenError → Type 0
-IsShownBy versions image = IsShown (format_in versions image.bytes) image.bytes
-
 -- ---- bytes in memory
 
 -- the number of bytes is the size in their first words, and the region has room for it
@@ -101,13 +78,7 @@ pub record FitsIn (format : ℕ) (b : List ℕ) (base capacity size : ℕ) : Typ
   pub long : length b ≡ size
   pub room : base + size ≤ capacity
 
--- the reason why the bytes are not copied to the region
-pub record IsMisfit (format : ℕ) (b : List ℕ) (base capacity : ℕ) (cause : OpenError) : Type 0 where
-  pub why : IsOpenCause format (as_given b) base capacity cause
-  pub too_small : IsTooSmallFor format (as_given b) base capacity → cause ≡ RegionTooSmall
-  pub early : is_late cause ≡ false
-
 -- the bytes are not copied to the region, which is returned unchanged
 pub record IsNotCopied (format : ℕ) (b region : List ℕ) (base : ℕ) (refused : OpenRefused) : Type 0 where
-  pub misfit : IsMisfit format b base (length region) refused.cause
+  pub misfit : Stops format (as_given b) base (length region) refused.cause
   pub back : refused.region ≡ region

@@ -1,6 +1,6 @@
 -- The check enters those links of an image that count, value by value. These records say what it has entered.
 use Rattle.std.specs.Prelude.{◌≡◌, ◌≢◌, ℕ, ◌+◌, ◌*◌, ◌/◌, ◌%◌, ◌≤◌, ◌<◌, ◌⊎◌, Bool, true, false, IsTrue, Contains}
-use Rattle.std.specs.Prelude.{Option, Some, None, List, length, Result, MatchResult, ◌==◌, if◌then◌else◌}
+use Rattle.std.specs.Prelude.{Some, None, List, length, Result, MatchResult, ◌==◌, if◌then◌else◌}
 use Rattle.raw_region.specs.Memory.{Memory, bytes_of, word_at}
 use Rattle.offset_link.specs.Link.{link_at}
 use Rattle.block_tags.specs.declared.tile.Role.TheVariants.{Object, Index, Storage, Node}
@@ -9,49 +9,51 @@ use Rattle.seg_types.specs.declared.kinds.ScalarKind.{ScalarKind}
 use Rattle.seg_types.specs.declared.kinds.Kind.{Kind}
 use Rattle.seg_types.specs.declared.kinds.Kind.TheVariants.{Scalar, Map, Strings}
 use Rattle.image_check.specs.declared.owners.Owner.{Owner}
+use Rattle.image_check.specs.declared.owners.Owners.{Owners}
 use Rattle.image_check.specs.ObjectTests.{good_for, index_capacity, is_use, kind_at, payload, tile_of, value_offset}
 use Rattle.image_check.specs.Fields.{has_storage, values}
-use Rattle.image_check.specs.Owners.{Blocks, IsMarkingOf, IsMarkedLink, IsStart, KeepsMarks, MayCount, unspent_budget}
-use Rattle.image_check.specs.Owners.{owner_at}
+use Rattle.image_check.specs.Owners.{Blocks, IsMarkingOf, IsMarkedLink, IsStart, KeepsMarks, MayCount, OwnerState}
+use Rattle.image_check.specs.Owners.{owner_at, visits_due}
 use Rattle.image_check.specs.Passes.{tiles_in}
 use Rattle.image_check.specs.Visits.{Rates}
 
 -- the pass entered only links at offsets with the property `At`, and all links entered before stay
-pub record MarksLinks (format : ℕ) (b : List ℕ) (At : ℕ
-    → Type 0) (old : Blocks) (waited : ℕ) (es : Blocks) (pending : Option ℕ) (waiting : ℕ) : Type 0 where
-  pub marking : IsMarkingOf format b None es pending waiting
-  pub keeps : KeepsMarks old es
-  pub only : (n : ℕ) (o : Owner) → owner_at es n ≡ Some o → (owner_at old n ≡ Some o) ⊎ At o.at
-  pub less : 6 * waiting + unspent_budget es ≤ 6 * waited + unspent_budget old
+pub record MarksLinks (format : ℕ) (b : List ℕ) (At : ℕ → Type 0) (old s : OwnerState) : Type 0 where
+  pub marking : IsMarkingOf format b s
+  pub keeps : KeepsMarks old s
+  pub only : (n : ℕ) (o : Owner) → owner_at s.entries n ≡ Some o → (owner_at old.entries n ≡ Some o) ⊎ At o.at
+  pub less : visits_due s ≤ visits_due old
 
--- a pass makes at most `n` visits, plus the visits allowed for the blocks that it met: `owed` before minus `owes` after
-abbrev pub Pays : {A E : Type 0} → ℕ → Result A E → ℕ → ℕ → ℕ → ℕ → Type 0
-Pays n result old owed new owes =
-    (old ≤ new) × MatchResult result (λ done. new + owes ≤ old + (owed + n)) (λ class. new ≤ old + (owed + n))
+-- the state of the owners
+abbrev pub state_of : Owners → OwnerState
+state_of o = record { entries = o.blocks.entries; pending = o.pending; waiting = o.waiting }
+
+-- a pass makes at most `n` visits, plus those due before it, minus those due after it
+abbrev pub Pays : {A E : Type 0} → ℕ → Result A E → ℕ → OwnerState → ℕ → OwnerState → Type 0
+Pays n result old was new s = (old ≤ new) × MatchResult result
+    (λ done. new + visits_due s ≤ old + (visits_due was + n)) (λ class. new ≤ old + (visits_due was + n))
 
 -- ---- one link
 
 -- the link of an index is entered, if its capacity is not 0
-pub record IsIndexNoted (format : ℕ) (b : List ℕ) (at : ℕ) (old : Blocks) (waited : ℕ) (es : Blocks)
-    (pending : Option ℕ) (waiting : ℕ) : Type 0 where
-  pub grown : MarksLinks format b (λ p. p ≡ at) old waited es pending waiting
-  pub noted : 0 < index_capacity (bytes_of b) at → IsMarkedLink (bytes_of b) (tiles_in b) es Index at at
+pub record IsIndexNoted (format : ℕ) (b : List ℕ) (at : ℕ) (old s : OwnerState) : Type 0 where
+  pub grown : MarksLinks format b (λ p. p ≡ at) old s
+  pub noted : 0 < index_capacity (bytes_of b) at → IsMarkedLink (bytes_of b) (tiles_in b) s.entries Index at at
 
 -- the links of both indexes are entered, and no others
-pub record AreIndexesNoted (format : ℕ) (b : List ℕ) (es : Blocks) (pending : Option ℕ) (waiting : ℕ) : Type 0 where
-  pub marking : IsMarkingOf format b None es pending waiting
-  pub named : 0 < index_capacity (bytes_of b) 32 → IsMarkedLink (bytes_of b) (tiles_in b) es Index 32 32
-  pub unique : 0 < index_capacity (bytes_of b) 56 → IsMarkedLink (bytes_of b) (tiles_in b) es Index 56 56
-  pub front : (n : ℕ) (o : Owner) → owner_at es n ≡ Some o → o.at < 128
+pub record AreIndexesNoted (format : ℕ) (b : List ℕ) (s : OwnerState) : Type 0 where
+  pub marking : IsMarkingOf format b s
+  pub named : 0 < index_capacity (bytes_of b) 32 → IsMarkedLink (bytes_of b) (tiles_in b) s.entries Index 32 32
+  pub unique : 0 < index_capacity (bytes_of b) 56 → IsMarkedLink (bytes_of b) (tiles_in b) s.entries Index 56 56
+  pub front : (n : ℕ) (o : Owner) → owner_at s.entries n ≡ Some o → o.at < 128
 
 -- the storage link of a value is entered, if its capacity is not 0
-pub record IsStorageNoted (format : ℕ) (b : List ℕ) (at : ℕ) (old : Blocks) (waited : ℕ) (es : Blocks)
-    (pending : Option ℕ) (waiting : ℕ) : Type 0 where
-  pub grown : MarksLinks format b (λ p. p ≡ at) old waited es pending waiting
-  pub noted : 0 < word_at (bytes_of b) (at + 16) → IsMarkedLink (bytes_of b) (tiles_in b) es Storage at at
+pub record IsStorageNoted (format : ℕ) (b : List ℕ) (at : ℕ) (old s : OwnerState) : Type 0 where
+  pub grown : MarksLinks format b (λ p. p ≡ at) old s
+  pub noted : 0 < word_at (bytes_of b) (at + 16) → IsMarkedLink (bytes_of b) (tiles_in b) s.entries Storage at at
   pub paid : 0 < word_at (bytes_of b) (at + 16) → (target : ℕ) (t : Tile) → link_at (bytes_of b) at ≡ Some target
-      → tile_of (tiles_in b) Storage target ≡ Some t → owner_at old target ≡ None
-      → 6 * waiting + unspent_budget es + 3 * (t.len / 16) ≤ 6 * waited + unspent_budget old
+      → tile_of (tiles_in b) Storage target ≡ Some t → owner_at old.entries target ≡ None
+      → visits_due s + 3 * (t.len / 16) ≤ visits_due old
 
 -- ---- elements
 
@@ -60,10 +62,10 @@ abbrev pub IsElementOffset : ℕ → ℕ → ℕ → Type 0
 IsElementOffset array n p = (i : ℕ) × (i < n) × (p ≡ array + 16 * i)
 
 -- the links of the first n elements of an array are entered
-pub record AreElementsNoted (format : ℕ) (b : List ℕ) (array n : ℕ) (old : Blocks) (waited : ℕ) (es : Blocks)
-    (pending : Option ℕ) (waiting : ℕ) : Type 0 where
-  pub grown : MarksLinks format b (IsElementOffset array n) old waited es pending waiting
-  pub noted : (i : ℕ) → i < n → IsMarkedLink (bytes_of b) (tiles_in b) es Storage (array + 16 * i) (array + 16 * i)
+pub record AreElementsNoted (format : ℕ) (b : List ℕ) (array n : ℕ) (old s : OwnerState) : Type 0 where
+  pub grown : MarksLinks format b (IsElementOffset array n) old s
+  pub noted : (i : ℕ) → i < n
+      → IsMarkedLink (bytes_of b) (tiles_in b) s.entries Storage (array + 16 * i) (array + 16 * i)
 
 -- the offset is not in a node, and a link at the offset counts if it leads to storage
 abbrev pub IsStorageStart : ℕ → List ℕ → ℕ → Type 0
@@ -84,10 +86,10 @@ AllElements m ts at Is = (array : Tile) (i : ℕ) → 0 < word_at m (at + 16)
     → Is (payload array + 16 * i)
 
 -- the links of the elements of a vector of texts are entered
-pub record AreTextsNoted (format : ℕ) (b : List ℕ) (at : ℕ) (old : Blocks) (waited : ℕ) (es : Blocks)
-    (pending : Option ℕ) (waiting : ℕ) : Type 0 where
-  pub grown : MarksLinks format b (IsInStorage (tiles_in b)) old waited es pending waiting
-  pub noted : AllElements (bytes_of b) (tiles_in b) at (λ p. IsMarkedLink (bytes_of b) (tiles_in b) es Storage p p)
+pub record AreTextsNoted (format : ℕ) (b : List ℕ) (at : ℕ) (old s : OwnerState) : Type 0 where
+  pub grown : MarksLinks format b (IsInStorage (tiles_in b)) old s
+  pub noted : AllElements (bytes_of b) (tiles_in b) at (λ p.
+      IsMarkedLink (bytes_of b) (tiles_in b) s.entries Storage p p)
 
 -- the visits of the elements of an array
 abbrev pub array_cost : Memory → List Tile → ℕ → ℕ
@@ -118,11 +120,9 @@ pub record IsValueReady (format : ℕ) (b : List ℕ) (kind : Kind) (at : ℕ) (
   pub elements : kind ≡ Strings → AllElements (bytes_of b) (tiles_in b) at (IsStorageStart format b)
 
 -- the links of a value are entered, and otherwise only links in storages
-pub record IsValueGrown (format : ℕ) (b : List ℕ) (kind : Kind) (at : ℕ) (old : Blocks) (waited : ℕ) (es : Blocks)
-    (pending : Option ℕ) (waiting : ℕ) : Type 0 where
-  pub grown : MarksLinks format b (λ p. (IsTrue (has_link kind) × (p ≡ at))
-      ⊎ IsInStorage (tiles_in b) p) old waited es pending waiting
-  pub noted : IsValueNoted (bytes_of b) (tiles_in b) kind at es
+pub record IsValueGrown (format : ℕ) (b : List ℕ) (kind : Kind) (at : ℕ) (old s : OwnerState) : Type 0 where
+  pub grown : MarksLinks format b (λ p. (IsTrue (has_link kind) × (p ≡ at)) ⊎ IsInStorage (tiles_in b) p) old s
+  pub noted : IsValueNoted (bytes_of b) (tiles_in b) kind at s.entries
 
 -- ---- objects
 
@@ -144,17 +144,16 @@ abbrev pub IsLinkOffset : ℕ → Memory → List Tile → Tile → ℕ → Type
 IsLinkOffset format m ts t p = IsLinkOf format m t p ⊎ IsInStorage ts p
 
 -- the links of a tile's object are entered
-pub record IsTileGrown (format : ℕ) (b : List ℕ) (t : Tile) (old : Blocks) (waited : ℕ) (es : Blocks)
-    (pending : Option ℕ) (waiting : ℕ) : Type 0 where
-  pub grown : MarksLinks format b (IsLinkOffset format (bytes_of b) (tiles_in b) t) old waited es pending waiting
-  pub noted : OfObject format (bytes_of b) t (λ kind at. IsValueNoted (bytes_of b) (tiles_in b) kind at es)
+pub record IsTileGrown (format : ℕ) (b : List ℕ) (t : Tile) (old s : OwnerState) : Type 0 where
+  pub grown : MarksLinks format b (IsLinkOffset format (bytes_of b) (tiles_in b) t) old s
+  pub noted : OfObject format (bytes_of b) t (λ kind at. IsValueNoted (bytes_of b) (tiles_in b) kind at s.entries)
 
 -- the links behind all values are entered, except links in nodes
-pub record EntersValues (format : ℕ) (b : List ℕ) (old es : Blocks) (pending : Option ℕ) (waiting : ℕ) : Type 0 where
-  pub marking : IsMarkingOf format b None es pending waiting
-  pub keeps : KeepsMarks old es
+pub record EntersValues (format : ℕ) (b : List ℕ) (old s : OwnerState) : Type 0 where
+  pub marking : IsMarkingOf format b s
+  pub keeps : KeepsMarks old s
   pub noted : (kind : Kind) (at : ℕ) → Contains (values format (bytes_of b) (tiles_in b)) (kind, at)
-      → IsValueNoted (bytes_of b) (tiles_in b) kind at es
+      → IsValueNoted (bytes_of b) (tiles_in b) kind at s.entries
 
 -- the visits of an object, without the visits of its elements
 abbrev pub object_cost : Tile → ℕ

@@ -17,11 +17,6 @@ pub record UpgradesVersion (old new : List ℕ) : Type 0 where
   pub version : half_word_at (bytes_of new) 8 ≡ current
   pub rest : SameBytesExcept (bytes_of old) (bytes_of new) 8 4
 
--- the byte is outside the version and the link to the tree
-pub record IsBesideHead (k : ℕ) : Type 0 where
-  pub version : (k < 8) ⊎ (12 ≤ k)
-  pub root : (k < 24) ⊎ (32 ≤ k)
-
 -- There is a tree of the gaps, and the version is the current one. The blocks in use keep their bytes and colours; only
 -- the version, word 24 and the bytes of gaps change.
 pub record RebuildsTree (old new : List ℕ) : Type 0 where
@@ -31,8 +26,8 @@ pub record RebuildsTree (old new : List ℕ) : Type 0 where
   pub middle : SameBytes (bytes_of old) (bytes_of new) 12 24
   pub behind : SameBytes (bytes_of old) (bytes_of new) 32 128
   pub blocks : AllByRecursion (SameBlock (bytes_of old) (bytes_of new)) (live_of old).extents
-  pub rest : (k : ℕ) → k < length old → IsBesideHead k → AllByRecursion (IsBesideGap k) (gaps (live_of old))
-      → bytes_of new k ≡ bytes_of old k
+  pub rest : (k : ℕ) → k < length old → (k < 8) ⊎ (12 ≤ k) → (k < 24) ⊎ (32 ≤ k)
+      → AllByRecursion (IsBesideGap k) (gaps (live_of old)) → bytes_of new k ≡ bytes_of old k
 
 -- bytes of a format become bytes of the current one that denote the same directory
 pub record UpgradesFormat (format : ℕ) (old new : List ℕ) : Type 0 where

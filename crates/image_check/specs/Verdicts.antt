@@ -15,7 +15,7 @@ use Rattle.image_check.specs.Fields.{counted_fields, is_left}
 use Rattle.image_check.specs.HeaderOffsets.{IsFirstOther, IsFirstReserved, shown_size}
 use Rattle.image_check.specs.IndexOffsets.{IsWrongIndex}
 use Rattle.image_check.specs.ObjectOffsets.{IsFirstTile, IsFirstWrongTile, IsWrongObject}
-use Rattle.image_check.specs.OwnerOffsets.{IsSharedAt}
+use Rattle.image_check.specs.Owners.{IsSharedAt}
 use Rattle.block_tags.specs.Checks.{StopsAt}
 
 -- the tiles of the tags, by the size in the header

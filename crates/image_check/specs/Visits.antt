@@ -39,7 +39,8 @@ both r s = record {
   node = r.node + s.node;
 }
 
--- bounds for each pass: the tags, the free tree with a search for each gap, and the passes over the blocks
+-- bounds for each pass: the tags and the collection of blocks, the free tree with a search for each gap, and the
+-- passes over the blocks
 abbrev pub tag_rates : Rates
 tag_rates = record { free = 1; object = 1; index = 1; storage = 1; node = 1 }
 
@@ -68,10 +69,6 @@ index_rates = record { free = 0; object = 4; index = 12; storage = 0; node = 0 }
 abbrev pub object_rates : Rates
 object_rates = record { free = 1; object = 22; index = 13; storage = 1; node = 1 }
 
--- the visits of the collection of blocks, for 16 bytes
-abbrev pub gathering_rates : Rates
-gathering_rates = record { free = 1; object = 1; index = 1; storage = 1; node = 1 }
-
 -- the visits of the links, for 16 bytes
 abbrev pub sharing_rates : Rates
 sharing_rates = record { free = 1; object = 4; index = 1; storage = 6; node = 6 }
@@ -80,9 +77,9 @@ sharing_rates = record { free = 1; object = 4; index = 1; storage = 6; node = 6 
 abbrev pub container_rates : Rates
 container_rates = record { free = 1; object = 12; index = 1; storage = 24; node = 18 }
 
--- the visits of the blocks without an owner, for 16 bytes
-abbrev pub orphan_rates : Rates
-orphan_rates = record { free = 0; object = 1; index = 1; storage = 1; node = 1 }
+-- the visits of a pass over the blocks in use, for 16 bytes: for owners, and for the hints of the new heap
+abbrev pub used_rates : Rates
+used_rates = record { free = 0; object = 1; index = 1; storage = 1; node = 1 }
 
 -- the tags and the free tree, the passes over the blocks, and all passes after the first words
 abbrev pub frame_rates : Rates
@@ -90,11 +87,7 @@ frame_rates = both tag_rates tree_rates
 
 -- the visits of the passes over blocks, for 16 bytes
 abbrev pub block_rates : Rates
-block_rates = both index_rates (both object_rates (both sharing_rates (both container_rates orphan_rates)))
+block_rates = both index_rates (both object_rates (both sharing_rates (both container_rates used_rates)))
 
 abbrev pub all_rates : Rates
-all_rates = both frame_rates (both gathering_rates block_rates)
-
--- the rates of adding the blocks to the hints of the new heap
-abbrev pub hint_rates : Rates
-hint_rates = record { free = 0; object = 1; index = 1; storage = 1; node = 1 }
+all_rates = both frame_rates (both tag_rates block_rates)

@@ -81,15 +81,8 @@ pub(crate) fn is_storage(
         return false;
     }
     let link = value.link(window);
-    if !is_table(
-        blocks,
-        near,
-        visits,
-        Role::Storage,
-        link,
-        kind.size(),
-        capacity,
-    ) {
+    let each = kind.size();
+    if !is_table(blocks, near, visits, Role::Storage, link, each, capacity) {
         return false;
     }
     match link {
@@ -135,13 +128,8 @@ fn are_elements(
     ensures visits { AddsVisits (2 * n) visits.old visits.new }
 {
     'elements: for i in 0..n {
-        if !is_element(
-            window,
-            blocks,
-            near.wrapping_add(i as usize + 1),
-            visits,
-            at + ELEMENT * i,
-        ) {
+        let guess = near.wrapping_add(i as usize + 1);
+        if !is_element(window, blocks, guess, visits, at + ELEMENT * i) {
             return false;
         }
     }

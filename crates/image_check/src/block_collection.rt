@@ -1,11 +1,11 @@
 //! Collects the blocks in use.
 ghost use Rattle.std.specs.Prelude.{◌≡◌, ◌+◌, ◌++◌, ◌<◌, ◌≤◌, ◌^◌, IfErr, IfOk, IsOk, None, OnOk, [], length};
 ghost use Rattle.std.specs.Prelude.{option_to_list};
-ghost use Rattle.image_check.specs.Counting.{AreCounted};
+ghost use Rattle.image_check.specs.Owners.{AreCounted};
 ghost use Rattle.image_check.specs.Owners.{entries_of, entry_of};
 ghost use Rattle.image_check.specs.Passes.{CountsTiles, HasTiles, IsRefusalFor, Spends, tiles_in};
 ghost use Rattle.image_check.specs.Rows.{AreBelow};
-ghost use Rattle.image_check.specs.Visits.{AddsVisits, gathering_rates};
+ghost use Rattle.image_check.specs.Visits.{AddsVisits, tag_rates};
 
 use crate::checking::VisitCounter;
 use crate::counting::Counts;
@@ -34,7 +34,7 @@ pub(crate) fn collect_blocks(
     ensures waiting { IfOk result (λ o. o.waiting ≡ 0) }
     ensures memory { entries_of (tiles_in window.now.bytes) ≡ [] → IsOk result }
     ensures refused { IfErr result (IsRefusalFor window.now.bytes) }
-    ensures visits { Spends gathering_rates 2 window.now.bytes visits.old visits.new }
+    ensures visits { Spends tag_rates 2 window.now.bytes visits.old visits.new }
     ensures tiles { OnOk result (CountsTiles window.now.bytes visits.old visits.new) }
 {
     match table_for(&alloc, counts.used) {

@@ -3,13 +3,13 @@ ghost use Rattle.std.specs.Prelude.{◌≡◌, ◌≤◌, ℕ, IfErr, IfOk, IsTr
 ghost use Rattle.std.specs.Prelude.{false, length, true};
 ghost use Rattle.image_check.specs.Checking.{IsWhyRefused, OpensWindow, PassesImage};
 ghost use Rattle.raw_region.specs.Memory.{are_bytes};
-ghost use Rattle.image_check.specs.Counting.{AreCounted};
+ghost use Rattle.image_check.specs.Owners.{AreCounted};
 ghost use Rattle.image_check.specs.EarlyTests.{has_reserved as is_reserved};
-ghost use Rattle.image_check.specs.Frame.{has_frame};
+ghost use Rattle.image_check.specs.EarlyTests.{has_frame};
 ghost use Rattle.image_check.specs.HeaderOffsets.{IsFirstReserved};
-ghost use Rattle.image_check.specs.Opening.{IsImage, IsRaisedFor, is_late};
+ghost use Rattle.image_check.specs.Opening.{CountsOpening, IsImage, IsRaisedFor, is_late};
 ghost use Rattle.image_check.specs.Owners.{entries_of, frames};
-ghost use Rattle.image_check.specs.Passes.{CountsBlocks, CountsTiles, ChecksClass, Spends, tiles_in};
+ghost use Rattle.image_check.specs.Passes.{CountsTiles, ChecksClass, Spends, tiles_in};
 ghost use Rattle.image_check.specs.Reading.{HasFront};
 ghost use Rattle.image_check.specs.Verdicts.{IsVerdict, AnswersVerdict};
 ghost use Rattle.image_check.specs.Visits.{block_rates, frame_rates};
@@ -55,10 +55,7 @@ pub fn open_window(
     requires { (format : ℕ) × HasFront format window × (format ≤ 2) }
     ensures opening { (format : ℕ) → HasFront format window → OpensWindow format window mode result }
     ensures steps { IsRaisedFor (length window.bytes) steps.old steps.new }
-    ensures tiles { OnOk result (CountsTiles window.bytes steps.old steps.new) }
-    ensures blocks { OnOk result (CountsBlocks window.bytes steps.old steps.new) }
-    ensures visits_on_error { IfErr result (λ refused. is_late refused.cause ≡ true
-        → CountsTiles window.bytes steps.old steps.new) }
+    ensures visits { CountsOpening window.bytes result steps.old steps.new }
 {
     let format = window.version();
     let mut visits = VisitCounter::new(mem::replace(steps, Steps::new()));

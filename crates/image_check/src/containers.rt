@@ -1,17 +1,17 @@
 //! Checks that each container of an image agrees with the words of its object.
-ghost use Rattle.std.specs.Prelude.{◌≡◌, ◌+◌, ◌<◌, ◌≤◌, ◌%◌, ◌^◌, Contains, true, false, length, ℕ};
-ghost use Rattle.std.specs.List.{list_all};
+ghost use Rattle.std.specs.Prelude.{◌≡◌, ◌+◌, ◌<◌, ◌≤◌, ◌%◌, ◌^◌, true, false, length, ℕ};
 ghost use Rattle.raw_region.specs.Memory.{bytes_of};
 ghost use Rattle.image_check.specs.ObjectTests.{has_objects};
 ghost use Rattle.image_check.specs.Fields.{has_containers, is_container};
-ghost use Rattle.image_check.specs.Owners.{IsWholeMarkingOf, entries_of, frames};
+ghost use Rattle.image_check.specs.Owners.{IsWholeMarkingOf};
 ghost use Rattle.image_check.specs.Containers.{AreFollowed, IsLinkNoted, IsCheckedTile, LiesInWindow, PaysFor};
-ghost use Rattle.image_check.specs.Containers.{has_container, is_scalar, rooted_weight, container_walk_rates};
-ghost use Rattle.image_check.specs.Containers.{weigh_blocks, weight_below};
+ghost use Rattle.image_check.specs.Containers.{has_container, rooted_weight};
+ghost use Rattle.image_check.specs.Containers.{weigh_blocks};
 ghost use Rattle.image_check.specs.ObjectOffsets.{IsFirstWrongTile};
 ghost use Rattle.image_check.specs.Passes.{ChecksClass, HasTiles, Spends, tiles_in};
-ghost use Rattle.image_check.specs.Visits.{AddsVisits, container_rates, weigh};
+ghost use Rattle.image_check.specs.Visits.{AddsVisits, container_rates};
 ghost use Rattle.block_tags.specs.declared.tile.Tile.{Tile};
+ghost use Rattle.image_check.specs.Sharing.{has_link, state_of};
 
 use crate::arrays::{is_array, is_storage};
 use crate::checking::VisitCounter;
@@ -37,10 +37,10 @@ fn is_right(
     requires mark { IsLinkNoted (bytes_of window.now.bytes) (tiles_in window.now.bytes) blocks.now.entries kind
         value.at }
     requires aligned { value.at % 8 ≡ 0 }
-    requires in_bounds { is_scalar kind ≡ false → value.at + 24 ≤ length window.now.bytes }
+    requires in_bounds { has_link kind ≡ true → value.at + 24 ≤ length window.now.bytes }
     requires max_count { rooted_weight value.at blocks.now.entries ≤ 2 ^ 40 }
     ensures value { result ≡ is_container (bytes_of window.now.bytes) (tiles_in window.now.bytes) (kind, value.at) }
-    ensures scalar { is_scalar kind ≡ true → visits.new ≡ visits.old }
+    ensures scalar { has_link kind ≡ false → visits.new ≡ visits.old }
     ensures visits { AddsVisits (27 + rooted_weight value.at blocks.now.entries) visits.old visits.new }
 {
     match kind {
@@ -80,45 +80,9 @@ fn is_right_tile(
     }
 }
 
-/// Checks all containers of the image. It reads no tag.
-///
-/// # Errors
-///
-/// The offset of the payload of the first object with a wrong container.
-fn are_right(
-    format: u64,
-    window: &ImageWindow,
-    blocks: &BlockTable,
-    visits: &mut VisitCounter,
-) -> Result<(), Offset>
-    requires tiles { HasTiles window.now.bytes }
-    requires rows { frames blocks.now.entries ≡ frames (entries_of (tiles_in window.now.bytes)) }
-    requires observed { AreFollowed (bytes_of window.now.bytes) (tiles_in window.now.bytes) blocks.now.entries }
-    requires well_formed { (t : Tile) → Contains (tiles_in window.now.bytes) t
-        → IsCheckedTile format (bytes_of window.now.bytes) (tiles_in window.now.bytes) blocks.now.entries t }
-    requires max_count { weigh_blocks blocks.now.entries ≤ 2 ^ 40 }
-    ensures verdict { ChecksClass (list_all
-        (has_container format (bytes_of window.now.bytes) (tiles_in window.now.bytes)) (tiles_in window.now.bytes))
-        (IsFirstWrongTile (has_container format (bytes_of window.now.bytes) (tiles_in window.now.bytes))
-        (tiles_in window.now.bytes)) result }
-    ensures min_size { visits.old ≤ visits.new }
-    ensures visits_on_error { visits.new
-        ≤ visits.old + (weigh container_walk_rates (tiles_in window.now.bytes) + weigh_blocks blocks.now.entries) }
-{
-    let mut number = 0;
-    'rows: while number < blocks.len() {
-        let (payload, block) = blocks.row(number, visits);
-        let tile = tile_of(payload, block);
-        if !is_right_tile(format, window, blocks, number + 1, visits, tile) {
-            return Err(payload as u64);
-        }
-        number += 1;
-    }
-    Ok(())
-}
-
 /// Checks that each container of the image agrees with its words. Its storage has room for its capacity, and its
-/// elements are values of their kind. A map is an ordered red-black tree with as many pairs as its count.
+/// elements are values of their kind. A map is an ordered red-black tree with as many pairs as its count. It reads no
+/// tag.
 ///
 /// # Errors
 ///
@@ -131,11 +95,20 @@ pub(crate) fn check_containers(
 ) -> Result<(), Offset>
     requires tiles { HasTiles window.now.bytes }
     requires objects { has_objects format (bytes_of window.now.bytes) (tiles_in window.now.bytes) ≡ true }
-    requires aligned { IsWholeMarkingOf format window.now.bytes owners.now.blocks.entries owners.now.waiting }
+    requires aligned { IsWholeMarkingOf format window.now.bytes (state_of owners.now) }
     ensures verdict { ChecksClass (has_containers format (bytes_of window.now.bytes) (tiles_in window.now.bytes))
         (IsFirstWrongTile (has_container format (bytes_of window.now.bytes) (tiles_in window.now.bytes))
         (tiles_in window.now.bytes)) result }
     ensures visits { Spends container_rates 20 window.now.bytes visits.old visits.new }
 {
-    are_right(format, window, &owners.blocks, visits)
+    let mut number = 0;
+    'rows: while number < owners.blocks.len() {
+        let (payload, block) = owners.blocks.row(number, visits);
+        let tile = tile_of(payload, block);
+        if !is_right_tile(format, window, &owners.blocks, number + 1, visits, tile) {
+            return Err(payload as u64);
+        }
+        number += 1;
+    }
+    Ok(())
 }

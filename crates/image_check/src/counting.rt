@@ -1,7 +1,7 @@
 //! Counts the free tiles of an image and the tiles in use, during the walk that checks the free ones.
 ghost use Rattle.std.specs.Prelude.{◌∷◌, ◌++◌, ◌<◌, ◌^◌, [], List};
 ghost use Rattle.block_tags.specs.declared.tile.Tile.{Tile};
-ghost use Rattle.image_check.specs.Counting.{AreCounted};
+ghost use Rattle.image_check.specs.Owners.{AreCounted};
 
 use block_tags::Tile;
 

@@ -23,9 +23,7 @@ pub(crate) fn enter(
     ensures waiting { owners.new.waiting ≡ owners.old.waiting }
     ensures visits { AddsVisits 2 visits.old visits.new }
 {
-    let Some(target) = link else {
-        return false;
-    };
+    let Some(target) = link else { return false };
     // Entries are in the order of keys, so no number is near.
     let Some((number, _, block)) = owners.blocks.find(usize::MAX, target, visits) else {
         return false;

@@ -1,23 +1,20 @@
 //! Checks that the free tiles of a window form the tree behind the header's link, for links of any value. In format 0
 //! there is no tree.
-ghost use Rattle.std.specs.Prelude.{◌≡◌, ◌+◌, ◌-◌, ◌≤◌, ◌<◌, ◌%◌, ◌^◌, true, IfSome, IsTrue, is_some, length};
+ghost use Rattle.std.specs.Prelude.{◌≡◌, ◌+◌, ◌-◌, ◌≤◌, ◌<◌, ◌^◌, true, IfSome, IsTrue, is_some, length};
 ghost use Rattle.std.specs.List.{list_all};
 ghost use Rattle.raw_region.specs.Memory.{bytes_of};
-ghost use Rattle.offset_link.specs.Link.{link_at};
 ghost use Rattle.link_tree.specs.Nodes.{is_in, leads};
 ghost use Rattle.link_tree.specs.Tree.{Tree, IsSearchTree, nodes_of};
 ghost use Rattle.raw_region.specs.Format.{current};
 ghost use Rattle.block_tags.specs.Format.{is_legal_size};
 ghost use Rattle.block_tags.specs.Tiles.{has_tags, tiles_of};
 ghost use Rattle.best_fit.specs.GapNodes.{tiles_in};
-ghost use Rattle.image_check.specs.Counting.{AreCounted};
+ghost use Rattle.image_check.specs.Owners.{AreCounted};
 ghost use Rattle.image_check.specs.EarlyTests.{has_free_tree as has_tree};
-ghost use Rattle.image_check.specs.FreeNodes.{has_good_links, is_before, is_planted as is_planted_in, is_target};
-ghost use Rattle.image_check.specs.FreeNodes.{len_at as len_there, target_cells, good_target, stands_before};
+ghost use Rattle.image_check.specs.FreeNodes.{has_good_links, is_planted as is_planted_in, is_target};
+ghost use Rattle.image_check.specs.FreeNodes.{len_at as len_there, target_cells, stands_before};
 ghost use Rattle.image_check.specs.Passes.{HasTiles, Spends};
 ghost use Rattle.image_check.specs.Visits.{planting_rates, planting_visits, tag_rates, tree_rates};
-ghost use Rattle.image_check.specs.FreeLaws.{before_agrees, before_irreflexive, before_transitive, targets_finite};
-ghost use Rattle.image_check.specs.FreeLaws.{targets_left, targets_right};
 
 use crate::checking::VisitCounter;
 use crate::counting::Counts;
@@ -80,9 +77,7 @@ fn check_free_tree(window: &ImageWindow, visits: &mut VisitCounter) -> Option<Co
         return None;
     };
     let tree = check_targets(window, root, visits);
-    let Some(nodes) = tree.nodes else {
-        return None;
-    };
+    let Some(nodes) = tree.nodes else { return None };
     let Some(counts) = count_planted(window, root, visits) else {
         return None;
     };
@@ -144,10 +139,8 @@ fn is_planted(
         return true;
     }
     let node = tile.offset + TAG_LEN;
-    let sought = TileProbe {
-        len: tile.len,
-        node,
-    };
+    let len = tile.len;
+    let sought = TileProbe { len, node };
     is_reached(window, root, sought, visits) && has_good_links(window, node, visits)
 }
 

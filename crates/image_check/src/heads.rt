@@ -2,7 +2,6 @@
 ghost use Rattle.std.specs.Prelude.{◌≡◌, ◌+◌, ◌^◌, ◌<◌, ◌≤◌, true, length};
 ghost use Rattle.raw_region.specs.Memory.{bytes_of};
 ghost use Rattle.seg_index.specs.Keys.{name_len_at};
-ghost use Rattle.image_check.specs.EarlyTests.{is_zero as are_zeros};
 ghost use Rattle.image_check.specs.ObjectTests.{has_name as is_named, has_padding as is_padded};
 ghost use Rattle.image_check.specs.ObjectTests.{is_indexed as is_listed, kind_at, value_offset};
 ghost use Rattle.image_check.specs.ObjectPasses.{is_spelled, is_value_room};
@@ -67,14 +66,7 @@ pub(crate) fn has_padding(window: &ImageWindow, object: Object) -> bool
     requires in_bounds { value_offset (bytes_of window.now.bytes) object.at ≤ length window.now.bytes }
     ensures { result ≡ is_padded (bytes_of window.now.bytes) object.at }
 {
-    is_zero(object.padding(window))
-}
-
-/// Returns true if all bytes are 0.
-fn is_zero(bytes: &[u8]) -> bool
-    ensures { result ≡ are_zeros bytes.now }
-{
-    bytes.iter().all(|byte| *byte == 0)
+    object.padding(window).iter().all(|byte| *byte == 0)
 }
 
 /// Returns true if every scalar of the value is valid (true for containers). It visits each scalar at most once.

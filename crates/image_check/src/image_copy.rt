@@ -4,7 +4,7 @@ ghost use Rattle.raw_region.specs.Format.{current};
 ghost use Rattle.image_check.specs.Causes.{IsShown};
 ghost use Rattle.image_check.specs.Formats.{format_in};
 ghost use Rattle.image_check.specs.Opening.{as_given};
-ghost use Rattle.image_check.specs.Reading.{FitsIn, IsImageRead, IsMisfit, IsNotCopied};
+ghost use Rattle.image_check.specs.Reading.{FitsIn, IsImageRead, IsNotCopied, Stops};
 ghost use Rattle.raw_region.specs.Memory.{part, whole};
 
 use crate::classes::ImageClass;
@@ -56,12 +56,8 @@ pub fn find_image(region: RawRegion, base: u64, len: u64) -> Result<ImageWindow,
     ensures output { IfErr result (λ refused. IsShown current (part region base len) refused.cause) }
     ensures not_written { IfOk result (λ window. whole window ≡ region) }
 {
-    match size_for(
-        AcceptedVersions::Current,
-        region.bytes(base, len),
-        &region,
-        base,
-    ) {
+    let versions = AcceptedVersions::Current;
+    match size_for(versions, region.bytes(base, len), &region, base) {
         Ok(size) => Ok(ImageWindow::new(Window::new(region, base, size))),
         Err(cause) => Err(OpenRefused { region, cause }),
     }
@@ -82,7 +78,7 @@ fn size_for(
 ) -> Result<u64, OpenError>
     ensures fits { MatchResult result
         (FitsIn (format_in versions image.now) image.now base (length region.now))
-        (λ cause. IsMisfit (format_in versions image.now) image.now base (length region.now) cause) }
+        (λ cause. Stops (format_in versions image.now) (as_given image.now) base (length region.now) cause) }
     ensures output { IfErr result (IsShown (format_in versions image.now) image.now) }
 {
     let count = image.len() as u64;

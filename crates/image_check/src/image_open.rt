@@ -1,6 +1,6 @@
 //! Opens an image from a reader, from bytes in memory, or in its place in a region.
-ghost use Rattle.std.specs.Prelude.{◌≡◌, ◌+◌, ◌-◌, ◌%◌, ◌^◌, ◌<◌, ◌≤◌, IfErr, MatchResult, OnOk, Result};
-ghost use Rattle.std.specs.Prelude.{length, true};
+ghost use Rattle.std.specs.Prelude.{◌≡◌, ◌+◌, ◌-◌, ◌%◌, ◌^◌, ◌<◌, ◌≤◌, IfErr, MatchResult, Result};
+ghost use Rattle.std.specs.Prelude.{length};
 ghost use Rattle.raw_region.specs.Device.{ReadsSource, read_delta};
 ghost use Rattle.raw_region.specs.Format.{current};
 ghost use Rattle.raw_region.specs.Memory.{part, whole};
@@ -10,9 +10,8 @@ ghost use Rattle.image_check.specs.declared.errors.OpenRefused.{OpenRefused as R
 ghost use Rattle.image_check.specs.Causes.{IsShown};
 ghost use Rattle.image_check.specs.EarlyTests.{size_word};
 ghost use Rattle.image_check.specs.Formats.{format_in, format_of};
-ghost use Rattle.image_check.specs.Opening.{AsksToTheEnd, IsRaisedFor, Opens, ReadsFrontAlone, cause_of, failed_reads};
-ghost use Rattle.image_check.specs.Opening.{as_given, is_late, let_go, size_or_least};
-ghost use Rattle.image_check.specs.Passes.{CountsBlocks, CountsTiles};
+ghost use Rattle.image_check.specs.Opening.{AsksToTheEnd, CountsOpening, IsRaisedFor, Opens, ReadsFrontAlone, as_given};
+ghost use Rattle.image_check.specs.Opening.{cause_of, failed_reads, let_go, size_or_least};
 
 use crate::checking::open_window;
 use crate::errors::OpenRefused;
@@ -55,22 +54,17 @@ pub fn open_image<S: Source>(
 ) -> Result<Segment, OpenRefused>
     requires aligned { base % 16 ≡ 0 }
     requires reader { (S.history reader.old).failures < 2 ^ 64 - 1 }
-    ensures opening { Opens (format_in versions (read_delta (S.history reader.old) (S.history reader.new)).bytes)
-        (read_delta (S.history reader.old) (S.history reader.new)) region base mode result }
-    ensures place { IfErr result (λ refused.
-        IsShown (format_in versions (read_delta (S.history reader.old) (S.history reader.new)).bytes)
-        (read_delta (S.history reader.old) (S.history reader.new)).bytes refused.cause) }
+    ensures opening { let given = read_delta (S.history reader.old) (S.history reader.new) in
+        Opens (format_in versions given.bytes) given region base mode result }
+    ensures place { let given = read_delta (S.history reader.old) (S.history reader.new) in IfErr result
+        (λ refused. IsShown (format_in versions given.bytes) given.bytes refused.cause) }
     ensures history { ReadsSource (S.history reader.old) (S.history reader.new) (failed_reads (cause_of result)) }
     ensures ends { AsksToTheEnd (S.history reader.old) (S.history reader.new) }
     ensures exclusive { ReadsFrontAlone (S.history reader.old) (S.history reader.new) (cause_of result) }
     ensures steps { IsRaisedFor (size_or_least (read_delta (S.history reader.old) (S.history reader.new)).bytes)
         steps.old steps.new }
-    ensures tiles { OnOk result
-        (CountsTiles (read_delta (S.history reader.old) (S.history reader.new)).bytes steps.old steps.new) }
-    ensures blocks { OnOk result
-        (CountsBlocks (read_delta (S.history reader.old) (S.history reader.new)).bytes steps.old steps.new) }
-    ensures visits_on_error { IfErr result (λ refused. is_late refused.cause ≡ true
-        → CountsTiles (read_delta (S.history reader.old) (S.history reader.new)).bytes steps.old steps.new) }
+    ensures visits { CountsOpening (read_delta (S.history reader.old) (S.history reader.new)).bytes result
+        steps.old steps.new }
 {
     let window = read_image(versions, reader, region, base)?;
     open_window(alloc, window, mode, steps)
@@ -95,22 +89,11 @@ pub fn open<S: Source>(
     ensures exclusive { ReadsFrontAlone (S.history reader.old) (S.history reader.new) (cause_of result) }
     ensures steps { IsRaisedFor (size_or_least (read_delta (S.history reader.old) (S.history reader.new)).bytes)
         steps.old steps.new }
-    ensures tiles { OnOk result
-        (CountsTiles (read_delta (S.history reader.old) (S.history reader.new)).bytes steps.old steps.new) }
-    ensures blocks { OnOk result
-        (CountsBlocks (read_delta (S.history reader.old) (S.history reader.new)).bytes steps.old steps.new) }
-    ensures visits_on_error { IfErr result (λ refused. is_late refused.cause ≡ true
-        → CountsTiles (read_delta (S.history reader.old) (S.history reader.new)).bytes steps.old steps.new) }
+    ensures visits { CountsOpening (read_delta (S.history reader.old) (S.history reader.new)).bytes result
+        steps.old steps.new }
 {
-    open_image(
-        alloc,
-        AcceptedVersions::Current,
-        reader,
-        region,
-        base,
-        mode,
-        steps,
-    )
+    let versions = AcceptedVersions::Current;
+    open_image(alloc, versions, reader, region, base, mode, steps)
 }
 
 /// Opens an image of any of the three formats, as [`open_image`] does.
@@ -124,32 +107,20 @@ pub fn open_any<S: Source>(
 ) -> Result<Segment, OpenRefused>
     requires aligned { base % 16 ≡ 0 }
     requires reader { (S.history reader.old).failures < 2 ^ 64 - 1 }
-    ensures opening { Opens (format_of (read_delta (S.history reader.old) (S.history reader.new)).bytes)
-        (read_delta (S.history reader.old) (S.history reader.new)) region base mode result }
-    ensures place { IfErr result (λ refused.
-        IsShown (format_of (read_delta (S.history reader.old) (S.history reader.new)).bytes)
-        (read_delta (S.history reader.old) (S.history reader.new)).bytes refused.cause) }
+    ensures opening { let given = read_delta (S.history reader.old) (S.history reader.new) in
+        Opens (format_of given.bytes) given region base mode result }
+    ensures place { let given = read_delta (S.history reader.old) (S.history reader.new) in IfErr result
+        (λ refused. IsShown (format_of given.bytes) given.bytes refused.cause) }
     ensures history { ReadsSource (S.history reader.old) (S.history reader.new) (failed_reads (cause_of result)) }
     ensures ends { AsksToTheEnd (S.history reader.old) (S.history reader.new) }
     ensures exclusive { ReadsFrontAlone (S.history reader.old) (S.history reader.new) (cause_of result) }
     ensures steps { IsRaisedFor (size_or_least (read_delta (S.history reader.old) (S.history reader.new)).bytes)
         steps.old steps.new }
-    ensures tiles { OnOk result
-        (CountsTiles (read_delta (S.history reader.old) (S.history reader.new)).bytes steps.old steps.new) }
-    ensures blocks { OnOk result
-        (CountsBlocks (read_delta (S.history reader.old) (S.history reader.new)).bytes steps.old steps.new) }
-    ensures visits_on_error { IfErr result (λ refused. is_late refused.cause ≡ true
-        → CountsTiles (read_delta (S.history reader.old) (S.history reader.new)).bytes steps.old steps.new) }
+    ensures visits { CountsOpening (read_delta (S.history reader.old) (S.history reader.new)).bytes result
+        steps.old steps.new }
 {
-    open_image(
-        alloc,
-        AcceptedVersions::All,
-        reader,
-        region,
-        base,
-        mode,
-        steps,
-    )
+    let versions = AcceptedVersions::All;
+    open_image(alloc, versions, reader, region, base, mode, steps)
 }
 
 /// Checks an image of the current format: opens it for reading, as [`open`] does, and returns the region with the image
@@ -177,10 +148,8 @@ pub fn verify<S: Source>(
     ensures exclusive { ReadsFrontAlone (S.history reader.old) (S.history reader.new) (cause_of result) }
     ensures steps { IsRaisedFor (size_or_least (read_delta (S.history reader.old) (S.history reader.new)).bytes)
         steps.old steps.new }
-    ensures tiles { OnOk result
-        (CountsTiles (read_delta (S.history reader.old) (S.history reader.new)).bytes steps.old steps.new) }
-    ensures visits_on_error { IfErr result (λ refused. is_late refused.cause ≡ true
-        → CountsTiles (read_delta (S.history reader.old) (S.history reader.new)).bytes steps.old steps.new) }
+    ensures visits { CountsOpening (read_delta (S.history reader.old) (S.history reader.new)).bytes result
+        steps.old steps.new }
 {
     match open(alloc, reader, region, base, Mode::ReadOnly, steps) {
         Ok(segment) => Ok(segment.into_region()),
@@ -212,10 +181,7 @@ pub fn open_bytes(
     ensures not_written { IfErr result (λ refused. (length image.now ≡ size_word image.now → ⊥)
         → refused.region ≡ region) }
     ensures steps { IsRaisedFor (size_or_least image.now) steps.old steps.new }
-    ensures tiles { OnOk result (CountsTiles image.now steps.old steps.new) }
-    ensures blocks { OnOk result (CountsBlocks image.now steps.old steps.new) }
-    ensures visits_on_error { IfErr result (λ refused. is_late refused.cause ≡ true
-        → CountsTiles image.now steps.old steps.new) }
+    ensures visits { CountsOpening image.now result steps.old steps.new }
 {
     let window = copy_image(versions, image, region, base)?;
     open_window(alloc, window, mode, steps)
@@ -244,10 +210,7 @@ pub fn open_here(
     ensures not_written { MatchResult result (λ segment. whole segment.cut ≡ region) (λ refused.
         refused.region ≡ region) }
     ensures steps { IsRaisedFor (size_or_least (part region base len)) steps.old steps.new }
-    ensures tiles { OnOk result (CountsTiles (part region base len) steps.old steps.new) }
-    ensures blocks { OnOk result (CountsBlocks (part region base len) steps.old steps.new) }
-    ensures visits_on_error { IfErr result (λ refused. is_late refused.cause ≡ true
-        → CountsTiles (part region base len) steps.old steps.new) }
+    ensures visits { CountsOpening (part region base len) result steps.old steps.new }
 {
     let window = find_image(region, base, len)?;
     open_window(alloc, window, mode, steps)

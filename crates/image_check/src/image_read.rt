@@ -5,12 +5,13 @@ ghost use Rattle.raw_region.specs.Answers.{AppendsProperPrefix};
 ghost use Rattle.raw_region.specs.Device.{ReadsSource, read_delta};
 ghost use Rattle.raw_region.specs.Memory.{SameSurroundings, whole};
 ghost use Rattle.raw_region.specs.Regions.{with_bytes};
-ghost use Rattle.image_check.specs.Causes.{IsExcess, IsEnd, IsShown};
+ghost use Rattle.image_check.specs.Causes.{IsAt, IsShown};
+ghost use Rattle.image_check.specs.declared.classes.ImageClass.TheVariants.{BadSize, Truncated};
 ghost use Rattle.image_check.specs.Formats.{format_in};
 ghost use Rattle.image_check.specs.declared.errors.OpenError.TheVariants.{RegionTooSmall};
 ghost use Rattle.image_check.specs.Opening.{AsksToTheEnd, ReadsFrontAlone, cause_of, failed_reads};
-ghost use Rattle.image_check.specs.Reading.{ReadsPastEnd, HasFront, ReadsFrontOk, IsReadBy, IsNotReadBy, IsShort};
-ghost use Rattle.image_check.specs.Reading.{IsShownBy, Stops, StopsBy};
+ghost use Rattle.image_check.specs.Reading.{HasFront, IsImageRead, IsNotRead, IsShort, ReadsFrontOk, ReadsPastEnd};
+ghost use Rattle.image_check.specs.Reading.{Stops};
 
 use crate::classes::ImageClass;
 use crate::errors::{OpenError, OpenRefused};
@@ -34,12 +35,11 @@ pub(crate) fn read_image<S: Source>(
 ) -> Result<ImageWindow, OpenRefused>
     requires aligned { base % 16 ≡ 0 }
     requires reader { (S.history reader.old).failures < 2 ^ 64 - 1 }
-    ensures reading { MatchResult result
-        (IsReadBy versions (read_delta (S.history reader.old) (S.history reader.new)) region base)
-        (λ refused. IsNotReadBy versions (read_delta (S.history reader.old) (S.history reader.new)) region base
-        refused) }
-    ensures output { IfErr result (λ refused.
-        IsShownBy versions (read_delta (S.history reader.old) (S.history reader.new)) refused.cause) }
+    ensures reading { let given = read_delta (S.history reader.old) (S.history reader.new) in MatchResult result
+        (IsImageRead (format_in versions given.bytes) given region base)
+        (λ refused. IsNotRead (format_in versions given.bytes) given region base refused) }
+    ensures output { let given = read_delta (S.history reader.old) (S.history reader.new) in IfErr result
+        (λ refused. IsShown (format_in versions given.bytes) given.bytes refused.cause) }
     ensures history { ReadsSource (S.history reader.old) (S.history reader.new)
         (failed_reads (cause_of result)) }
     ensures ends { AsksToTheEnd (S.history reader.old) (S.history reader.new) }
@@ -77,10 +77,10 @@ fn read_front<S: Source>(
     requires { (S.history reader.old).failures < 2 ^ 64 - 1 }
     ensures on_ok { IfOk result (ReadsFrontOk (format_in versions front.new) (S.history reader.old).bytes
         (S.history reader.new).bytes front.new base (length region.now)) }
-    ensures on_error { IfErr result (λ cause.
-        StopsBy versions (read_delta (S.history reader.old) (S.history reader.new)) base (length region.now)
-        cause) }
-    ensures output { IfErr result (IsShownBy versions (read_delta (S.history reader.old) (S.history reader.new))) }
+    ensures on_error { let given = read_delta (S.history reader.old) (S.history reader.new) in IfErr result
+        (λ cause. Stops (format_in versions given.bytes) given base (length region.now) cause) }
+    ensures output { let given = read_delta (S.history reader.old) (S.history reader.new) in IfErr result
+        (λ cause. IsShown (format_in versions given.bytes) given.bytes cause) }
     ensures history { ReadsSource (S.history reader.old) (S.history reader.new) (failed_reads result) }
     ensures ends { AsksToTheEnd (S.history reader.old) (S.history reader.new) }
     ensures exclusive { ReadsFrontAlone (S.history reader.old) (S.history reader.new) result }
@@ -140,7 +140,7 @@ fn read_all<S: Source>(reader: &mut S, into: &mut [u8], before: u64) -> Result<(
     ensures on_error { IfErr result (λ cause.
         AppendsProperPrefix (S.history reader.old).bytes (S.history reader.new).bytes into.new
         × IsShort (S.history reader.new).ended cause) }
-    ensures output { IfErr result (IsEnd
+    ensures output { IfErr result (IsAt Truncated
         (before + (length (S.history reader.new).bytes - length (S.history reader.old).bytes))) }
     ensures failures { (S.history reader.new).failures
         ≡ (S.history reader.old).failures + failed_reads result }
@@ -169,7 +169,7 @@ fn find_end<S: Source>(reader: &mut S, size: u64) -> Result<(), OpenError>
     ensures end { OnOk result ((S.history reader.new).ended ≡ true) }
     ensures on_error { IfErr result (λ cause.
         ReadsPastEnd (S.history reader.old).bytes (S.history reader.new).bytes cause) }
-    ensures output { IfErr result (IsExcess size) }
+    ensures output { IfErr result (IsAt BadSize size) }
     ensures failures { (S.history reader.new).failures
         ≡ (S.history reader.old).failures + failed_reads result }
     ensures ends { AsksToTheEnd (S.history reader.old) (S.history reader.new) }

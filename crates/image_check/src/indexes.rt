@@ -6,11 +6,13 @@ ghost use Rattle.block_tags.specs.declared.tile.Tile.{Tile};
 ghost use Rattle.image_check.specs.ObjectTests.{has_indexes, targets};
 ghost use Rattle.image_check.specs.IndexOffsets.{IsFirstWrong, IsWrongAt, IsWrongHead, IsWrongIndex, earlier_targets};
 ghost use Rattle.image_check.specs.IndexOffsets.{first_targets, is_head};
-ghost use Rattle.image_check.specs.Owners.{AreBlocks, IsIndexOffset, IsMarking, IsUnmarked, entries_of};
+ghost use Rattle.image_check.specs.Owners.{AreBlocks, IsIndexOffset, IsUnmarked, entries_of};
 ghost use Rattle.image_check.specs.Passes.{HasTiles, ChecksClass, Spends, tiles_in};
 ghost use Rattle.image_check.specs.Visits.{AddsVisits, index_rates, weigh};
 ghost use Rattle.image_check.specs.Entered.{EntersEntries, AreEntered, HaveEntries, are_enterable, is_enterable};
 ghost use Rattle.image_check.specs.Entered.{links_in};
+ghost use Rattle.image_check.specs.Owners.{IsMarkingOf};
+ghost use Rattle.image_check.specs.Sharing.{state_of};
 
 use crate::arrays::is_table;
 use crate::checking::VisitCounter;
@@ -41,9 +43,7 @@ pub(crate) fn check_indexes(
         (IsWrongIndex (bytes_of window.now.bytes) (tiles_in window.now.bytes)) result }
     ensures entry { OnOk result (AreEntered (bytes_of window.now.bytes) owners.new.blocks.entries) }
     ensures unmarked { OnOk result (IsUnmarked (tiles_in window.now.bytes) owners.new.blocks.entries) }
-    ensures marking { OnOk result ((format : ℕ)
-        → IsMarking format (bytes_of window.now.bytes) (tiles_in window.now.bytes) None owners.new.blocks.entries
-        owners.new.pending owners.new.waiting) }
+    ensures marking { OnOk result ((format : ℕ) → IsMarkingOf format window.now.bytes (state_of owners.new)) }
     ensures pending { owners.new.pending ≡ None }
     ensures waiting { owners.new.waiting ≡ 0 }
     ensures visits { Spends index_rates 10 window.now.bytes visits.old visits.new }
@@ -90,14 +90,10 @@ fn enter_index(
     }
     match window.header_link(at) {
         None => Ok(()),
-        Some(block) => enter_all(
-            window,
-            owners,
-            visits,
-            block,
-            window.header_word(at + 8),
-            at as u32,
-        ),
+        Some(block) => {
+            let count = window.header_word(at + 8);
+            enter_all(window, owners, visits, block, count, at as u32)
+        }
     }
 }
 

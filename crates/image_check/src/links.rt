@@ -1,10 +1,12 @@
 //! Enters the links of indexes, storage and elements in the map of owners.
-ghost use Rattle.std.specs.Prelude.{◌≡◌, ◌+◌, ◌*◌, ◌%◌, ◌<◌, ◌≤◌, ℕ, MatchResult, None, length};
+ghost use Rattle.std.specs.Prelude.{◌≡◌, ◌+◌, ◌*◌, ◌%◌, ◌<◌, ◌≤◌, ℕ, length};
 ghost use Rattle.raw_region.specs.Memory.{bytes_of, word_at};
-ghost use Rattle.image_check.specs.Owners.{IsIndexOffset, IsMarkingOf, IsSharedIn};
+ghost use Rattle.image_check.specs.Owners.{IsIndexOffset, IsMarkingOf};
 ghost use Rattle.image_check.specs.Passes.{HasTiles};
 ghost use Rattle.image_check.specs.Sharing.{AreElementsNoted, IsIndexNoted, IsStorageNoted, IsStorageStart};
 ghost use Rattle.image_check.specs.Visits.{AddsVisits};
+ghost use Rattle.image_check.specs.Owners.{MarksUnlessShared};
+ghost use Rattle.image_check.specs.Sharing.{state_of};
 
 use crate::checking::VisitCounter;
 use crate::image_window::{ImageWindow, Value};
@@ -27,22 +29,16 @@ pub(crate) fn mark_index(
     ghost format: { ℕ }
     requires tiles { HasTiles window.now.bytes }
     requires place { IsIndexOffset at }
-    requires marking { IsMarkingOf format window.now.bytes None owners.old.blocks.entries owners.old.pending
-        owners.old.waiting }
-    ensures mark { MatchResult result
-        (λ done. IsIndexNoted format window.now.bytes at owners.old.blocks.entries owners.old.waiting
-        owners.new.blocks.entries owners.new.pending owners.new.waiting)
-        (IsSharedIn format window.now.bytes) }
+    requires marking { IsMarkingOf format window.now.bytes (state_of owners.old) }
+    ensures mark { MarksUnlessShared format window.now.bytes
+        (IsIndexNoted format window.now.bytes at (state_of owners.old) (state_of owners.new)) result }
     ensures visits { AddsVisits 2 visits.old visits.new }
 {
     if window.header_word(at + 16) == 0 {
         return Ok(());
     }
-    let place = at as u32;
-    let link = Owner {
-        at: place,
-        root: place,
-    };
+    let root = at as u32;
+    let link = Owner { at: root, root };
     mark(owners, Role::Index, link, window.header_link(at), visits)
 }
 
@@ -59,16 +55,13 @@ pub(crate) fn mark_storage(
 ) -> Result<(), Offset>
     ghost format: { ℕ }
     requires tiles { HasTiles window.now.bytes }
-    requires marking { IsMarkingOf format window.now.bytes None owners.old.blocks.entries owners.old.pending
-        owners.old.waiting }
+    requires marking { IsMarkingOf format window.now.bytes (state_of owners.old) }
     requires in_bounds { value.at + 24 ≤ length window.now.bytes }
     requires aligned { value.at % 8 ≡ 0 }
     requires start { 0 < word_at (bytes_of window.now.bytes) (value.at + 16)
         → IsStorageStart format window.now.bytes value.at }
-    ensures mark { MatchResult result
-        (λ done. IsStorageNoted format window.now.bytes value.at owners.old.blocks.entries owners.old.waiting
-        owners.new.blocks.entries owners.new.pending owners.new.waiting)
-        (IsSharedIn format window.now.bytes) }
+    ensures mark { MarksUnlessShared format window.now.bytes
+        (IsStorageNoted format window.now.bytes value.at (state_of owners.old) (state_of owners.new)) result }
     ensures visits { AddsVisits 2 visits.old visits.new }
 {
     if value.capacity(window) == 0 {
@@ -93,26 +86,20 @@ pub(crate) fn mark_elements(
 ) -> Result<(), Offset>
     ghost format: { ℕ }
     requires tiles { HasTiles window.now.bytes }
-    requires marking { IsMarkingOf format window.now.bytes None owners.old.blocks.entries owners.old.pending
-        owners.old.waiting }
+    requires marking { IsMarkingOf format window.now.bytes (state_of owners.old) }
     requires in_bounds { array + 16 * count ≤ length window.now.bytes }
     requires aligned { array % 16 ≡ 0 }
     requires start { (i : ℕ) → i < count → IsStorageStart format window.now.bytes (array + 16 * i) }
-    ensures mark { MatchResult result
-        (λ done. AreElementsNoted format window.now.bytes array count owners.old.blocks.entries owners.old.waiting
-        owners.new.blocks.entries owners.new.pending owners.new.waiting)
-        (IsSharedIn format window.now.bytes) }
+    ensures mark { MarksUnlessShared format window.now.bytes
+        (AreElementsNoted format window.now.bytes array count (state_of owners.old) (state_of owners.new)) result }
     ensures visits { AddsVisits (3 * count) visits.old visits.new }
 {
     let mut i = 0;
     'elements: while i < count {
         let at = array + 16 * i;
         let target = window.link(at, visits);
-        let place = at as u32;
-        let link = Owner {
-            at: place,
-            root: place,
-        };
+        let root = at as u32;
+        let link = Owner { at: root, root };
         if let Err(place) = mark(owners, Role::Storage, link, target, visits) {
             return Err(place);
         }

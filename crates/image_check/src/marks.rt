@@ -1,18 +1,20 @@
 //! Enters links: stores each link as the owner of the block to which the link leads. Then follows the links of each
 //! node that a link reached.
-ghost use Rattle.std.specs.Prelude.{◌≡◌, ◌+◌, ◌*◌, ◌<◌, ◌≤◌, ◌^◌, false, IsTrue, List, MatchResult, Option, Some, None};
-ghost use Rattle.std.specs.Prelude.{ℕ, length};
+ghost use Rattle.std.specs.Prelude.{◌≡◌, ◌+◌, ◌<◌, ◌^◌, false, List, MatchResult, Option, Some, None};
+ghost use Rattle.std.specs.Prelude.{ℕ};
 ghost use Rattle.raw_region.specs.Memory.{Memory};
 ghost use Rattle.offset_link.specs.Link.{link_at};
 ghost use Rattle.block_tags.specs.declared.tile.Role.TheVariants.{Object as ObjectRole};
 ghost use Rattle.block_tags.specs.declared.tile.Tile.{Tile};
 ghost use Rattle.best_fit.specs.Table.{same_role};
-ghost use Rattle.image_check.specs.Owners.{FollowsAll, MarksLink, IsMarking, IsMarkingOf, IsRooted, IsSharedIn};
-ghost use Rattle.image_check.specs.Owners.{IsTurn, MayCount, unspent_budget, next_in as next_there};
+ghost use Rattle.image_check.specs.Owners.{FollowsAll, MarksLink, IsMarking, IsMarkingOf, IsRooted};
+ghost use Rattle.image_check.specs.Owners.{IsTurn, MayCount, next_in as next_there};
 ghost use Rattle.image_check.specs.Owners.{root_in as root_there};
-ghost use Rattle.image_check.specs.OwnerOffsets.{IsSharedAt};
+ghost use Rattle.image_check.specs.Owners.{IsSharedAt};
 ghost use Rattle.image_check.specs.Passes.{HasTiles};
 ghost use Rattle.image_check.specs.Visits.{AddsVisits};
+ghost use Rattle.image_check.specs.Owners.{MarksUnlessShared, visits_due};
+ghost use Rattle.image_check.specs.Sharing.{state_of};
 
 use crate::checking::VisitCounter;
 use crate::image_window::ImageWindow;
@@ -36,17 +38,13 @@ pub(crate) fn mark(
     requires no_overflow { owners.old.waiting + 1 < 2 ^ 64 }
     requires role { same_role role ObjectRole ≡ false }
     ensures marks { (format : ℕ) (m : Memory) (ts : List Tile) (now : Option ℕ)
-        → IsMarking format m ts now owners.old.blocks.entries owners.old.pending owners.old.waiting
+        → IsMarking format m ts now (state_of owners.old)
         → target ≡ link_at m link.at → MayCount format m ts role link.at → IsRooted ts owners.old.blocks.entries link
-        → MatchResult result
-        (λ done. MarksLink format m ts now role link owners.old.blocks.entries owners.old.waiting
-        owners.new.blocks.entries owners.new.pending owners.new.waiting)
+        → MatchResult result (λ done. MarksLink format m ts now role link (state_of owners.old) (state_of owners.new))
         (IsSharedAt format m ts) }
     ensures visits { AddsVisits 2 visits.old visits.new }
 {
-    let Some(target) = target else {
-        return Ok(());
-    };
+    let Some(target) = target else { return Ok(()) };
     let Some((number, payload, block)) = owners.blocks.find(owners.near, target, visits) else {
         return Ok(());
     };
@@ -110,13 +108,10 @@ fn follow_next(
 ) -> Result<(), Offset>
     ghost format: { ℕ }
     requires tiles { HasTiles window.now.bytes }
-    requires marking { IsMarkingOf format window.now.bytes None owners.old.blocks.entries owners.old.pending
-        owners.old.waiting }
+    requires marking { IsMarkingOf format window.now.bytes (state_of owners.old) }
     requires node { owners.old.pending ≡ Some node }
-    ensures turn { MatchResult result
-        (λ done. IsTurn format window.now.bytes owners.old.blocks.entries owners.old.waiting
-        owners.new.blocks.entries owners.new.pending owners.new.waiting)
-        (IsSharedIn format window.now.bytes) }
+    ensures turn { MarksUnlessShared format window.now.bytes
+        (IsTurn format window.now.bytes (state_of owners.old) (state_of owners.new)) result }
     ensures visits { AddsVisits 6 visits.old visits.new }
 {
     let block = owners.blocks.block_of(owners.near, node as u64, visits);
@@ -147,14 +142,10 @@ pub(crate) fn follow(
 ) -> Result<(), Offset>
     ghost format: { ℕ }
     requires tiles { HasTiles window.now.bytes }
-    requires marking { IsMarkingOf format window.now.bytes None owners.old.blocks.entries owners.old.pending
-        owners.old.waiting }
-    ensures observed { MatchResult result
-        (λ done. FollowsAll format window.now.bytes owners.old.blocks.entries owners.new.blocks.entries
-        owners.new.pending owners.new.waiting)
-        (IsSharedIn format window.now.bytes) }
-    ensures visits { AddsVisits (6 * owners.old.waiting + unspent_budget owners.old.blocks.entries) visits.old
-        visits.new }
+    requires marking { IsMarkingOf format window.now.bytes (state_of owners.old) }
+    ensures observed { MarksUnlessShared format window.now.bytes
+        (FollowsAll format window.now.bytes (state_of owners.old) (state_of owners.new)) result }
+    ensures visits { AddsVisits (visits_due (state_of owners.old)) visits.old visits.new }
 {
     'nodes: while let Some(node) = owners.pending {
         if let Err(place) = follow_next(window, owners, node, visits) {

@@ -1,9 +1,10 @@
 //! Checks each object, and the order of the entries of each index.
-ghost use Rattle.std.specs.Prelude.{◌≡◌, ℕ, ◌+◌, ◌-◌, ◌*◌, ◌/◌, ◌%◌, ◌^◌, ◌<◌, ◌≤◌, true, length};
+ghost use Rattle.std.specs.Prelude.{◌≡◌, ℕ, ◌+◌, ◌-◌, ◌*◌, ◌/◌, ◌^◌, ◌<◌, ◌≤◌, true, length};
 ghost use Rattle.std.specs.List.{list_all};
 ghost use Rattle.raw_region.specs.Memory.{bytes_of};
 ghost use Rattle.image_check.specs.ObjectTests.{has_indexes, has_objects};
-ghost use Rattle.image_check.specs.ObjectPasses.{is_object_at, is_right_tile, object_walk_rates};
+ghost use Rattle.image_check.specs.ObjectPasses.{is_right_tile, object_walk_rates};
+ghost use Rattle.image_check.specs.ObjectPasses.{is_object_at};
 ghost use Rattle.image_check.specs.ObjectOffsets.{IsFirstWrongTile, IsWrongObject};
 ghost use Rattle.image_check.specs.Entered.{AreEntered};
 ghost use Rattle.image_check.specs.Owners.{entries_of, frames};

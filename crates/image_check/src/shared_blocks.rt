@@ -1,20 +1,21 @@
 //! Checks that no two links lead to one block.
-ghost use Rattle.std.specs.Prelude.{◌≡◌, ◌+◌, ◌*◌, ◌%◌, ◌<◌, ◌≤◌, ◌^◌, ℕ, IsTrue, MatchResult, None, OnOk, Some, not};
+ghost use Rattle.std.specs.Prelude.{◌≡◌, ◌+◌, ◌*◌, ◌%◌, ◌<◌, ◌≤◌, ℕ, None, OnOk, Some, not};
 ghost use Rattle.std.specs.Prelude.{true, length};
-ghost use Rattle.raw_region.specs.Memory.{bytes_of, word_at};
+ghost use Rattle.raw_region.specs.Memory.{bytes_of};
 ghost use Rattle.seg_types.specs.declared.kinds.Kind.TheVariants.{Strings as StringsKind};
 ghost use Rattle.image_check.specs.ObjectTests.{has_objects};
 ghost use Rattle.image_check.specs.Fields.{is_shared};
-ghost use Rattle.image_check.specs.Owners.{IsIndexOffset, IsMarkingOf, IsSharedIn, IsUnmarked, IsWholeMarkingOf};
-ghost use Rattle.image_check.specs.Owners.{unspent_budget};
+ghost use Rattle.image_check.specs.Owners.{IsMarkingOf, IsSharedIn, IsUnmarked, IsWholeMarkingOf};
 ghost use Rattle.image_check.specs.Passes.{ChecksClass, HasTiles, Spends, tiles_in};
-ghost use Rattle.image_check.specs.Sharing.{AllElements, AreElementsNoted, AreIndexesNoted, AreTextsNoted};
-ghost use Rattle.image_check.specs.Sharing.{EntersValues, IsIndexNoted, IsStorageNoted, IsStorageStart, IsTileGrown};
+ghost use Rattle.image_check.specs.Sharing.{AllElements, AreIndexesNoted, AreTextsNoted};
+ghost use Rattle.image_check.specs.Sharing.{EntersValues, IsStorageStart, IsTileGrown};
 ghost use Rattle.image_check.specs.Sharing.{IsValueGrown, IsValueReady, OfObject, Pays, array_cost, object_cost};
 ghost use Rattle.image_check.specs.Sharing.{value_rates};
 ghost use Rattle.image_check.specs.Visits.{AddsVisits, sharing_rates, weigh};
 ghost use Rattle.image_check.specs.Owners.{owner_at};
 ghost use Rattle.image_check.specs.declared.owners.Owner.{Owner as OwnerValue};
+ghost use Rattle.image_check.specs.Owners.{MarksUnlessShared};
+ghost use Rattle.image_check.specs.Sharing.{state_of};
 
 use crate::checking::VisitCounter;
 use crate::heads::kind_of;
@@ -51,16 +52,13 @@ fn mark_texts(
 ) -> Result<(), Offset>
     ghost format: { ℕ }
     requires tiles { HasTiles window.now.bytes }
-    requires marking { IsMarkingOf format window.now.bytes None owners.old.blocks.entries owners.old.pending
-        owners.old.waiting }
+    requires marking { IsMarkingOf format window.now.bytes (state_of owners.old) }
     requires in_bounds { value.at + 24 ≤ length window.now.bytes }
     requires aligned { value.at % 8 ≡ 0 }
     requires start { AllElements (bytes_of window.now.bytes) (tiles_in window.now.bytes) value.at
         (IsStorageStart format window.now.bytes) }
-    ensures mark { MatchResult result
-        (λ done. AreTextsNoted format window.now.bytes value.at owners.old.blocks.entries owners.old.waiting
-        owners.new.blocks.entries owners.new.pending owners.new.waiting)
-        (IsSharedIn format window.now.bytes) }
+    ensures mark { MarksUnlessShared format window.now.bytes
+        (AreTextsNoted format window.now.bytes value.at (state_of owners.old) (state_of owners.new)) result }
     ensures visits { AddsVisits (1 + array_cost (bytes_of window.now.bytes) (tiles_in window.now.bytes) value.at)
         visits.old visits.new }
 {
@@ -70,13 +68,8 @@ fn mark_texts(
     let Some(array) = value.link(window) else {
         return Ok(());
     };
-    let Some(len) = good_len(
-        &owners.blocks,
-        owners.near,
-        Role::Storage,
-        Some(array),
-        visits,
-    ) else {
+    let near = owners.near;
+    let Some(len) = good_len(&owners.blocks, near, Role::Storage, Some(array), visits) else {
         return Ok(());
     };
     let count = elements_in(value.len(window), len);
@@ -96,15 +89,11 @@ fn mark_array(
 ) -> Result<(), Offset>
     ghost format: { ℕ }
     requires tiles { HasTiles window.now.bytes }
-    requires marking { IsMarkingOf format window.now.bytes None owners.old.blocks.entries owners.old.pending
-        owners.old.waiting }
+    requires marking { IsMarkingOf format window.now.bytes (state_of owners.old) }
     requires well_formed { IsValueReady format window.now.bytes StringsKind value.at owners.old.blocks.entries }
-    ensures mark { MatchResult result
-        (λ done. IsValueGrown format window.now.bytes StringsKind value.at owners.old.blocks.entries
-        owners.old.waiting owners.new.blocks.entries owners.new.pending owners.new.waiting)
-        (IsSharedIn format window.now.bytes) }
-    ensures visits { Pays 3 result visits.old (6 * owners.old.waiting + unspent_budget owners.old.blocks.entries)
-        visits.new (6 * owners.new.waiting + unspent_budget owners.new.blocks.entries) }
+    ensures mark { MarksUnlessShared format window.now.bytes
+        (IsValueGrown format window.now.bytes StringsKind value.at (state_of owners.old) (state_of owners.new)) result }
+    ensures visits { Pays 3 result visits.old (state_of owners.old) visits.new (state_of owners.new) }
 {
     match mark_storage(window, owners, value, visits) {
         Err(place) => Err(place),
@@ -126,15 +115,11 @@ fn mark_value(
 ) -> Result<(), Offset>
     ghost format: { ℕ }
     requires tiles { HasTiles window.now.bytes }
-    requires marking { IsMarkingOf format window.now.bytes None owners.old.blocks.entries owners.old.pending
-        owners.old.waiting }
+    requires marking { IsMarkingOf format window.now.bytes (state_of owners.old) }
     requires well_formed { IsValueReady format window.now.bytes kind value.at owners.old.blocks.entries }
-    ensures mark { MatchResult result
-        (λ done. IsValueGrown format window.now.bytes kind value.at owners.old.blocks.entries owners.old.waiting
-        owners.new.blocks.entries owners.new.pending owners.new.waiting)
-        (IsSharedIn format window.now.bytes) }
-    ensures visits { Pays 3 result visits.old (6 * owners.old.waiting + unspent_budget owners.old.blocks.entries)
-        visits.new (6 * owners.new.waiting + unspent_budget owners.new.blocks.entries) }
+    ensures mark { MarksUnlessShared format window.now.bytes
+        (IsValueGrown format window.now.bytes kind value.at (state_of owners.old) (state_of owners.new)) result }
+    ensures visits { Pays 3 result visits.old (state_of owners.old) visits.new (state_of owners.new) }
 {
     match kind {
         Kind::Scalar(_) => Ok(()),
@@ -165,17 +150,13 @@ fn mark_object(
     requires tiles { HasTiles window.now.bytes }
     requires format { said ≡ format }
     requires in_bounds { tile.offset + 32 ≤ length window.now.bytes }
-    requires marking { IsMarkingOf said window.now.bytes None owners.old.blocks.entries owners.old.pending
-        owners.old.waiting }
+    requires marking { IsMarkingOf said window.now.bytes (state_of owners.old) }
     requires well_formed { OfObject said (bytes_of window.now.bytes) tile (λ kind at.
         IsValueReady said window.now.bytes kind at owners.old.blocks.entries) }
-    ensures mark { MatchResult result
-        (λ done. IsTileGrown said window.now.bytes tile owners.old.blocks.entries owners.old.waiting
-        owners.new.blocks.entries owners.new.pending owners.new.waiting)
-        (IsSharedIn said window.now.bytes) }
-    ensures visits { Pays (object_cost tile) result visits.old
-        (6 * owners.old.waiting + unspent_budget owners.old.blocks.entries) visits.new
-        (6 * owners.new.waiting + unspent_budget owners.new.blocks.entries) }
+    ensures mark { MarksUnlessShared said window.now.bytes
+        (IsTileGrown said window.now.bytes tile (state_of owners.old) (state_of owners.new)) result }
+    ensures visits { Pays (object_cost tile) result visits.old (state_of owners.old) visits.new
+        (state_of owners.new) }
 {
     if !is_object(tile) {
         return Ok(());
@@ -202,16 +183,12 @@ fn mark_values(
     requires tiles { HasTiles window.now.bytes }
     requires format { said ≡ format }
     requires objects { has_objects said (bytes_of window.now.bytes) (tiles_in window.now.bytes) ≡ true }
-    requires marking { IsMarkingOf said window.now.bytes None owners.old.blocks.entries owners.old.pending
-        owners.old.waiting }
+    requires marking { IsMarkingOf said window.now.bytes (state_of owners.old) }
     requires front { (n : ℕ) (o : OwnerValue) → owner_at owners.old.blocks.entries n ≡ Some o → o.at < 128 }
-    ensures mark { MatchResult result
-        (λ done. EntersValues said window.now.bytes owners.old.blocks.entries owners.new.blocks.entries
-        owners.new.pending owners.new.waiting)
-        (IsSharedIn said window.now.bytes) }
-    ensures visits { Pays (weigh value_rates (tiles_in window.now.bytes)) result visits.old
-        (6 * owners.old.waiting + unspent_budget owners.old.blocks.entries) visits.new
-        (6 * owners.new.waiting + unspent_budget owners.new.blocks.entries) }
+    ensures mark { MarksUnlessShared said window.now.bytes
+        (EntersValues said window.now.bytes (state_of owners.old) (state_of owners.new)) result }
+    ensures visits { Pays (weigh value_rates (tiles_in window.now.bytes)) result visits.old (state_of owners.old)
+        visits.new (state_of owners.new) }
 {
     let mut number = 0;
     'rows: while number < owners.blocks.len() {
@@ -241,9 +218,8 @@ fn mark_indexes(
     requires unmarked { IsUnmarked (tiles_in window.now.bytes) owners.old.blocks.entries }
     requires pending { owners.old.pending ≡ None }
     requires waiting { owners.old.waiting ≡ 0 }
-    ensures mark { MatchResult result
-        (λ done. AreIndexesNoted said window.now.bytes owners.new.blocks.entries owners.new.pending owners.new.waiting)
-        (IsSharedIn said window.now.bytes) }
+    ensures mark { MarksUnlessShared said window.now.bytes
+        (AreIndexesNoted said window.now.bytes (state_of owners.new)) result }
     ensures visits { AddsVisits 4 visits.old visits.new }
 {
     match mark_index(window, owners, NAMED_AT, visits) {
@@ -272,8 +248,7 @@ pub(crate) fn check_sharing(
     requires waiting { owners.old.waiting ≡ 0 }
     ensures verdict { ChecksClass (not (is_shared said (bytes_of window.now.bytes) (tiles_in window.now.bytes)))
         (IsSharedIn said window.now.bytes) result }
-    ensures contents { OnOk result
-        (IsWholeMarkingOf said window.now.bytes owners.new.blocks.entries owners.new.waiting) }
+    ensures contents { OnOk result (IsWholeMarkingOf said window.now.bytes (state_of owners.new)) }
     ensures visits { Spends sharing_rates 20 window.now.bytes visits.old visits.new }
 {
     if let Err(place) = mark_indexes(window, owners, visits) {

@@ -1,8 +1,8 @@
 -- Each block of the map is a block of the live set of the bytes.
 use Rattle.image_check.proofs.Common.{AreBlocks, Block, Blocks, Extent, IsTrue, List, None, Option, Role, Some, Tile}
-use Rattle.image_check.proofs.Common.{[], and_parts, ap, as_extent, block_at, bytes_of, cond, cons_option, eq-eqb}
-use Rattle.image_check.proofs.Common.{eqb-true, false, filter_map, handle, is_live_in, is_use, length, list_any}
-use Rattle.image_check.proofs.Common.{or_left, or_right, refl, subst, sym, tile_of, true, ℕ, ◌&&◌, ◌+◌, ◌==◌, ◌||◌, ◌∙◌}
+use Rattle.image_check.proofs.Common.{[], and_parts, as_extent, block_at, cond, cons_option, eq-eqb}
+use Rattle.image_check.proofs.Common.{eqb-true, false, filter_map, handle, is_live_in, is_use, list_any}
+use Rattle.image_check.proofs.Common.{or_left, or_right, refl, tile_of, true, ℕ, ◌&&◌, ◌+◌, ◌==◌}
 use Rattle.image_check.proofs.Common.{◌∷◌, ◌≡◌}
 use Rattle.std.proofs.Common.{Bool}
 use Rattle.best_fit.specs.Heap.{live_of}

@@ -1,13 +1,13 @@
 -- The blocks of contiguous tiles are looked up by payload.
-use Rattle.image_check.proofs.Common.{AreBelow, AreBlocks, Block, Blocks, HasTiles, Index, IsBlockAt, IsMarkingOf}
+use Rattle.image_check.proofs.Common.{AreBelow, AreBlocks, Block, Blocks, HasTiles, IsBlockAt, IsMarkingOf}
 use Rattle.image_check.proofs.Common.{IsTileAt, IsTrue, IsUnmarked, List, Node, None, Option, Owner, Role, Row, Some}
-use Rattle.image_check.proofs.Common.{Storage, Tile, WindowState, [], and_from, and_parts, ap, arith, block_at}
+use Rattle.image_check.proofs.Common.{Tile, WindowState, [], and_from, and_parts, ap, arith, block_at}
 use Rattle.image_check.proofs.Common.{bytes_of, cond, cond-false, cond-true, cons_option, debts, entries_of, entry_of}
 use Rattle.image_check.proofs.Common.{eq-eqb, eqb-true, false, false≢true, frame_of, frames, is_some, is_use, length}
-use Rattle.image_check.proofs.Common.{nat_eq, ne_eqb, new_block, option_to_list, owner_at, owner_in, rate_of, refl}
+use Rattle.image_check.proofs.Common.{nat_eq, ne_eqb, new_block, option_to_list, owner_at, owner_in, refl}
 use Rattle.image_check.proofs.Common.{said_row, same_role, slice_get, subst, suc, sym, tile_of, tiles_are_read_off}
 use Rattle.image_check.proofs.Common.{true, unspent_budget, visit_budget, weigh, zero, ℕ, ◌&&◌, ◌*◌, ◌++◌, ◌+◌, ◌-◌}
-use Rattle.image_check.proofs.Common.{◌/◌, ◌<◌, ◌==◌, ◌∙◌, ◌∷◌, ◌≡◌, ◌≢◌, ◌≤◌}
+use Rattle.image_check.proofs.Common.{◌<◌, ◌==◌, ◌∙◌, ◌∷◌, ◌≡◌, ◌≢◌, ◌≤◌}
 use Rattle.std.proofs.Common.{Bool}
 use Rattle.raw_region.specs.Format.{current}
 use Rattle.block_tags.specs.declared.tile.Role.TheVariants.{Object}
@@ -15,13 +15,15 @@ use Rattle.image_check.specs.Passes.{tiles_in}
 use Rattle.image_check.specs.Owners.{AreAligned, due_of}
 use Rattle.std.proofs.lemmas.List.{length-append}
 use Rattle.image_check.proofs.walks.Tiles.{WalksAt}
-use Rattle.image_check.specs.Visits.{gathering_rates}
+use Rattle.image_check.specs.Visits.{tag_rates}
 use Rattle.image_check.proofs.budget.Passes.{costs-each, costs-weigh}
-use Rattle.image_check.proofs.frame.Tags.{has_tags-AreWholeTiles}
+use Rattle.image_check.proofs.frame.Tags.{image-row}
 use Rattle.image_check.proofs.bytes.Members.{find_mem, mem_right}
 use Rattle.image_check.proofs.block_collection.Places.{in_row, payload-inside}
 use Rattle.image_check.proofs.block_collection.UsedTile.{from-there, same_role-is, same_role-refl}
+use Rattle.image_check.proofs.budget.Visits.{two-for-tile}
 use mathlib.Core.Logic.{inl}
+use Rattle.image_check.specs.Owners.{OwnerState}
 
 -- a tile that is found is at its offset, and not before the first
 found-far : (at : ℕ) (ts : List Tile) (end : ℕ) (role : Role) (n : ℕ) (t : Tile) → Row at ts end
@@ -281,7 +283,7 @@ gathered-unmarked ts = record { frame = refl; none = none-owned ts }
 -- the collected blocks are the blocks of the tags
 pub tags-blocks : (b : List ℕ) → HasTiles b → AreBlocks (tiles_in b) (entries_of (tiles_in b))
 tags-blocks b h = gathered 128 (tiles_in b) (length b - 16)
-    (has_tags-AreWholeTiles current (bytes_of b) (length b) h.tags).row
+    (image-row b h)
 
 pub unmarked-blocks : (b : List ℕ) (es : Blocks) → HasTiles b → IsUnmarked (tiles_in b) es → AreBlocks (tiles_in b) es
 unmarked-blocks b es h u = frame-AreBlocks (tiles_in b) es (entries_of (tiles_in b)) u.frame (tags-blocks b h)
@@ -290,18 +292,18 @@ pub tags-aligned : (b : List ℕ) → HasTiles b → AreAligned (tiles_in b)
 tags-aligned b h n t e = (payload-inside current (bytes_of b) (length b) Node n t h.tags e).aligned
 
 -- no mark and no debt: the marking before the first link
-pub unmarked-marking : (format : ℕ) (b : List ℕ) (es : Blocks) → HasTiles b → IsUnmarked (tiles_in b) es
-    → IsMarkingOf format b None es None 0
-unmarked-marking format b es h u = record {
-  blocks = unmarked-blocks b es h u;
+pub unmarked-marking : (format : ℕ) (b : List ℕ) (s : OwnerState) → HasTiles b → IsUnmarked (tiles_in b) s.entries
+    → s.pending ≡ None → s.waiting ≡ 0 → IsMarkingOf format b s
+unmarked-marking format b s h u p w = record {
+  blocks = unmarked-blocks b s.entries h u;
   frame = u.frame;
   aligned = tags-aligned b h;
   counts = λ n o e. let f = u.none n in absurd (cc);
   rooted = λ n o e. let f = u.none n in absurd (cc);
   chain = [];
-  linked = refl;
-  count = refl;
-  room = let l = unspent_budget-most (tiles_in b) es u.frame in omega arith;
+  linked = p;
+  count = sym w;
+  room = let l = unspent_budget-most (tiles_in b) s.entries u.frame in omega arith;
   followed = λ n o t f e. let g = u.none n in absurd (cc);
 }
 
@@ -445,17 +447,10 @@ gathering-more seen visits room spared es front here v2 s2 fs g lo hi e s =
       most = omega arith;
     }
 
-each-two : (o : Option Role) (len : ℕ) → 32 ≤ len → 2 ≤ rate_of gathering_rates o * (len / 16)
-each-two None len h = omega arith
-each-two (Some Object) len h = omega arith
-each-two (Some Index) len h = omega arith
-each-two (Some Storage) len h = omega arith
-each-two (Some Node) len h = omega arith
-
 -- two visits for each tile are within the rate
-pub gathering-weigh : (b : List ℕ) → HasTiles b → 2 * length (tiles_in b) ≤ weigh gathering_rates (tiles_in b)
+pub gathering-weigh : (b : List ℕ) → HasTiles b → 2 * length (tiles_in b) ≤ weigh tag_rates (tiles_in b)
 gathering-weigh b h =
-    let l = costs-weigh gathering_rates (λ t. 2) 128 (tiles_in b) (length b - 16)
-    (has_tags-AreWholeTiles current (bytes_of b) (length b) h.tags).row (λ t k. each-two t.use_of t.len k) in
+    let l = costs-weigh tag_rates (λ t. 2) 128 (tiles_in b) (length b - 16)
+    (image-row b h) (λ t k. two-for-tile t.use_of t.len k) in
     let e = costs-each 2 (tiles_in b) in
     omega arith

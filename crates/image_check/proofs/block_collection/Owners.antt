@@ -1,17 +1,16 @@
 -- The owners in the rows of the map are the owners of the tiles.
 use Rattle.image_check.proofs.Common.{Block, Blocks, HasTiles, Index, List, Node, None, Option, Owner, Role, Row, Some}
-use Rattle.image_check.proofs.Common.{Storage, Tile, [], ap, arith, block_at, bytes_of, cond, cons_option, entries_of}
+use Rattle.image_check.proofs.Common.{Storage, Tile, [], ap, arith, block_at, cond, cons_option, entries_of}
 use Rattle.image_check.proofs.Common.{false, filter_map, frames, has_owner, is_some, length, new_block, not, owner_at}
 use Rattle.image_check.proofs.Common.{owner_in, payload, rate_of, refl, same_role, true, weigh, ℕ, ◌*◌, ◌+◌, ◌-◌, ◌/◌}
 use Rattle.image_check.proofs.Common.{◌||◌, ◌∙◌, ◌∷◌, ◌≡◌, ◌≤◌}
 use Rattle.std.proofs.Common.{Bool}
-use Rattle.raw_region.specs.Format.{current}
 use Rattle.block_tags.specs.declared.tile.Role.TheVariants.{Object}
-use Rattle.image_check.specs.Orphans.{is_owned}
+use Rattle.image_check.specs.Owners.{is_owned}
 use Rattle.image_check.specs.Passes.{blocks_in, tiles_in}
-use Rattle.image_check.specs.Visits.{orphan_rates}
+use Rattle.image_check.specs.Visits.{used_rates}
 use Rattle.image_check.proofs.walks.Rows.{few-rows}
-use Rattle.image_check.proofs.frame.Tags.{has_tags-AreWholeTiles}
+use Rattle.image_check.proofs.frame.Tags.{image-row}
 
 -- ---- a tile and its block
 
@@ -24,9 +23,7 @@ tested u o = not (elim u [ None ↦ false | Some r ↦ same_role Index r ] || el
 same-test : (role : Role) (o : Option Owner) → tested (Some role) (cond (same_role role Object) None o) ≡
     (same_role role Object || is_some o)
 same-test Object o = refl
-same-test Index o = refl
-same-test Storage o = refl
-same-test Node o = refl
+same-test other o = refl
 
 -- a tile in use has an owner if its row has one
 pub tile-tests : (es : Blocks) (t : Tile) (b : Block) → t.use_of ≡ Some b.role → block_at es (payload t) ≡ Some b
@@ -43,24 +40,20 @@ free-tests es t e = ap (λ (u : Option Role). tested u (owner_at es (payload t))
 
 used-few : (offset len : ℕ) (u : Option Role) (es : Blocks) (n : ℕ) → 32 ≤ len → length es ≤ n
     → length (cons_option (elim u [ None ↦ None | Some role ↦ Some (offset + 16, new_block role len) ]) es) ≤ rate_of
-    orphan_rates u * (len / 16) + n
-used-few offset len None es n long l = omega arith
+    used_rates u * (len / 16) + n
 used-few offset len (Some Object) es n long l = omega arith
-used-few offset len (Some Index) es n long l = omega arith
-used-few offset len (Some Storage) es n long l = omega arith
-used-few offset len (Some Node) es n long l = omega arith
+used-few offset len other es n long l = omega arith
 
-entries-few : (at : ℕ) (ts : List Tile) (end : ℕ) → Row at ts end → length (entries_of ts) ≤ weigh orphan_rates ts
+entries-few : (at : ℕ) (ts : List Tile) (end : ℕ) → Row at ts end → length (entries_of ts) ≤ weigh used_rates ts
 entries-few at [] end a = omega arith
-entries-few at (t ∷ ts) end a = used-few t.offset t.len t.use_of (entries_of ts) (weigh orphan_rates ts) a.1
+entries-few at (t ∷ ts) end a = used-few t.offset t.len t.use_of (entries_of ts) (weigh used_rates ts) a.1
     (entries-few (at + t.len) ts end a.3)
 
 -- a visit for each row is within the rate
 pub rows-weigh : (b : List ℕ) (es : Blocks) → HasTiles b → frames es ≡ frames (entries_of (tiles_in b))
-    → length es ≤ weigh orphan_rates (tiles_in b)
+    → length es ≤ weigh used_rates (tiles_in b)
 rows-weigh b es h f =
-    let few = entries-few 128 (tiles_in b) (length b - 16) (has_tags-AreWholeTiles current (bytes_of b) (length b)
-    h.tags).row in
+    let few = entries-few 128 (tiles_in b) (length b - 16) (image-row b h) in
     let same = few-rows b es f in
     omega arith
 

@@ -1,6 +1,6 @@
 -- The offsets of the tiles of good tags, and their payloads.
 use Rattle.image_check.proofs.Common.{IsTrue, List, Memory, Role, Row, Some, Tile, [], and_parts, ap, arith, eqb-true}
-use Rattle.image_check.proofs.Common.{has_tags, is_legal_size, is_use, leb-true, nat_le, or_cases, refl, tile_of}
+use Rattle.image_check.proofs.Common.{has_tags, is_use, refl, tile_of}
 use Rattle.image_check.proofs.Common.{tiles_of, ℕ, ◌%◌, ◌&&◌, ◌+◌, ◌-◌, ◌==◌, ◌∙◌, ◌∷◌, ◌≡◌, ◌≤◌}
 use Rattle.image_check.proofs.bytes.Members.{Mem, find_mem}
 use Rattle.image_check.proofs.frame.Tags.{has_tags-AreWholeTiles}
@@ -78,10 +78,3 @@ payload-inside format m size role n t h e =
     let long = f.lies.long in
     let whole = f.lies.whole refl in
     record { aligned = omega arith; low = omega arith; high = omega arith }
-
--- a legal size is at most 1 GiB
-pub legal-small : (n : ℕ) → IsTrue (is_legal_size n) → n ≤ 1073741824
-legal-small n h = elim (or_cases (n == 144) ((n % 16 == 0) && nat_le 176 n && nat_le n 1073741824) h) [
-  | inl e ↦ let f = eqb-true n 144 e in omega arith
-  | inr e ↦ leb-true n 1073741824 (and_parts ((n % 16 == 0) && nat_le 176 n) (nat_le n 1073741824) e).1
-]

@@ -23,9 +23,7 @@ same_role-is r s h = absurd (false≢true h)
 -- a role is the same as itself
 pub same_role-refl : (r : Role) → IsTrue (same_role r r)
 same_role-refl Object = refl
-same_role-refl Index = refl
-same_role-refl Storage = refl
-same_role-refl Node = refl
+same_role-refl other = refl
 
 -- ---- tiles begin at different places
 

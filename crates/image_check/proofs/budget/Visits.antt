@@ -1,6 +1,6 @@
 -- Counts of visits: the rates of tiles, and the bound of all passes together: 64 for each 16 bytes of the size, and 64.
-use Rattle.image_check.proofs.Common.{EncodesTiles, HasTiles, Index, IsLinkClosed, IsTrue, List, Node, None, Option}
-use Rattle.image_check.proofs.Common.{Rates, Role, Row, Some, Spends, Storage, Tile, WindowState, [], ap, arith}
+use Rattle.image_check.proofs.Common.{EncodesTiles, HasTiles, IsLinkClosed, IsTrue, List, None, Option}
+use Rattle.image_check.proofs.Common.{Rates, Role, Row, Some, Spends, Tile, WindowState, [], ap, arith}
 use Rattle.image_check.proofs.Common.{bytes_of, is_in, is_legal_size, is_target, is_target-PayloadBounds, leads}
 use Rattle.image_check.proofs.Common.{legal_size, length, link_at, planting_rates, rate_of, refl, said_row, tag_rates}
 use Rattle.image_check.proofs.Common.{tiles_are_read_off, tree_rates, true, weigh, ℕ, ◌%◌, ◌*◌, ◌++◌, ◌+◌, ◌-◌, ◌/◌}
@@ -11,19 +11,17 @@ use Rattle.link_tree.specs.Tree.{bits}
 use Rattle.std.proofs.lemmas.Int.Digits.{length-digits_of-le}
 use Rattle.image_check.specs.Opening.{IsRaisedFor}
 use Rattle.image_check.specs.Passes.{tiles_in}
-use Rattle.image_check.specs.Visits.{all_rates, block_rates, both, frame_rates, gathering_rates, hint_rates}
+use Rattle.image_check.specs.Visits.{all_rates, block_rates, both, frame_rates, tag_rates, used_rates}
 use Rattle.image_check.specs.Visits.{planting_visits, step_rates}
 use Rattle.image_check.specs.FreeNodes.{target_cells, good_target}
 use Rattle.image_check.specs.FreeLaws.{length-multiples, multiples, target_listed, target_leads}
 use Rattle.image_check.proofs.walks.Tiles.{tags-IsTiledWindow}
+use Rattle.image_check.proofs.walks.Weights.{weigh-append}
 
 -- ---- sums of plain numbers
 
 on : (a b c : ℕ) → a ≤ b → b ≤ c → a ≤ c
 on a b c l m = omega arith
-
-behind : (p a b w : ℕ) → w ≡ a + b → p + w ≡ p + a + b
-behind p a b w e = omega arith
 
 -- a tile more of a row
 row-step : (p u from len to : ℕ) → p ≡ 1 * (len / 16) → len % 16 ≡ 0 → 16 * u + (from + len) ≡ to
@@ -67,18 +65,10 @@ part-paid old new m u w n a few size weight = omega arith
 
 -- ---- the weight of tiles
 
-pub weigh-append : (r : Rates) (xs ys : List Tile) → weigh r (xs ++ ys) ≡ weigh r xs + weigh r ys
-weigh-append r [] ys = omega arith
-weigh-append r (t ∷ xs) ys = behind (rate_of r t.use_of * (t.len / 16)) (weigh r xs) (weigh r ys)
-    (weigh r (xs ++ ys)) (weigh-append r xs ys)
-
 -- two rates together
 rate-both : (r s : Rates) (u : Option Role) → rate_of (both r s) u ≡ rate_of r u + rate_of s u
-rate-both r s None = refl
 rate-both r s (Some Object) = refl
-rate-both r s (Some Index) = refl
-rate-both r s (Some Storage) = refl
-rate-both r s (Some Node) = refl
+rate-both r s other = refl
 
 spread : (a b x n : ℕ) → x ≡ a + b → x * n ≡ a * n + b * n
 spread a b x n e = ap (λ k. k * n) e ∙ add-mul a b n
@@ -101,18 +91,12 @@ abbrev pub units : List Tile → ℕ
 units = weigh tag_rates
 
 one-each : (u : Option Role) → rate_of tag_rates u ≡ 1
-one-each None = refl
 one-each (Some Object) = refl
-one-each (Some Index) = refl
-one-each (Some Storage) = refl
-one-each (Some Node) = refl
+one-each other = refl
 
 five-each : (u : Option Role) → rate_of step_rates u ≡ 5
-five-each None = refl
 five-each (Some Object) = refl
-five-each (Some Index) = refl
-five-each (Some Storage) = refl
-five-each (Some Node) = refl
+five-each other = refl
 
 by-rate : (a b n : ℕ) → a ≡ b → a * n ≡ b * n
 by-rate a b n e = ap (λ k. k * n) e
@@ -141,14 +125,11 @@ weigh-five (t ∷ ts) =
 
 -- ---- rates up to 64
 
-times-le : (a b n : ℕ) → a ≤ b → a * n ≤ b * n
-times-le a b n l = mul-le-mul_right n l
-
 weigh-less : (r s : Rates) → ((u : Option Role) → rate_of r u ≤ rate_of s u) → (ts : List Tile)
     → weigh r ts ≤ weigh s ts
 weigh-less r s less [] = omega arith
 weigh-less r s less (t ∷ ts) =
-    let here = times-le (rate_of r t.use_of) (rate_of s t.use_of) (t.len / 16) (less t.use_of) in
+    let here = mul-le-mul_right (t.len / 16) (less t.use_of) in
     let rest = weigh-less r s less ts in
     omega arith
 
@@ -158,7 +139,7 @@ weigh-most r most (t ∷ ts) =
     most-step (rate_of tag_rates t.use_of * (t.len / 16)) (rate_of r t.use_of * (t.len / 16)) (t.len / 16)
     (units ts) (weigh r ts)
     (by-rate (rate_of tag_rates t.use_of) 1 (t.len / 16) (one-each t.use_of))
-    (times-le (rate_of r t.use_of) 64 (t.len / 16) (most t.use_of)) (weigh-most r most ts)
+    (mul-le-mul_right (t.len / 16) (most t.use_of)) (weigh-most r most ts)
 
 -- ---- a count over the tiles that a walk has passed
 
@@ -199,19 +180,13 @@ within-all b r old now w = let low = w.0 in let high = w.1 in (low, omega arith)
 
 -- two visits for each tile are within the rate of tags
 pub two-for-tile : (u : Option Role) (n : ℕ) → 32 ≤ n → 2 ≤ rate_of tag_rates u * (n / 16)
-two-for-tile None n l = omega arith
 two-for-tile (Some Object) n l = omega arith
-two-for-tile (Some Index) n l = omega arith
-two-for-tile (Some Storage) n l = omega arith
-two-for-tile (Some Node) n l = omega arith
+two-for-tile other n l = omega arith
 
 -- the visits of a search are within the rate of planting
 pub search-for-tile : (u : Option Role) (n : ℕ) → 32 ≤ n → 1 + planting_visits u ≤ rate_of planting_rates u * (n / 16)
-search-for-tile None n l = omega arith
 search-for-tile (Some Object) n l = omega arith
-search-for-tile (Some Index) n l = omega arith
-search-for-tile (Some Storage) n l = omega arith
-search-for-tile (Some Node) n l = omega arith
+search-for-tile other n l = omega arith
 
 -- ---- the sums
 
@@ -298,11 +273,8 @@ tree-planted c old stepped planted x y = spend-both c.bytes step_rates planting_
 
 -- in place of the tree a walk over the tiles
 planted-more : (u : Option Role) → rate_of tag_rates u ≤ rate_of planting_rates u
-planted-more None = omega arith
 planted-more (Some Object) = omega arith
-planted-more (Some Index) = omega arith
-planted-more (Some Storage) = omega arith
-planted-more (Some Node) = omega arith
+planted-more other = omega arith
 
 steps-none : (b : List ℕ) (old : ℕ) → Spends step_rates 50 b old old
 steps-none b old = (omega arith, omega arith)
@@ -325,18 +297,12 @@ all-part c r m old new h most few x =
     (x.0, part-paid old new m (units ts) (weigh r ts) (length c.bytes) x.1 few (size-units c h) (weigh-most r most ts))
 
 frame-most : (u : Option Role) → rate_of frame_rates u ≤ 64
-frame-most None = omega arith
 frame-most (Some Object) = omega arith
-frame-most (Some Index) = omega arith
-frame-most (Some Storage) = omega arith
-frame-most (Some Node) = omega arith
+frame-most other = omega arith
 
 all-most : (u : Option Role) → rate_of all_rates u ≤ 64
-all-most None = omega arith
 all-most (Some Object) = omega arith
-all-most (Some Index) = omega arith
-all-most (Some Storage) = omega arith
-all-most (Some Node) = omega arith
+all-most other = omega arith
 
 -- the visits of the frame are within the bound
 pub frame-raised : (c : WindowState) (old new : ℕ) → HasTiles c.bytes → Spends frame_rates 51 c.bytes old new
@@ -345,38 +311,35 @@ frame-raised c old new h x = all-part c frame_rates 51 old new h frame-most (ome
 
 -- after each pass
 module _ (c : WindowState) (old framed gathered : ℕ) (h : HasTiles c.bytes)
-    (x : Spends frame_rates 51 c.bytes old framed) (y : Spends gathering_rates 2 c.bytes framed gathered) where
+    (x : Spends frame_rates 51 c.bytes old framed) (y : Spends tag_rates 2 c.bytes framed gathered) where
   -- the visits up to the map of blocks are within the bound
   pub gathered-raised : IsRaisedFor (length c.bytes) old gathered
   gathered-raised =
       all-part c all_rates 115 old gathered h all-most (omega arith)
-      (spend-both c.bytes frame_rates (both gathering_rates block_rates) 51 64 old framed gathered x
-      (spend-less c.bytes gathering_rates block_rates 2 62 framed gathered y))
+      (spend-both c.bytes frame_rates (both tag_rates block_rates) 51 64 old framed gathered x
+      (spend-less c.bytes tag_rates block_rates 2 62 framed gathered y))
 
   -- the visits of the blocks, together with those before
   pub blocks-spent : (new : ℕ) → Spends block_rates 62 c.bytes gathered new → Spends all_rates 115 c.bytes old new
-  blocks-spent new z = spend-both c.bytes frame_rates (both gathering_rates block_rates) 51 64 old framed new x
-      (spend-both c.bytes gathering_rates block_rates 2 62 framed gathered new y z)
+  blocks-spent new z = spend-both c.bytes frame_rates (both tag_rates block_rates) 51 64 old framed new x
+      (spend-both c.bytes tag_rates block_rates 2 62 framed gathered new y z)
 
   -- the visits of the blocks are within the bound
   pub blocks-raised : (new : ℕ) → Spends block_rates 62 c.bytes gathered new → IsRaisedFor (length c.bytes) old new
   blocks-raised new z = all-part c all_rates 115 old new h all-most (omega arith) (blocks-spent new z)
 
 -- and after the noting of the blocks
-noted-most : (u : Option Role) → rate_of (both all_rates hint_rates) u ≤ 64
-noted-most None = omega arith
+noted-most : (u : Option Role) → rate_of (both all_rates used_rates) u ≤ 64
 noted-most (Some Object) = omega arith
-noted-most (Some Index) = omega arith
-noted-most (Some Storage) = omega arith
-noted-most (Some Node) = omega arith
+noted-most other = omega arith
 
 -- the visits of the notes are within the bound
 pub noted-raised : (c : WindowState) (old passed new count : ℕ) → HasTiles c.bytes
     → Spends all_rates 115 c.bytes old passed
-    → count ≤ weigh hint_rates (tiles_in c.bytes) → new ≡ passed + count → IsRaisedFor (length c.bytes) old new
+    → count ≤ weigh used_rates (tiles_in c.bytes) → new ≡ passed + count → IsRaisedFor (length c.bytes) old new
 noted-raised c old passed new count h x few e =
-    all-part c (both all_rates hint_rates) 115 old new h noted-most (omega arith)
-    (spend-both c.bytes all_rates hint_rates 115 0 old passed new x (omega arith, omega arith))
+    all-part c (both all_rates used_rates) 115 old new h noted-most (omega arith)
+    (spend-both c.bytes all_rates used_rates 115 0 old passed new x (omega arith, omega arith))
 
 -- if the tags are wrong, only they were read
 pub tags-raised : (b : List ℕ) (old tags new : ℕ) → 32 * tags + 112 ≤ length b → new ≡ old + tags

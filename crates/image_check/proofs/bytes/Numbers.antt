@@ -1,11 +1,11 @@
 -- Bytes and their numbers: the size of a word, its bytes, and the words of zeros.
 use Rattle.image_check.proofs.Common.{AllByRecursion, AreZero, IsTrue, List, Memory, [], and_from, and_parts, ap}
 use Rattle.image_check.proofs.Common.{are_bytes, arith, bytes_of, cases_lt, eq-eqb, eqb-true, is_zero, length}
-use Rattle.image_check.proofs.Common.{list_all-append, little_number, lt-ltb, ltb-true, nat_lt, read, refl, slice_index}
+use Rattle.image_check.proofs.Common.{list_all-append, little_number, ltb-true, nat_lt, read, refl, slice_index}
 use Rattle.image_check.proofs.Common.{subst, suc, sym, zero, ℕ, ◌*◌, ◌++◌, ◌+◌, ◌<◌, ◌==◌, ◌^◌, ◌∙◌, ◌∷◌, ◌≡◌, ◌≤◌}
 use Rattle.std.specs.Int.{bytes_low_first}
 use Rattle.byteorder.specs.Numbers.{little_from-cons}
-use Rattle.raw_region.specs.Memory.{half_word_at, word_at}
+use Rattle.raw_region.specs.Memory.{half_word_at}
 use Rattle.seg_types.proofs.Laws.{bytes-back, number-small}
 use mathlib.Core.Logic.{⊎_elim}
 

@@ -1,7 +1,7 @@
 -- The list of the fields that count has each link that counts, and no other.
 use Rattle.image_check.proofs.Common.{Contains, Field, Index, IsCountedLink, IsTrue, Kind, LeadsTo, List, Map, Memory}
-use Rattle.image_check.proofs.Common.{Node, None, Option, Role, Row, Scalar, ScalarKind, Some, Storage, String, Tile}
-use Rattle.image_check.proofs.Common.{Vector, [], and_from, and_parts, ap, arith, cases_eq, cond-false, cond-true}
+use Rattle.image_check.proofs.Common.{Node, None, Option, Role, Row, Scalar, ScalarKind, Some, Storage, Tile}
+use Rattle.image_check.proofs.Common.{[], and_from, and_parts, ap, arith, cases_eq, cond-false, cond-true}
 use Rattle.image_check.proofs.Common.{counted_fields, element_fields, element_offsets, false, false≢true, flat_map}
 use Rattle.image_check.proofs.Common.{good_for, has_storage, if◌then◌else◌, index_capacity, index_field, is_use, length}
 use Rattle.image_check.proofs.Common.{link_at, lt-ltb, ltb-true, nat_lt, ne_eqb, node_fields, payload, range_with_len}
@@ -167,9 +167,7 @@ module _ (format : ℕ) (m : Memory) (ts : List Tile) where
       elements-if at v (word_at m (at + 16) == 0) refl
       (if word_at m (at + 16) == 0 then None else good_for ts Storage (link_at m at)) refl f h
   elements-count (Scalar k) at v f h = absurd h
-  elements-count String at v f h = absurd h
-  elements-count (Vector k) at v f h = absurd h
-  elements-count (Map k q) at v f h = absurd h
+  elements-count other at v f h = absurd h
 
   -- a place whose link to a node counts
   abbrev Linked : ℕ → Type 0
@@ -193,9 +191,7 @@ module _ (format : ℕ) (m : Memory) (ts : List Tile) where
       (IsCountedLink.root (Mem-Contains (values format m ts) (Map k q, at) v) (moved Node x at n e l))
   roots-linked (Map k q) at v x (inr h) = absurd h
   roots-linked (Scalar k) at v x h = absurd h
-  roots-linked String at v x h = absurd h
-  roots-linked (Vector k) at v x h = absurd h
-  roots-linked Strings at v x h = absurd h
+  roots-linked other at v x h = absurd h
 
   abbrev roots : List ℕ
   roots = flat_map root_link (values format m ts)

@@ -1,7 +1,7 @@
 -- The links that are followed from the roots of maps: each of them can be reached, and each that can be reached is
 -- followed.
 use Rattle.image_check.proofs.Common.{AllByRecursion, Field, Index, IsTrue, Kind, List, Map, Memory, Node, None, Option}
-use Rattle.image_check.proofs.Common.{Role, Scalar, Some, Storage, String, Tile, Vector, [], and_parts, ap, arith}
+use Rattle.image_check.proofs.Common.{Role, Some, Tile, [], and_parts, ap, arith}
 use Rattle.image_check.proofs.Common.{cons_option, eq-eqb, eqb-true, false, flat_map, good_for, if◌then◌else◌, is_among}
 use Rattle.image_check.proofs.Common.{is_use, kind_at, length, link_at, node_fields, payload, refl, root_link, subst}
 use Rattle.image_check.proofs.Common.{suc, sym, true, value_offset, values, zero, ℕ, ◌&&◌, ◌*◌, ◌+◌, ◌==◌, ◌||◌, ◌∙◌}
@@ -9,7 +9,6 @@ use Rattle.image_check.proofs.Common.{◌∷◌, ◌≡◌, ◌≤◌}
 use Rattle.std.proofs.Common.{Bool}
 use Rattle.std.specs.Prelude.{option_map}
 use Rattle.block_tags.specs.declared.tile.Role.TheVariants.{Object}
-use Rattle.seg_types.specs.declared.kinds.Kind.TheVariants.{Strings}
 use Rattle.image_check.proofs.bytes.Members.{Mem, find_mem, is_among-Mem}
 use mathlib.Core.Logic.{◌⊎◌, inl, inr}
 
@@ -255,12 +254,8 @@ reached-whole m ts (suc more) met (at ∷ links) l =
 
 roots-more : (o : Option (Kind × ℕ)) (vs : List (Kind × ℕ))
     → length (flat_map root_link (cons_option o vs)) ≤ suc (length (flat_map root_link vs))
-roots-more None vs = omega arith
 roots-more (Some (Map k v, at)) vs = omega arith
-roots-more (Some (Scalar k, at)) vs = omega arith
-roots-more (Some (Vector k, at)) vs = omega arith
-roots-more (Some (String, at)) vs = omega arith
-roots-more (Some (Strings, at)) vs = omega arith
+roots-more other vs = omega arith
 
 count-step : (format : ℕ) (m : Memory) (offset len : ℕ) (use_of : Option Role) (red : Bool) (ts : List Tile)
     → length (flat_map root_link (values format m ts)) + unmet ts [] ≤ length ts
@@ -277,8 +272,7 @@ count-step format m offset len (Some Object) red ts h =
     let l = roots-more o (values format m ts) in
     omega arith
 count-step format m offset len (Some Index) red ts h = omega arith
-count-step format m offset len (Some Storage) red ts h = omega arith
-count-step format m offset len (Some Node) red ts h = omega arith
+count-step format m offset len other red ts h = omega arith
 
 -- roots and nodes that are not met are no more than the tiles
 pub roots-count : (format : ℕ) (m : Memory) (ts : List Tile)

@@ -1,35 +1,26 @@
 -- The bounds of a pair of a map, and its fields.
-use Rattle.image_check.proofs.Common.{Blocks, Option, ScalarKind, U8, WindowState, ap, arith, bytes_of, int_lt}
+use Rattle.image_check.proofs.Common.{Blocks, Option, ScalarKind, WindowState, ap, arith, bytes_of, int_lt}
 use Rattle.image_check.proofs.Common.{is_pair-IsPairNode, is_target, is_target-PayloadBounds, kept_link, length}
 use Rattle.image_check.proofs.Common.{link_at}
 use Rattle.image_check.proofs.Common.{little_number, part, read, read-part, size_of, small_size, sym, true, value_of, ℕ}
 use Rattle.image_check.proofs.Common.{◌%◌, ◌*◌, ◌+◌, ◌∙◌, ◌≡◌, ◌≤◌}
-use Rattle.seg_types.specs.declared.kinds.ScalarKind.TheVariants.{Bool as BoolKind, I32, I64, U64}
+use Rattle.seg_types.specs.declared.kinds.ScalarKind.TheVariants.{Bool as BoolKind}
 use Rattle.image_check.specs.MapNodes.{is_pair, key_before, pair_cells}
 
 -- a scalar has at most 8 bytes
 pub size-most : (k : ScalarKind) → size_of k ≤ 8
 size-most BoolKind = omega arith
-size-most U8 = omega arith
-size-most I32 = omega arith
-size-most I64 = omega arith
-size-most U64 = omega arith
+size-most other = omega arith
 
 -- a scalar has at least 1 byte
 pub size-least : (k : ScalarKind) → 1 ≤ size_of k
 size-least BoolKind = omega arith
-size-least U8 = omega arith
-size-least I32 = omega arith
-size-least I64 = omega arith
-size-least U64 = omega arith
+size-least other = omega arith
 
 -- elements have at least one byte each
 pub size-times : (k : ScalarKind) (n : ℕ) → n ≤ size_of k * n
 size-times BoolKind n = omega arith
-size-times U8 n = omega arith
-size-times I32 n = omega arith
-size-times I64 n = omega arith
-size-times U64 n = omega arith
+size-times other n = omega arith
 
 -- a place has room for links, key and value, far below the limits of numbers
 pub record Lies (c : WindowState) (k v : ScalarKind) (n : ℕ) : Type 0 where

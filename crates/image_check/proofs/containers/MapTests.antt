@@ -14,7 +14,7 @@ use Rattle.image_check.specs.MapNodes.{is_node_block, is_pair, pair_len}
 use Rattle.image_check.specs.MapLaws.{IsPairNode}
 use Rattle.image_check.proofs.read_off.GoodValues.{mul-none}
 use Rattle.image_check.proofs.block_collection.UsedTile.{same_role-is, same_role-refl}
-use Rattle.image_check.proofs.walks.Places.{named, named-place}
+use Rattle.image_check.proofs.walks.Places.{node-place}
 use Rattle.image_check.specs.Owners as owners
 
 -- ---- one spelling
@@ -131,7 +131,7 @@ node-pair c es root at k v n tiles a leads noted h =
     record {
       pair = all-four c es root k v n
           (record {
-            place = named-place c n t.0 tiles (named c.bytes Node n t.0 tiles t.1);
+            place = node-place c n t.0 tiles t.1;
             block = there-node root (pair_len k v) (block_at es n) there;
             key = sym (one-spelled m k (n + 16)) ∙ one.1;
             value = sym (one-spelled m v (n + 16 + size_of k)) ∙ two.1;

@@ -1,6 +1,6 @@
 -- The test of a map passes exactly if its pairs are an ordered red-black tree of as many nodes as its count.
-use Rattle.image_check.proofs.Common.{AreBlocks, AreFollowed, Blocks, Cell, HasTiles, IsMarkedLink, IsSearchTree}
-use Rattle.image_check.proofs.Common.{IsTree, List, Node, None, Option, ScalarKind, Some, Tree, WindowState, all_at}
+use Rattle.image_check.proofs.Common.{AreBlocks, AreFollowed, Blocks, HasTiles, IsMarkedLink, IsSearchTree}
+use Rattle.image_check.proofs.Common.{List, Node, None, Option, ScalarKind, Some, Tree, WindowState, all_at}
 use Rattle.image_check.proofs.Common.{all_from, and_from, and_parts, ap, bytes_of, cases_Bool, cells_of, cond-false}
 use Rattle.image_check.proofs.Common.{cond-true, eq-eqb, eqb-true, false, inl, inr, int_lt, is_in, is_map_at}
 use Rattle.image_check.proofs.Common.{is_node_of, is_some, kept_link, key_at, leads, length, link_at, list_all}
@@ -8,7 +8,7 @@ use Rattle.image_check.proofs.Common.{nodes_of, refl, rise_by, root_of, subst, s
 use Rattle.image_check.proofs.Common.{◌+◌, ◌==◌, ◌≡◌}
 use Rattle.std.proofs.Common.{Bool}
 use Rattle.raw_region.specs.Memory.{word_at}
-use Rattle.link_tree.proofs.Laws.{root_in, tree_same}
+use Rattle.link_tree.proofs.Laws.{tree_same}
 use Rattle.best_fit.proofs.Laws.{holds_closed}
 use Rattle.image_check.specs.Passes.{tiles_in}
 use Rattle.image_check.specs.MapNodes.{is_pair, key_before, pair_cells}
@@ -16,6 +16,7 @@ use Rattle.image_check.specs.MapLaws.{keys_irreflexive, keys_transitive, pairs_l
 use Rattle.image_check.proofs.containers.MapMeaning.{map-from, map-if}
 use Rattle.image_check.proofs.containers.MapTests.{pair-node, tree-pairs}
 use Rattle.image_check.proofs.containers.TreeCells.{is_sorted-from, is_sorted-next, nodes-good, same-cells}
+use Rattle.image_check.proofs.free_tree.Meaning.{root_among}
 
 -- the tree over the pairs, and the two words after the root link
 pub record MapFound (c : WindowState) (es : Blocks) (k v : ScalarKind) (at : ℕ) : Type 0 where
@@ -68,10 +69,6 @@ among-good : (good : ℕ → Bool) (ns : List ℕ) (o : Option ℕ) → ((n : �
 among-good good ns None f h = refl
 among-good good ns (Some n) f h = f n h
 
-root-among : (f : ℕ → Cell) (o : Option ℕ) (t : Tree) → IsTree f o t → leads (λ n. is_in n (nodes_of t)) o ≡ true
-root-among f None t w = refl
-root-among f (Some n) t w = root_in f n t w
-
 -- ---- where the test is passed, the tree is found
 
 pub map-found : (c : WindowState) (es : Blocks) (k v : ScalarKind) (at : ℕ) → HasTiles c.bytes
@@ -100,7 +97,7 @@ map-found c es k v at tiles a noted h =
     record {
       tree = is.tree;
       root = among-good (is_pair c es at k v) ns (link_at m at) pairs
-          (root-among (cells_of m) (link_at m at) is.tree is.linked);
+          (root_among (cells_of m) (link_at m at) is.tree is.linked);
       search = record {
         tree = tree_same (cells_of m) (pair_cells c es at k v) (link_at m at) is.tree same is.linked;
         ordered = is_sorted-from less (keys_transitive m k) ns one.1;

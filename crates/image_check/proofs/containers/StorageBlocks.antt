@@ -11,7 +11,8 @@ use Rattle.std.specs.Map.{lookup}
 use Rattle.raw_region.specs.Memory.{word_at}
 use Rattle.block_tags.specs.declared.tile.Role.TheVariants.{Object}
 use Rattle.image_check.specs.Passes.{tiles_in}
-use Rattle.image_check.proofs.walks.Places.{named}
+use Rattle.raw_region.specs.Format.{current}
+use Rattle.image_check.proofs.block_collection.Places.{found}
 use Rattle.image_check.specs.Owners as owners
 
 -- one of the blocks whose first link is at an offset
@@ -44,7 +45,7 @@ storage-tile : (b : List ℕ) (es : Blocks) (at each capacity block : ℕ) (o : 
     → StorageThere b es at each capacity block
 storage-tile b es at each capacity block None tiles a noted leads e h = absurd (false≢true h)
 storage-tile b es at each capacity block (Some t) tiles a noted leads e h =
-    let n = named b Storage block t tiles e in
+    let n = found current (bytes_of b) (length b) Storage block t tiles.tags e in
     let w = a.blocks block Storage t e in
     let met : owner_at es block ≡ Some (owners.owner at at) = noted block (leads, (t, e)) in
     let owned : w.block.owner ≡ Some (owners.owner at at) =
@@ -56,8 +57,8 @@ storage-tile b es at each capacity block (Some t) tiles a noted leads e h =
     ap (λ r. rate_of container_block_rates (Some r) * (w.block.len / 16)) w.role_is in
     let len = w.len in
     let long = leb-true (each * capacity + 16) t.len h in
-    let place = n.at in
-    let whole = n.lies.whole in
+    let place = n.there in
+    let whole = n.lies.whole refl in
     let high = n.lies.high in
     record { whole = omega arith; inside = omega arith; paid = omega arith }
 

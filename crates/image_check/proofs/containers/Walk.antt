@@ -1,24 +1,27 @@
 -- The walk over the containers: what it keeps for the tiles that it has passed, and the meaning of its result.
 use Rattle.image_check.proofs.Common.{AreFollowed, Blocks, Contains, HasTiles, IsWholeMarking, Kind, List, Memory, None}
-use Rattle.image_check.proofs.Common.{Option, Row, Some, Tile, WindowState, [], and_parts, ap, arith, bytes_of}
-use Rattle.image_check.proofs.Common.{cases_Bool, class_at, code_before, cond-false, cond-true, cons_option}
+use Rattle.image_check.proofs.Common.{Option, Row, Some, Tile, WindowState, [], ap, arith, bytes_of}
+use Rattle.image_check.proofs.Common.{cases_Bool, cond-false, cond-true, cons_option}
 use Rattle.image_check.proofs.Common.{container_walk_rates, filter, filter_map, has_container, has_containers}
-use Rattle.image_check.proofs.Common.{has_objects, inl, inr, is_container, is_object_tile, is_use, kind_at, length}
-use Rattle.image_check.proofs.Common.{list_all, name_before, object_tiles, payload, rate_of, refl, rise_by, said_row}
-use Rattle.image_check.proofs.Common.{subst, sym, targets, tiles_are_read_off, true, value_offset, values, weigh, ℕ}
-use Rattle.image_check.proofs.Common.{◌&&◌, ◌*◌, ◌++◌, ◌+◌, ◌-◌, ◌/◌, ◌==◌, ◌∙◌, ◌∷◌, ◌≡◌, ◌≤◌}
+use Rattle.image_check.proofs.Common.{has_objects, inl, inr, is_container, is_use, kind_at, length}
+use Rattle.image_check.proofs.Common.{list_all, payload, rate_of, refl, said_row}
+use Rattle.image_check.proofs.Common.{subst, sym, tiles_are_read_off, true, value_offset, values, weigh, ℕ}
+use Rattle.image_check.proofs.Common.{◌&&◌, ◌*◌, ◌++◌, ◌+◌, ◌-◌, ◌/◌, ◌∙◌, ◌∷◌, ◌≡◌, ◌≤◌}
 use Rattle.std.proofs.Common.{Bool}
 use Rattle.std.specs.Prelude.{option_map}
 use Rattle.block_tags.specs.declared.tile.Role.TheVariants.{Object}
 use Rattle.image_check.specs.Passes.{tiles_in}
 use Rattle.image_check.specs.Containers.{IsCheckedTile, LiesInWindow, PaysFor, weigh_blocks, weight_below}
+use Rattle.image_check.proofs.containers.Objects.{object-good, value-mem}
 use Rattle.image_check.proofs.containers.Weights.{below-all, below-more}
-use Rattle.image_check.proofs.claims.CountedFields.{Mem-Contains}
-use Rattle.image_check.proofs.bytes.Members.{Mem, list_all_mem, mem_filter, mem_filter_map, mem_right}
+use Rattle.image_check.proofs.bytes.Members.{Mem, mem_right}
 use Rattle.image_check.proofs.shared_blocks.Roots.{node-followed}
 use Rattle.image_check.proofs.walks.Rows.{PassesGaps, free-object, recoloured}
-use Rattle.image_check.proofs.walks.Places.{tile-lies}
+use Rattle.image_check.proofs.block_collection.Places.{in_row}
+use Rattle.image_check.proofs.frame.Tags.{image-row}
 use Rattle.image_check.proofs.walks.Tiles.{WalksAt, all-more}
+use Rattle.image_check.proofs.walks.Weights.{weigh-front}
+use Rattle.image_check.specs.Owners.{OwnerState}
 
 -- ---- the test of all tiles is that of all values
 
@@ -67,45 +70,25 @@ containers-same format m ts = each-same format m ts ts
 -- ---- the meaning of the marking
 
 -- after all links are entered each owned node is followed
-pub marked-followed : (format : ℕ) (m : Memory) (ts : List Tile) (es : Blocks) (waiting : ℕ)
-    → IsWholeMarking format m ts es waiting → AreFollowed m ts es
-marked-followed format m ts es waiting w =
-    record { blocks = w.marking.blocks; followed = node-followed format m ts es waiting w }
-
-value-among : (format : ℕ) (m : Memory) (ts : List Tile) (t : Tile) (k : Kind) → Mem t ts → is_use Object t ≡ true
-    → kind_at format m (payload t) ≡ Some k → Contains (values format m ts) (k, value_offset m (payload t))
-value-among format m ts t k h u e =
-    Mem-Contains (values format m ts) (k, value_offset m (payload t))
-    (mem_filter_map (λ (x : Tile). option_map (λ j. (j, value_offset m (payload x))) (kind_at format m (payload x)))
-    t (k, value_offset m (payload t)) (object_tiles ts)
-    (mem_filter (is_use Object) t ts h u) (ap (option_map (λ j. (j, value_offset m (payload t)))) e))
+pub marked-followed : (format : ℕ) (m : Memory) (ts : List Tile) (st : OwnerState)
+    → IsWholeMarking format m ts st → AreFollowed m ts st.entries
+marked-followed format m ts st w =
+    record { blocks = w.marking.blocks; followed = node-followed format m ts st w }
 
 -- after all links are entered each object's tile can be tested
-pub marked-ready : (format : ℕ) (m : Memory) (ts : List Tile) (es : Blocks) (waiting : ℕ)
-    → IsWholeMarking format m ts es waiting → has_objects format m ts ≡ true
-    → (t : Tile) → Mem t ts → IsCheckedTile format m ts es t
-marked-ready format m ts es waiting w h t k = record {
-  object = λ u. list_all_mem (is_object_tile format m) (object_tiles ts) t (first-of h)
-      (mem_filter (is_use Object) t ts k u);
+pub marked-ready : (format : ℕ) (m : Memory) (ts : List Tile) (st : OwnerState)
+    → IsWholeMarking format m ts st → has_objects format m ts ≡ true
+    → (t : Tile) → Mem t ts → IsCheckedTile format m ts st.entries t
+marked-ready format m ts st w h t k = record {
+  object = object-good format m ts t h k;
   noted = λ kind u e.
-      let among = value-among format m ts t kind k u e in
+      let among = value-mem format m ts t kind k u e in
       record {
         storage = λ s some. w.storage kind (value_offset m (payload t)) among s some;
         root = λ a b same. w.root a b (value_offset m (payload t))
             (subst (λ j. Contains (values format m ts) (j, value_offset m (payload t))) same among);
       };
 }
-  where
-    first-of : has_objects format m ts ≡ true → list_all (is_object_tile format m) (object_tiles ts) ≡ true
-    first-of h =
-        let all = list_all (is_object_tile format m) (object_tiles ts) in
-        let named = list_all (λ at. class_at m at == 1) (targets m 32) in
-        let unique = list_all (λ at. class_at m at == 2) (targets m 56) in
-        let names = rise_by (name_before m) (targets m 32) in
-        let codes = rise_by (code_before m) (targets m 56) in
-        (and_parts all named (and_parts (all
-        && named) unique (and_parts (all && named
-        && unique) names (and_parts (all && named && unique && names) codes h).0).0).0).0
 
 -- ---- a tile of the walk
 
@@ -121,10 +104,10 @@ is-here c Kept here h a =
     let all : tiles_in c.bytes ≡ a.front ++ here ∷ a.back = tiles_are_read_off c (a.front ++ here ∷ a.back) a.said in
     let mem : Mem here (tiles_in c.bytes) =
     subst (Mem here) (sym all) (mem_right here a.front (here ∷ a.back) (inl refl)) in
-    let lies = tile-lies c.bytes here h mem in
+    let lies = in_row 128 (tiles_in c.bytes) (length c.bytes - 16) here (image-row c.bytes h) mem in
     let long = lies.long in
     let high = lies.high in
-    record { mem = mem; lies = record { low = lies.low; whole = lies.whole; long = long; high = omega arith } }
+    record { mem = mem; lies = record { low = lies.low; whole = lies.whole refl; long = long; high = omega arith } }
 
 -- ---- the visits so far
 
@@ -149,12 +132,6 @@ end-there at [] here back to row = sym row.0
 end-there at (t ∷ front) here back to row =
     let from : at + t.len ≡ t.offset + t.len = ap (λ n. n + t.len) (sym row.0) in
     end-there (t.offset + t.len) front here back to (subst (λ n. Row n (front ++ here ∷ back) to) from row.3)
-
-weigh-more : (front : List Tile) (here : Tile) (back : List Tile)
-    → weigh container_walk_rates front + rate_of container_walk_rates here.use_of * (here.len / 16)
-    ≤ weigh container_walk_rates (front ++ here ∷ back)
-weigh-more [] here back = omega arith
-weigh-more (t ∷ front) here back = let rest = weigh-more front here back in omega arith
 
 -- the tiles that the walk has passed are right, and paid for
 pub record IsPaid (format : ℕ) (c : WindowState) (es : Blocks) (old now : ℕ) (front : List Tile) : Type 0 where
@@ -185,7 +162,7 @@ module _ (format : ℕ) (c : WindowState) (es : Blocks) (old now new : ℕ) (her
       let least = a.kept.least in
       let raised = p.0 in
       let paid = here-paid in
-      let more = weigh-more a.front here [] in
+      let more = weigh-front container_walk_rates a.front here [] in
       let same : weight_below (end_of 128 (a.front ++ here ∷ [])) es ≡ weight_below (here.offset + here.len) es =
       ap (λ n. weight_below n es) (end-more 128 a.front here) in
       record {
@@ -204,7 +181,7 @@ module _ (format : ℕ) (c : WindowState) (es : Blocks) (old now new : ℕ) (her
       let all : weigh container_walk_rates (tiles_in c.bytes)
       ≡ weigh container_walk_rates (a.front ++ here ∷ a.back) =
       ap (weigh container_walk_rates) (tiles_are_read_off c (a.front ++ here ∷ a.back) a.said) in
-      let more = weigh-more a.front here a.back in
+      let more = weigh-front container_walk_rates a.front here a.back in
       let most = below-all (here.offset + here.len) es in
       (omega arith, omega arith)
 

@@ -1,6 +1,6 @@
 -- What is counted for the blocks of containers, all together.
-use Rattle.image_check.proofs.Common.{Block, Blocks, HasTiles, Index, List, Node, None, Option, Owner, Role, Row, Some}
-use Rattle.image_check.proofs.Common.{Storage, Tile, [], ap, arith, block_weight, cons_option, container_block_rates}
+use Rattle.image_check.proofs.Common.{Block, Blocks, HasTiles, List, None, Option, Owner, Role, Row, Some}
+use Rattle.image_check.proofs.Common.{Tile, [], ap, arith, block_weight, cons_option, container_block_rates}
 use Rattle.image_check.proofs.Common.{container_walk_rates, entries_of, entry_of, false, frames, if◌then◌else◌}
 use Rattle.image_check.proofs.Common.{is_rooted, legal_size, length, nat_lt, new_block, rate_of, refl, rooted_weight}
 use Rattle.image_check.proofs.Common.{small_size, sym, true, weigh, ℕ, ◌*◌, ◌+◌, ◌-◌, ◌/◌, ◌<◌, ◌==◌, ◌∙◌, ◌∷◌, ◌≡◌}
@@ -12,7 +12,7 @@ use Rattle.block_tags.specs.declared.tile.Role.TheVariants.{Object}
 use Rattle.image_check.specs.Passes.{tiles_in}
 use Rattle.image_check.specs.Containers.{is_rooted_below, weigh_blocks, weight_below}
 use Rattle.image_check.specs.Visits.{container_rates}
-use Rattle.image_check.proofs.walks.Places.{image-row}
+use Rattle.image_check.proofs.frame.Tags.{image-row}
 
 -- ---- the blocks whose first link is in one tile
 
@@ -123,34 +123,25 @@ blocks-weigh ts es e =
 -- ---- which are no more than the image
 
 rate-most : (u : Option Role) → rate_of container_block_rates u ≤ 16
-rate-most None = omega arith
 rate-most (Some Object) = omega arith
-rate-most (Some Index) = omega arith
-rate-most (Some Storage) = omega arith
-rate-most (Some Node) = omega arith
+rate-most other = omega arith
 
 rate-sum : (u : Option Role) → rate_of container_walk_rates u + rate_of container_block_rates u
     ≤ rate_of container_rates u
-rate-sum None = omega arith
 rate-sum (Some Object) = omega arith
-rate-sum (Some Index) = omega arith
-rate-sum (Some Storage) = omega arith
-rate-sum (Some Node) = omega arith
-
-times-most : (r s n : ℕ) → r ≤ s → r * n ≤ s * n
-times-most r s n l = mul-le-mul_right n l
+rate-sum other = omega arith
 
 times-sum : (r s t n : ℕ) → r + s ≤ t → r * n + s * n ≤ t * n
 times-sum r s t n l =
     let parts = add-mul r s n in
-    let most = times-most (r + s) t n l in
+    let most = mul-le-mul_right n l in
     omega arith
 
 row-weigh : (from : ℕ) (ts : List Tile) (to : ℕ) → Row from ts to → from + weigh container_block_rates ts ≤ to
 row-weigh from [] to row = omega arith
 row-weigh from (t ∷ ts) to row =
     let rest = row-weigh (from + t.len) ts to row.3 in
-    let here = times-most (rate_of container_block_rates t.use_of) 16 (t.len / 16) (rate-most t.use_of) in
+    let here = mul-le-mul_right (t.len / 16) (rate-most t.use_of) in
     omega arith
 
 -- all blocks weigh at most 2^30

@@ -6,7 +6,7 @@ use Rattle.image_check.proofs.Common.{has_version, is_legal_size, is_tiled, leng
 use Rattle.image_check.proofs.Common.{or_from, or_left, or_right, refl, size_word, ℕ, ◌&&◌, ◌<◌, ◌||◌, ◌≡◌}
 use Rattle.std.proofs.Common.{Bool}
 use Rattle.image_check.specs.Classes.{holds}
-use Rattle.image_check.specs.Frame.{has_frame, has_tree}
+use Rattle.image_check.specs.EarlyTests.{has_frame, has_tree}
 use Rattle.image_check.proofs.frame.Tests.{frame-clean, has_frame-IsFrame}
 
 -- ---- a right frame has no early class

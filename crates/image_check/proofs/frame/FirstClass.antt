@@ -13,7 +13,7 @@ use Rattle.std.specs.Prelude.{find}
 use Rattle.image_check.specs.Classes.{holds}
 use Rattle.image_check.specs.Checking.{late_by, late_class}
 use Rattle.image_check.specs.Passes.{tiles_in}
-use Rattle.image_check.specs.Frame.{has_frame}
+use Rattle.image_check.specs.EarlyTests.{has_frame}
 use Rattle.image_check.proofs.reading.Deciding.{find-here, find-past}
 use Rattle.image_check.proofs.reading.Buffer.{HasFront-IsRight}
 use Rattle.image_check.proofs.frame.Tests.{frame-clean, has_frame-IsFrame, has_whole_size-HasWholeSize}

@@ -39,11 +39,8 @@ plain-tile f t =
 
 -- tiles in use can have the same colours in each format
 later-red : (f g : ℕ) (u : Option Role) → may_be_red (suc f) u ≡ may_be_red (suc g) u
-later-red f g None = refl
 later-red f g (Some Object) = refl
-later-red f g (Some Index) = refl
-later-red f g (Some Storage) = refl
-later-red f g (Some Node) = refl
+later-red f g other = refl
 
 later-tile : (f g : ℕ) (t : Tile) → is_tile (suc f) t ≡ is_tile (suc g) t
 later-tile f g t = ap (λ x. nat_le 32 t.len && (t.len % 16 == 0) && (not t.red || x)) (later-red f g t.use_of)

@@ -164,7 +164,7 @@ module _ (format : ℕ) (old mid new : WindowState) (few : format ≤ 2) (image 
         behind = behind;
         heap = laid;
         blocks = blocks;
-        rest = λ j inside beside free. rest-cases j inside beside.version beside.root (cases_lt j 16) free was is;
+        rest = λ j inside version root free. rest-cases j inside version root (cases_lt j 16) free was is;
       }
     where
       middle-cases : (j : ℕ) → 12 ≤ j → j < 24 → (j < 16) ⊎ (16 ≤ j) → AreZero m 12 16 → AreZero m' 12 16 → m' j ≡ m j

@@ -4,7 +4,7 @@ use Rattle.image_check.proofs.Common.{has_magic, has_reserved, has_size, has_ver
 use Rattle.image_check.proofs.Common.{le-ltb, legal_size, length, nat_le, nat_lt, not, not_from_true, or_from}
 use Rattle.image_check.proofs.Common.{size_word, ℕ, ◌&&◌, ◌==◌, ◌≡◌}
 use Rattle.std.proofs.Common.{Bool}
-use Rattle.image_check.specs.Frame.{has_frame, has_tree, has_whole_size}
+use Rattle.image_check.specs.EarlyTests.{has_frame, has_tree, has_whole_size}
 use Rattle.image_check.proofs.frame.Formats.{IsEarlyClean}
 
 -- the tests of a frame, by name

@@ -5,11 +5,11 @@ use Rattle.image_check.proofs.Common.{SharedBlock, Some, Tile, WindowState, [], 
 use Rattle.image_check.proofs.Common.{cases_Bool, class_of, entries_of, false, has_block, has_containers, has_free_tree}
 use Rattle.image_check.proofs.Common.{has_indexes, has_objects, has_reserved, has_tags, inl, inr, is_legal_size}
 use Rattle.image_check.proofs.Common.{is_orphaned, is_shared, is_some, is_tiled, length, list_any, not, refl, subst}
-use Rattle.image_check.proofs.Common.{sym, tiles_of, true, ℕ, ◌<◌, ◌||◌, ◌∙◌, ◌∷◌, ◌≡◌, ◌≤◌}
+use Rattle.image_check.proofs.Common.{sym, tiles_of, true, ℕ, ◌||◌, ◌∙◌, ◌∷◌, ◌≡◌, ◌≤◌}
 use Rattle.std.proofs.Common.{Bool}
 use Rattle.std.specs.Prelude.{IsOk}
 use Rattle.image_check.specs.Checking.{late_by, late_class}
-use Rattle.image_check.specs.Frame.{has_frame}
+use Rattle.image_check.specs.EarlyTests.{has_frame}
 use Rattle.image_check.specs.Meaning.{HasOneDirectory}
 use Rattle.image_check.specs.Passes.{tiles_in}
 use Rattle.image_check.specs.Verdicts.{IsVerdict, said_tiles}

@@ -224,7 +224,8 @@ not_bad : (c : WindowState) (ns : List ℕ) (o : Option ℕ)
 not_bad c ns None f h = refl
 not_bad c ns (Some n) f h = ap not (f n h)
 
-root_among : (f : ℕ → Cell) (o : Option ℕ) (t : Tree) → IsTree f o t → leads (λ k. is_in k (nodes_of t)) o ≡ true
+-- the root of a tree is among its nodes
+pub root_among : (f : ℕ → Cell) (o : Option ℕ) (t : Tree) → IsTree f o t → leads (λ k. is_in k (nodes_of t)) o ≡ true
 root_among f None t w = refl
 root_among f (Some n) t w = root_in f n t w
 

@@ -1,19 +1,18 @@
 -- Both indexes, one after the other: whether they pass their test, and the entries that are entered.
-use Rattle.image_check.proofs.Common.{Block, Blocks, HasTiles, HaveEntries, IsMarking, IsUnmarked, List, Memory, None}
+use Rattle.image_check.proofs.Common.{Block, Blocks, HaveEntries, IsUnmarked, List, Memory, None}
 use Rattle.image_check.proofs.Common.{EntersEntries, Option, Owner, Role, Some, Tile, [], and_from, and_parts, ap}
-use Rattle.image_check.proofs.Common.{are_distinct, are_new, block_at, both_ways, bytes_of, cases_Bool, cond}
+use Rattle.image_check.proofs.Common.{are_distinct, are_new, block_at, both_ways, cases_Bool, cond}
 use Rattle.image_check.proofs.Common.{cond-false, cond-true, cons_option, entries_of, entry_in, entry_of, false, frames}
 use Rattle.image_check.proofs.Common.{has_index, has_indexes, index_of, is_among, is_some, nat_eq, new_block, owner_at}
 use Rattle.image_check.proofs.Common.{refl, same_role, subst, sym, targets, true, ℕ, ◌&&◌, ◌++◌, ◌+◌, ◌∙◌, ◌∷◌, ◌≡◌}
 use Rattle.std.proofs.Common.{Bool}
 use Rattle.block_tags.specs.declared.tile.Role.TheVariants.{Object}
 use Rattle.link_tree.proofs.Laws.{none_some}
-use Rattle.image_check.specs.Passes.{tiles_in}
 use Rattle.image_check.specs.Entered.{AreEntered, is_enterable, listed, root_in}
 use Rattle.image_check.proofs.indexes.Entries.{Distinct, distinct-append, distinct-passes}
 use Rattle.image_check.proofs.bytes.Members.{Mem, Mem-is_among, is_among-Mem}
 use Rattle.image_check.proofs.indexes.AllEntries.{distinct-parts, new-from, new-parts, passes-distinct}
-use Rattle.image_check.proofs.block_collection.Lookup.{gathered-unmarked, unmarked-marking}
+use Rattle.image_check.proofs.block_collection.Lookup.{gathered-unmarked}
 use mathlib.Core.Logic.{inl, inr}
 
 -- ---- nothing is entered at first
@@ -181,12 +180,3 @@ entries-unmarked ts es0 es1 es2 xs ys g a b = record {
   frame = b.frame ∙ a.frame ∙ ap frames g;
   none = λ n. b.owners n ∙ a.owners n ∙ ap (λ (es : Blocks). owner_at es n) g ∙ (gathered-unmarked ts).none n;
 }
-
--- so all is ready for the first link
-pub entries-mark : (format : ℕ) (b : List ℕ) (es : Blocks) (pending : Option ℕ) (waiting : ℕ) → HasTiles b
-    → IsUnmarked (tiles_in b) es → pending ≡ None → waiting ≡ 0
-    → IsMarking format (bytes_of b) (tiles_in b) None es pending waiting
-entries-mark format b es pending waiting h u p z =
-    subst (λ w. IsMarking format (bytes_of b) (tiles_in b) None es pending w) (sym z)
-    (subst (λ (q : Option ℕ). IsMarking format (bytes_of b) (tiles_in b) None es q 0) (sym p)
-    (unmarked-marking format b es h u))

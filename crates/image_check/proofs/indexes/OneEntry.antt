@@ -1,36 +1,18 @@
 -- One more index entry: the check enters its link at the object to which the link leads.
-use Rattle.image_check.proofs.Common.{Block, Blocks, EntersLink, IsBlockAt, IsTileAt, List, None, EntersEntries, Option}
-use Rattle.image_check.proofs.Common.{Owner, Role, Some, Tile, [], and_parts, ap, block_at, cases_Bool, cases_eq, cond}
-use Rattle.image_check.proofs.Common.{cond-false, cond-true, entry_in, false, false≢true, frame_of, frames, good_for}
-use Rattle.image_check.proofs.Common.{index_of, is_among, is_none, is_some, nat_eq, ne_eqb, owner_at, owner_in, refl}
-use Rattle.image_check.proofs.Common.{same_role, set_value, subst, sym, tile_of, true, ℕ, ◌++◌, ◌==◌, ◌||◌, ◌∙◌, ◌∷◌}
+use Rattle.image_check.proofs.Common.{AreBlocks, Block, Blocks, EntersLink, List, None, EntersEntries, Option}
+use Rattle.image_check.proofs.Common.{Owner, Some, Tile, [], and_parts, ap, block_at, cases_Bool, cases_eq, cond}
+use Rattle.image_check.proofs.Common.{cond-false, cond-true, entry_in, false, false≢true, frames, good_for}
+use Rattle.image_check.proofs.Common.{index_of, is_among, is_none, is_some, ne_eqb, owner_at, owner_in, refl}
+use Rattle.image_check.proofs.Common.{same_role, subst, sym, tile_of, true, ℕ, ◌++◌, ◌==◌, ◌||◌, ◌∙◌, ◌∷◌}
 use Rattle.image_check.proofs.Common.{◌≡◌, ◌≢◌}
 use Rattle.std.proofs.Common.{Bool}
 use Rattle.std.proofs.lemmas.List.Folds.{list_any-append}
 use Rattle.block_tags.specs.declared.tile.Role.TheVariants.{Object}
 use Rattle.image_check.specs.Entered.{is_new_block, root_in, with_entry}
 use Rattle.image_check.proofs.bytes.Members.{Mem-is_among, mem_right}
-use Rattle.image_check.proofs.shared_blocks.OneLink.{put-other, put-same}
+use Rattle.image_check.proofs.shared_blocks.OneLink.{frames-put, put-blocks, put-other, put-same}
 use Rattle.image_check.proofs.block_collection.UsedTile.{same_role-is}
 use mathlib.Core.Logic.{inl, inr}
-
--- ---- one block replaces another
-
-frame-if : (n k : ℕ) (c b w : Block) (es fs : Blocks) (x : Bool) → w.role ≡ b.role → w.len ≡ b.len
-    → (block_at es n ≡ Some b → frames fs ≡ frames es) → cond x (Some c) (block_at es n) ≡ Some b
-    → frames (cond x ((k, w) ∷ es) ((k, c) ∷ fs)) ≡ frames ((k, c) ∷ es)
-frame-if n k c b w es fs true r l ih h =
-    let same : c ≡ b = cc in
-    let r2 : w.role ≡ c.role = r ∙ ap (λ (x : Block). x.role) (sym same) in
-    let l2 : w.len ≡ c.len = l ∙ ap (λ (x : Block). x.len) (sym same) in
-    λ i. (k, r2 i, l2 i) ∷ frames es
-frame-if n k c b w es fs false r l ih h = ap (λ ys. frame_of (k, c) ∷ ys) (ih h)
-
-frame-put : (n : ℕ) (b w : Block) (es : Blocks) → w.role ≡ b.role → w.len ≡ b.len → block_at es n ≡ Some b
-    → frames (set_value (nat_eq n) es w) ≡ frames es
-frame-put n b w [] r l h = refl
-frame-put n b w (e ∷ es) r l h =
-    frame-if n e.0 e.1 b w es (set_value (nat_eq n) es w) (nat_eq n e.0) r l (λ i. frame-put n b w es r l i) h
 
 -- ---- an object without an entry
 
@@ -85,35 +67,6 @@ module _ (ts : List Tile) (old es new : Blocks) (root place : ℕ) (xs : List �
   index-before = ap (λ o. root_in (entry_in o)) e.is
       ∙ ap root_in (entry-of-object e.block object ∙ (new-object e.block e.new_block).1)
 
-  same-block : (q : ℕ) (c : Block) → q ≡ n → block_at new q ≡ Some c → c ≡ w
-  same-block q c f g = let h : block_at new q ≡ Some w = ap (block_at new) f ∙ here in cc
-
-  tiles-after : (q : ℕ) (c : Block) → block_at new q ≡ Some c → IsTileAt ts q c
-  tiles-after q c g = elim (cases_eq q n) [
-    | inl f ↦
-        let t = a.blocks.tiles n e.block e.is in
-        let o : IsTileAt ts n w = record { tile = t.tile; is = t.is; len = t.len } in
-        subst (λ x. IsTileAt ts q x) (sym (same-block q c f g)) (subst (λ x. IsTileAt ts x w) (sym f) o)
-    | inr d ↦ a.blocks.tiles q c (sym (there q d) ∙ g)
-  ]
-
-  blocks-after : (q : ℕ) (r : Role) (t : Tile) → tile_of ts r q ≡ Some t → IsBlockAt new q r t
-  blocks-after q r t g = elim (cases_eq q n) [
-    | inl f ↦
-        let v = a.blocks.blocks q r t g in
-        let k : block_at es q ≡ Some e.block = ap (block_at es) f ∙ e.is in
-        let h = v.is in
-        let same : e.block ≡ v.block = cc in
-        record {
-          block = w;
-          is = ap (block_at new) f ∙ here;
-          role_is = ap (λ (x : Block). x.role) same ∙ v.role_is;
-          len = ap (λ (x : Block). x.len) same ∙ v.len;
-        }
-    | inr d ↦ let v = a.blocks.blocks q r t g
-        in record { block = v.block; is = there q d ∙ v.is; role_is = v.role_is; len = v.len }
-  ]
-
   among-more : (q : ℕ) → is_among (xs ++ n ∷ []) q ≡ (is_among xs q || (q == n || false))
   among-more q = list_any-append (λ y. q == y) xs (n ∷ [])
 
@@ -134,8 +87,8 @@ module _ (ts : List Tile) (old es new : Blocks) (root place : ℕ) (xs : List �
   -- the object is entered, and all others stay
   pub added-more : EntersEntries ts old new root (xs ++ n ∷ [])
   added-more = record {
-    blocks = record { tiles = tiles-after; blocks = blocks-after };
-    frame = ap frames e.after ∙ frame-put n e.block w es refl refl e.is ∙ a.frame;
+    blocks = subst (AreBlocks ts) (sym e.after) (put-blocks ts es n e.block w e.is refl refl a.blocks);
+    frame = ap frames e.after ∙ frames-put n e.block w es e.is refl refl ∙ a.frame;
     owners = λ q. owner-stays q ∙ a.owners q;
     entered = entered-after;
   }

@@ -1,59 +1,17 @@
--- The bounds of the tiles of a row, the length of an index's block, and the weight of a tile.
-use Rattle.image_check.proofs.Common.{HasTiles, Index, IsTrue, List, Memory, None, Option, Rates, Role, Row, Some, Tile}
-use Rattle.image_check.proofs.Common.{WindowState, [], and_parts, ap, arith, cases_Bool, cond-false, cond-true}
+-- The length of an index's block, and the weight of a tile.
+use Rattle.image_check.proofs.Common.{HasTiles, Index, IsTrue, List, Memory, None, Option, Rates, Role, Some, Tile}
+use Rattle.image_check.proofs.Common.{[], and_parts, ap, arith, cases_Bool, cond-false, cond-true}
 use Rattle.image_check.proofs.Common.{eqb-true, false, false≢true, index_capacity, is_table_link, is_use, leads_to}
-use Rattle.image_check.proofs.Common.{leb-true, length, link_at, nat_le, rate_of, refl, said_row, same_role, subst, sym}
-use Rattle.image_check.proofs.Common.{tile_of, tiles_are_read_off, true, weigh, ℕ, ◌%◌, ◌&&◌, ◌*◌, ◌+◌, ◌-◌, ◌/◌, ◌==◌}
+use Rattle.image_check.proofs.Common.{leb-true, length, link_at, nat_le, rate_of, refl, same_role, sym}
+use Rattle.image_check.proofs.Common.{tile_of, true, weigh, ℕ, ◌%◌, ◌&&◌, ◌*◌, ◌+◌, ◌-◌, ◌/◌, ◌==◌}
 use Rattle.image_check.proofs.Common.{◌∙◌, ◌∷◌, ◌≡◌, ◌≤◌}
 use Rattle.raw_region.specs.Memory.{word_at}
 use Rattle.image_check.specs.Passes.{tiles_in}
 use Rattle.image_check.proofs.bytes.Members.{Mem, find_mem}
 use Rattle.image_check.proofs.block_collection.UsedTile.{same_role-is}
-use Rattle.image_check.proofs.walks.Tiles.{tags-IsTiledWindow}
+use Rattle.image_check.proofs.block_collection.Places.{in_row}
+use Rattle.image_check.proofs.frame.Tags.{image-row}
 use mathlib.Core.Logic.{inl, inr}
-
--- ---- tiles in a row
-
--- good tags make up a row
-pub rows : (c : WindowState) → HasTiles c.bytes → Row 128 (tiles_in c.bytes) (length c.bytes - 16)
-rows c h =
-    let t = tags-IsTiledWindow c h.size h.tags in
-    subst (λ ts. Row 128 ts (length c.bytes - 16)) (sym (tiles_are_read_off c t.tiles t.said))
-    (said_row c t.tiles t.said)
-
--- the bounds of a tile of a row
-pub record InRow (at end : ℕ) (t : Tile) : Type 0 where
-  pub low : at ≤ t.offset
-  pub long : 32 ≤ t.len
-  pub whole : t.len % 16 ≡ 0
-  pub even : at % 16 ≡ 0 → t.offset % 16 ≡ 0
-  pub within : t.offset + t.len ≤ end
-
-row-long : (at : ℕ) (ts : List Tile) (end : ℕ) → Row at ts end → at ≤ end
-row-long at [] end r = let e : at ≡ end = r in omega arith
-row-long at (t ∷ ts) end r = let l = row-long (at + t.len) ts end r.3 in omega arith
-
--- a tile of a row is in it
-pub in-row : (at : ℕ) (ts : List Tile) (end : ℕ) (t : Tile) → Row at ts end → Mem t ts → InRow at end t
-in-row at [] end t r h = absurd h
-in-row at (u ∷ ts) end t r (inl e) =
-    let o : t.offset ≡ at = ap (λ (x : Tile). x.offset) e ∙ r.0 in
-    let l : t.len ≡ u.len = ap (λ (x : Tile). x.len) e in
-    let long = r.1 in
-    let whole : t.len % 16 ≡ 0 = ap (λ n. n % 16) l ∙ r.2 in
-    let rest = row-long (at + u.len) ts end r.3 in
-    record {
-      low = omega arith;
-      long = omega arith;
-      whole = whole;
-      even = λ w. ap (λ n. n % 16) o ∙ w;
-      within = omega arith;
-    }
-in-row at (u ∷ ts) end t r (inr h) =
-    let i = in-row (at + u.len) ts end t r.3 h in
-    let low = i.low in
-    let whole = r.2 in
-    record { low = omega arith; long = i.long; whole = i.whole; even = λ w. i.even (omega arith); within = i.within }
 
 -- ---- the block of an index
 
@@ -100,6 +58,17 @@ room-of m ts at block h e =
           at = sym (eqb-true (t.offset + 16) block q.1);
           room = omega arith;
         }
+
+-- the links in the block of an index lie in the window
+pub room-inside : (b : List ℕ) (block count : ℕ) → HasTiles b → IsIndexRoom (tiles_in b) block count
+    → (block % 8 ≡ 0) × (block + 8 * count ≤ length b)
+room-inside b block count h r =
+    let i = in_row 128 (tiles_in b) (length b - 16) r.tile (image-row b h) r.mem in
+    let whole = i.whole refl in
+    let high = i.high in
+    let at = r.at in
+    let long = r.room in
+    (omega arith, omega arith)
 
 -- ---- weights
 

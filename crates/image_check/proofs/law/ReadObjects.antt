@@ -1,7 +1,7 @@
 -- The objects and indexes read from clean bytes pass their tests, their fields are the fields that count, and no block
 -- is named twice.
-use Rattle.image_check.proofs.Common.{BackingArray, Class, Extent, Index, IsTrue, Kind, List, Memory, Named, Node, None}
-use Rattle.image_check.proofs.Common.{Option, Rising, Role, Row, Some, Storage, Tile, Unique, [], and_parts, ap}
+use Rattle.image_check.proofs.Common.{BackingArray, Class, Extent, Index, IsTrue, Kind, List, Memory, Named, None}
+use Rattle.image_check.proofs.Common.{Option, Rising, Role, Row, Some, Tile, Unique, [], and_parts, ap}
 use Rattle.image_check.proofs.Common.{are_distinct, as_extent, by_kind, by_name, bytes_of, class_at, class_code}
 use Rattle.image_check.proofs.Common.{code_at, cond-false, cond-true, counted_fields, eq-eqb, eqb-true, false, filter}
 use Rattle.image_check.proofs.Common.{flat_map, handle, has_index, if◌then◌else◌, is_among, is_class, is_object_tile}
@@ -59,8 +59,7 @@ object-tile offset len (Some ObjectRole) red x e n =
     some-extent : (x y : Extent) → Some x ≡ Some y → x ≡ y
     some-extent x y e = cc
 object-tile offset len (Some Index) red x e n = absurd (true≢false n)
-object-tile offset len (Some Storage) red x e n = absurd (true≢false n)
-object-tile offset len (Some Node) red x e n = absurd (true≢false n)
+object-tile offset len other red x e n = absurd (true≢false n)
 
 some-same : {A : Type 0} (x y : A) → Some x ≡ Some y → x ≡ y
 some-same x y e = cc

@@ -1,5 +1,5 @@
 -- All tests of the objects together, and their visits.
-use Rattle.image_check.proofs.Common.{HasTiles, Index, Kind, List, Memory, Node, None, Option, Role, Some, Storage}
+use Rattle.image_check.proofs.Common.{HasTiles, Kind, List, Memory, None, Option, Role, Some}
 use Rattle.image_check.proofs.Common.{Tile, WindowState, [], and_from, and_parts, ap, are_distinct, are_ranked, arith}
 use Rattle.image_check.proofs.Common.{both_ways, bytes_of, cases_Bool, class_at, code_before, cond, cond-true, count_at}
 use Rattle.image_check.proofs.Common.{eqb-true, false, false≢true, has_index, has_indexes, has_name, has_objects}
@@ -9,11 +9,13 @@ use Rattle.image_check.proofs.Common.{object_walk_rates, rate_of, refl, rise_by,
 use Rattle.image_check.proofs.Common.{value_offset, weigh, ℕ, ◌&&◌, ◌*◌, ◌++◌, ◌+◌, ◌-◌, ◌/◌, ◌==◌, ◌∙◌, ◌∷◌, ◌≡◌, ◌≤◌}
 use Rattle.std.proofs.Common.{Bool}
 use Rattle.block_tags.specs.declared.tile.Role.TheVariants.{Object}
-use Rattle.image_check.specs.ObjectPasses.{HaveHeads, entry_rates, has_value, is_spelled, is_value_room}
+use Rattle.image_check.specs.ObjectPasses.{HaveHeads, entry_rates, is_spelled, is_value_room}
+use Rattle.image_check.specs.ObjectPasses.{has_value}
 use Rattle.image_check.specs.Passes.{tiles_in}
 use Rattle.image_check.specs.Visits.{object_rates}
 use Rattle.image_check.proofs.indexes.ObjectOrder.{index-said}
-use Rattle.image_check.proofs.indexes.Places.{in-row, rows}
+use Rattle.image_check.proofs.block_collection.Places.{in_row}
+use Rattle.image_check.proofs.frame.Tags.{image-row}
 use Rattle.image_check.proofs.read_off.Numbers.{unguarded}
 use Rattle.image_check.proofs.bytes.Members.{find_mem, is_among-Mem, list_all_mem}
 use Rattle.image_check.proofs.objects.OneObject.{room-said, value-parts}
@@ -77,7 +79,7 @@ heads-of format w at h i r n a =
         let right = sym (cond-true (is_use Object t) (is_object_tile format m t) true p.0)
         ∙ list_all_mem (is_right_tile format m) ts t r f.mem in
         let name = name-within format m t right in
-        let in_it = (in-row 128 ts (length w.bytes - 16) t (rows w h) f.mem).within in
+        let in_it = (in_row 128 ts (length w.bytes - 16) t (image-row w.bytes h) f.mem).high in
         let long : t.offset + 16 + 16 + name_len_at m (t.offset + 16) ≤ length w.bytes = omega arith in
         subst (λ n. n + 16 + name_len_at m n ≤ length w.bytes) there long
 
@@ -163,11 +165,8 @@ unique-index m ts h =
 
 rates-sum : (o : Option Role) (x : ℕ)
     → rate_of object_rates o * x ≡ rate_of object_walk_rates o * x + rate_of entry_rates o * x
-rates-sum None x = omega arith
 rates-sum (Some Object) x = omega arith
-rates-sum (Some Index) x = omega arith
-rates-sum (Some Storage) x = omega arith
-rates-sum (Some Node) x = omega arith
+rates-sum other x = omega arith
 
 -- the walk and the entries together
 pub weights-sum : (ts : List Tile) → weigh object_rates ts ≡ weigh object_walk_rates ts + weigh entry_rates ts

@@ -1,11 +1,11 @@
 -- The test of one object, part by part.
-use Rattle.image_check.proofs.Common.{Kind, Map, Memory, None, Option, Scalar, Some, String, Vector, and_from}
+use Rattle.image_check.proofs.Common.{Kind, Memory, None, Option, Scalar, Some, Vector, and_from}
 use Rattle.image_check.proofs.Common.{and_parts, ap, are_spellings, arith, cond, count_at, false, has_name, has_padding}
 use Rattle.image_check.proofs.Common.{is_indexed, is_value_in, kind_at, le-leb, leb-true, nat_le, refl, size_of, sym}
 use Rattle.image_check.proofs.Common.{true, value_offset, ℕ, ◌&&◌, ◌*◌, ◌+◌, ◌==◌, ◌∙◌, ◌≡◌, ◌≤◌}
 use Rattle.std.proofs.Common.{Bool}
-use Rattle.seg_types.specs.declared.kinds.Kind.TheVariants.{Strings}
-use Rattle.image_check.specs.ObjectPasses.{has_value, is_object_at, is_spelled, is_value_room}
+use Rattle.image_check.specs.ObjectPasses.{is_spelled, is_value_room}
+use Rattle.image_check.specs.ObjectPasses.{has_value, is_object_at}
 
 -- ---- a value
 
@@ -22,10 +22,8 @@ pub value-parts : (m : Memory) (k : Kind) (count at end : ℕ)
     → is_value_in m k count at end ≡ (is_value_room k count at end && is_spelled m k count at)
 value-parts m (Scalar k) count at end =
     if-and (nat_le 1 count && nat_le count 1048576 && nat_le (at + size_of k * count) end) (are_spellings m k at count)
-value-parts m String count at end = sym (and-true ((count == 1) && nat_le (at + 24) end))
 value-parts m (Vector k) count at end = sym (and-true ((count == 1) && nat_le (at + 24) end))
-value-parts m (Map k v) count at end = sym (and-true ((count == 1) && nat_le (at + 24) end))
-value-parts m Strings count at end = sym (and-true ((count == 1) && nat_le (at + 24) end))
+value-parts m other count at end = sym (and-true ((count == 1) && nat_le (at + 24) end))
 
 -- the end of a value is at or after its start
 pub record HasRoom (start end : ℕ) : Type 0 where
@@ -42,10 +40,8 @@ room-said (Scalar k) count start end h =
     let room = leb-true (start + size_of k * count) end
     (and_parts (nat_le 1 count && nat_le count 1048576) (nat_le (start + size_of k * count) end) h).1 in
     record { behind = omega arith }
-room-said String count start end h = container-room count start end h
 room-said (Vector k) count start end h = container-room count start end h
-room-said (Map k v) count start end h = container-room count start end h
-room-said Strings count start end h = container-room count start end h
+room-said other count start end h = container-room count start end h
 
 -- and has it before a later end
 room-later : (count start end later : ℕ) → ((count == 1) && nat_le (start + 24) end) ≡ true → end ≤ later
@@ -63,10 +59,8 @@ room-wider (Scalar k) count start end later h l =
     let room = leb-true (start + size_of k * count) end p.1 in
     and_from (nat_le 1 count && nat_le count 1048576) (nat_le (start + size_of k * count) later) p.0
     (le-leb (start + size_of k * count) later (omega arith))
-room-wider String count start end later h l = room-later count start end later h l
 room-wider (Vector k) count start end later h l = room-later count start end later h l
-room-wider (Map k v) count start end later h l = room-later count start end later h l
-room-wider Strings count start end later h l = room-later count start end later h l
+room-wider other count start end later h l = room-later count start end later h l
 
 -- ---- an object
 

@@ -18,7 +18,7 @@ use Rattle.image_check.specs.declared.verdict.Verdict.{Verdict}
 use Rattle.image_check.specs.Classes.{holds}
 use Rattle.image_check.specs.HeaderOffsets.{IsFrontOffset}
 use Rattle.image_check.specs.Opening.{Opens}
-use Rattle.image_check.specs.Reading.{IsMisfit, IsNotCopied}
+use Rattle.image_check.specs.Reading.{IsNotCopied, Stops}
 use Rattle.image_check.proofs.reading.Deciding.{decided-some, first_class}
 use Rattle.image_check.proofs.frame.EarlyClasses.{cut-Truncated}
 use Rattle.image_check.proofs.reading.Fronts.{IsRight, front-decided, front-wrong, has_front-IsRight}
@@ -36,7 +36,7 @@ wrong-room format b base capacity c e t = both_ways (has_front format b) (front-
 
 -- wrong first words
 pub misfit-front : (format : ℕ) (b : List ℕ) (base capacity : ℕ) (v : Verdict) → front_of format b ≡ Err v.class
-    → 144 ≤ length b → IsMisfit format b base capacity (Image v)
+    → 144 ≤ length b → Stops format (as_given b) base capacity (Image v)
 misfit-front format b base capacity v e l = record {
   why = record { sound = refl; right = inr (decided-some format b v.class (front-decided format b v.class l e)) };
   too_small = λ t. absurd (wrong-room format b base capacity v.class e t);
@@ -67,7 +67,7 @@ right-room format b base capacity size r room t = let says = r.says in let small
 -- and fewer bytes
 pub misfit-cut : (format : ℕ) (b : List ℕ) (base capacity size at : ℕ) → IsRight format b size
     → base + size ≤ capacity → length b < size
-    → IsMisfit format b base capacity (Image (record { class = Truncated; place = at }))
+    → Stops format (as_given b) base capacity (Image (record { class = Truncated; place = at }))
 misfit-cut format b base capacity size at r room l =
     let says = r.says in
     record {
@@ -86,7 +86,7 @@ misfit-cut format b base capacity size at r room l =
 -- or more
 pub misfit-more : (format : ℕ) (b : List ℕ) (base capacity size at : ℕ) → IsRight format b size
     → base + size ≤ capacity → size < length b
-    → IsMisfit format b base capacity (Image (record { class = BadSize; place = at }))
+    → Stops format (as_given b) base capacity (Image (record { class = BadSize; place = at }))
 misfit-more format b base capacity size at r room l = record {
   why = record { sound = refl; right = inr (decided-some format b BadSize (more-decided format b size r l)) };
   too_small = λ t. absurd (right-room format b base capacity size r room t);

@@ -87,8 +87,7 @@ module _ (format : ℕ) (image : ReadDelta) (region : List ℕ) (base : ℕ) (w 
   shown-why : (why : OpenError) → IsWhyRefused format w.bytes why → IsShown format image.bytes why
   shown-why (Image v) x = subst (λ (b : List ℕ). Shows format b v.class v.place) h.bytes x.1
   shown-why (OutOfMemory refusal) x = tt
-  shown-why RegionTooSmall x = tt
-  shown-why ReadFault x = tt
+  shown-why other x = tt
 
   -- this holds for each result of the opening of the window
   pub shown : (mode : Mode) (r : Result SegmentState OpenRefused) → OpensWindow format w mode r

@@ -110,9 +110,7 @@ value_in-passes m at end (Numbers k zs) h s l =
     (le-leb (at + size_of k * length zs) end l))
     (spelled-passes m k at zs parts.1 s)
 value_in-passes m at end (Elements k zs t) h s l = container-in m at end l
-value_in-passes m at end (Bytes bs t) h s l = container-in m at end l
-value_in-passes m at end (Pairs k v ps) h s l = container-in m at end l
-value_in-passes m at end (Texts ps t) h s l = container-in m at end l
+value_in-passes m at end other h s l = container-in m at end l
 
 -- stored bytes are in their block
 pub stored-at : (m : Memory) (bytes : List ℕ) (e : Option Extent) (x : Extent) → e ≡ Some x → IsStored m bytes e

@@ -1,6 +1,6 @@
 -- The words before an object: its codes, the parts of its test, and its four half words.
-use Rattle.image_check.proofs.Common.{Anonymous, Class, IsObjectAt, IsTrue, Kind, Memory, Named, None, Option, Some}
-use Rattle.image_check.proofs.Common.{Unique, and_parts, ap, class_at, class_code, code_at, count_at, count_of, handle}
+use Rattle.image_check.proofs.Common.{Anonymous, Class, IsObjectAt, IsTrue, Kind, Memory, None, Option, Some}
+use Rattle.image_check.proofs.Common.{and_parts, ap, class_at, class_code, code_at, count_at, count_of, handle}
 use Rattle.image_check.proofs.Common.{if◌then◌else◌, is_good_value, is_object, kind_at, kind_of, kind_of_code, length}
 use Rattle.image_check.proofs.Common.{name_at, name_len_at, object_len, padded, refl, serves, value_offset, ℕ, ◌&&◌}
 use Rattle.image_check.proofs.Common.{◌+◌, ◌∙◌, ◌≡◌}
@@ -16,8 +16,7 @@ use Rattle.image_check.proofs.read_off.Directory.{class_from}
 -- the class of a class code
 pub class-read : (c : Class) → class_from (class_code c) ≡ c
 class-read Anonymous = refl
-class-read Named = refl
-class-read Unique = refl
+class-read other = refl
 
 -- ---- the parts of an object
 

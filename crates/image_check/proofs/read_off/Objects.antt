@@ -1,6 +1,6 @@
 -- The object in a tile that passes its tests: it is an object of the format, and memory has it.
-use Rattle.image_check.proofs.Common.{HasBytesAt, Index, IsObjectAt, IsTrue, Kind, List, Memory, Named, Node, None}
-use Rattle.image_check.proofs.Common.{Option, Role, Some, Storage, Tile, Value, and_from, and_parts, ap, arith}
+use Rattle.image_check.proofs.Common.{HasBytesAt, Index, IsObjectAt, IsTrue, Kind, List, Memory, Named, None}
+use Rattle.image_check.proofs.Common.{Option, Role, Some, Tile, Value, and_from, and_parts, ap, arith}
 use Rattle.image_check.proofs.Common.{as_extent, class_at, class_code, code_at, count_at, eqb-true, false, false≢true}
 use Rattle.image_check.proofs.Common.{handle, has_name, has_padding, if◌then◌else◌, is_container, is_good_value}
 use Rattle.image_check.proofs.Common.{is_indexed, is_name, is_object, is_object_tile, is_use, is_value_in, is_zero}
@@ -151,8 +151,7 @@ object-use t h = object-parts t.offset t.len t.use_of t.red h
     object-parts offset len None red h = absurd (false≢true h)
     object-parts offset len (Some ObjectRole) red h = refl
     object-parts offset len (Some Index) red h = absurd (false≢true h)
-    object-parts offset len (Some Storage) red h = absurd (false≢true h)
-    object-parts offset len (Some Node) red h = absurd (false≢true h)
+    object-parts offset len other red h = absurd (false≢true h)
 
 -- the object that is read from a tile that passes its tests has these properties
 pub tile-said : (format : ℕ) (m : Memory) (ts : List Tile) → AreSmall m → (t : Tile) → Mem t (object_tiles ts)

@@ -109,8 +109,7 @@ blocks-step offset len None red ts h = h
 blocks-step offset len (Some ObjectRole) red ts h = let x : Extent =
     record { offset = offset; len = len; role = ObjectRole } in ap (λ xs. x ∷ xs) h
 blocks-step offset len (Some Index) red ts h = h
-blocks-step offset len (Some Storage) red ts h = h
-blocks-step offset len (Some Node) red ts h = h
+blocks-step offset len other red ts h = h
 
 -- the tiles of objects are the objects' own blocks among the tiles in use
 pub object_blocks : (ts : List Tile) → map object_block (object_tiles ts) ≡ filter is_object_extent (used ts)

@@ -1,13 +1,14 @@
 -- The bytes read so far, and the bytes that can follow: which class they decide.
+use Rattle.image_check.proofs.Common.{small_size}
 use Rattle.image_check.proofs.Common.{BadContainer, BadFreeTree, BadIndex, BadMagic, BadObject, BadReserved, BadSize}
 use Rattle.image_check.proofs.Common.{BadTag, ImageClass, IsTrue, List, None, OrphanBlock, SharedBlock, Some, Truncated}
 use Rattle.image_check.proofs.Common.{UnsupportedVersion, [], and_from, and_left, and_parts, and_right, ap, are_bytes}
 use Rattle.image_check.proofs.Common.{arith, both_ways, bytes_of, cases_Bool, cases_lt, class_of, classes, cond-false}
-use Rattle.image_check.proofs.Common.{cond-true, decided_by, eqb-true, false, has_front, has_magic, has_size}
+use Rattle.image_check.proofs.Common.{cond-true, decided_by, false, has_front, has_magic, has_size}
 use Rattle.image_check.proofs.Common.{has_version, is_legal_size, le-leb, le-ltb, leb-true, length, length-replicate}
 use Rattle.image_check.proofs.Common.{little_number, lt-ltb, ltb-false, ltb-true, magic_number, nat_le, nat_lt}
-use Rattle.image_check.proofs.Common.{not_from_false, not_from_true, or_cases, or_from, or_left, or_right, read, refl}
-use Rattle.image_check.proofs.Common.{size_word, subst, suc, sym, true, zero, ℕ, ◌%◌, ◌&&◌, ◌++◌, ◌+◌, ◌-◌, ◌<◌, ◌==◌}
+use Rattle.image_check.proofs.Common.{not_from_false, not_from_true, or_from, or_left, or_right, read, refl}
+use Rattle.image_check.proofs.Common.{size_word, subst, suc, sym, true, zero, ℕ, ◌&&◌, ◌++◌, ◌+◌, ◌-◌, ◌<◌, ◌==◌}
 use Rattle.image_check.proofs.Common.{◌∙◌, ◌∷◌, ◌≡◌, ◌≤◌}
 use Rattle.std.proofs.Common.{Bool, append-nil, length-append}
 use Rattle.std.specs.Prelude.{find}
@@ -200,20 +201,10 @@ unfolding zeros
 zeros-are_bytes zero = refl
 zeros-are_bytes (suc n) = zeros-are_bytes n
 
--- a legal size is at most 2 ^ 30
-largest : (n : ℕ) → ((n == 144) ≡ true) ⊎ (((n % 16 == 0) && nat_le 176 n && nat_le n 1073741824) ≡ true)
-    → n ≤ 1073741824
-largest n (inl e) = let same = eqb-true n 144 e in omega arith
-largest n (inr e) = leb-true n 1073741824 (and_parts ((n % 16 == 0) && nat_le 176 n) (nat_le n 1073741824) e).1
-
--- the bound of a legal size
-is_legal_size-most : (n : ℕ) → IsTrue (is_legal_size n) → n ≤ 1073741824
-is_legal_size-most n h = largest n (or_cases (n == 144) ((n % 16 == 0) && nat_le 176 n && nat_le n 1073741824) h)
-
 -- an image of 2 ^ 30 bytes is not too short
 long_cases : (format : ℕ) (b : List ℕ) → 1073741824 ≤ length b → (is_legal_size (size_word b) ≡ true)
     ⊎ (is_legal_size (size_word b) ≡ false) → holds format b Truncated ≡ false
-long_cases format b l (inl e) = let most = is_legal_size-most (size_word b) e
+long_cases format b l (inl e) = let most = small_size (size_word b) e
     in not_truncated-size format b (omega arith) (omega arith)
 long_cases format b l (inr e) = not_truncated-front format b (omega arith) (front-size format b e)
 

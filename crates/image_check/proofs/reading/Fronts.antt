@@ -2,9 +2,9 @@
 use Rattle.image_check.proofs.Common.{BadMagic, BadSize, Err, ImageClass, IsTrue, List, Ok, Result, Some}
 use Rattle.image_check.proofs.Common.{UnsupportedVersion, and_from, and_left, and_parts, ap, arith, bytes_of}
 use Rattle.image_check.proofs.Common.{decided_by, drop, eq-eqb, false, front_of, has_front, has_magic, has_size}
-use Rattle.image_check.proofs.Common.{has_version, if◌then◌else◌, is_legal_size, is_zero, le-ltb, length, length-take}
-use Rattle.image_check.proofs.Common.{list_all-append, little_number, magic_number, nat_le, ne_eqb, part, read}
-use Rattle.image_check.proofs.Common.{read-part, refl, size_word, sym, take, true, ℕ, ◌&&◌, ◌++◌, ◌+◌, ◌==◌, ◌∙◌, ◌≡◌}
+use Rattle.image_check.proofs.Common.{has_version, if◌then◌else◌, is_legal_size, le-ltb, length, length-take}
+use Rattle.image_check.proofs.Common.{little_number, magic_number, nat_le, ne_eqb, part}
+use Rattle.image_check.proofs.Common.{read-part, refl, size_word, sym, take, true, ℕ, ◌&&◌, ◌++◌, ◌+◌, ◌∙◌, ◌≡◌}
 use Rattle.image_check.proofs.Common.{◌≤◌}
 use Rattle.std.proofs.Common.{Bool}
 use Rattle.std.proofs.lemmas.List.{length-append, take-append-drop}

@@ -1,7 +1,7 @@
 -- Links of indexes, of storage and of elements, entered one by one.
-use Rattle.image_check.proofs.Common.{AreElementsNoted, Blocks, HasTiles, Index, IsCountedLink, IsIndexNoted}
-use Rattle.image_check.proofs.Common.{IsMarkedLink, IsMarkingOf, IsRooted, IsSharedIn, IsStorageNoted, List, MarksLink}
-use Rattle.image_check.proofs.Common.{MatchResult, MayCount, Memory, Node, None, Option, Owner, Result, Role, Storage}
+use Rattle.image_check.proofs.Common.{AreElementsNoted, HasTiles, Index, IsCountedLink, IsIndexNoted}
+use Rattle.image_check.proofs.Common.{IsMarkedLink, IsMarkingOf, IsRooted, IsStorageNoted, List, MarksLink}
+use Rattle.image_check.proofs.Common.{MayCount, Memory, Node, None, Option, Owner, Result, Role, Storage}
 use Rattle.image_check.proofs.Common.{Tile, ap, arith, bytes_of, cases_eq, index_capacity, length, link_at, owner, refl}
 use Rattle.image_check.proofs.Common.{subst, sym, ℕ, ◌*◌, ◌+◌, ◌<◌, ◌^◌, ◌≡◌, ◌≤◌}
 use Rattle.raw_region.specs.Format.{current}
@@ -12,19 +12,20 @@ use Rattle.image_check.specs.Visits.{AddsVisits}
 use Rattle.image_check.proofs.shared_blocks.Worklist.{debts-small}
 use Rattle.image_check.proofs.block_collection.Places.{payload-inside}
 use mathlib.Core.Logic.{inl, inr}
+use Rattle.image_check.specs.Owners.{MarksUnlessShared}
+use Rattle.image_check.specs.Owners.{OwnerState}
 
 -- the effect of entering a link at an offset, if no other link leads to its block
-abbrev pub Marks : ℕ → List ℕ → Role → Option ℕ → Blocks → ℕ → Blocks → Option ℕ → ℕ → Result (Unit {0}) ℕ → ℕ → Type 0
-Marks format b role target old waited es pending waiting r at =
+abbrev pub Marks : ℕ → List ℕ → Role → Option ℕ → OwnerState → OwnerState → Result (Unit {0}) ℕ → ℕ → Type 0
+Marks format b role target old s r at =
     target ≡ link_at (bytes_of b) at → MayCount format (bytes_of b) (tiles_in b) role at
-    → IsRooted (tiles_in b) old (owner at at)
-    → MatchResult r (λ done. MarksLink format (bytes_of b) (tiles_in b) None role (owner at at) old waited es
-    pending waiting) (IsSharedIn format b)
+    → IsRooted (tiles_in b) old.entries (owner at at)
+    → MarksUnlessShared format b (MarksLink format (bytes_of b) (tiles_in b) None role (owner at at) old s) r
 
 -- few nodes wait
-pub few-wait : (format : ℕ) (b : List ℕ) (now : Option ℕ) (es : Blocks) (pending : Option ℕ) (waiting : ℕ)
-    → HasTiles b → IsMarkingOf format b now es pending waiting → waiting + 1 < 2 ^ 64
-few-wait format b now es pending waiting h k =
+pub few-wait : (format : ℕ) (b : List ℕ) (st : OwnerState) → HasTiles b → IsMarkingOf format b st
+    → st.waiting + 1 < 2 ^ 64
+few-wait format b st h k =
     let room = k.room in
     let small = debts-small b h in
     omega arith
@@ -53,18 +54,17 @@ index-may format m ts at (inr e) =
 -- ---- the set of entered links grows
 
 -- no more links are entered
-pub grown-none : (format : ℕ) (b : List ℕ) (At : ℕ → Type 0) (es : Blocks) (pending : Option ℕ) (waiting : ℕ)
-    → IsMarkingOf format b None es pending waiting → MarksLinks format b At es waiting es pending waiting
-grown-none format b At es pending waiting k =
+pub grown-none : (format : ℕ) (b : List ℕ) (At : ℕ → Type 0) (st : OwnerState)
+    → IsMarkingOf format b st → MarksLinks format b At st st
+grown-none format b At st k =
     record { marking = k; keeps = λ n o e. e; only = λ n o e. inl e; less = omega arith }
 
 -- links entered in two steps are entered in both together
 pub grown-on : (format : ℕ) (b : List ℕ) (At Be In : ℕ
-    → Type 0) (old : Blocks) (waited : ℕ) (es : Blocks) (pending : Option ℕ) (waiting : ℕ) (fs : Blocks)
-    (p2 : Option ℕ) (w2 : ℕ)
-    → ((p : ℕ) → At p → In p) → ((p : ℕ) → Be p → In p) → MarksLinks format b At old waited es pending waiting
-    → MarksLinks format b Be es waiting fs p2 w2 → MarksLinks format b In old waited fs p2 w2
-grown-on format b At Be In old waited es pending waiting fs p2 w2 f g x y =
+    → Type 0) (old st fs : OwnerState)
+    → ((p : ℕ) → At p → In p) → ((p : ℕ) → Be p → In p) → MarksLinks format b At old st
+    → MarksLinks format b Be st fs → MarksLinks format b In old fs
+grown-on format b At Be In old st fs f g x y =
     let l = x.less in
     let k = y.less in
     record {
@@ -79,21 +79,21 @@ grown-on format b At Be In old waited es pending waiting fs p2 w2 f g x y =
 
 -- links that were entered are among more
 pub grown-in : (format : ℕ) (b : List ℕ) (At In : ℕ
-    → Type 0) (old : Blocks) (waited : ℕ) (es : Blocks) (pending : Option ℕ) (waiting : ℕ)
-    → ((p : ℕ) → At p → In p) → MarksLinks format b At old waited es pending waiting
-    → MarksLinks format b In old waited es pending waiting
-grown-in format b At In old waited es pending waiting f x = record {
+    → Type 0) (old st : OwnerState)
+    → ((p : ℕ) → At p → In p) → MarksLinks format b At old st
+    → MarksLinks format b In old st
+grown-in format b At In old st f x = record {
   marking = x.marking;
   keeps = x.keeps;
   only = λ n o e. elim (x.only n o e) [ inl i ↦ inl i | inr i ↦ inr (f o.at i) ];
   less = x.less;
 }
 
-module _ (format : ℕ) (b : List ℕ) (old : Blocks) (waited : ℕ) (es : Blocks) (pending : Option ℕ) (waiting : ℕ) where
+module _ (format : ℕ) (b : List ℕ) (old st : OwnerState) where
   -- one more link is entered
   pub marked-grown : (role : Role) (at : ℕ)
-      → MarksLink format (bytes_of b) (tiles_in b) None role (owner at at) old waited es pending waiting
-      → MarksLinks format b (λ p. p ≡ at) old waited es pending waiting
+      → MarksLink format (bytes_of b) (tiles_in b) None role (owner at at) old st
+      → MarksLinks format b (λ p. p ≡ at) old st
   marked-grown role at d = record {
     marking = d.marking;
     keeps = d.keeps;
@@ -102,31 +102,30 @@ module _ (format : ℕ) (b : List ℕ) (old : Blocks) (waited : ℕ) (es : Block
   }
 
   -- the link of an index is entered
-  pub marked-index : (at : ℕ) → MarksLink format (bytes_of b) (tiles_in b) None Index (owner at at) old waited es
-      pending waiting → IsIndexNoted format b at old waited es pending waiting
+  pub marked-index : (at : ℕ) → MarksLink format (bytes_of b) (tiles_in b) None Index (owner at at) old st
+      → IsIndexNoted format b at old st
   marked-index at d = record { grown = marked-grown Index at d; noted = λ p. d.noted }
 
   -- the link of storage is entered
-  pub marked-storage : (at : ℕ) → MarksLink format (bytes_of b) (tiles_in b) None Storage (owner at at) old waited
-      es pending waiting → IsStorageNoted format b at old waited es pending waiting
+  pub marked-storage : (at : ℕ) → MarksLink format (bytes_of b) (tiles_in b) None Storage (owner at at) old
+      st → IsStorageNoted format b at old st
   marked-storage at d = record { grown = marked-grown Storage at d; noted = λ p. d.noted; paid = λ p. d.paid refl }
 
 -- ---- elements
 
 -- the elements before the i-th are entered
-pub record NotedElements (format : ℕ) (b : List ℕ) (array : ℕ) (old : Blocks) (waited seen i count : ℕ)
-    (es : Blocks) (pending : Option ℕ) (waiting visits : ℕ) : Type 0 where
-  pub done : AreElementsNoted format b array i old waited es pending waiting
+pub record NotedElements (format : ℕ) (b : List ℕ) (array : ℕ) (old : OwnerState) (seen i count : ℕ)
+    (st : OwnerState) (visits : ℕ) : Type 0 where
+  pub done : AreElementsNoted format b array i old st
   pub below : i ≤ count
   pub more : seen ≤ visits
   pub most : visits ≤ seen + 3 * i
 
-pub elements-start : (format : ℕ) (b : List ℕ) (array count seen : ℕ) (es : Blocks) (pending : Option ℕ)
-    (waiting : ℕ) → IsMarkingOf format b None es pending waiting
-    → NotedElements format b array es waiting seen 0 count es pending waiting seen
-elements-start format b array count seen es pending waiting k = record {
+pub elements-start : (format : ℕ) (b : List ℕ) (array count seen : ℕ) (st : OwnerState) → IsMarkingOf format b st
+    → NotedElements format b array st seen 0 count st seen
+elements-start format b array count seen st k = record {
   done = record {
-    grown = grown-none format b (IsElementOffset array 0) es pending waiting k;
+    grown = grown-none format b (IsElementOffset array 0) st k;
     noted = λ i l. absurd (omega arith);
   };
   below = omega arith;
@@ -135,13 +134,13 @@ elements-start format b array count seen es pending waiting k = record {
 }
 
 -- the links of elements, entered in two steps
-pub elements-on : (format : ℕ) (b : List ℕ) (array : ℕ) (old : Blocks) (waited seen i count : ℕ) (es : Blocks)
-    (pending : Option ℕ) (waiting visits : ℕ) (fs : Blocks) (p2 : Option ℕ) (w2 v2 : ℕ)
-    → NotedElements format b array old waited seen i count es pending waiting visits → i < count
-    → MarksLink format (bytes_of b) (tiles_in b) None Storage (owner (array + 16 * i) (array + 16 * i)) es waiting
-    fs p2 w2 → AddsVisits 3 visits v2
-    → NotedElements format b array old waited seen (i + 1) count fs p2 w2 v2
-elements-on format b array old waited seen i count es pending waiting visits fs p2 w2 v2 k below d v =
+pub elements-on : (format : ℕ) (b : List ℕ) (array : ℕ) (old : OwnerState) (seen i count : ℕ) (st : OwnerState) (visits
+    : ℕ) (fs : OwnerState) (v2 : ℕ)
+    → NotedElements format b array old seen i count st visits → i < count
+    → MarksLink format (bytes_of b) (tiles_in b) None Storage (owner (array + 16 * i) (array + 16 * i)) st
+    fs → AddsVisits 3 visits v2
+    → NotedElements format b array old seen (i + 1) count fs v2
+elements-on format b array old seen i count st visits fs v2 k below d v =
     let x = k.more in
     let y = k.most in
     let lo = v.0 in
@@ -149,11 +148,12 @@ elements-on format b array old waited seen i count es pending waiting visits fs 
     record {
       done = record {
         grown = grown-on format b (IsElementOffset array i) (λ p.
-            p ≡ array + 16 * i) (IsElementOffset array (i + 1)) old waited es pending waiting fs p2 w2
+            p ≡ array + 16 * i) (IsElementOffset array (i + 1)) old st fs
             (λ p h. let l = h.1 in (h.0, omega arith, h.2)) (λ p h.
-            (i, omega arith, h)) k.done.grown (marked-grown format b es waiting fs p2 w2 Storage (array + 16 * i) d);
+            (i, omega arith, h)) k.done.grown (marked-grown format b st fs Storage (array + 16 * i) d);
         noted = λ j l. elim (cases_eq j i) [
-          | inl e ↦ subst (λ x. IsMarkedLink (bytes_of b) (tiles_in b) fs Storage (array + 16 * x) (array + 16 * x))
+          | inl e ↦ subst (λ x. IsMarkedLink (bytes_of b) (tiles_in b) fs.entries Storage (array + 16 * x) (array + 16
+              * x))
               (sym e) d.noted
           | inr f ↦ (λ n h. d.keeps n _ (k.done.noted j (omega (arith, l, f)) n h))
         ];

@@ -1,5 +1,6 @@
 -- Entering a link at its block: one more owner, and nothing else.
-use Rattle.image_check.proofs.Common.{Block, Blocks, IsBlockAt, IsCountedLink, IsFollowed, IsMarkedLink, IsMarking}
+use Rattle.image_check.proofs.Common.{AreBlocks, Block, Blocks, IsBlockAt, IsCountedLink, IsFollowed, IsMarkedLink}
+use Rattle.image_check.proofs.Common.{IsMarking}
 use Rattle.image_check.proofs.Common.{IsRooted, IsSharedAt, IsSome, IsTileAt, LeadsTo, List, MarksLink, MayCount}
 use Rattle.image_check.proofs.Common.{Memory, Node, None, Option, Owner, Role, Some, Storage, Tile, [], ap, arith}
 use Rattle.image_check.proofs.Common.{block_at, cases_eq, cond, cond-false, cond-true, eqb-true, false, false≢true}
@@ -10,6 +11,7 @@ use Rattle.std.proofs.Common.{Bool}
 use Rattle.block_tags.specs.declared.tile.Role.TheVariants.{Object}
 use Rattle.image_check.specs.Owners.{IsChain, IsMember, IsWaiting, due_of}
 use mathlib.Core.Logic.{inl, inr}
+use Rattle.image_check.specs.Owners.{OwnerState}
 
 -- ---- one block in the place of another
 
@@ -80,21 +82,57 @@ frames-put n b w [] h r l = absurd (cc)
 frames-put n b w (e ∷ es) h r l =
     frames-if n e.0 e.1 b w es (set_value (nat_eq n) es w) (nat_eq n e.0) r l (λ i. frames-put n b w es i r l) h
 
+module _ (ts : List Tile) (es : Blocks) (n : ℕ) (b w : Block) (is : block_at es n ≡ Some b) where
+  abbrev replaced : Blocks
+  replaced = set_value (nat_eq n) es w
+
+  at-place : block_at replaced n ≡ Some w
+  at-place = put-same n w es (ap is_some is)
+
+  -- a block of the same role and length in its place: the blocks are still the tiles
+  pub put-blocks : w.role ≡ b.role → w.len ≡ b.len → AreBlocks ts es → AreBlocks ts replaced
+  put-blocks role len a = record {
+    tiles = λ q c g. elim (cases_eq q n) [
+      | inl f ↦
+          let there : block_at replaced q ≡ Some w = ap (block_at replaced) f ∙ at-place in
+          let same : c ≡ w = cc in
+          let t = a.tiles n b is in
+          let o : IsTileAt ts n w =
+          record { tile = t.tile; is = ap (λ r. tile_of ts r n) role ∙ t.is; len = t.len ∙ sym len } in
+          subst (IsTileAt ts q) (sym same) (subst (λ x. IsTileAt ts x w) (sym f) o)
+      | inr d ↦ a.tiles q c (sym (put-other n q w es d) ∙ g)
+    ];
+    blocks = λ q r t g.
+        let v = a.blocks q r t g in
+        elim (cases_eq q n) [
+          | inl f ↦
+              let k : block_at es q ≡ Some b = ap (block_at es) f ∙ is in
+              let h = v.is in
+              let same : b ≡ v.block = cc in
+              record {
+                block = w;
+                is = ap (block_at replaced) f ∙ at-place;
+                role_is = role ∙ ap (λ (x : Block). x.role) same ∙ v.role_is;
+                len = len ∙ ap (λ (x : Block). x.len) same ∙ v.len;
+              }
+          | inr d ↦ record { block = v.block; is = put-other n q w es d ∙ v.is; role_is = v.role_is; len = v.len }
+        ];
+  }
+
 -- the owner of a block that is no object
 pub owner-is : (b : Block) → same_role b.role Object ≡ false → owner_in (Some b) ≡ b.owner
 owner-is b e = cond-false (same_role b.role Object) None b.owner e
 
 -- ---- nothing is entered
 
-module _ (format : ℕ) (m : Memory) (ts : List Tile) (now : Option ℕ) (es : Blocks) (pending : Option ℕ)
-    (waiting : ℕ) (role : Role) (link : Owner)
-    (plain : same_role role Object ≡ false) (k : IsMarking format m ts now es pending waiting) where
-  abbrev Answer : Blocks → Option ℕ → ℕ → Type 0
-  Answer fs head count = MarksLink format m ts now role link es waiting fs head count
+module _ (format : ℕ) (m : Memory) (ts : List Tile) (now : Option ℕ) (st : OwnerState) (role : Role) (link : Owner)
+    (plain : same_role role Object ≡ false) (k : IsMarking format m ts now st) where
+  abbrev Answer : OwnerState → Type 0
+  Answer s = MarksLink format m ts now role link st s
 
-  stays : IsMarkedLink m ts es role link.at link.root
+  stays : IsMarkedLink m ts st.entries role link.at link.root
       → (role ≡ Storage → (target : ℕ) (t : Tile) → link_at m link.at ≡ Some target
-      → tile_of ts Storage target ≡ Some t → owner_at es target ≡ None → ⊥) → Answer es pending waiting
+      → tile_of ts Storage target ≡ Some t → owner_at st.entries target ≡ None → ⊥) → Answer st
   stays noted known = record {
     marking = k;
     noted = noted;
@@ -104,7 +142,7 @@ module _ (format : ℕ) (m : Memory) (ts : List Tile) (now : Option ℕ) (es : B
     paid = λ s target t l f e. absurd (known s target t l f e);
   }
 
-  pub no-link : None ≡ link_at m link.at → Answer es pending waiting
+  pub no-link : None ≡ link_at m link.at → Answer st
   no-link e = stays (λ target l. let f = l.0 in absurd (cc)) (λ s target t l. absurd (cc))
 
   module _ (target : ℕ) (points : Some target ≡ link_at m link.at) where
@@ -112,30 +150,30 @@ module _ (format : ℕ) (m : Memory) (ts : List Tile) (now : Option ℕ) (es : B
     same-target n l = cc
 
     block-there : (r : Role) (n : ℕ) (t : Tile) → link_at m link.at ≡ Some n → tile_of ts r n ≡ Some t
-        → IsBlockAt es target r t
-    block-there r n t l f = subst (λ x. IsBlockAt es x r t) (same-target n l) (k.blocks.blocks n r t f)
+        → IsBlockAt st.entries target r t
+    block-there r n t l f = subst (λ x. IsBlockAt st.entries x r t) (same-target n l) (k.blocks.blocks n r t f)
 
-    nothing-there : ((r : Role) (t : Tile) → role ≡ r → IsBlockAt es target r t → ⊥) → Answer es pending waiting
+    nothing-there : ((r : Role) (t : Tile) → role ≡ r → IsBlockAt st.entries target r t → ⊥) → Answer st
     nothing-there h = stays
         (λ n l. absurd (h role (l.1.0) refl (block-there role n (l.1.0) l.0 (l.1.1))))
         (λ s n t l f e. h Storage t s (block-there Storage n t l f))
 
     -- the result of entering a link to no block
-    pub no-block : block_at es target ≡ None → Answer es pending waiting
+    pub no-block : block_at st.entries target ≡ None → Answer st
     no-block e = nothing-there (λ r t s w. let f = w.is in absurd (cc))
 
-    module _ (b : Block) (is : block_at es target ≡ Some b) where
-      role-of : (r : Role) (t : Tile) → IsBlockAt es target r t → b.role ≡ r
+    module _ (b : Block) (is : block_at st.entries target ≡ Some b) where
+      role-of : (r : Role) (t : Tile) → IsBlockAt st.entries target r t → b.role ≡ r
       role-of r t w = let f = w.is in let same : b ≡ w.block = cc in ap (λ (x : Block). x.role) same ∙ w.role_is
 
-      pub other-role : b.role ≢ role → Answer es pending waiting
+      pub other-role : b.role ≢ role → Answer st
       other-role d = nothing-there (λ r t s w. d (role-of r t w ∙ sym s))
 
       module _ (r : b.role ≡ role) where
         plain-here : same_role b.role Object ≡ false
         plain-here = ap (λ x. same_role x Object) r ∙ plain
 
-        was-owned : owner_at es target ≡ b.owner
+        was-owned : owner_at st.entries target ≡ b.owner
         was-owned = ap owner_in is ∙ owner-is b plain-here
 
         -- ---- the link leads to the block
@@ -154,67 +192,38 @@ module _ (format : ℕ) (m : Memory) (ts : List Tile) (now : Option ℕ) (es : B
             there = k.counts target o (was-owned ∙ e);
           }
 
-          module _ (start : IsRooted ts es link) (free : b.owner ≡ None) where
+          module _ (start : IsRooted ts st.entries link) (free : b.owner ≡ None) where
             abbrev pub owned : Block
-            owned = record { role = b.role; len = b.len; owner = Some link; next = pending }
+            owned = record { role = b.role; len = b.len; owner = Some link; next = st.pending }
 
             abbrev pub after : Blocks
-            after = set_value (nat_eq target) es owned
+            after = set_value (nat_eq target) st.entries owned
 
             here : block_at after target ≡ Some owned
-            here = put-same target owned es (ap is_some is)
+            here = put-same target owned st.entries (ap is_some is)
 
-            there : (n : ℕ) → n ≢ target → block_at after n ≡ block_at es n
-            there n d = put-other target n owned es d
+            there : (n : ℕ) → n ≢ target → block_at after n ≡ block_at st.entries n
+            there n d = put-other target n owned st.entries d
 
             owner-here : owner_at after target ≡ Some link
             owner-here = ap owner_in here ∙ owner-is owned plain-here
 
-            owner-there : (n : ℕ) → n ≢ target → owner_at after n ≡ owner_at es n
+            owner-there : (n : ℕ) → n ≢ target → owner_at after n ≡ owner_at st.entries n
             owner-there n d = ap owner_in (there n d)
 
-            was-free : owner_at es target ≡ None
+            was-free : owner_at st.entries target ≡ None
             was-free = was-owned ∙ free
 
-            keeps-owner : (n : ℕ) (o : Owner) → owner_at es n ≡ Some o → owner_at after n ≡ Some o
+            keeps-owner : (n : ℕ) (o : Owner) → owner_at st.entries n ≡ Some o → owner_at after n ≡ Some o
             keeps-owner n o e = elim (cases_eq n target) [
-              | inl f ↦ let g : owner_at es n ≡ None = ap (owner_at es) f ∙ was-free in absurd (cc)
+              | inl f ↦ let g : owner_at st.entries n ≡ None = ap (owner_at st.entries) f ∙ was-free in absurd (cc)
               | inr d ↦ owner-there n d ∙ e
             ]
 
-            only-link : (n : ℕ) (o : Owner) → owner_at after n ≡ Some o → (owner_at es n ≡ Some o) ⊎ (o ≡ link)
+            only-link : (n : ℕ) (o : Owner) → owner_at after n ≡ Some o → (owner_at st.entries n ≡ Some o) ⊎ (o ≡ link)
             only-link n o e = elim (cases_eq n target) [
               | inl f ↦ let g : owner_at after n ≡ Some link = ap (owner_at after) f ∙ owner-here in inr (cc)
               | inr d ↦ inl (sym (owner-there n d) ∙ e)
-            ]
-
-            same-block : (n : ℕ) (c : Block) → n ≡ target → block_at after n ≡ Some c → c ≡ owned
-            same-block n c f e = let g : block_at after n ≡ Some owned = ap (block_at after) f ∙ here in cc
-
-            tiles-after : (n : ℕ) (c : Block) → block_at after n ≡ Some c → IsTileAt ts n c
-            tiles-after n c e = elim (cases_eq n target) [
-              | inl f ↦
-                  let w = k.blocks.tiles target b is in
-                  let o : IsTileAt ts target owned = record { tile = w.tile; is = w.is; len = w.len } in
-                  subst (λ x. IsTileAt ts n x) (sym (same-block n c f e)) (subst (λ x. IsTileAt ts x owned) (sym f) o)
-              | inr d ↦ k.blocks.tiles n c (sym (there n d) ∙ e)
-            ]
-
-            blocks-after : (n : ℕ) (r2 : Role) (t : Tile) → tile_of ts r2 n ≡ Some t → IsBlockAt after n r2 t
-            blocks-after n r2 t e = elim (cases_eq n target) [
-              | inl f ↦
-                  let w = k.blocks.blocks n r2 t e in
-                  let g : block_at es n ≡ Some b = ap (block_at es) f ∙ is in
-                  let h = w.is in
-                  let same : b ≡ w.block = cc in
-                  record {
-                    block = owned;
-                    is = ap (block_at after) f ∙ here;
-                    role_is = ap (λ (x : Block). x.role) same ∙ w.role_is;
-                    len = ap (λ (x : Block). x.len) same ∙ w.len;
-                  }
-              | inr d ↦ let w = k.blocks.blocks n r2 t e
-                  in record { block = w.block; is = there n d ∙ w.is; role_is = w.role_is; len = w.len }
             ]
 
             counts-after : (n : ℕ) (o : Owner) → owner_at after n ≡ Some o → IsCountedLink format m ts o.at n
@@ -227,7 +236,7 @@ module _ (format : ℕ) (m : Memory) (ts : List Tile) (now : Option ℕ) (es : B
               | inr d ↦ k.counts n o (sym (owner-there n d) ∙ e)
             ]
 
-            still-rooted : (o : Owner) → IsRooted ts es o → IsRooted ts after o
+            still-rooted : (o : Owner) → IsRooted ts st.entries o → IsRooted ts after o
             still-rooted o (inl h) = inl h
             still-rooted o (inr h) =
                 let w = h.0 in
@@ -250,15 +259,15 @@ module _ (format : ℕ) (m : Memory) (ts : List Tile) (now : Option ℕ) (es : B
             ]
 
             -- waiting nodes are owned, so this node is not waiting
-            waits-elsewhere : (n : ℕ) (next : Option ℕ) → IsWaiting es n next → n ≢ target
+            waits-elsewhere : (n : ℕ) (next : Option ℕ) → IsWaiting st.entries n next → n ≢ target
             waits-elsewhere n next w f =
-                let g : block_at es n ≡ Some b = ap (block_at es) f ∙ is in
+                let g : block_at st.entries n ≡ Some b = ap (block_at st.entries) f ∙ is in
                 let i = w.is in
                 let same : w.block ≡ b = cc in
                 let o : IsSome b.owner = subst (λ (x : Block). IsSome x.owner) same w.owned in
                 false≢true (ap is_some (sym free) ∙ o)
 
-            chain-after : (head : Option ℕ) (ns : List ℕ) → IsChain es head ns → IsChain after head ns
+            chain-after : (head : Option ℕ) (ns : List ℕ) → IsChain st.entries head ns → IsChain after head ns
             chain-after head [] h = h
             chain-after head (n ∷ ns) h =
                 let w = h.2 in
@@ -275,7 +284,7 @@ module _ (format : ℕ) (m : Memory) (ts : List Tile) (now : Option ℕ) (es : B
                   chain-after h.0 ns h.3,
                 )
 
-            noted-after : (r2 : Role) (at root : ℕ) → IsMarkedLink m ts es r2 at root
+            noted-after : (r2 : Role) (at root : ℕ) → IsMarkedLink m ts st.entries r2 at root
                 → IsMarkedLink m ts after r2 at root
             noted-after r2 at root h = λ n l. keeps-owner n _ (h n l)
 
@@ -296,7 +305,7 @@ module _ (format : ℕ) (m : Memory) (ts : List Tile) (now : Option ℕ) (es : B
               followed-after n o t f e = elim (cases_eq n target) [
                 | inl g ↦
                     let isnode : role ≡ Node = sym r
-                    ∙ role-of Node t (subst (λ x. IsBlockAt es x Node t) g (k.blocks.blocks n Node t f)) in
+                    ∙ role-of Node t (subst (λ x. IsBlockAt st.entries x Node t) g (k.blocks.blocks n Node t f)) in
                     inl (subst (λ x. IsMember x chain) (sym g) (new isnode))
                 | inr d ↦ elim (k.followed n o t f (sym (owner-there n d) ∙ e)) [
                   | inl s ↦ inl (longer n s)
@@ -306,15 +315,15 @@ module _ (format : ℕ) (m : Memory) (ts : List Tile) (now : Option ℕ) (es : B
               ]
 
               pub owned-now : (head : Option ℕ) (count : ℕ) → IsChain after head chain → length chain ≡ count
-                  → 6 * count ≤ 6 * waiting + visit_budget b.role b.len → (role ≡ Storage → count ≡ waiting)
-                  → Answer after head count
+                  → 6 * count ≤ 6 * st.waiting + visit_budget b.role b.len → (role ≡ Storage → count ≡ st.waiting)
+                  → Answer (record { entries = after; pending = head; waiting = count })
               owned-now head count linked long most still =
-                  let fewer = unspent_budget-put target b owned es link is free refl in
+                  let fewer = unspent_budget-put target b owned st.entries link is free refl in
                   let room = k.room in
                   record {
                     marking = record {
-                      blocks = record { tiles = tiles-after; blocks = blocks-after };
-                      frame = frames-put target b owned es is refl refl ∙ k.frame;
+                      blocks = put-blocks ts st.entries target b owned is refl refl k.blocks;
+                      frame = frames-put target b owned st.entries is refl refl ∙ k.frame;
                       aligned = k.aligned;
                       counts = counts-after;
                       rooted = rooted-after;
@@ -332,21 +341,32 @@ module _ (format : ℕ) (m : Memory) (ts : List Tile) (now : Option ℕ) (es : B
                   }
 
             -- the links of a node will be followed
-            pub node-owned : role ≡ Node → Answer after (Some target) (waiting + 1)
+            pub node-owned : role ≡ Node → Answer (record {
+              entries = after;
+              pending = Some target;
+              waiting =
+                  st.waiting + 1;
+            })
             node-owned isnode =
-                let w : IsWaiting after target pending =
+                let w : IsWaiting after target st.pending =
                 record { block = owned; is = here; node = r ∙ isnode; owned = refl; next_is = refl } in
                 let long = k.count in
                 let cost : visit_budget b.role b.len ≡ 6 = ap (λ x. visit_budget x b.len) (r ∙ isnode) in
-                owned-now (target ∷ k.chain) (λ n s. inr s) (λ e. inl refl) (Some target) (waiting + 1) (
-                  pending,
+                owned-now (target ∷ k.chain) (λ n s. inr s) (λ e. inl refl) (Some target) (st.waiting + 1) (
+                  st.pending,
                   refl,
                   w,
-                  chain-after pending k.chain k.linked,
+                  chain-after st.pending k.chain k.linked,
                 ) (omega arith) (omega arith)
                 (λ s. let f : Node ≡ Storage = sym isnode ∙ s in absurd (cc))
 
             -- no other block is
-            pub other-owned : role ≢ Node → Answer after pending waiting
+            pub other-owned : role ≢ Node → Answer (record {
+              entries = after;
+              pending = st.pending;
+              waiting =
+                  st.waiting;
+            })
             other-owned d = owned-now k.chain (λ n s. s) (λ e.
-                absurd (d e)) pending waiting (chain-after pending k.chain k.linked) k.count (omega arith) (λ s. refl)
+                absurd (d e)) st.pending st.waiting (chain-after st.pending k.chain k.linked) k.count (omega arith) (λ
+                s. refl)

@@ -1,37 +1,39 @@
 -- The links behind all values, entered in a walk over the tiles.
-use Rattle.image_check.proofs.Common.{Blocks, Contains, HasTiles, Index, IsCountedLink, IsMarkingOf, IsTileGrown}
-use Rattle.image_check.proofs.Common.{IsTrue, IsValueGrown, IsValueReady, Kind, List, Map, Memory, Node, None}
-use Rattle.image_check.proofs.Common.{EntersValues, Option, Owner, Rates, Role, Row, Scalar, Some, Storage, String}
+use Rattle.image_check.proofs.Common.{Contains, HasTiles, IsCountedLink, IsMarkingOf, IsTileGrown}
+use Rattle.image_check.proofs.Common.{IsTrue, IsValueGrown, IsValueReady, Kind, List, Memory, Node, None}
+use Rattle.image_check.proofs.Common.{EntersValues, Option, Owner, Role, Row, Some, Storage}
 use Rattle.image_check.proofs.Common.{Tile}
-use Rattle.image_check.proofs.Common.{Vector, WindowState, [], and_parts, ap, arith, bytes_of, class_at, code_before}
-use Rattle.image_check.proofs.Common.{cond, count_at, debts, false, false≢true, has_link, has_name, has_objects}
-use Rattle.image_check.proofs.Common.{has_padding, if◌then◌else◌, is_indexed, is_object_tile, is_use, is_value_in}
-use Rattle.image_check.proofs.Common.{kind_at, leb-true, length, list_all, name_before, nat_le, object_tiles, owner_at}
-use Rattle.image_check.proofs.Common.{payload, rate_of, refl, rise_by, said_row, same_role, subst, suc, sym, targets}
-use Rattle.image_check.proofs.Common.{true, unspent_budget, value_offset, values, visit_budget, weigh, ℕ, ◌&&◌, ◌*◌}
-use Rattle.image_check.proofs.Common.{◌++◌, ◌+◌, ◌-◌, ◌/◌, ◌<◌, ◌==◌, ◌∙◌, ◌∷◌, ◌≡◌, ◌≢◌, ◌≤◌, ◌⊎◌}
-use Rattle.std.proofs.Common.{Bool}
+use Rattle.image_check.proofs.Common.{WindowState, [], ap, arith, bytes_of}
+use Rattle.image_check.proofs.Common.{debts, false, false≢true, has_link, has_objects}
+use Rattle.image_check.proofs.Common.{if◌then◌else◌, is_use}
+use Rattle.image_check.proofs.Common.{kind_at, length, object_tiles, owner_at}
+use Rattle.image_check.proofs.Common.{payload, rate_of, refl, said_row, same_role, subst, suc, sym}
+use Rattle.image_check.proofs.Common.{true, value_offset, values, visit_budget, weigh, ℕ, ◌*◌}
+use Rattle.image_check.proofs.Common.{◌++◌, ◌+◌, ◌-◌, ◌/◌, ◌<◌, ◌∙◌, ◌∷◌, ◌≡◌, ◌≢◌, ◌≤◌, ◌⊎◌}
 use Rattle.std.specs.Prelude.{option_map}
 use Rattle.raw_region.specs.Format.{current}
 use Rattle.block_tags.specs.declared.tile.Role.TheVariants.{Object}
-use Rattle.seg_types.specs.declared.kinds.Kind.TheVariants.{Strings}
 use Rattle.image_check.specs.Owners.{IsStart, KeepsMarks}
 use Rattle.image_check.specs.Passes.{tiles_in}
 use Rattle.image_check.specs.Sharing.{AllElements, IsInStorage, IsLinkOffset, IsValueNoted, OfObject, object_cost}
 use Rattle.image_check.specs.Sharing.{value_rates}
 use Rattle.image_check.specs.Visits.{sharing_rates}
-use Rattle.image_check.proofs.claims.CountedFields.{Contains-Mem, Mem-Contains}
+use Rattle.image_check.proofs.claims.CountedFields.{Contains-Mem}
+use Rattle.image_check.proofs.containers.Objects.{container-room, object-good, value-mem}
 use Rattle.image_check.proofs.claims.FieldPlaces.{Lies, in-one, one-use}
 use Rattle.image_check.proofs.block_collection.Lookup.{at-all}
 use Rattle.image_check.proofs.block_collection.Places.{InRow, found, in_row}
 use Rattle.image_check.proofs.shared_blocks.Links.{grown-in}
-use Rattle.image_check.proofs.bytes.Members.{Mem, list_all_mem, mem_filter, mem_filter_map, mem_left, mem_of_filter}
+use Rattle.image_check.proofs.bytes.Members.{Mem, mem_left, mem_of_filter}
 use Rattle.image_check.proofs.bytes.Members.{mem_of_filter_map, mem_parts, mem_right}
 use Rattle.image_check.proofs.claims.ReachedLinks.{good_for-IsGood}
 use Rattle.image_check.proofs.walks.Rows.{PassesGaps, free-object, recoloured}
-use Rattle.image_check.proofs.frame.Tags.{has_tags-AreWholeTiles}
+use Rattle.image_check.proofs.frame.Tags.{image-row}
 use Rattle.image_check.proofs.walks.Tiles.{WalksAt}
+use Rattle.image_check.proofs.walks.Weights.{weigh-front, weigh-more}
 use mathlib.Core.Logic.{inl, inr}
+use Rattle.image_check.specs.Owners.{visits_due}
+use Rattle.image_check.specs.Owners.{OwnerState}
 
 -- ---- places in tiles
 
@@ -42,7 +44,7 @@ start-in b h u r at k uses d l n t e =
     let f = found current (bytes_of b) (length b) Node n t h.tags e in
     let there = f.there in
     let long = f.lies.long in
-    let row = (has_tags-AreWholeTiles current (bytes_of b) (length b) h.tags).row in
+    let row = image-row b h in
     let apart : Lies at t → ⊥ = λ x.
     d (one-use u r Node uses (subst (λ y.
     IsTrue (is_use Node y)) (in-one 128 (tiles_in b) (length b - 16) at t u row f.mem k x l) f.use_of)) in (
@@ -63,75 +65,12 @@ tile-before at (f ∷ front) here back end t a (inl e) =
     omega arith
 tile-before at (f ∷ front) here back end t a (inr h) = tile-before (at + f.len) front here back end t a.3 h
 
--- ---- the properties of valid objects
-
-room-in : (m : Memory) (kind : Kind) (count at end : ℕ) → IsTrue (has_link kind)
-    → IsTrue (is_value_in m kind count at end) → at + 24 ≤ end
-room-in m (Scalar k) count at end l h = absurd (false≢true l)
-room-in m String count at end l h = leb-true (at + 24) end (and_parts (count == 1) (nat_le (at + 24) end) h).1
-room-in m (Vector k) count at end l h = leb-true (at + 24) end (and_parts (count == 1) (nat_le (at + 24) end) h).1
-room-in m (Map k v) count at end l h = leb-true (at + 24) end (and_parts (count == 1) (nat_le (at + 24) end) h).1
-room-in m Strings count at end l h = leb-true (at + 24) end (and_parts (count == 1) (nat_le (at + 24) end) h).1
-
-abbrev value_fits : Memory → Tile → Option Kind → Bool
-value_fits m t o = elim o [
-  | None ↦ false
-  | Some k ↦ is_value_in m k (count_at m (payload t)) (value_offset m (payload t)) (t.offset + t.len)
-]
-
-fits-if : (format : ℕ) (m : Memory) (t : Tile) (c : Bool)
-    → IsTrue (cond c (value_fits m t (kind_at format m (payload t)) && has_padding m (payload t)
-    && is_indexed m (payload t)) false) → IsTrue (value_fits m t (kind_at format m (payload t)))
-fits-if format m t true h =
-    (and_parts (value_fits m t (kind_at format m (payload t))) (has_padding m (payload t))
-    (and_parts (value_fits m t (kind_at format m (payload t)) && has_padding m (payload t))
-    (is_indexed m (payload t)) h).0).0
-fits-if format m t false h = absurd (false≢true h)
-
-object-fits : (format : ℕ) (m : Memory) (ts : List Tile) (t : Tile) (kind : Kind) → has_objects format m ts ≡ true
-    → Mem t ts → IsTrue (is_use Object t) → kind_at format m (payload t) ≡ Some kind
-    → IsTrue (is_value_in m kind (count_at m (payload t)) (value_offset m (payload t)) (t.offset + t.len))
-object-fits format m ts t kind h k u e =
-    let all = first-of (list_all (is_object_tile format m) (object_tiles ts))
-    (list_all (λ at. class_at m at == 1) (targets m 32)) (list_all (λ at. class_at m at == 2) (targets m 56))
-    (rise_by (name_before m) (targets m 32)) (rise_by (code_before m) (targets m 56)) h in
-    let one = list_all_mem (is_object_tile format m) (object_tiles ts) t all (mem_filter (is_use Object) t ts k u) in
-    sym (ap (value_fits m t) e) ∙ fits-if format m t (has_name format m (payload t)) one
-  where
-    first-of : (a c d e f : Bool) → (a && c && d && e && f) ≡ true → a ≡ true
-    first-of a c d e f h =
-        (and_parts a c (and_parts (a && c) d (and_parts (a && c && d) e (and_parts (a && c && d && e) f h).0).0).0).0
-
-value-mem : (format : ℕ) (m : Memory) (ts : List Tile) (t : Tile) (kind : Kind) → Mem t ts
-    → IsTrue (is_use Object t) → kind_at format m (payload t) ≡ Some kind
-    → Contains (values format m ts) (kind, value_offset m (payload t))
-value-mem format m ts t kind k u e =
-    Mem-Contains (values format m ts) (kind, value_offset m (payload t))
-    (mem_filter_map (λ t. option_map (λ k. (k, value_offset m (payload t))) (kind_at format m (payload t))) t (
-      kind,
-      value_offset m (payload t),
-    ) (object_tiles ts) (mem_filter (is_use Object) t ts k u)
-    (ap (option_map (λ (k : Kind). (k, value_offset m (payload t)))) e))
-
 -- ---- visits
-
-weigh-push : (r : Rates) (front : List Tile) (here : Tile)
-    → weigh r (front ++ here ∷ []) ≡ weigh r front + rate_of r here.use_of * (here.len / 16)
-weigh-push r [] here = omega arith
-weigh-push r (t ∷ front) here = let l = weigh-push r front here in omega arith
-
-weigh-behind : (r : Rates) (front : List Tile) (here : Tile) (back : List Tile)
-    → weigh r front + rate_of r here.use_of * (here.len / 16) ≤ weigh r (front ++ here ∷ back)
-weigh-behind r [] here back = omega arith
-weigh-behind r (t ∷ front) here back = let l = weigh-behind r front here back in omega arith
 
 each-use : (o : Option Role) (len : ℕ) → 32 ≤ len
     → suc (if elim o [ None ↦ false | Some r ↦ same_role Object r ] then 4 else 0) ≤ rate_of value_rates o * (len / 16)
-each-use None len h = omega arith
 each-use (Some Object) len h = omega arith
-each-use (Some Index) len h = omega arith
-each-use (Some Storage) len h = omega arith
-each-use (Some Node) len h = omega arith
+each-use other len h = omega arith
 
 each-value : (t : Tile) → 32 ≤ t.len → suc (object_cost t) ≤ rate_of value_rates t.use_of * (t.len / 16)
 each-value t h = each-use t.use_of t.len h
@@ -139,11 +78,8 @@ each-value t h = each-use t.use_of t.len h
 each-visit_budget : (o : Option Role) (len : ℕ) → 32 ≤ len
     → rate_of value_rates o * (len / 16) + elim o [ None ↦ 0 | Some role ↦ visit_budget role len ]
     ≤ rate_of sharing_rates o * (len / 16)
-each-visit_budget None len h = omega arith
 each-visit_budget (Some Object) len h = omega arith
-each-visit_budget (Some Index) len h = omega arith
-each-visit_budget (Some Storage) len h = omega arith
-each-visit_budget (Some Node) len h = omega arith
+each-visit_budget other len h = omega arith
 
 row-dues : (at : ℕ) (ts : List Tile) (end : ℕ) → Row at ts end
     → weigh value_rates ts + debts ts ≤ weigh sharing_rates ts
@@ -157,12 +93,12 @@ row-dues at (t ∷ ts) end a =
 pub sharing-weigh : (b : List ℕ) → HasTiles b
     → weigh value_rates (tiles_in b) + debts (tiles_in b) ≤ weigh sharing_rates (tiles_in b)
 sharing-weigh b h = row-dues 128 (tiles_in b) (length b - 16)
-    (has_tags-AreWholeTiles current (bytes_of b) (length b) h.tags).row
+    (image-row b h)
 
 -- the entered links of a value stay entered
-pub value-keeps : (m : Memory) (ts : List Tile) (kind : Kind) (at : ℕ) (es fs : Blocks) → KeepsMarks es fs
-    → IsValueNoted m ts kind at es → IsValueNoted m ts kind at fs
-value-keeps m ts kind at es fs k d = record {
+pub value-keeps : (m : Memory) (ts : List Tile) (kind : Kind) (at : ℕ) (old st : OwnerState) → KeepsMarks old st
+    → IsValueNoted m ts kind at old.entries → IsValueNoted m ts kind at st.entries
+value-keeps m ts kind at old st k d = record {
   storage = λ h p n l. k n _ (d.storage h p n l);
   element = λ e array i p g l r n x. k n _ (d.element e array i p g l r n x);
   root = λ x v e n l. k n _ (d.root x v e n l);
@@ -180,15 +116,14 @@ module _ (t u : Tile) (e : t.offset ≡ u.offset) (f : t.len ≡ u.len) (g : t.u
   cost-same = ap object_cost (recoloured t u e f g)
 
   -- tiles that differ only in colour have the same links
-  pub grown-same : (format : ℕ) (b : List ℕ) (old : Blocks) (waited : ℕ) (es : Blocks) (pending : Option ℕ)
-      (waiting : ℕ) → IsTileGrown format b t old waited es pending waiting
-      → IsTileGrown format b u old waited es pending waiting
-  grown-same format b old waited es pending waiting d =
+  pub grown-same : (format : ℕ) (b : List ℕ) (old st : OwnerState) → IsTileGrown format b t old st
+      → IsTileGrown format b u old st
+  grown-same format b old st d =
       let black : Tile = record { offset = u.offset; len = u.len; use_of = u.use_of; red = t.red } in
-      let x = subst (λ (y : Tile). IsTileGrown format b y old waited es pending waiting) (recoloured t u e f g) d in
+      let x = subst (λ (y : Tile). IsTileGrown format b y old st) (recoloured t u e f g) d in
       record {
         grown = grown-in format b (IsLinkOffset format (bytes_of b) (tiles_in b) black)
-            (IsLinkOffset format (bytes_of b) (tiles_in b) u) old waited es pending waiting place x.grown;
+            (IsLinkOffset format (bytes_of b) (tiles_in b) u) old st place x.grown;
         noted = x.noted;
       }
     where
@@ -210,21 +145,21 @@ still-passed ts front here p (inr (inl w)) = inr (inl (w.0, mem_left w.0 front (
 still-passed ts front here p (inr (inr w)) = inr (inr w)
 
 -- the values in the passed tiles are entered
-pub record Noting (format : ℕ) (b : List ℕ) (old : Blocks) (owed seen : ℕ) (es : Blocks) (pending : Option ℕ)
-    (waiting visits : ℕ) (front : List Tile) : Type 0 where
-  pub marking : IsMarkingOf format b None es pending waiting
-  pub keeps : KeepsMarks old es
-  pub passed : (n : ℕ) (o : Owner) → owner_at es n ≡ Some o → IsPassed (tiles_in b) front o.at
+pub record Noting (format : ℕ) (b : List ℕ) (old : OwnerState) (seen : ℕ) (st : OwnerState) (visits : ℕ) (front : List
+    Tile) : Type 0 where
+  pub marking : IsMarkingOf format b st
+  pub keeps : KeepsMarks old st
+  pub passed : (n : ℕ) (o : Owner) → owner_at st.entries n ≡ Some o → IsPassed (tiles_in b) front o.at
   pub noted : (t : Tile) → Mem t front
-      → OfObject format (bytes_of b) t (λ kind at. IsValueNoted (bytes_of b) (tiles_in b) kind at es)
+      → OfObject format (bytes_of b) t (λ kind at. IsValueNoted (bytes_of b) (tiles_in b) kind at st.entries)
   pub more : seen ≤ visits
-  pub most : visits + (6 * waiting + unspent_budget es) ≤ seen + (owed + weigh value_rates front)
+  pub most : visits + (visits_due st) ≤ seen + (visits_due old + weigh value_rates front)
 
 -- before the first tile nothing is entered
-pub noting-start : (format : ℕ) (b : List ℕ) (es : Blocks) (pending : Option ℕ) (waiting seen : ℕ)
-    → IsMarkingOf format b None es pending waiting → ((n : ℕ) (o : Owner) → owner_at es n ≡ Some o → o.at < 128)
-    → Noting format b es (6 * waiting + unspent_budget es) seen es pending waiting seen []
-noting-start format b es pending waiting seen k f = record {
+pub noting-start : (format : ℕ) (b : List ℕ) (st : OwnerState) (seen : ℕ)
+    → IsMarkingOf format b st → ((n : ℕ) (o : Owner) → owner_at st.entries n ≡ Some o → o.at < 128)
+    → Noting format b st seen st seen []
+noting-start format b st seen k f = record {
   marking = k;
   keeps = λ n o e. e;
   passed = λ n o e. inl (f n o e);
@@ -234,10 +169,10 @@ noting-start format b es pending waiting seen k f = record {
 }
 
 -- a free tile is passed over
-pub noting-gap : (format : ℕ) (c : WindowState) (old : Blocks) (owed seen : ℕ) (es : Blocks) (pending : Option ℕ)
-    (waiting visits : ℕ) → PassesGaps c (Noting format c.bytes old owed seen es pending waiting visits)
-noting-gap format c old owed seen es pending waiting visits g u a =
-    let push = weigh-push value_rates a.front g in
+pub noting-gap : (format : ℕ) (c : WindowState) (old : OwnerState) (seen : ℕ) (st : OwnerState) (visits : ℕ)
+    → PassesGaps c (Noting format c.bytes old seen st visits)
+noting-gap format c old seen st visits g u a =
+    let push = weigh-more value_rates a.front g in
     let most = a.kept.most in
     record {
       marking = a.kept.marking;
@@ -260,17 +195,17 @@ record IsHere (format : ℕ) (b : List ℕ) (here : Tile) (at : ℕ) : Type 0 wh
 
 module _ (format : ℕ) (c : WindowState) (here : Tile) (h : HasTiles c.bytes)
     (good : has_objects format (bytes_of c.bytes) (tiles_in c.bytes) ≡ true)
-    (old : Blocks) (owed seen : ℕ) (es : Blocks) (pending : Option ℕ) (waiting visits : ℕ)
-    (a : WalksAt c (Noting format c.bytes old owed seen es pending waiting visits) here) where
+    (old : OwnerState) (seen : ℕ) (st : OwnerState) (visits : ℕ)
+    (a : WalksAt c (Noting format c.bytes old seen st visits) here) where
   abbrev b : List ℕ
   b = c.bytes
 
   row-of : Row 128 (tiles_in b) (length b - 16)
-  row-of = (has_tags-AreWholeTiles current (bytes_of b) (length b) h.tags).row
+  row-of = image-row b h
 
   mem-here : Mem here (tiles_in b)
   mem-here =
-      subst (Mem here) (sym (at-all c (Noting format c.bytes old owed seen es pending waiting visits) here a))
+      subst (Mem here) (sym (at-all c (Noting format c.bytes old seen st visits) here a))
       (mem_right here a.front (here ∷ a.back) (inl refl))
 
   lies-here : InRow 128 (length b - 16) here
@@ -280,8 +215,8 @@ module _ (format : ℕ) (c : WindowState) (here : Tile) (h : HasTiles c.bytes)
       → IsTrue (has_link kind) → IsHere format b here (value_offset (bytes_of b) (payload here))
   at-here kind u e l =
       let at : ℕ = value_offset (bytes_of b) (payload here) in
-      let room = room-in (bytes_of b) kind (count_at (bytes_of b) (payload here)) at (here.offset + here.len) l
-      (object-fits format (bytes_of b) (tiles_in b) here kind good mem-here u e) in
+      let room = container-room format (bytes_of b) here kind
+      (object-good format (bytes_of b) (tiles_in b) here good mem-here u) e l in
       let high = lies-here.high in
       let long = lies-here.long in
       let there : Lies at here = record { from = omega arith; to = omega arith } in
@@ -321,7 +256,7 @@ module _ (format : ℕ) (c : WindowState) (here : Tile) (h : HasTiles c.bytes)
       absurd (cc)) (record { from = omega arith; to = omega arith })
 
   -- the value of the object here was not met before
-  pub ready-here : OfObject format (bytes_of b) here (λ kind at. IsValueReady format b kind at es)
+  pub ready-here : OfObject format (bytes_of b) here (λ kind at. IsValueReady format b kind at st.entries)
   ready-here kind u e =
       let even = lies-here.whole refl in
       record {
@@ -344,9 +279,9 @@ module _ (format : ℕ) (c : WindowState) (here : Tile) (h : HasTiles c.bytes)
   pub room-here : here.offset + 32 ≤ length b
   room-here = let high = lies-here.high in let long = lies-here.long in omega arith
 
-  module _ (fs : Blocks) (p2 : Option ℕ) (w2 v2 : ℕ) (d : IsTileGrown format b here es waiting fs p2 w2)
-      (lo : visits ≤ v2) (hi : v2 + (6 * w2 + unspent_budget fs)
-      ≤ visits + (6 * waiting + unspent_budget es + suc (object_cost here))) where
+  module _ (fs : OwnerState) (v2 : ℕ) (d : IsTileGrown format b here st fs)
+      (lo : visits ≤ v2) (hi : v2 + (visits_due fs)
+      ≤ visits + (visits_due st + suc (object_cost here))) where
     place-passed : (p : ℕ) → IsLinkOffset format (bytes_of b) (tiles_in b) here p
         → IsPassed (tiles_in b) (a.front ++ here ∷ []) p
     place-passed p (inl w) =
@@ -358,19 +293,19 @@ module _ (format : ℕ) (c : WindowState) (here : Tile) (h : HasTiles c.bytes)
     place-passed p (inr w) = inr (inr w)
 
     noted-here : (t : Tile) → Mem t (a.front ++ here ∷ [])
-        → OfObject format (bytes_of b) t (λ kind at. IsValueNoted (bytes_of b) (tiles_in b) kind at fs)
+        → OfObject format (bytes_of b) t (λ kind at. IsValueNoted (bytes_of b) (tiles_in b) kind at fs.entries)
     noted-here t k kind u e = elim (mem_parts t a.front (here ∷ []) k) [
-      | inl x ↦ value-keeps (bytes_of b) (tiles_in b) kind (value_offset (bytes_of b) (payload t)) es fs
+      | inl x ↦ value-keeps (bytes_of b) (tiles_in b) kind (value_offset (bytes_of b) (payload t)) st fs
           d.grown.keeps (a.kept.noted t x kind u e)
       | inr (inl x) ↦ (subst (λ y. OfObject format (bytes_of b) y (λ kind at.
-          IsValueNoted (bytes_of b) (tiles_in b) kind at fs)) (sym x) d.noted) kind u e
+          IsValueNoted (bytes_of b) (tiles_in b) kind at fs.entries)) (sym x) d.noted) kind u e
       | inr (inr x) ↦ absurd x
     ]
 
     -- one more tile is entered
-    pub noting-on : Noting format b old owed seen fs p2 w2 v2 (a.front ++ here ∷ [])
+    pub noting-on : Noting format b old seen fs v2 (a.front ++ here ∷ [])
     noting-on =
-        let push = weigh-push value_rates a.front here in
+        let push = weigh-more value_rates a.front here in
         let cost = each-value here lies-here.long in
         let m1 = a.kept.more in
         let m2 = a.kept.most in
@@ -389,12 +324,12 @@ module _ (format : ℕ) (c : WindowState) (here : Tile) (h : HasTiles c.bytes)
 
   -- also where it was refused
   pub noting-refused : (v2 : ℕ) → visits ≤ v2
-      → v2 ≤ visits + (6 * waiting + unspent_budget es + suc (object_cost here))
-      → (seen ≤ v2) × (v2 ≤ seen + (owed + weigh value_rates (tiles_in b)))
+      → v2 ≤ visits + (visits_due st + suc (object_cost here))
+      → (seen ≤ v2) × (v2 ≤ seen + (visits_due old + weigh value_rates (tiles_in b)))
   noting-refused v2 lo hi =
-      let behind = weigh-behind value_rates a.front here a.back in
+      let behind = weigh-front value_rates a.front here a.back in
       let all = ap (weigh value_rates)
-      (at-all c (Noting format c.bytes old owed seen es pending waiting visits) here a) in
+      (at-all c (Noting format c.bytes old seen st visits) here a) in
       let cost = each-value here lies-here.long in
       let m1 = a.kept.more in
       let m2 = a.kept.most in
@@ -413,10 +348,10 @@ value-if m t kind at (Some k) e =
     (ap (λ (p : Kind × ℕ). Some p.0) f, ap (λ (p : Kind × ℕ). p.1) f)
 
 -- after the last tile all values are entered
-pub noting-end : (format : ℕ) (b : List ℕ) (old : Blocks) (owed seen : ℕ) (es : Blocks) (pending : Option ℕ)
-    (waiting visits : ℕ) → Noting format b old owed seen es pending waiting visits (tiles_in b)
-    → EntersValues format b old es pending waiting
-noting-end format b old owed seen es pending waiting visits n = record {
+pub noting-end : (format : ℕ) (b : List ℕ) (old : OwnerState) (seen : ℕ) (st : OwnerState) (visits : ℕ)
+    → Noting format b old seen st visits (tiles_in b)
+    → EntersValues format b old st
+noting-end format b old seen st visits n = record {
   marking = n.marking;
   keeps = n.keeps;
   noted = λ kind at v.
@@ -427,7 +362,7 @@ noting-end format b old owed seen es pending waiting visits n = record {
       ) (object_tiles (tiles_in b)) (Contains-Mem (values format (bytes_of b) (tiles_in b)) (kind, at) v) in
       let k = mem_of_filter (is_use Object) w.one (tiles_in b) w.mem in
       let e = value-if (bytes_of b) w.one kind at (kind_at format (bytes_of b) (payload w.one)) w.is in
-      subst (λ x. IsValueNoted (bytes_of b) (tiles_in b) kind x es) e.1 (n.noted w.one k.mem kind k.is e.0);
+      subst (λ x. IsValueNoted (bytes_of b) (tiles_in b) kind x st.entries) e.1 (n.noted w.one k.mem kind k.is e.0);
 }
 
 -- ---- one object
@@ -435,14 +370,14 @@ noting-end format b old owed seen es pending waiting visits n = record {
 -- a tile with an object: its value is entered
 pub tile-grown : (format : ℕ) (b : List ℕ) (t : Tile) (kind : Kind) (at : ℕ) → IsTrue (is_use Object t)
     → kind_at format (bytes_of b) (payload t) ≡ Some kind → at ≡ value_offset (bytes_of b) (payload t)
-    → (old : Blocks) (waited : ℕ) (es : Blocks) (pending : Option ℕ) (waiting : ℕ)
-    → IsValueGrown format b kind at old waited es pending waiting → IsTileGrown format b t old waited es pending waiting
-tile-grown format b t kind at u e there old waited es pending waiting d = record {
+    → (old st : OwnerState)
+    → IsValueGrown format b kind at old st → IsTileGrown format b t old st
+tile-grown format b t kind at u e there old st d = record {
   grown = grown-in format b (λ p. (IsTrue (has_link kind) × (p ≡ at))
-      ⊎ IsInStorage (tiles_in b) p) (IsLinkOffset format (bytes_of b) (tiles_in b) t) old waited es pending waiting
+      ⊎ IsInStorage (tiles_in b) p) (IsLinkOffset format (bytes_of b) (tiles_in b) t) old st
       place d.grown;
-  noted = λ k v f. subst (λ x. IsValueNoted (bytes_of b) (tiles_in b) k x es) there
-      (subst (λ x. IsValueNoted (bytes_of b) (tiles_in b) x at es) (same k f) d.noted);
+  noted = λ k v f. subst (λ x. IsValueNoted (bytes_of b) (tiles_in b) k x st.entries) there
+      (subst (λ x. IsValueNoted (bytes_of b) (tiles_in b) x at st.entries) (same k f) d.noted);
 }
   where
     place : (p : ℕ) → (IsTrue (has_link kind) × (p ≡ at)) ⊎ IsInStorage (tiles_in b) p

@@ -1,8 +1,8 @@
 -- The links behind a value, entered one after another.
 use Rattle.image_check.proofs.Common.{AreElementsNoted, AreTextsNoted, Blocks, Err, HasTiles, IsCountedLink}
-use Rattle.image_check.proofs.Common.{IsMarkedLink, IsMarkingOf, IsStorageNoted, IsTrue, IsValueGrown, IsValueReady}
-use Rattle.image_check.proofs.Common.{Kind, List, Map, MarksLink, MatchResult, MayCount, Node, None, Ok, Option, Result}
-use Rattle.image_check.proofs.Common.{Scalar, ScalarKind, Some, Storage, String, Tile, Vector, ap, arith, bytes_of}
+use Rattle.image_check.proofs.Common.{IsMarkedLink, IsStorageNoted, IsTrue, IsValueGrown, IsValueReady}
+use Rattle.image_check.proofs.Common.{Kind, List, Map, MarksLink, MayCount, Node, None, Ok, Option, Result}
+use Rattle.image_check.proofs.Common.{ScalarKind, Some, Storage, String, Tile, Vector, ap, arith, bytes_of}
 use Rattle.image_check.proofs.Common.{false≢true, good_for, has_link, has_storage, length, link_at, owner, payload}
 use Rattle.image_check.proofs.Common.{refl, subst, sym, tile_of, ℕ, ◌%◌, ◌*◌, ◌+◌, ◌<◌, ◌∙◌, ◌≡◌, ◌≤◌, ◌⊎◌}
 use Rattle.std.specs.Prelude.{option_map}
@@ -12,9 +12,12 @@ use Rattle.seg_types.specs.declared.kinds.Kind.TheVariants.{Strings}
 use Rattle.image_check.specs.Passes.{tiles_in}
 use Rattle.image_check.specs.Sharing.{AllElements, IsElementOffset, IsInStorage, IsStorageStart, Pays}
 use Rattle.image_check.proofs.block_collection.Places.{Found, found}
-use Rattle.image_check.proofs.shared_blocks.Links.{grown-in, grown-none, grown-on, marked-grown}
+use Rattle.image_check.proofs.shared_blocks.Links.{grown-in, grown-on, marked-grown}
 use Rattle.image_check.proofs.claims.ReachedLinks.{good_for-IsGood}
 use mathlib.Core.Logic.{inl, inr}
+use Rattle.image_check.specs.Owners.{MarksUnlessShared}
+use Rattle.image_check.specs.Owners.{visits_due}
+use Rattle.image_check.specs.Owners.{OwnerState}
 
 -- ---- the array of a vector of texts
 
@@ -92,68 +95,59 @@ module _ (b : List ℕ) (at array len : ℕ) (h : HasTiles b) (w : IsArrayAt b a
   -- all strings of the array are entered
   pub texts-noted : (format n count : ℕ) → n ≡ word_at (bytes_of b) (at + 8) → 16 * count + 16 ≤ len
       → ((i : ℕ) → i < n → 16 * i + 32 ≤ len → i < count)
-      → (old : Blocks) (waited : ℕ) (es : Blocks) (pending : Option ℕ) (waiting : ℕ)
-      → AreElementsNoted format b array count old waited es pending waiting
-      → AreTextsNoted format b at old waited es pending waiting
-  texts-noted format n count e r fits old waited es pending waiting d = record {
-    grown = grown-in format b (IsElementOffset array count) (IsInStorage (tiles_in b)) old waited es pending waiting
+      → (old st : OwnerState)
+      → AreElementsNoted format b array count old st
+      → AreTextsNoted format b at old st
+  texts-noted format n count e r fits old st d = record {
+    grown = grown-in format b (IsElementOffset array count) (IsInStorage (tiles_in b)) old st
         (λ p k. element-in k.0 count p k.1 r k.2) d.grown;
     noted = λ t i p g l k.
         let same = same-tile t g in
         let long : t.len ≡ len = ap (λ (x : Tile). x.len) same ∙ w.long in
         let there : payload t ≡ array = ap payload same ∙ w.there in
-        subst (λ x. IsMarkedLink (bytes_of b) (tiles_in b) es Storage (x + 16 * i) (x + 16 * i)) (sym there)
+        subst (λ x. IsMarkedLink (bytes_of b) (tiles_in b) st.entries Storage (x + 16 * i) (x + 16 * i)) (sym there)
         (d.noted i (fits i (omega arith) (omega arith)));
   }
 
 -- ---- values
 
-module _ (format : ℕ) (b : List ℕ) (at : ℕ) (old : Blocks) (waited : ℕ) (es : Blocks) (pending : Option ℕ)
-    (waiting : ℕ) where
-  pub scalar-value : (k : ScalarKind) → IsMarkingOf format b None old pending waited
-      → IsValueGrown format b (Scalar k) at old waited old pending waited
-  scalar-value k marking = record {
-    grown = grown-none format b (λ p. (IsTrue (has_link (Scalar k)) × (p ≡ at))
-        ⊎ IsInStorage (tiles_in b) p) old pending waited marking;
-    noted = record { storage = λ h. absurd (false≢true h); element = λ e. absurd (cc); root = λ x v e. absurd (cc) };
-  }
-
+module _ (format : ℕ) (b : List ℕ) (at : ℕ) (old st : OwnerState) where
   -- the root of a map is entered
   pub map-value : (k v : ScalarKind)
-      → MarksLink format (bytes_of b) (tiles_in b) None Node (owner at at) old waited es pending waiting
-      → IsValueGrown format b (Map k v) at old waited es pending waiting
+      → MarksLink format (bytes_of b) (tiles_in b) None Node (owner at at) old st
+      → IsValueGrown format b (Map k v) at old st
   map-value k v d = record {
     grown = grown-in format b (λ p. p ≡ at) (λ p. (IsTrue (has_link (Map k v)) × (p ≡ at))
-        ⊎ IsInStorage (tiles_in b) p) old waited es pending waiting (λ p e.
-        inl (refl, e)) (marked-grown format b old waited es pending waiting Node at d);
+        ⊎ IsInStorage (tiles_in b) p) old st (λ p e.
+        inl (refl, e)) (marked-grown format b old st Node at d);
     noted = record { storage = λ h. absurd (false≢true h); element = λ e. absurd (cc); root = λ x y e. d.noted };
   }
 
   -- the storage of a string is entered
-  pub text-value : IsStorageNoted format b at old waited es pending waiting
-      → IsValueGrown format b String at old waited es pending waiting
+  pub text-value : IsStorageNoted format b at old st
+      → IsValueGrown format b String at old st
   text-value d = record {
     grown = grown-in format b (λ p. p ≡ at) (λ p. (IsTrue (has_link String) × (p ≡ at))
-        ⊎ IsInStorage (tiles_in b) p) old waited es pending waiting (λ p e. inl (refl, e)) d.grown;
+        ⊎ IsInStorage (tiles_in b) p) old st (λ p e. inl (refl, e)) d.grown;
     noted = record { storage = λ h. d.noted; element = λ e. absurd (cc); root = λ x y e. absurd (cc) };
   }
 
   -- the storage of a vector is entered
-  pub vector-value : (k : ScalarKind) → IsStorageNoted format b at old waited es pending waiting
-      → IsValueGrown format b (Vector k) at old waited es pending waiting
+  pub vector-value : (k : ScalarKind) → IsStorageNoted format b at old st
+      → IsValueGrown format b (Vector k) at old st
   vector-value k d = record {
     grown = grown-in format b (λ p. p ≡ at) (λ p. (IsTrue (has_link (Vector k)) × (p ≡ at))
-        ⊎ IsInStorage (tiles_in b) p) old waited es pending waiting (λ p e. inl (refl, e)) d.grown;
+        ⊎ IsInStorage (tiles_in b) p) old st (λ p e. inl (refl, e)) d.grown;
     noted = record { storage = λ h. d.noted; element = λ e. absurd (cc); root = λ x y e. absurd (cc) };
   }
 
-  module _ (d : IsStorageNoted format b at old waited es pending waiting) (fs : Blocks) (p2 : Option ℕ) (w2 : ℕ)
-      (t : AreTextsNoted format b at es waiting fs p2 w2) where
+  module _ (d : IsStorageNoted format b at old st) (fs : OwnerState)
+      (t : AreTextsNoted format b at st fs) where
     -- the array of a vector of strings is entered
-    pub array-value : IsValueGrown format b Strings at old waited fs p2 w2
+    pub array-value : IsValueGrown format b Strings at old fs
     array-value = record {
       grown = grown-on format b (λ p. p ≡ at) (IsInStorage (tiles_in b)) (λ p.
-          (IsTrue (has_link Strings) × (p ≡ at)) ⊎ IsInStorage (tiles_in b) p) old waited es pending waiting fs p2 w2
+          (IsTrue (has_link Strings) × (p ≡ at)) ⊎ IsInStorage (tiles_in b) p) old st fs
           (λ p e. inl (refl, e)) (λ p h. inr h) d.grown t.grown;
       noted = record {
         storage = λ h p n l. t.grown.keeps n _ (d.noted p n l);
@@ -176,7 +170,8 @@ pub root-may : (format : ℕ) (b : List ℕ) (k v : ScalarKind) (at : ℕ) (es :
 root-may format b k v at es r = λ target l. IsCountedLink.root r.value l
 
 -- a call that adds few visits, and nothing to the due ones
-pub pays-from : {A E : Type 0} (P : A → Type 0) (Q : E → Type 0) (n : ℕ) (r : Result A E) (old owed new owes : ℕ)
-    → MatchResult r P Q → old ≤ new → new ≤ old + n → ((x : A) → P x → owes ≤ owed) → Pays n r old owed new owes
-pays-from P Q n (Ok x) old owed new owes h lo hi f = let l = f x h in (lo, omega arith)
-pays-from P Q n (Err x) old owed new owes h lo hi f = (lo, omega arith)
+pub pays-from : {A : Type 0} (P : Type 0) (format : ℕ) (b : List ℕ) (n : ℕ) (r : Result A ℕ) (old : ℕ)
+    (was : OwnerState) (new : ℕ) (s : OwnerState) → MarksUnlessShared format b P r → old ≤ new → new ≤ old + n
+    → (P → visits_due s ≤ visits_due was) → Pays n r old was new s
+pays-from P format b n (Ok x) old was new s h lo hi f = let l = f h in (lo, omega arith)
+pays-from P format b n (Err x) old was new s h lo hi f = (lo, omega arith)

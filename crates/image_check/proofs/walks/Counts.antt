@@ -1,7 +1,7 @@
 -- The counts of tiles, with one more tile.
 use Rattle.image_check.proofs.Common.{AreCounted, IsTrue, List, None, Option, Role, Some, Tile, WindowState, [], ap}
-use Rattle.image_check.proofs.Common.{arith, false, is_legal_size, is_none, is_some, length, refl, small_size, sym, ℕ}
-use Rattle.image_check.proofs.Common.{◌++◌, ◌+◌, ◌<◌, ◌^◌, ◌∙◌, ◌∷◌, ◌≡◌}
+use Rattle.image_check.proofs.Common.{arith, false, is_legal_size, is_none, is_some, length, refl, small_size}
+use Rattle.image_check.proofs.Common.{◌++◌, ◌+◌, ◌<◌, ◌^◌, ◌∷◌, ◌≡◌}
 use Rattle.image_check.specs.declared.counting.Counts.{Counts}
 use Rattle.image_check.proofs.frame.Formats.{few-free}
 use Rattle.image_check.proofs.free_tree.Meaning.{free-more, none-free}

@@ -1,6 +1,7 @@
 -- The visits for the tiles that a walk has passed.
 use Rattle.image_check.proofs.Common.{List, Rates, Tile, [], arith, rate_of, weigh, ◌*◌, ◌++◌, ◌+◌, ◌/◌, ◌∷◌, ◌≡◌, ◌≤◌}
 
+-- the visits for two lists of tiles
 pub weigh-append : (r : Rates) (xs ys : List Tile) → weigh r (xs ++ ys) ≡ weigh r xs + weigh r ys
 weigh-append r [] ys = omega arith
 weigh-append r (x ∷ xs) ys = let i = weigh-append r xs ys in omega arith

@@ -8,7 +8,7 @@ ghost use Rattle.block_tags.specs.Format.{is_legal_size};
 ghost use Rattle.seg_types.specs.Kinds.{size_of, is_spelling as is_spelling_of};
 ghost use Rattle.image_check.specs.FreeNodes.{is_target};
 ghost use Rattle.image_check.specs.MapNodes.{is_node_block, is_pair, kept_link, key_before, pair_cells, pair_len};
-ghost use Rattle.image_check.specs.MapLaws.{keys_irreflexive, keys_transitive, nothing_before, pairs_finite};
+ghost use Rattle.image_check.specs.MapLaws.{keys_irreflexive, keys_transitive, pairs_finite};
 ghost use Rattle.image_check.specs.MapLaws.{pairs_left, pairs_right};
 ghost use Rattle.image_check.specs.Owners.{block_at};
 ghost use Rattle.image_check.specs.Containers.{rooted_weight};
@@ -208,10 +208,8 @@ pub(crate) fn check_pairs(
     visits.add(2);
     let root = window.load(map.at);
     if !pairs.has_at(root) {
-        return CheckedTree {
-            nodes: None,
-            steps: 0,
-        };
+        let nodes = None;
+        return CheckedTree { nodes, steps: 0 };
     }
     let checked = check(&pairs, root);
     visits.add(5 * checked.steps);

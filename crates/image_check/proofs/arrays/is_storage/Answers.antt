@@ -13,7 +13,7 @@ are_spellings-requires-clause-in_bounds c =
     c.in-Some.block c.link-link.result c.is_table.result c.requires.tiles c.requires.blocks c.requires.mark
     c.capacity-capacity.ensures c.link-link.ensures c.in-Some.is
     (c.is_table.ensures.value (tiles_in b) c.requires.blocks
-    ∙ ap (λ n. is_table_link (tiles_in b) Storage c.link-link.result n c.capacity-capacity.result) c.size.ensures)
+    ∙ ap (λ n. is_table_link (tiles_in b) Storage c.link-link.result n c.capacity-capacity.result) c.size-each.ensures)
     c.if-not-is_table.false in
     let inside = there.inside in
     let least = mul-le-mul_left each c.if-len-capacity.false in
@@ -27,7 +27,7 @@ returns-in-Some-clause-visits c =
     c.in-Some.block c.link-link.result c.is_table.result c.requires.tiles c.requires.blocks c.requires.mark
     c.capacity-capacity.ensures c.link-link.ensures c.in-Some.is
     (c.is_table.ensures.value (tiles_in b) c.requires.blocks
-    ∙ ap (λ n. is_table_link (tiles_in b) Storage c.link-link.result n c.capacity-capacity.result) c.size.ensures)
+    ∙ ap (λ n. is_table_link (tiles_in b) Storage c.link-link.result n c.capacity-capacity.result) c.size-each.ensures)
     c.if-not-is_table.false in
     let paid = there.paid in
     let least = mul-le-mul_left each c.if-len-capacity.false in

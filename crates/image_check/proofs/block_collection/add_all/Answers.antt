@@ -1,5 +1,5 @@
+use Rattle.image_check.proofs.Common.{small_size}
 use Rattle.image_check.proofs.Common.{arith, length}
-use Rattle.image_check.proofs.block_collection.Places.{legal-small}
 use Rattle.image_check.proofs.walks.OneTile.{read-at, read-met, read-nearer}
 use Rattle.image_check.proofs.walks.Tiles.{at-within, tags-IsTiledWindow, walk-end, walk-on, walk-start}
 use Rattle.image_check.proofs.block_collection.Lookup.{Gathering, gathering-below, gathering-more, gathering-room}
@@ -21,7 +21,7 @@ add-requires-clause-max_size c =
     let w = c.args.window.now in
     let in_it = at-within w _ c.read-here.result (read-at w _ c.tiles.tile c.in-Some.unread c.read-here.result
     c.tiles.invariant c.in-Some.is c.read-here.ensures.tile) in
-    let small = legal-small (length w.bytes) c.requires.tiles.size in
+    let small = small_size (length w.bytes) c.requires.tiles.size in
     omega arith
 
 pub add-requires-clause-max_len : goal.add-requires-clause-max_len
@@ -29,7 +29,7 @@ add-requires-clause-max_len c =
     let w = c.args.window.now in
     let in_it = at-within w _ c.read-here.result (read-at w _ c.tiles.tile c.in-Some.unread c.read-here.result
     c.tiles.invariant c.in-Some.is c.read-here.ensures.tile) in
-    let small = legal-small (length w.bytes) c.requires.tiles.size in
+    let small = small_size (length w.bytes) c.requires.tiles.size in
     omega arith
 
 pub add-requires-clause-order : goal.add-requires-clause-order

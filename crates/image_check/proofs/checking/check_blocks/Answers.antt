@@ -5,7 +5,7 @@ use Rattle.image_check.specs.Fields.{is_left}
 use Rattle.image_check.specs.IndexOffsets.{IsWrongIndex}
 use Rattle.image_check.specs.ObjectOffsets.{IsFirstTile, IsWrongObject}
 use Rattle.image_check.specs.Passes.{tiles_in}
-use Rattle.image_check.specs.Visits.{both, container_rates, index_rates, object_rates, orphan_rates, sharing_rates}
+use Rattle.image_check.specs.Visits.{both, container_rates, index_rates, object_rates, used_rates, sharing_rates}
 use Rattle.image_check.proofs.budget.Visits.{spend-both, spend-less}
 use Rattle.image_check.proofs.frame.WholeCheck.{blocks-class, frame-tiles, late-container, late-index, late-none}
 use Rattle.image_check.proofs.frame.WholeCheck.{late-object, late-orphan, late-shared, of-tiles}
@@ -50,7 +50,7 @@ returns-in-Err-clause-verdict c =
 pub returns-in-Err-clause-visits : goal.returns-in-Err-clause-visits
 returns-in-Err-clause-visits c =
     spend-less c.args.window.now.bytes index_rates
-    (both object_rates (both sharing_rates (both container_rates orphan_rates))) 10 52 _ _ c.in-Err.ensures.visits
+    (both object_rates (both sharing_rates (both container_rates used_rates))) 10 52 _ _ c.in-Err.ensures.visits
 
 pub returns-in-Err-check_objects-clause-verdict : goal.returns-in-Err-check_objects-clause-verdict
 returns-in-Err-check_objects-clause-verdict c =
@@ -64,9 +64,9 @@ returns-in-Err-check_objects-clause-verdict c =
 pub returns-in-Err-check_objects-clause-visits : goal.returns-in-Err-check_objects-clause-visits
 returns-in-Err-check_objects-clause-visits c =
     let b = c.args.window.now.bytes in
-    spend-both b index_rates (both object_rates (both sharing_rates (both container_rates orphan_rates))) 10 52 _ _
+    spend-both b index_rates (both object_rates (both sharing_rates (both container_rates used_rates))) 10 52 _ _
     _ c.in_default.ensures.visits
-    (spend-less b object_rates (both sharing_rates (both container_rates orphan_rates)) 10 42 _ _
+    (spend-less b object_rates (both sharing_rates (both container_rates used_rates)) 10 42 _ _
     c.in-Err-check_objects.ensures.visits)
 
 pub returns-in-Err-check_sharing-clause-verdict : goal.returns-in-Err-check_sharing-clause-verdict
@@ -82,11 +82,11 @@ returns-in-Err-check_sharing-clause-verdict c =
 pub returns-in-Err-check_sharing-clause-visits : goal.returns-in-Err-check_sharing-clause-visits
 returns-in-Err-check_sharing-clause-visits c =
     let b = c.args.window.now.bytes in
-    spend-both b index_rates (both object_rates (both sharing_rates (both container_rates orphan_rates))) 10 52 _ _
+    spend-both b index_rates (both object_rates (both sharing_rates (both container_rates used_rates))) 10 52 _ _
     _ c.in_default.ensures.visits
-    (spend-both b object_rates (both sharing_rates (both container_rates orphan_rates)) 10 42 _ _ _
+    (spend-both b object_rates (both sharing_rates (both container_rates used_rates)) 10 42 _ _ _
     c.in_default-check_objects.ensures.visits
-    (spend-less b sharing_rates (both container_rates orphan_rates) 20 22 _ _ c.in-Err-check_sharing.ensures.visits))
+    (spend-less b sharing_rates (both container_rates used_rates) 20 22 _ _ c.in-Err-check_sharing.ensures.visits))
 
 pub returns-in-Err-check_containers-clause-verdict : goal.returns-in-Err-check_containers-clause-verdict
 returns-in-Err-check_containers-clause-verdict c =
@@ -116,13 +116,13 @@ returns-in-Err-check_orphans-clause-verdict c =
 pub returns-in-Err-check_containers-clause-visits : goal.returns-in-Err-check_containers-clause-visits
 returns-in-Err-check_containers-clause-visits c =
     let b = c.args.window.now.bytes in
-    spend-both b index_rates (both object_rates (both sharing_rates (both container_rates orphan_rates))) 10 52 _ _
+    spend-both b index_rates (both object_rates (both sharing_rates (both container_rates used_rates))) 10 52 _ _
     _ c.in_default.ensures.visits
-    (spend-both b object_rates (both sharing_rates (both container_rates orphan_rates)) 10 42 _ _ _
+    (spend-both b object_rates (both sharing_rates (both container_rates used_rates)) 10 42 _ _ _
     c.in_default-check_objects.ensures.visits
-    (spend-both b sharing_rates (both container_rates orphan_rates) 20 22 _ _ _
+    (spend-both b sharing_rates (both container_rates used_rates) 20 22 _ _ _
     c.in_default-check_sharing.ensures.visits
-    (spend-less b container_rates orphan_rates 20 2 _ _ c.in-Err-check_containers.ensures.visits)))
+    (spend-less b container_rates used_rates 20 2 _ _ c.in-Err-check_containers.ensures.visits)))
 
 pub returns-clause-verdict : goal.returns-clause-verdict
 returns-clause-verdict c =
@@ -138,13 +138,13 @@ returns-clause-verdict c =
 pub returns-clause-visits : goal.returns-clause-visits
 returns-clause-visits c =
     let b = c.args.window.now.bytes in
-    spend-both b index_rates (both object_rates (both sharing_rates (both container_rates orphan_rates))) 10 52 _ _
+    spend-both b index_rates (both object_rates (both sharing_rates (both container_rates used_rates))) 10 52 _ _
     _ c.in_default.ensures.visits
-    (spend-both b object_rates (both sharing_rates (both container_rates orphan_rates)) 10 42 _ _ _
+    (spend-both b object_rates (both sharing_rates (both container_rates used_rates)) 10 42 _ _ _
     c.in_default-check_objects.ensures.visits
-    (spend-both b sharing_rates (both container_rates orphan_rates) 20 22 _ _ _
+    (spend-both b sharing_rates (both container_rates used_rates) 20 22 _ _ _
     c.in_default-check_sharing.ensures.visits
-    (spend-both b container_rates orphan_rates 20 2 _ _ _ c.in_default-check_containers.ensures.visits
+    (spend-both b container_rates used_rates 20 2 _ _ _ c.in_default-check_containers.ensures.visits
     (c.check_orphans.ensures.visits b (frame-tiles c.args.format b c.requires.frame)
     c.in_default-check_sharing.ensures.contents.marking.frame))))
 
@@ -154,12 +154,12 @@ returns-clause-frame c = c.in_default-check_sharing.ensures.contents.marking.fra
 pub returns-in-Err-check_orphans-clause-visits : goal.returns-in-Err-check_orphans-clause-visits
 returns-in-Err-check_orphans-clause-visits c =
     let b = c.args.window.now.bytes in
-    spend-both b index_rates (both object_rates (both sharing_rates (both container_rates orphan_rates))) 10 52 _ _
+    spend-both b index_rates (both object_rates (both sharing_rates (both container_rates used_rates))) 10 52 _ _
     _ c.in_default.ensures.visits
-    (spend-both b object_rates (both sharing_rates (both container_rates orphan_rates)) 10 42 _ _ _
+    (spend-both b object_rates (both sharing_rates (both container_rates used_rates)) 10 42 _ _ _
     c.in_default-check_objects.ensures.visits
-    (spend-both b sharing_rates (both container_rates orphan_rates) 20 22 _ _ _
+    (spend-both b sharing_rates (both container_rates used_rates) 20 22 _ _ _
     c.in_default-check_sharing.ensures.visits
-    (spend-both b container_rates orphan_rates 20 2 _ _ _ c.in_default-check_containers.ensures.visits
+    (spend-both b container_rates used_rates 20 2 _ _ _ c.in_default-check_containers.ensures.visits
     (c.check_orphans.ensures.visits b (frame-tiles c.args.format b c.requires.frame)
     c.in_default-check_sharing.ensures.contents.marking.frame))))

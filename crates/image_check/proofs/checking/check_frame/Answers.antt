@@ -1,4 +1,4 @@
-use Rattle.image_check.proofs.Common.{ap, is_some, not-false, not-true, refl, sym, tag_rates, tree_rates, ◌∙◌}
+use Rattle.image_check.proofs.Common.{ap, is_some, not-false, not-true, sym, tag_rates, tree_rates, ◌∙◌}
 use Rattle.image_check.proofs.budget.Visits.{frame-raised, spend-both, tags-raised, tags-spend}
 use Rattle.image_check.proofs.frame.WholeCheck.{IsChecked, checked-frame, checked-tags, checked-tiles, checked-tree}
 use Rattle.image_check.proofs.walks.Counts.{not-given}

@@ -61,16 +61,8 @@ returns-in-Ok-clause-steps c =
     (rows-weigh b c.in-Ok.owners.blocks.entries p.tiles p.frame)
     (c.into_steps.ensures ∙ c.into_segment-segment.ensures.visits)
 
-pub returns-in-Ok-clause-tiles : goal.returns-in-Ok-clause-tiles
-returns-in-Ok-clause-tiles c =
-    let counted = c.in-Ok.ensures.pass.counted in
-    let one = c.into_segment-segment.ensures.visits in
-    let before = c.new-visits.ensures ∙ c.replace.ensures.value in
-    let after = c.into_steps.ensures in
-    omega arith
-
-pub returns-in-Ok-clause-blocks : goal.returns-in-Ok-clause-blocks
-returns-in-Ok-clause-blocks c =
+pub returns-in-Ok-clause-visits : goal.returns-in-Ok-clause-visits
+returns-in-Ok-clause-visits c =
     let p = c.in-Ok.ensures.pass in
     let counted = p.counted in
     let all = rows-count c.args.window.bytes c.in-Ok.owners.blocks.entries p.frame in
@@ -87,8 +79,8 @@ returns-in-Err-clause-opening c = λ format front.
       region = c.into_region.ensures;
     }
 
-pub returns-in-Err-clause-visits_on_error : goal.returns-in-Err-clause-visits_on_error
-returns-in-Err-clause-visits_on_error c = λ late.
+pub returns-in-Err-clause-visits : goal.returns-in-Err-clause-visits
+returns-in-Err-clause-visits c = λ late.
     let counted = c.in-Err.ensures.visits_on_error late in
     let before = c.new-visits.ensures ∙ c.replace.ensures.value in
     let after = c.into_steps-in-Err.ensures in

@@ -1,7 +1,6 @@
-use Rattle.image_check.proofs.Common.{ap, arith, bytes_of, cases_Bool, inl, inr, is_use, kind_at, sym, true}
+use Rattle.image_check.proofs.Common.{ap, arith, bytes_of, cases_Bool, has_link, inl, inr, is_use, kind_at, sym, true}
 use Rattle.image_check.proofs.Common.{value_offset, ◌+◌, ◌/◌, ◌∙◌, ◌≡◌}
 use Rattle.block_tags.specs.declared.tile.Role.TheVariants.{Object}
-use Rattle.image_check.specs.Containers.{is_scalar}
 use Rattle.image_check.proofs.containers.Weights.{below-more, below-step, rooted-all}
 use Rattle.image_check.proofs.containers.Objects.{container-room, value-behind, walk-least, walk-object}
 use Rattle.image_check.proofs.containers.is_right_tile.Goals as goal
@@ -42,12 +41,8 @@ returns-in-Some-clause-visits c before one =
     let two = c.visit-object.ensures.visits in
     let long = c.requires.position.long in
     let spent = c.is_right.ensures.visits in
-    elim (cases_Bool (is_scalar c.in-Some.kind)) [
+    elim (cases_Bool (has_link c.in-Some.kind)) [
       | inl s ↦
-          let none = c.is_right.ensures.scalar s in
-          let more = below-more t.offset (t.offset + t.len) es (omega arith) in
-          (omega arith, omega arith)
-      | inr s ↦
           let room = container-room c.args.format m t c.in-Some.kind (c.requires.well_formed.object object)
           (ap (kind_at c.args.format m) (sym c.visit-object.ensures.position) ∙ sym c.kind_of.ensures
           ∙ c.in-Some.is) s in
@@ -55,5 +50,9 @@ returns-in-Some-clause-visits c before one =
           let place : c.value.result.at ≡ value_offset m (t.offset + 16) =
           c.value.ensures ∙ ap (value_offset m) c.visit-object.ensures.position in
           let step = below-step t.offset c.value.result.at (t.offset + t.len) es (omega arith) (omega arith) in
+          (omega arith, omega arith)
+      | inr s ↦
+          let none = c.is_right.ensures.scalar s in
+          let more = below-more t.offset (t.offset + t.len) es (omega arith) in
           (omega arith, omega arith)
     ]

@@ -1,7 +1,5 @@
-use Rattle.image_check.proofs.Common.{IfErr, List, as_given, err_from_is_err_and, format_in, subst, true, ℕ, ◌≡◌}
-use Rattle.std.proofs.Common.{OnOk}
-use Rattle.image_check.specs.Opening.{is_late}
-use Rattle.image_check.specs.Passes.{CountsBlocks, CountsTiles}
+use Rattle.image_check.proofs.Common.{List, as_given, err_from_is_err_and, format_in, subst, ℕ}
+use Rattle.image_check.specs.Opening.{CountsOpening}
 use Rattle.image_check.proofs.opening.InMemory.{format_in-few, not-placed, unwritten}
 use Rattle.image_check.proofs.opening.Refusals.{opens, shown}
 use Rattle.image_check.proofs.image_open.open_bytes.Goals as goal
@@ -39,18 +37,7 @@ returns-clause-not_written c =
     unwritten (format_in c.args.versions c.args.image.now) c.args.image.now c.args.region c.args.base
     c.in_ok-window.window c.in_ok-window.ensures.placement c.open_window.result
 
-pub returns-clause-tiles : goal.returns-clause-tiles
-returns-clause-tiles c =
-    subst (λ (b : List ℕ). OnOk c.open_window.result (CountsTiles b c.args.steps.now c.open_window.new.steps))
-    c.in_ok-window.ensures.placement.bytes c.open_window.ensures.tiles
-
-pub returns-clause-blocks : goal.returns-clause-blocks
-returns-clause-blocks c =
-    subst (λ (b : List ℕ). OnOk c.open_window.result (CountsBlocks b c.args.steps.now c.open_window.new.steps))
-    c.in_ok-window.ensures.placement.bytes c.open_window.ensures.blocks
-
-pub returns-clause-visits_on_error : goal.returns-clause-visits_on_error
-returns-clause-visits_on_error c =
-    subst (λ (b : List ℕ). IfErr c.open_window.result (λ refused.
-    is_late refused.cause ≡ true → CountsTiles b c.args.steps.now c.open_window.new.steps))
-    c.in_ok-window.ensures.placement.bytes c.open_window.ensures.visits_on_error
+pub returns-clause-visits : goal.returns-clause-visits
+returns-clause-visits c =
+    subst (λ (b : List ℕ). CountsOpening b c.open_window.result c.args.steps.now c.open_window.new.steps)
+    c.in_ok-window.ensures.placement.bytes c.open_window.ensures.visits

@@ -1,8 +1,6 @@
-use Rattle.image_check.proofs.Common.{IfErr, List, arith, as_given, err_from_is_err_and, part, subst, true, ℕ, ◌≡◌}
-use Rattle.std.proofs.Common.{OnOk}
+use Rattle.image_check.proofs.Common.{List, arith, as_given, err_from_is_err_and, part, subst, ℕ}
 use Rattle.raw_region.specs.Format.{current}
-use Rattle.image_check.specs.Opening.{is_late}
-use Rattle.image_check.specs.Passes.{CountsBlocks, CountsTiles}
+use Rattle.image_check.specs.Opening.{CountsOpening}
 use Rattle.image_check.proofs.opening.InMemory.{not-placed, window-kept}
 use Rattle.image_check.proofs.opening.Refusals.{opens, shown}
 use Rattle.image_check.proofs.image_open.open_here.Goals as goal
@@ -39,18 +37,7 @@ returns-clause-not_written c =
     window-kept c.in_ok-window.window c.args.mode c.open_window.result c.args.region c.in_ok-window.ensures.not_written
     (c.open_window.ensures.opening current c.in_ok-window.ensures.search.front)
 
-pub returns-clause-tiles : goal.returns-clause-tiles
-returns-clause-tiles c =
-    subst (λ (b : List ℕ). OnOk c.open_window.result (CountsTiles b c.args.steps.now c.open_window.new.steps))
-    c.in_ok-window.ensures.search.bytes c.open_window.ensures.tiles
-
-pub returns-clause-blocks : goal.returns-clause-blocks
-returns-clause-blocks c =
-    subst (λ (b : List ℕ). OnOk c.open_window.result (CountsBlocks b c.args.steps.now c.open_window.new.steps))
-    c.in_ok-window.ensures.search.bytes c.open_window.ensures.blocks
-
-pub returns-clause-visits_on_error : goal.returns-clause-visits_on_error
-returns-clause-visits_on_error c =
-    subst (λ (b : List ℕ). IfErr c.open_window.result (λ refused.
-    is_late refused.cause ≡ true → CountsTiles b c.args.steps.now c.open_window.new.steps))
-    c.in_ok-window.ensures.search.bytes c.open_window.ensures.visits_on_error
+pub returns-clause-visits : goal.returns-clause-visits
+returns-clause-visits c =
+    subst (λ (b : List ℕ). CountsOpening b c.open_window.result c.args.steps.now c.open_window.new.steps)
+    c.in_ok-window.ensures.search.bytes c.open_window.ensures.visits

@@ -1,8 +1,6 @@
-use Rattle.image_check.proofs.Common.{IfErr, List, ReadsSource, err_from_is_err_and, format_in, read_delta, subst, sym}
-use Rattle.image_check.proofs.Common.{true, ℕ, ◌≡◌}
-use Rattle.std.proofs.Common.{OnOk}
-use Rattle.image_check.specs.Opening.{is_late}
-use Rattle.image_check.specs.Passes.{CountsBlocks, CountsTiles}
+use Rattle.image_check.proofs.Common.{List, ReadsSource, err_from_is_err_and, format_in, read_delta, subst, sym}
+use Rattle.image_check.proofs.Common.{ℕ}
+use Rattle.image_check.specs.Opening.{CountsOpening}
 use Rattle.image_check.proofs.opening.InMemory.{format_in-few}
 use Rattle.image_check.proofs.opening.Refusals.{opens, shown, unread-opens}
 use Rattle.image_check.proofs.reading.FrontAlone.{opened-reads, opened-roomy}
@@ -54,18 +52,7 @@ returns-clause-exclusive g c =
     (g.S.Source.history c.read_image.new.reader)
     (c.open_window.ensures.opening format c.in_ok-window.ensures.reading.front)
 
-pub returns-clause-tiles : goal.returns-clause-tiles
-returns-clause-tiles g c =
-    subst (λ (b : List ℕ). OnOk c.open_window.result (CountsTiles b c.args.steps.now c.open_window.new.steps))
-    c.in_ok-window.ensures.reading.bytes c.open_window.ensures.tiles
-
-pub returns-clause-blocks : goal.returns-clause-blocks
-returns-clause-blocks g c =
-    subst (λ (b : List ℕ). OnOk c.open_window.result (CountsBlocks b c.args.steps.now c.open_window.new.steps))
-    c.in_ok-window.ensures.reading.bytes c.open_window.ensures.blocks
-
-pub returns-clause-visits_on_error : goal.returns-clause-visits_on_error
-returns-clause-visits_on_error g c =
-    subst (λ (b : List ℕ). IfErr c.open_window.result (λ refused.
-    is_late refused.cause ≡ true → CountsTiles b c.args.steps.now c.open_window.new.steps))
-    c.in_ok-window.ensures.reading.bytes c.open_window.ensures.visits_on_error
+pub returns-clause-visits : goal.returns-clause-visits
+returns-clause-visits g c =
+    subst (λ (b : List ℕ). CountsOpening b c.open_window.result c.args.steps.now c.open_window.new.steps)
+    c.in_ok-window.ensures.reading.bytes c.open_window.ensures.visits

@@ -1,11 +1,12 @@
 -- The second index is entered after the first.
 use Rattle.image_check.proofs.Common.{AreBlocks, Blocks, bytes_of, inl, inr, subst, sym}
 use Rattle.image_check.specs.Passes.{tiles_in}
-use Rattle.image_check.proofs.indexes.BothIndexes.{both-entered, both-right, entries-mark, entries-unmarked}
+use Rattle.image_check.proofs.indexes.BothIndexes.{both-entered, both-right, entries-unmarked}
 use Rattle.image_check.proofs.indexes.BothIndexes.{first-entered, first-wrong, none-entered, second-wrong}
 use Rattle.image_check.proofs.indexes.EntryPlaces.{entered-right}
 use Rattle.image_check.proofs.block_collection.Lookup.{tags-blocks}
 use Rattle.image_check.proofs.indexes.check_indexes.Goals as goal
+use Rattle.image_check.proofs.block_collection.Lookup.{unmarked-marking}
 
 pub enter_index-requires-clause-blocks : goal.enter_index-requires-clause-blocks
 enter_index-requires-clause-blocks c =
@@ -70,6 +71,6 @@ returns-clause-marking c format =
     let w = c.args.window.now in
     let a = c.in_default.ensures.entry in
     let b = c.in_default-enter_index.ensures.entry in
-    entries-mark format w.bytes _ _ _ c.requires.tiles
+    unmarked-marking format w.bytes _ c.requires.tiles
     (entries-unmarked (tiles_in w.bytes) c.args.owners.now.blocks.entries c.enter_index.new.owners.blocks.entries
     c.enter_index-2.new.owners.blocks.entries _ _ c.requires.collection a.1 b.1) (cc) (cc)

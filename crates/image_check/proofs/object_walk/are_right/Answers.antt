@@ -4,7 +4,7 @@ use Rattle.image_check.proofs.Common.{inl, is_object_tile, is_right_tile, is_use
 use Rattle.image_check.proofs.Common.{rate_of, refl, said_row, sym, tiles_are_read_off, true, weigh, ℕ, ◌*◌, ◌++◌, ◌+◌}
 use Rattle.image_check.proofs.Common.{◌-◌, ◌/◌, ◌∙◌, ◌∷◌, ◌≡◌, ◌≤◌}
 use Rattle.block_tags.specs.declared.tile.Role.TheVariants.{Object}
-use Rattle.image_check.proofs.indexes.Places.{InRow, in-row}
+use Rattle.image_check.proofs.block_collection.Places.{InRow, in_row}
 use Rattle.image_check.proofs.bytes.Members.{mem_right}
 use Rattle.image_check.proofs.walks.Rows.{PassesGaps, RowAt, free-object, recoloured, row-at, rows-end, rows-on}
 use Rattle.image_check.proofs.walks.Rows.{rows-start}
@@ -53,7 +53,7 @@ place : (c : After-row-payload) → InRow 128 (length c.args.window.now.bytes - 
 place c =
     let w = c.args.window.now in
     let r = row c in
-    in-row 128 (r.at.front ++ r.here ∷ r.at.back) (length w.bytes - 16) r.here
+    in_row 128 (r.at.front ++ r.here ∷ r.at.back) (length w.bytes - 16) r.here
     (said_row w (r.at.front ++ r.here ∷ r.at.back) r.at.said) (mem_right r.here r.at.front (r.here ∷ r.at.back)
     (inl refl))
 
@@ -77,7 +77,7 @@ is_right-requires-clause-min_len c =
 pub is_right-requires-clause-in_bounds : goal.is_right-requires-clause-in_bounds
 is_right-requires-clause-in_bounds c =
     let k = (goal.at.is_right-requires-clause-in_bounds c).After-row-payload in
-    let within = (place k).within in
+    let high = (place k).high in
     let same = (row k).len in
     let len = c.tile_of-tile.ensures.len in
     let at = (row k).place in

@@ -1,12 +1,12 @@
 -- The entries lie in the tile of the index.
-use Rattle.image_check.proofs.Common.{Index, Some, arith, bytes_of, length, link_at, refl, sym, weigh, ◌*◌, ◌+◌, ◌-◌}
+use Rattle.image_check.proofs.Common.{Index, Some, arith, bytes_of, link_at, sym, weigh, ◌*◌, ◌+◌, ◌-◌}
 use Rattle.image_check.proofs.Common.{◌/◌, ◌∙◌, ◌≡◌, ◌≤◌}
 use Rattle.raw_region.specs.Memory.{word_at}
 use Rattle.image_check.specs.Passes.{tiles_in}
 use Rattle.image_check.specs.ObjectPasses.{entry_rates}
 use Rattle.image_check.proofs.indexes.EntryPlaces.{order-found}
 use Rattle.image_check.proofs.indexes.LinkOrder.{entry-among, entry-some, index-room}
-use Rattle.image_check.proofs.indexes.Places.{IsIndexRoom, in-row, rows, weigh-one}
+use Rattle.image_check.proofs.indexes.Places.{IsIndexRoom, room-inside, weigh-one}
 use Rattle.image_check.proofs.ranks.has_order.Goals.{In-Some}
 use Rattle.image_check.proofs.ranks.has_order.Goals as goal
 
@@ -20,21 +20,11 @@ room c = let b = c.args.window.now.bytes
 
 pub rise-requires-clause-aligned : goal.rise-requires-clause-aligned
 rise-requires-clause-aligned c =
-    let w = c.args.window.now in
-    let r = room (goal.at.rise-requires-clause-aligned c).In-Some in
-    let i = in-row 128 (tiles_in w.bytes) (length w.bytes - 16) r.tile (rows w c.requires.tiles) r.mem in
-    let e = i.even refl in
-    let at = r.at in
-    omega arith
+    (room-inside _ _ _ c.requires.tiles (room (goal.at.rise-requires-clause-aligned c).In-Some)).0
 
 pub rise-requires-clause-in_bounds : goal.rise-requires-clause-in_bounds
 rise-requires-clause-in_bounds c =
-    let w = c.args.window.now in
-    let r = room (goal.at.rise-requires-clause-in_bounds c).In-Some in
-    let i = in-row 128 (tiles_in w.bytes) (length w.bytes - 16) r.tile (rows w c.requires.tiles) r.mem in
-    let in_it = i.within in
-    let at = r.at in
-    let long = r.room in
+    let i = (room-inside _ _ _ c.requires.tiles (room (goal.at.rise-requires-clause-in_bounds c).In-Some)).1 in
     let count = c.header_word.ensures in
     omega arith
 

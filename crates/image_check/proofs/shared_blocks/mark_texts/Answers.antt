@@ -1,7 +1,8 @@
-use Rattle.image_check.proofs.Common.{AreElementsNoted, AreTextsNoted, IsSharedIn, arith, bytes_of, sym, ◌+◌, ◌<◌, ◌∙◌}
+use Rattle.image_check.proofs.Common.{AreElementsNoted, AreTextsNoted, arith, bytes_of, sym, ◌+◌, ◌<◌, ◌∙◌}
 use Rattle.raw_region.specs.Memory.{word_at}
 use Rattle.image_check.specs.Passes.{tiles_in}
-use Rattle.image_check.proofs.shared_blocks.Worklist.{map-ok}
+use Rattle.image_check.specs.Sharing.{state_of}
+use Rattle.image_check.proofs.shared_blocks.Worklist.{map-marked}
 use Rattle.image_check.proofs.shared_blocks.Values.{array-aligned, array-at, array-inside, array-long, texts-noted}
 use Rattle.image_check.proofs.shared_blocks.Values.{texts-starts}
 use Rattle.image_check.proofs.shared_blocks.mark_texts.Goals as goal
@@ -46,14 +47,11 @@ returns-clause-mark g c =
     let array = c.in-Some.array in
     let len = c.in-Some-good_len.len in
     let n = c.elements_in-count in
-    let o = c.args.owners.now in
-    let m = c.mark_elements.new.owners in
+    let o = state_of c.args.owners.now in
+    let m = state_of c.mark_elements.new.owners in
     let w = array-at b at array len (sym c.in-Some-good_len.is
     ∙ c.good_len.ensures.value (tiles_in b) c.requires.1.0.blocks) (sym c.in-Some.is ∙ c.link.ensures) in
-    map-ok (λ done. AreElementsNoted g.format b array n.result o.blocks.entries o.waiting m.blocks.entries m.pending
-    m.waiting)
-    (λ done. AreTextsNoted g.format b at o.blocks.entries o.waiting m.blocks.entries m.pending m.waiting)
-    (IsSharedIn g.format b) c.mark_elements.result
-    (λ x d. texts-noted b at array len c.requires.0 w g.format c.len.result n.result c.len.ensures n.ensures.room
-    n.ensures.every o.blocks.entries o.waiting m.blocks.entries m.pending m.waiting d)
-    c.mark_elements.ensures.mark
+    map-marked (AreElementsNoted g.format b array n.result o m) (AreTextsNoted g.format b at o m) g.format b
+    c.mark_elements.result
+    (texts-noted b at array len c.requires.0 w g.format c.len.result n.result c.len.ensures n.ensures.room
+    n.ensures.every o m) c.mark_elements.ensures.mark

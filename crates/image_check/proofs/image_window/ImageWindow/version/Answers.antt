@@ -1,4 +1,3 @@
-use Rattle.image_check.proofs.Common.{arith}
 use Rattle.image_check.proofs.reading.Formats.{version-part}
 use Rattle.image_check.proofs.image_window.ImageWindow.version.Goals as goal
 

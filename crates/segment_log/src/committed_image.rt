@@ -1,8 +1,6 @@
 //! The image of the last commit, kept in memory: a commit writes what changed since.
 ghost use Rattle.std.specs.Prelude.{◌≡◌, IfOk};
-ghost use Rattle.segment_log.specs.Crashes.{with_log};
-ghost use Rattle.segment_log.specs.CommittedImages.{CommitsImage, IsCommitted, PlacesCommitted};
-ghost use Rattle.segment_log.specs.Records.{zeros};
+ghost use Rattle.segment_log.specs.CommittedImages.{CommitsImage, PlacesCommitted};
 
 use crate::committing::{CommitError, checkpoint, commit};
 use crate::fingerprints::fingerprint;
@@ -31,19 +29,6 @@ pub struct CommittedImage {
 }
 
 impl CommittedImage {
-    /// Keeps the image of a file whose log is a shut gate, and nothing else.
-    pub fn new(image: Vec<u8>) -> CommittedImage
-        ensures image { result.image ≡ image }
-        ensures value { IsCommitted (with_log image.items (zeros 4096)) result }
-    {
-        let base = fingerprint(&image);
-        CommittedImage {
-            image,
-            end: 0,
-            base,
-        }
-    }
-
     /// Commits another image: writes what changed since the last commit to the log. At Ok the commit is durable. If
     /// nothing changed, nothing is written.
     ///

@@ -1,47 +1,17 @@
 -- What is kept of a file with its log, after a commit and after a checkpoint.
-use Rattle.std.proofs.Common.{◌≡◌, ◌≢◌, ◌⊎◌, ⊎_elim, inl, inr, ℕ, zero, suc, ◌<◌, ◌^◌, Bool, true, List, [], ◌++◌}
-use Rattle.std.proofs.Common.{length, take, get_or, Result, Ok, Err, refl, sym, ◌∙◌, ap, subst, arith}
-use Rattle.std.proofs.lemmas.List.{append-nil}
-use Rattle.segment_log.specs.Crashes.{LoggedFile, with_log}
-use Rattle.segment_log.specs.Records.{recovered, recovered_at, zeros, EndsShut}
+use Rattle.std.proofs.Common.{◌≡◌, ◌≢◌, ◌⊎◌, ⊎_elim, inl, inr, ℕ, zero, suc, ◌<◌, ◌^◌, true, List, []}
+use Rattle.std.proofs.Common.{length, take, Result, Ok, Err, refl, sym, ◌∙◌, ap, subst}
+use Rattle.segment_log.specs.Crashes.{LoggedFile}
 use Rattle.segment_log.specs.Edits.{applied, applied_all}
 use Rattle.segment_log.specs.Events.{LogEvent, leaves_after, seen_in_the_end}
 use Rattle.segment_log.specs.Fingerprints.{fingerprint}
 use Rattle.segment_log.specs.Openings.{IsReady, IsPayloadFor}
 use Rattle.segment_log.specs.Tags.{names_base, names_image, IsMidCommit, KeepsImage}
 use Rattle.segment_log.specs.Committing.{CommitsRecord, CrashLeaves, MakesCheckpoint}
-use Rattle.segment_log.specs.CommittedImages.{IsCommitted, EndsCommitted, CommitsImage, PlacesCommitted, EndsInFile}
+use Rattle.segment_log.specs.CommittedImages.{IsCommitted, EndsCommitted, CommitsImage, PlacesCommitted}
 use Rattle.segment_log.specs.declared.committed_image.CommittedImage.{CommittedImage}
 use Rattle.segment_log.specs.declared.committing.CommitError.{CommitError}
-use Rattle.segment_log.specs.declared.committing.CommitError.TheVariants.{OutOfMemory}
-use Rattle.segment_log.proofs.records.Pieces.{length-zeros, zero_first}
-use Rattle.segment_log.proofs.records.Reading.{recovered_shut}
-use Rattle.segment_log.proofs.tags.Named.{empty_named}
 use Rattle.segment_log.proofs.theorems.Repair.{none_at_start}
-
--- ---- a log that is a shut gate
-
-gate_zero : get_or (zeros 4096) 0 0 ≡ 0
-gate_zero = ap (λ (l : List ℕ). get_or l 0 0) (sym (append-nil (zeros 4096))) ∙ zero_first 4096 [] (omega arith)
-
-no_record : recovered (zeros 4096) ≡ []
-no_record = recovered_shut 4096 (zeros 4096) (λ is. absurd (omega (arith, is, gate_zero)))
-
-ends_shut : EndsShut 4096 (zeros 4096) 0
-ends_shut = record {
-  prefix = λ tail. ap (λ (ps : List (List ℕ)). ps ++ recovered_at 4096 tail) (sym no_record);
-  room = omega (arith, length-zeros 4096);
-  shut = λ is. absurd (omega (arith, is, gate_zero));
-  marked = λ some. absurd (omega arith);
-}
-
--- a file whose log is a shut gate stands for its bytes
-pub begun : (image : List ℕ) → IsReady (with_log image (zeros 4096)) 0 image
-begun image = record {
-  ends = ends_shut;
-  own = empty_named (with_log image (zeros 4096)) no_record;
-  stands = ap (λ (ps : List (List ℕ)). applied_all ps image) no_record;
-}
 
 -- ---- calls that asked for nothing
 

@@ -49,17 +49,18 @@ impl Object {
         if wanted != own {
             return Err(Refusal::WrongKind);
         }
-        Ok(self.own_container())
+        Ok(Place {
+            handle: self.handle,
+            at: self.value_at(),
+        })
     }
 
     /// Returns the place of its container, if it has one.
     pub(crate) fn own_container(self) -> Place
         ensures { result ≡ container_of self }
     {
-        Place {
-            handle: self.handle,
-            at: self.value_at(),
-        }
+        let (handle, at) = (self.handle, self.value_at());
+        Place { handle, at }
     }
 
     /// Returns the place of its element at an index.

@@ -2,7 +2,6 @@
 ghost use Rattle.std.specs.Prelude.{◌≡◌, OnErr};
 ghost use Rattle.seg_types.specs.Commands.{Lookup, Put, Remove, literal_of};
 ghost use Rattle.seg_types.specs.declared.kinds.Kind.TheVariants.{Map as MapOf};
-ghost use Rattle.segment_manager.specs.containers.Contents.{container_at};
 ghost use Rattle.segment_manager.specs.containers.Maps.{pair_above, pair_at_end, pair_below, pair_from};
 ghost use Rattle.segment_manager.specs.containers.Maps.{pair_result};
 ghost use Rattle.segment_manager.specs.State.{AnswersWith, AnswersQueryOfKind, TakesStepOfKind, truth_answer};
@@ -10,13 +9,10 @@ ghost use Rattle.segment_manager.specs.{containers.Maps.pair_up_to, containers.M
 ghost use Rattle.segment_manager.specs.{containers.Maps.value_answer, containers.Walks.pair_past};
 ghost use Rattle.segment_manager.specs.Keeping.{ChangesValue, UnchangedWhere, LacksPair};
 
-use crate::bound::maps::Map;
+use crate::bound::maps::{Map, MapMut};
 use crate::objects::object_ref::ObjectRef;
 use crate::segment::Segment;
-use raw_region::Steps;
-use seg_map::{Place, SegMap};
-use seg_types::theorems::holds_value;
-use seg_types::{Kind, Refusal, Scalar};
+use seg_types::{Refusal, Scalar};
 
 impl Segment {
     /// Looks `at` up in the map and returns its value, or `None` if the map lacks it. The map's types must match.
@@ -184,16 +180,7 @@ impl Segment {
         ensures refused { OnErr result (self.new ≡ self.old) }
         ensures overwrite { ChangesValue self.old self.new (O.key key.now) K.kind (K.whole at) V.kind }
     {
-        if self.is_read_only() {
-            return Err(Refusal::ReadOnly);
-        }
-        holds_value(at);
-        holds_value(value);
-        let place = self.find_map::<K, V, O>(key)?;
-        match SegMap::<K, V>::at(place).put(&mut self.heap, at, value, &mut Steps::new()) {
-            Err(_) => Err(Refusal::NoSpace),
-            Ok(new) => Ok(new),
-        }
+        MapMut::<K, V>::of(self, key)?.insert(at, value)
     }
 
     /// Erases the map key `at`, frees its block, and returns true if the map had it. The map's types must match. All
@@ -216,19 +203,6 @@ impl Segment {
         ensures refused { OnErr result (self.new ≡ self.old) }
         ensures absent { UnchangedWhere self.old self.new (LacksPair (O.key key.now) (K.whole at)) }
     {
-        if self.is_read_only() {
-            return Err(Refusal::ReadOnly);
-        }
-        holds_value(at);
-        let place = self.find_map::<K, V, O>(key)?;
-        Ok(SegMap::<K, V>::at(place).erase(&mut self.heap, at, &mut Steps::new()))
-    }
-
-    /// Returns the place of a map of the types.
-    fn find_map<K: Scalar, V: Scalar, O: ObjectRef>(&self, key: &O) -> Result<Place, Refusal>
-        requires { O.stands key.now self.now }
-        ensures { AnswersWith self.now (λ d. container_at d (O.key key.now) (MapOf K.kind V.kind)) result }
-    {
-        self.find_container(key, Kind::Map(K::kind(), V::kind()))
+        Ok(MapMut::<K, V>::of(self, key)?.erase(at))
     }
 }

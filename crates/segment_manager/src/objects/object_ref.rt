@@ -49,18 +49,17 @@ impl Object {
         if wanted != own {
             return Err(Refusal::WrongKind);
         }
-        Ok(Place {
-            handle: self.handle,
-            at: self.value_at(),
-        })
+        Ok(self.own_container())
     }
 
     /// Returns the place of its container, if it has one.
     pub(crate) fn own_container(self) -> Place
         ensures { result ≡ container_of self }
     {
-        let (handle, at) = (self.handle, self.value_at());
-        Place { handle, at }
+        Place {
+            handle: self.handle,
+            at: self.value_at(),
+        }
     }
 
     /// Returns the place of its element at an index.

@@ -1,6 +1,6 @@
 -- The key is erased from the map that is found. The segment ends as the bound map leaves it.
 use Rattle.segment_manager.proofs.Common.{◌≡◌, refl, rules, subst, sym, Map, Ok, Remove, SegmentState, TakesStepOfKind}
-use Rattle.segment_manager.proofs.Common.{exit-is, literal_of, truth_answer, Refused, UnchangedWhere}
+use Rattle.segment_manager.proofs.Common.{exit-is, OnErr, literal_of, truth_answer, Refused, UnchangedWhere}
 use Rattle.segment_manager.proofs.bound.ByKey.{keeps, takes}
 use Rattle.segment_manager.proofs.segment.Segment.map_erase.Goals as goal
 use Rattle.segment_manager.specs.Keeping.{LacksPair}
@@ -10,7 +10,9 @@ returns-in_err-self-clause-step g c = rw (exit-is c.from_residual.result _ c.fro
     (λ (u : SegmentState). TakesStepOfKind c.args.self.now u (g.O.ObjectRef.key c.args.key.now) (Map g.K.Scalar.kind
     g.V.Scalar.kind) (Remove (g.O.ObjectRef.key c.args.key.now) (literal_of g.K.Scalar.kind (g.K.Scalar.whole
     c.args.at)))
-    (Refused c.in_err-self.field-0.0)) (sym c.of.follows.holds-at-none)
+    (Refused c.in_err-self.field-0.0)) (sym (subst (λ r. OnErr r (c.of.follows.lender-at-none ≡ c.args.self.now))
+    c.in_err-self.was
+    c.of.follows.holds-at-none))
     (c.in_err-self.ensures.location.refused (Remove (g.O.ObjectRef.key c.args.key.now) (literal_of g.K.Scalar.kind
     (g.K.Scalar.whole c.args.at))) refl))
 

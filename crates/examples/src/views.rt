@@ -1,8 +1,8 @@
 //! Views: each looks its object up once, and then needs no name. Boost: the pointer that `find` and `construct` return.
 use anyhow::Result;
 use zaluxhoni::{
-    ArrayView, Disk, MapView, Name, Refusal, Segment, SegmentFile, StringView, StringsView,
-    VectorView, named,
+    ArrayView, Disk, Map, MapMut, MapRanges, Name, Refusal, Segment, SegmentFile, StringView,
+    StringsView, VectorView, named,
 };
 
 /// Puts numbers into a queue, and takes some out.
@@ -39,17 +39,17 @@ fn change_an_array(segment: &mut Segment, name: &Name) -> Result<u8, Refusal> {
 }
 
 /// Puts a year for each of three numbers into a map, and erases one.
-fn record_years(years: &mut MapView<'_, i32, i64>) -> Result<(), Refusal> {
+fn record_years(years: &mut MapMut<'_, i32, i64>) -> Result<(), Refusal> {
     years.insert(1, 1972)?;
     years.insert(2, 1978)?;
-    let same = years.get(2)?.unwrap_or(0);
+    let same = years.read().get(2).unwrap_or(0);
     years.insert(3, same)?;
-    years.erase(1)?;
+    years.erase(1);
     Ok(())
 }
 
 /// Adds up the years of the numbers from 2 to 9.
-fn add_up_years(years: &MapView<'_, i32, i64>) -> i64 {
+fn add_up_years(years: &Map<'_, i32, i64>) -> i64 {
     let mut sum = 0i64;
     for (_number, year) in years.range(2..=9) {
         sum = sum.saturating_add(year);
@@ -60,13 +60,13 @@ fn add_up_years(years: &MapView<'_, i32, i64>) -> i64 {
 /// Makes a map of years. Returns its first pair, the next pair after the number 3, and the sum of the years.
 fn look_into_a_map(segment: &mut Segment, name: &Name) -> Result<([Option<(i32, i64)>; 2], i64)> {
     segment.construct_map::<i32, i64, _>(name)?;
-    let mut years = MapView::<i32, i64>::of(segment, name)?;
-    record_years(&mut years)?;
-    Ok(([years.first()?, years.next_after(3)?], add_up_years(&years)))
+    record_years(&mut MapMut::of(segment, name)?)?;
+    let years = Map::of(segment, name)?;
+    Ok(([years.iter().next(), years.next_after(3)], add_up_years(&years)))
 }
 
 /// Prints the last two pairs of the map, the last one first.
-fn tell_the_last(rt: &HostRuntime, years: &MapView<'_, i32, i64>) -> Result<()> {
+fn tell_the_last(rt: &HostRuntime, years: &Map<'_, i32, i64>) -> Result<()> {
     for (number, year) in years.range(..=9).rev().take(2) {
         println!(rt; "views: going back, number {number} is of {year}")?;
     }
@@ -112,7 +112,7 @@ fn view_a_map(rt: &HostRuntime, segment: &mut Segment) -> Result<()> {
     let flag = change_an_array(segment, &flags)?;
     let (ends, sum) = look_into_a_map(segment, &years)?;
     println!(rt; "views: a flag {flag}, in the map {ends:?}, and {sum} in all")?;
-    tell_the_last(rt, &MapView::of(segment, &years)?)
+    tell_the_last(rt, &Map::of(segment, &years)?)
 }
 
 /// Shows a view of a string, and one of a vector of strings.

@@ -3,7 +3,8 @@ use crate::bench::Bench;
 use crate::checks::{done, same};
 use crate::segments::fresh;
 use seg_types::{Key, NewKey, Refusal};
-use segment_views::{ArrayView, MapView, StringsView, VectorView};
+use segment_manager::Map;
+use segment_views::{ArrayView, MapRanges, StringsView, VectorView};
 use std::ops::RangeBounds;
 use std::process::Abort;
 
@@ -73,15 +74,15 @@ fn texts_of_a_list(rt: HostRuntime) {
     bench.ends(&rt);
 }
 
-/// Returns a view of a map with the keys -2, 4 and 6.
-fn pairs<'a>(rt: &impl Abort, bench: &'a mut Bench) -> MapView<'a, i64, u8> {
+/// Returns a map with the keys -2, 4 and 6.
+fn pairs<'a>(rt: &impl Abort, bench: &'a mut Bench) -> Map<'a, i64, u8> {
     let segment = &mut bench.segment;
     let made = segment.construct_map::<i64, u8, _>(&NewKey::Anonymous);
     same(rt, made, Ok(144));
     for (key, value) in [(6i64, 60u8), (-2, 20), (4, 40)] {
         same(rt, segment.map_put(&MADE, key, value), Ok(true));
     }
-    done(rt, MapView::of(segment, &MADE))
+    done(rt, Map::of(segment, &MADE))
 }
 
 const FIRST: Option<(i64, u8)> = Some((-2, 20));
@@ -93,18 +94,18 @@ const LAST: Option<(i64, u8)> = Some((6, 60));
 #[test]
 fn pairs_are_counted_and_found(rt: HostRuntime) {
     let mut bench = fresh(&rt);
-    let view = pairs(&rt, &mut bench);
-    same(&rt, view.len(), Ok(3));
-    same(&rt, view.first_from(5), Ok(LAST));
-    same(&rt, view.last(), Ok(LAST));
+    let map = pairs(&rt, &mut bench);
+    same(&rt, map.len(), 3);
+    same(&rt, map.first_from(5), LAST);
+    same(&rt, map.last(), LAST);
     bench.ends(&rt);
 }
 
 #[test]
 fn pairs_come_from_both_ends(rt: HostRuntime) {
     let mut bench = fresh(&rt);
-    let view = pairs(&rt, &mut bench);
-    let mut left = view.iter();
+    let map = pairs(&rt, &mut bench);
+    let mut left = map.iter();
     let ends = [left.next_back(), left.next(), left.next_back()];
     same(&rt, ends, [LAST, FIRST, SECOND]);
     same(&rt, left.next(), None);
@@ -113,17 +114,17 @@ fn pairs_come_from_both_ends(rt: HostRuntime) {
 }
 
 /// Returns the last pair of a range.
-fn last_in<R: RangeBounds<i64>>(view: &MapView<'_, i64, u8>, range: R) -> Option<(i64, u8)> {
-    view.range(range).next_back()
+fn last_in<R: RangeBounds<i64>>(map: &Map<'_, i64, u8>, range: R) -> Option<(i64, u8)> {
+    map.range(range).next_back()
 }
 
 #[test]
 fn a_range_is_read_backwards(rt: HostRuntime) {
     let mut bench = fresh(&rt);
-    let view = pairs(&rt, &mut bench);
-    same(&rt, last_in(&view, 4..6), SECOND);
-    same(&rt, last_in(&view, 4..=6), LAST);
-    same(&rt, last_in(&view, ..5), SECOND);
-    same(&rt, last_in(&view, 5..6), None);
+    let map = pairs(&rt, &mut bench);
+    same(&rt, last_in(&map, 4..6), SECOND);
+    same(&rt, last_in(&map, 4..=6), LAST);
+    same(&rt, last_in(&map, ..5), SECOND);
+    same(&rt, last_in(&map, 5..6), None);
     bench.ends(&rt);
 }

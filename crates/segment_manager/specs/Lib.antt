@@ -15,3 +15,4 @@ pub mod blocks
 pub mod Relocating
 pub mod Staying
 pub mod Parts
+pub mod Bounds

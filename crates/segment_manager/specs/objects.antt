@@ -1,6 +1,7 @@
 -- Objects of all kinds.
 pub mod Found
 pub mod Located
+pub mod BoundObjects
 pub mod Heads
 pub mod NewObjects
 pub mod Items

@@ -14,6 +14,7 @@
 #![tactic(auto)]
 
 mod blocks;
+mod bound;
 mod containers;
 mod creating;
 mod errors;
@@ -27,6 +28,8 @@ pub mod unchecked;
 
 pub use blocks::tiles::TileInfo;
 pub use blocks::walking_tiles::Tiles;
+pub use bound::maps::{Map, MapMut, Pairs};
+pub use bound::{Bound, BoundContent, BoundMut};
 pub use containers::element_runs::ElementRun;
 pub use containers::fillings::{
     NewMap, NewNumbers, NewString, NewTexts, NewVector, ObjectInit, ObjectShape,

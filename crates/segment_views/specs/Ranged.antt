@@ -1,16 +1,13 @@
 -- The pairs of a map whose keys lie between two bounds, one after another, from both ends.
-use Rattle.std.specs.Prelude.{◌≡◌, ℕ, ◌≤◌, ℤ, int_le, int_lt, Bool, true, ◌&&◌, Option, Some, None, Result, Ok, Err}
+use Rattle.std.specs.Prelude.{◌≡◌, ℕ, ◌≤◌, ℤ, int_le, int_lt, Bool, true, ◌&&◌, Option, Some, None}
 use Rattle.std.specs.Prelude.{List, [], ◌∷◌, ◌++◌, filter, length, map, reverse, slice_get}
 use Rattle.std.specs.declared.ops.Bound.{Bound}
 use Rattle.std.specs.declared.ops.Bound.TheVariants.{Included, Excluded, Unbounded}
 use Rattle.seg_types.specs.declared.kinds.ScalarKind.{ScalarKind}
-use Rattle.seg_types.specs.declared.refusals.Refusal.{Refusal}
 use Rattle.seg_types.specs.Names.{Key}
 use Rattle.seg_map.specs.Numbers.{NumberPair}
 use Rattle.seg_map.specs.Places.{item_of}
-use Rattle.segment_manager.specs.declared.objects.object_ref.Object.{Object as Located}
 use Rattle.segment_manager.specs.Directory.{Directory}
-use Rattle.segment_manager.specs.objects.Located.{IsObject}
 use Rattle.segment_manager.specs.State.{SegmentState, DenotesCurrent}
 use Rattle.segment_manager.specs.containers.Walks.{pairs_at_kinds}
 
@@ -79,14 +76,6 @@ pub record GoesBackPairs {A : Type 0} (k v : ScalarKind) (seen : A
   pub pairs : (d : Directory) → DenotesCurrent old.segment.cut.bytes d
       → TakesLast seen item (pairs_left k v d old) (pairs_left k v d new)
 
--- the object is there, and this many pairs are left at most
-pub record IsPairWalk (k v : ScalarKind) (o : Located) (w : PairWalk) : Type 0 where
-  pub live : IsObject o w.segment
+-- this many pairs are left at most
+pub record IsPairWalk (k v : ScalarKind) (w : PairWalk) : Type 0 where
   pub few : (d : Directory) → DenotesCurrent w.segment.cut.bytes d → length (pairs_left k v d w) ≤ w.left
-
--- ---- what is read
-
--- a pair, or none if the reading is refused
-abbrev pub pair_or_none : {A : Type 0} → Result (Option A) Refusal → Option A
-pair_or_none (Ok r) = r
-pair_or_none (Err why) = None

@@ -14,7 +14,7 @@ mod views;
 
 pub use arrays::{Array, ArrayItems, ArrayView};
 pub use elements::{SliceItems, TextItems};
-pub use maps::{MapView, Pairs};
+pub use maps::MapRanges;
 pub use ranges::MapItems;
 pub use slices::{Slice, Storage};
 pub use string_lists::{StringsView, Texts};

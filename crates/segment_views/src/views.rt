@@ -37,7 +37,6 @@ impl<'a, C: ViewContent> View<'a, C> {
     ///
     /// Examples: `let mut queue = VectorView::<i64>::of(&mut segment, &name)?`,
     /// `let mut flags = ArrayView::<u8>::of(&mut segment, &name)?`,
-    /// `let mut years = MapView::<i32, i64>::of(&mut segment, &name)?`,
     /// `let mut title = StringView::of(&mut segment, &name)?`,
     /// `let mut lines = StringsView::of(&mut segment, &name)?`.
     ///

@@ -45,10 +45,10 @@ pub use segment_disk::{Disk, HostDisk, HostLock};
 pub use segment_file::{CommitFault, FileError, SegmentFile, check, migrate, read};
 pub use segment_manager::{
     AnonymousInstance, ConstructKey, CreateError, CreateRefused, FindOrConstructKey, Instance,
-    Instances, Mode, Names, ObjectRef, Objects, RelocateRefused, Segment, TileInfo, Tiles,
-    UniqueInstance,
+    Instances, Map, MapMut, Mode, Names, ObjectRef, Objects, RelocateRefused, Segment, TileInfo,
+    Tiles, UniqueInstance,
 };
 pub use segment_views::{
-    ArrayItems, ArrayView, MapItems, MapView, StringView, StringsView, TextItems, VectorItems,
+    ArrayItems, ArrayView, MapItems, MapRanges, StringView, StringsView, TextItems, VectorItems,
     VectorView,
 };

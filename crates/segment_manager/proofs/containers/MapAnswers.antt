@@ -8,11 +8,12 @@ use Rattle.segment_manager.proofs.Common.{answer_of_map, value_or_absent, Answer
 use Rattle.segment_manager.proofs.Common.{SegmentState, is_read_only, List, NumberPair, int_lt, item_of, truth_answer}
 use Rattle.segment_manager.proofs.containers.MapCalls.{TellsSafely, map-erased, map-got, map-put, map-told, put_result}
 use Rattle.segment_manager.proofs.{containers.MapCalls.stands-map, containers.ToChange.seen-found}
-use Rattle.segment_manager.proofs.containers.PairNumbers.{IsScalarOf, erases-numbers, finds-back, finds-item}
-use Rattle.segment_manager.proofs.containers.PairNumbers.{finds-last, finds-value, puts-numbers, some-map}
+use Rattle.segment_manager.proofs.containers.PairNumbers.{IsScalarOf, counts-numbers, erases-numbers, finds-back}
+use Rattle.segment_manager.proofs.containers.PairNumbers.{finds-item, finds-last, finds-value, puts-numbers, some-map}
 use Rattle.segment_manager.proofs.containers.Safely.{answered, Answered}
 use Rattle.best_fit.specs.declared.places.Place.{Place}
-use Rattle.seg_map.specs.Places.{last_pair}
+use Rattle.seg_map.specs.{Changing.CountsPairs, Places.last_pair}
+use Rattle.std.proofs.Common.{ℕ, length}
 use Rattle.segment_manager.specs.{containers.Maps.IsPairs, containers.Walks.pair_past}
 
 -- a key that is a value is a number of its kind
@@ -67,6 +68,12 @@ module _ {K V : Type 0} {k v : ScalarKind} {kp : Plain K} {vp : Plain V} {kw : K
   pub last-there : (r : Option (K × V)) → FindsLastItem kp vp s.cut.bytes q.handle q.at r
       → AnswersWith t (λ d. answer_of_map d key k v pair_at_end) (Ok (numbers_in kw vw r))
   last-there r each = told-there pair_at_end r (finds-last kl vl s.cut.bytes q.handle q.at r each)
+
+  -- the number of pairs is the directory's
+  pub counted-there : (n : ℕ) → CountsPairs kp vp s.cut.bytes q.handle q.at n
+      → AnswersWith t (λ d. answer_of_map d key k v length) (Ok n)
+  counted-there n each = subst (λ (u : SegmentState). AnswersWith u (λ d. answer_of_map d key k v length) (Ok n)) view
+      (map-told s key k v q b found-there length n (counts-numbers kl vl s.cut.bytes q.handle q.at n each))
 
   -- ---- changes
 

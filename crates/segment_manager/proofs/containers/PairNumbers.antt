@@ -8,11 +8,11 @@ use common.{put_pair, FindsItem, IsSomeMap, ℕ, MatchResult, option_map, length
 use common.{remove_pair, FindsLastItem, value_of_pair, ℤ, ScalarKind, ChangesBytes, OverwritesPair, is_rising}
 use common.{NumberPair, FindsValue, first_pair, numbers_in, numbers_of, Option, Result, IsTrue, int_lt, current}
 use common.{LiveSet, live_of, size_of, pair_at, HoldsMap, IsPairIn, item_of, if◌then◌else◌, MatchOption, AllByRecursion}
-use common.{IsNumberPairAt, is_number_pair, FindsItemBefore, nodes_of_pairs}
+use common.{IsNumberPairAt, is_number_pair, FindsItemBefore, nodes_of_pairs, length}
 use Rattle.raw_region.proofs.Facts.{first, second}
 use mathlib.Core.List.{reverse}
 use Rattle.seg_map.specs.Places.{final_pair, is_passed, last_pair}
-use Rattle.seg_map.specs.{Changing.FreesAllPairs, Map.IsPairAt, Map.Pair, Map.is_pair}
+use Rattle.seg_map.specs.{Changing.CountsPairs, Changing.FreesAllPairs, Map.IsPairAt, Map.Pair, Map.is_pair}
 use Rattle.seg_map.proofs.Laws.{last_mapped, map_reversed}
 
 -- the laws of a type for its values and their numbers
@@ -255,6 +255,10 @@ module _ {K V : Type 0} {k v : ScalarKind} {kp : Plain K} {vp : Plain V} {kw : K
     pub finds-last : (r : Option (K × V)) → FindsLastItem kp vp b h at r
         → FindsLastItem (numbers_of k) (numbers_of v) b h at (numbers_in kw vw r)
     finds-last = finds final_pair final_pair (λ ps. last_mapped number_pair None ps)
+
+    -- the number of pairs is the number of pairs of numbers
+    pub counts-numbers : (n : ℕ) → CountsPairs kp vp b h at n → CountsPairs (numbers_of k) (numbers_of v) b h at n
+    counts-numbers n each = of-values (λ qs. n ≡ length qs) (λ ps s. each ps s ∙ sym (length-map ps number_pair))
 
   -- ---- the effect of calls
 

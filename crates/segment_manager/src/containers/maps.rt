@@ -2,7 +2,6 @@
 ghost use Rattle.std.specs.Prelude.{◌≡◌, OnErr};
 ghost use Rattle.seg_types.specs.Commands.{Lookup, Put, Remove, literal_of};
 ghost use Rattle.seg_types.specs.declared.kinds.Kind.TheVariants.{Map as MapOf};
-ghost use Rattle.segment_manager.specs.containers.Contents.{container_at};
 ghost use Rattle.segment_manager.specs.containers.Maps.{pair_above, pair_at_end, pair_below, pair_from};
 ghost use Rattle.segment_manager.specs.containers.Maps.{pair_result};
 ghost use Rattle.segment_manager.specs.State.{AnswersWith, AnswersQueryOfKind, TakesStepOfKind, truth_answer};
@@ -10,12 +9,10 @@ ghost use Rattle.segment_manager.specs.{containers.Maps.pair_up_to, containers.M
 ghost use Rattle.segment_manager.specs.{containers.Maps.value_answer, containers.Walks.pair_past};
 ghost use Rattle.segment_manager.specs.Keeping.{ChangesValue, UnchangedWhere, LacksPair};
 
+use crate::bound::maps::{Map, MapMut};
 use crate::objects::object_ref::ObjectRef;
 use crate::segment::Segment;
-use raw_region::Steps;
-use seg_map::{Place, SegMap};
-use seg_types::theorems::holds_value;
-use seg_types::{Kind, Refusal, Scalar};
+use seg_types::{Refusal, Scalar};
 
 impl Segment {
     /// Looks `at` up in the map and returns its value, or `None` if the map lacks it. The map's types must match.
@@ -34,9 +31,7 @@ impl Segment {
         ensures { AnswersQueryOfKind self.now (O.key key.now) (MapOf K.kind V.kind)
             (Lookup (O.key key.now) (literal_of K.kind (K.whole at))) (value_answer V.kind V.whole result) }
     {
-        holds_value(at);
-        let place = self.find_map::<K, V, O>(key)?;
-        Ok(SegMap::<K, V>::at(place).get(&self.heap, at, &mut Steps::new()))
+        Ok(Map::<K, V>::of(self, key)?.get(at))
     }
 
     /// Returns the map's first pair whose map key is not below `from`, or `None` if there is none. The map's types must
@@ -92,12 +87,11 @@ impl Segment {
             answer_of_map d (O.key key.now) K.kind V.kind (pair_past above (K.whole bound)))
             (pair_result K.whole V.whole result) }
     {
-        let place = self.find_map::<K, V, O>(key)?;
-        let map = SegMap::<K, V>::at(place);
+        let map = Map::<K, V>::of(self, key)?;
         if above {
-            Ok(map.next_after(&self.heap, bound, &mut Steps::new()))
+            Ok(map.next_after(bound))
         } else {
-            Ok(map.first_from(&self.heap, bound, &mut Steps::new()))
+            Ok(map.first_from(bound))
         }
     }
 
@@ -116,8 +110,7 @@ impl Segment {
         ensures { AnswersWith self.now (λ d. answer_of_map d (O.key key.now) K.kind V.kind pair_at_end)
             (pair_result K.whole V.whole result) }
     {
-        let place = self.find_map::<K, V, O>(key)?;
-        Ok(SegMap::<K, V>::at(place).last(&self.heap, &mut Steps::new()))
+        Ok(Map::<K, V>::of(self, key)?.last())
     }
 
     /// Returns the map's last pair whose map key is not above `to`, or `None` if there is none. The map's types must
@@ -137,8 +130,7 @@ impl Segment {
         ensures { AnswersWith self.now (λ d. answer_of_map d (O.key key.now) K.kind V.kind (pair_up_to (K.whole to)))
             (pair_result K.whole V.whole result) }
     {
-        let place = self.find_map::<K, V, O>(key)?;
-        Ok(SegMap::<K, V>::at(place).last_up_to(&self.heap, to, &mut Steps::new()))
+        Ok(Map::<K, V>::of(self, key)?.last_up_to(to))
     }
 
     /// Returns the map's previous pair before the map key `before`, or `None` if there is none. The map's types must
@@ -160,8 +152,7 @@ impl Segment {
             answer_of_map d (O.key key.now) K.kind V.kind (pair_below (K.whole before)))
             (pair_result K.whole V.whole result) }
     {
-        let place = self.find_map::<K, V, O>(key)?;
-        Ok(SegMap::<K, V>::at(place).previous_before(&self.heap, before, &mut Steps::new()))
+        Ok(Map::<K, V>::of(self, key)?.previous_before(before))
     }
 
     /// Sets the value of the map key `at`, and returns true if `at` is new. The map's types must match. All other pairs
@@ -189,16 +180,7 @@ impl Segment {
         ensures refused { OnErr result (self.new ≡ self.old) }
         ensures overwrite { ChangesValue self.old self.new (O.key key.now) K.kind (K.whole at) V.kind }
     {
-        if self.is_read_only() {
-            return Err(Refusal::ReadOnly);
-        }
-        holds_value(at);
-        holds_value(value);
-        let place = self.find_map::<K, V, O>(key)?;
-        match SegMap::<K, V>::at(place).put(&mut self.heap, at, value, &mut Steps::new()) {
-            Err(_) => Err(Refusal::NoSpace),
-            Ok(new) => Ok(new),
-        }
+        MapMut::<K, V>::of(self, key)?.insert(at, value)
     }
 
     /// Erases the map key `at`, frees its block, and returns true if the map had it. The map's types must match. All
@@ -221,19 +203,6 @@ impl Segment {
         ensures refused { OnErr result (self.new ≡ self.old) }
         ensures absent { UnchangedWhere self.old self.new (LacksPair (O.key key.now) (K.whole at)) }
     {
-        if self.is_read_only() {
-            return Err(Refusal::ReadOnly);
-        }
-        holds_value(at);
-        let place = self.find_map::<K, V, O>(key)?;
-        Ok(SegMap::<K, V>::at(place).erase(&mut self.heap, at, &mut Steps::new()))
-    }
-
-    /// Returns the place of a map of the types.
-    fn find_map<K: Scalar, V: Scalar, O: ObjectRef>(&self, key: &O) -> Result<Place, Refusal>
-        requires { O.stands key.now self.now }
-        ensures { AnswersWith self.now (λ d. container_at d (O.key key.now) (MapOf K.kind V.kind)) result }
-    {
-        self.find_container(key, Kind::Map(K::kind(), V::kind()))
+        Ok(MapMut::<K, V>::of(self, key)?.erase(at))
     }
 }

@@ -6,6 +6,7 @@ ghost use Rattle.segment_manager.specs.{objects.Instances.IsMissing, objects.Sta
 ghost use Rattle.segment_manager.specs.{objects.Standing.IsObjectInBlock, State.SegmentState};
 ghost use Rattle.segment_manager.specs.objects.Located.{IsLocated, IsObject, container_in, element_in, located};
 ghost use Rattle.segment_manager.specs.objects.Located.{located_at, value_offset};
+ghost use Rattle.segment_manager.specs.objects.BoundObjects.{container_of};
 
 use crate::layout::value_at;
 use crate::objects::head::read_head;
@@ -48,10 +49,17 @@ impl Object {
         if wanted != own {
             return Err(Refusal::WrongKind);
         }
-        Ok(Place {
+        Ok(self.own_container())
+    }
+
+    /// Returns the place of its container, if it has one.
+    pub(crate) fn own_container(self) -> Place
+        ensures { result ≡ container_of self }
+    {
+        Place {
             handle: self.handle,
             at: self.value_at(),
-        })
+        }
     }
 
     /// Returns the place of its element at an index.

@@ -34,30 +34,21 @@ admitted-then kw vw far false p e =
     ap (λ (b : Bool). let o : Option (ℤ × ℤ) = if b then Some (kw p.0, vw p.1) else None in o) (sym e)
 
 module _ (s : SegmentState) (key : Key) (k v : ScalarKind) where
-  -- what is told of a map is told of the pairs that it has, and none are there where the reading is refused
-  told-if : {K V : Type 0} (kw : K → ℤ) (vw : V → ℤ) (say see : List NumberPair → Option (ℤ × ℤ))
-      → ((ps : List NumberPair) → say ps ≡ see ps) → see [] ≡ None
-      → (ps : List NumberPair) (r : Result (Option (K × V)) Refusal)
-      → MatchResult (pair_result kw vw r) (λ o. o ≡ say ps) (λ why. ps ≡ [])
-      → numbers_in kw vw (pair_or_none r) ≡ see ps
-  told-if kw vw say see same empty ps (Ok o) h = h ∙ same ps
-  told-if kw vw say see same empty ps (Err why) h = sym (ap see h ∙ empty)
-
   -- what is read of a map is told of its pairs
-  pub reads-told : {K V : Type 0} (kw : K → ℤ) (vw : V → ℤ) (say see : List NumberPair → Option (ℤ × ℤ))
-      → ((ps : List NumberPair) → say ps ≡ see ps) → see [] ≡ None
-      → (r : Result (Option (K × V)) Refusal) → AnswersWith s (λ d. answer_of_map d key k v say) (pair_result kw vw r)
-      → AnswersWith s (λ d. see (pairs_at_kinds d key k v)) (numbers_in kw vw (pair_or_none r))
-  reads-told kw vw say see same empty r a = record {
-    answers = λ d h. told-if kw vw say see same empty (pairs_at_kinds d key k v) r
-        (map-told d key k v say (pair_result kw vw r) (a.answers d h));
+  pub reads-told : {A : Type 0} (say see : List NumberPair → A) → ((ps : List NumberPair) → say ps ≡ see ps) → (o : A)
+      → AnswersWith s (λ d. answer_of_map d key k v say) (Ok o) → AnswersWith s (λ d. see (pairs_at_kinds d key k v)) o
+  reads-told say see same o a = record {
+    answers = λ d h. map-told d key k v say (Ok o) (a.answers d h) ∙ same (pairs_at_kinds d key k v);
   }
 
   -- from the least key on the first pair comes
-  pub reads-least : (r : Result (Option (ℤ × ℤ)) Refusal)
-      → AnswersWith s (λ d. answer_of_map d key k v (pair_from (lowest k))) r
-      → AnswersWith s (λ d. answer_of_map d key k v (λ ps. option_map item_of (first_of ps))) r
-  reads-least r a = record { answers = λ d h. a.answers d h ∙ map-least d key k v s.cut.bytes h.denotes }
+  pub reads-least : {z : ℤ} → z ≡ lowest k → (o : Option (ℤ × ℤ))
+      → AnswersWith s (λ d. answer_of_map d key k v (pair_from z)) (Ok o)
+      → AnswersWith s (λ d. answer_of_map d key k v (λ ps. option_map item_of (first_of ps))) (Ok o)
+  reads-least e o a = record {
+    answers = λ d h. a.answers d h ∙ ap (λ z. answer_of_map d key k v (pair_from z)) e
+        ∙ map-least d key k v s.cut.bytes h.denotes;
+  }
 
   -- the first that the lower bound admits is the first between the bounds, if the upper one admits it
   pub reads-within : (start end : Bound ℤ) (o : Option (ℤ × ℤ))
@@ -124,16 +115,15 @@ module _ (s : SegmentState) (key : Key) (k v : ScalarKind) where
         in omega (arith, e, f)
 
   -- there are no more than all
-  pub all-few : (start end : Bound ℤ) (left : ℕ) (r : Result ℕ Refusal) → left ≡ number_or_none r
-      → AnswersWith s (λ d. length_at_kind d key (MapOf k v)) r
+  pub all-few : (start end : Bound ℤ) (left : ℕ) → AnswersWith s (λ d. answer_of_map d key k v length) (Ok left)
       → (d : Directory) → DenotesCurrent s.cut.bytes d → length (range_of start end (pairs_at_kinds d key k v)) ≤ left
-  all-few start end left r e a d h =
-      let m = map-length d key k v r (a.answers d h) in let f = range-few start end (pairs_at_kinds d key k v)
-      in omega (arith, e, m, f)
+  all-few start end left a d h =
+      let m = map-told d key k v length (Ok left) (a.answers d h) in
+      let f = range-few start end (pairs_at_kinds d key k v) in omega (arith, m, f)
 
 -- ---- an iterator over the pairs between two bounds
 
-module _ {k v : ScalarKind} {o : Located} {w : PairWalk} (is : IsPairWalk k v o w) {A B : Type 0} (kw : A → ℤ)
+module _ {k v : ScalarKind} {w : PairWalk} (is : IsPairWalk k v w) {A B : Type 0} (kw : A → ℤ)
     (vw : B → ℤ) where
   abbrev seen : A × B → ℤ × ℤ
   seen pair = (kw pair.0, vw pair.1)

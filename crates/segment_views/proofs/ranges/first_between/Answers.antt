@@ -2,37 +2,36 @@
 use Rattle.std.proofs.Common.{sym, ap, subst, ◌∙◌}
 use Rattle.std.specs.Prelude.{slice_get}
 use Rattle.std.specs.Range.Bound.{bound_map}
-use Rattle.seg_types.specs.Names.{ByHandle}
+use Rattle.segment_manager.specs.objects.BoundObjects.{key_of}
 use Rattle.segment_manager.specs.containers.Maps.{numbers_in}
 use Rattle.segment_manager.specs.State.{AnswersWith}
 use Rattle.segment_manager.specs.containers.Walks.{pairs_at_kinds}
-use Rattle.segment_views.specs.Ranged.{is_up_to, pair_or_none, range_of}
+use Rattle.segment_views.specs.Ranged.{is_up_to, range_of}
 use Rattle.segment_views.proofs.ranges.Bounds.{admitted}
 use Rattle.segment_views.proofs.ranges.RangeReads.{admitted-then, reads-within}
 use Rattle.segment_views.proofs.ranges.first_between.Goals as goal
 
 pub returns-in_err-pair : goal.returns-in_err-pair
 returns-in_err-pair g c =
-    let s = c.args.segment.now in
-    let key = ByHandle c.args.object.now.handle in
+    let s = c.args.map.now.segment.now in
+    let key = key_of c.args.map.now.object in
     let start = bound_map g.K.Scalar.whole c.args.start in
     let end = bound_map g.K.Scalar.whole c.args.end in
     let within = reads-within s key g.K.Scalar.kind g.V.Scalar.kind start end
-    (numbers_in g.K.Scalar.whole g.V.Scalar.whole (pair_or_none c.first_from.result)) c.first_from.ensures in
+    (numbers_in g.K.Scalar.whole g.V.Scalar.whole c.first_from.result) c.first_from.ensures in
     subst (AnswersWith s (λ d. slice_get (range_of start end (pairs_at_kinds d key g.K.Scalar.kind g.V.Scalar.kind)) 0))
-    (ap (λ o. admitted (is_up_to end) (numbers_in g.K.Scalar.whole g.V.Scalar.whole o)) (sym c.pair_or_none.ensures
-    ∙ c.in_err-pair.was) ∙ ap (numbers_in g.K.Scalar.whole g.V.Scalar.whole) (sym c.from_residual.ensures)) within
+    (ap (λ o. admitted (is_up_to end) (numbers_in g.K.Scalar.whole g.V.Scalar.whole o)) c.in_err-pair.was ∙ ap
+    (numbers_in g.K.Scalar.whole g.V.Scalar.whole) (sym c.from_residual.ensures)) within
 
 pub returns : goal.returns
 returns g c =
-    let s = c.args.segment.now in
-    let key = ByHandle c.args.object.now.handle in
+    let s = c.args.map.now.segment.now in
+    let key = key_of c.args.map.now.object in
     let start = bound_map g.K.Scalar.whole c.args.start in
     let end = bound_map g.K.Scalar.whole c.args.end in
     let within = reads-within s key g.K.Scalar.kind g.V.Scalar.kind start end
-    (numbers_in g.K.Scalar.whole g.V.Scalar.whole (pair_or_none c.first_from.result)) c.first_from.ensures in
+    (numbers_in g.K.Scalar.whole g.V.Scalar.whole c.first_from.result) c.first_from.ensures in
     subst (AnswersWith s (λ d. slice_get (range_of start end (pairs_at_kinds d key g.K.Scalar.kind g.V.Scalar.kind)) 0))
-    (ap (λ o. admitted (is_up_to end) (numbers_in g.K.Scalar.whole g.V.Scalar.whole o)) (sym c.pair_or_none.ensures
-    ∙ c.in_ok-pair.was)
+    (ap (λ o. admitted (is_up_to end) (numbers_in g.K.Scalar.whole g.V.Scalar.whole o)) c.in_ok-pair.was
     ∙ admitted-then g.K.Scalar.whole g.V.Scalar.whole (is_up_to end) c.is_up_to.result c.in_ok-pair.pair
     c.is_up_to.ensures ∙ ap (numbers_in g.K.Scalar.whole g.V.Scalar.whole) (sym c.then_some.ensures)) within

@@ -1,12 +1,8 @@
--- The pair is searched for in the object's map.
-use Rattle.segment_manager.proofs.containers.MapAnswers.{last-there, some-there}
-use Rattle.segment_manager.proofs.{containers.ScalarTypes.of-map}
+-- The pair is searched for in the map that is found.
+use Rattle.segment_manager.proofs.bound.ByKey.{tells}
 use Rattle.segment_manager.proofs.segment.Segment.map_last.Goals as goal
-
-pub last-requires : goal.last-requires
-last-requires g c = some-there (of-map g.met.K.Scalar) (of-map g.met.V.Scalar) c.self.view_is _ c.at.ensures
-    c.self.invariant c.in_ok-place.ensures
+use Rattle.segment_manager.specs.containers.Maps.{pair_at_end}
 
 pub returns : goal.returns
-returns g c = last-there (of-map g.met.K.Scalar) (of-map g.met.V.Scalar) c.self.view_is _ c.at.ensures c.self.invariant
-    c.in_ok-place.ensures _ c.last.ensures.item
+returns g c = tells c.in_ok-of.ensures.segment c.in_ok-of.ensures.location g.K.Scalar.kind g.V.Scalar.kind
+    pair_at_end c.last.ensures

@@ -1,63 +1,42 @@
--- The pair is put into the map that is found.
-use Rattle.segment_manager.proofs.Common.{exit-is, ◌≡◌, refl, sym, ap, ◌∙◌, Command, Map, Put, literal_of, truth_answer}
-use Rattle.segment_manager.proofs.{containers.MapAnswers.put-there, containers.MapAnswers.some-there}
-use Rattle.segment_manager.proofs.{containers.MapCalls.finds-no_map, containers.MapCalls.put_result}
-use Rattle.segment_manager.proofs.{containers.Safely.Answered, containers.ScalarTypes.of-map}
-use Rattle.segment_manager.proofs.containers.KeptContainers.{map-again}
-use Rattle.segment_manager.proofs.{directory.CommandSteps.open-writing}
-use Rattle.segment_manager.proofs.{directory.CommandSteps.refuses_of_kind-read_only}
+-- The pair is put into the map that is found. The segment ends as the bound map leaves it.
+use Rattle.segment_manager.proofs.Common.{◌≡◌, refl, rules, subst, sym, Map, Put, SegmentState, TakesStepOfKind}
+use Rattle.segment_manager.proofs.Common.{exit-is, OnErr, literal_of, truth_answer, Refused}
+use Rattle.segment_manager.proofs.bound.ByKey.{overwrites, takes}
 use Rattle.segment_manager.proofs.segment.Segment.map_put.Goals as goal
-use Rattle.segment_manager.proofs.segment.Segment.map_put.{Goals.Joined-put, Goals.in-Err, Goals.in-Ok, Given.Over}
+use Rattle.segment_manager.specs.Keeping.{ChangesValue}
 
--- the result of the call
-answer : (g : Over) (c : Joined-put g) → c.match-put.result ≡ put_result c.put.result
-answer g c =
-    elim c.match-put.branch [
-      | in-Err w ↦ w.result-is ∙ sym (ap put_result w.in-Err.is)
-      | in-Ok w ↦ w.result-is ∙ sym (ap put_result w.in-Ok.is)
-    ]
+pub returns-in_err-self-clause-step : goal.returns-in_err-self-clause-step
+returns-in_err-self-clause-step g c = rw (exit-is c.from_residual.result _ c.from_residual.ensures.1) (subst
+    (λ (u : SegmentState). TakesStepOfKind c.args.self.now u (g.O.ObjectRef.key c.args.key.now) (Map g.K.Scalar.kind
+    g.V.Scalar.kind) (Put (g.O.ObjectRef.key c.args.key.now) (literal_of g.K.Scalar.kind (g.K.Scalar.whole c.args.at))
+    (literal_of g.V.Scalar.kind (g.V.Scalar.whole c.args.value)))
+    (Refused c.in_err-self.field-0.0)) (sym (subst (λ r. OnErr r (c.of.follows.lender-at-none ≡ c.args.self.now))
+    c.in_err-self.was
+    c.of.follows.holds-at-none))
+    (c.in_err-self.ensures.location.refused (Put (g.O.ObjectRef.key c.args.key.now) (literal_of g.K.Scalar.kind
+    (g.K.Scalar.whole c.args.at))
+    (literal_of g.V.Scalar.kind (g.V.Scalar.whole c.args.value))) refl))
 
--- the effect of the call, in each goal after it
-done : (g : Over) (c : Joined-put g)
-    → Answered truth_answer (record { cut = c.self.inside.heap; mode = c.self.inside.mode })
-    c.args.self.now c.put.new.heap (g.O.ObjectRef.key c.args.key.now) (Map g.K.Scalar.kind g.V.Scalar.kind) (Put
-    (g.O.ObjectRef.key c.args.key.now) (literal_of g.K.Scalar.kind (g.K.Scalar.whole c.args.at))
-    (literal_of g.V.Scalar.kind (g.V.Scalar.whole c.args.value))) c.match-put.result
-done g c = put-there (of-map g.met.K.Scalar) (of-map g.met.V.Scalar) c.self.view_is _ c.at.ensures c.self.invariant
-    c.in_ok-place.ensures _ (sym c.is_read_only.ensures ∙ c.if-is_read_only.false) _ _ c.put.result _ (answer g c)
-    c.holds_value.ensures c.holds_value-2.ensures c.put.ensures.effect
+pub returns-in_err-self-clause-overwrite : goal.returns-in_err-self-clause-overwrite
+returns-in_err-self-clause-overwrite g c = subst (λ (u : SegmentState). ChangesValue c.args.self.now u
+    (g.O.ObjectRef.key c.args.key.now) g.K.Scalar.kind (g.K.Scalar.whole c.args.at) g.V.Scalar.kind)
+    (sym (subst (λ r. OnErr r (c.of.follows.lender-at-none ≡ c.args.self.now)) c.in_err-self.was
+    c.of.follows.holds-at-none)) (λ d l p has. record { at = λ j f. refl })
 
-pub returns-then-is_read_only-clause-step : goal.returns-then-is_read_only-clause-step
-returns-then-is_read_only-clause-step g c =
-    refuses_of_kind-read_only _ _ _ _ (sym c.is_read_only.ensures ∙ c.if-is_read_only.true) refl
+pub returns-clause-step : goal.returns-clause-step
+returns-clause-step g c = let e : c.insert.new.self.segment.now ≡ c.self-2-1.given.0 = search rules in
+    subst (λ (u : SegmentState). TakesStepOfKind c.args.self.now u (g.O.ObjectRef.key c.args.key.now) (Map
+    g.K.Scalar.kind g.V.Scalar.kind)
+    (Put (g.O.ObjectRef.key c.args.key.now) (literal_of g.K.Scalar.kind (g.K.Scalar.whole c.args.at))
+    (literal_of g.V.Scalar.kind (g.V.Scalar.whole c.args.value))) (truth_answer c.insert.result)) e
+    (takes c.in_ok-self.ensures.segment c.in_ok-self.ensures.location _ (Map g.K.Scalar.kind g.V.Scalar.kind)
+    (Put (g.O.ObjectRef.key c.args.key.now) (literal_of g.K.Scalar.kind (g.K.Scalar.whole c.args.at))
+    (literal_of g.V.Scalar.kind (g.V.Scalar.whole c.args.value))) c.insert.ensures.step)
 
-pub put-requires : goal.put-requires
-put-requires g c = some-there (of-map g.met.K.Scalar) (of-map g.met.V.Scalar) c.self.view_is _ c.at.ensures
-    c.self.invariant c.in_ok-place.ensures
-
-pub returns-in_err-place-clause-step : goal.returns-in_err-place-clause-step
-returns-in_err-place-clause-step g c = rw (exit-is c.from_residual.result _ c.from_residual.ensures.1)
-    (let asked : Command = Put (g.O.ObjectRef.key c.args.key.now)
-    (literal_of g.K.Scalar.kind (g.K.Scalar.whole c.args.at))
-    (literal_of g.V.Scalar.kind (g.V.Scalar.whole c.args.value)) in
-    finds-no_map _ _ _ _ _ _ (open-writing _ asked (sym c.is_read_only.ensures ∙ c.if-is_read_only.false))
-    c.in_err-place.ensures)
-
-pub invariant_of-self : goal.invariant_of-self
-invariant_of-self g c = (done g (goal.at.invariant_of-self g c).Joined-put).segment
-
-pub returns : goal.returns
-returns g c =
-    let d = done g (goal.at.returns g c).Joined-put in
-    record {
-      step = d.step;
-      refused = d.refused;
-      overwrite = map-again (of-map g.met.K.Scalar) (of-map g.met.V.Scalar) _ _ c.self.view_is _ _ _ c.at.ensures
-          c.in_ok-place.ensures _ c.args.at c.args.value c.put.result c.put.ensures.effect;
-    }
-
-pub returns-then-is_read_only-clause-overwrite : goal.returns-then-is_read_only-clause-overwrite
-returns-then-is_read_only-clause-overwrite g c = λ d l p has. record { at = λ j f. refl }
-
-pub returns-in_err-place-clause-overwrite : goal.returns-in_err-place-clause-overwrite
-returns-in_err-place-clause-overwrite g c = λ d l p has. record { at = λ j f. refl }
+pub returns-clause-overwrite : goal.returns-clause-overwrite
+returns-clause-overwrite g c = let e : c.insert.new.self.segment.now ≡ c.self-2-1.given.0 = search rules in
+    subst (λ (u : SegmentState). ChangesValue c.args.self.now u (g.O.ObjectRef.key c.args.key.now) g.K.Scalar.kind
+    (g.K.Scalar.whole c.args.at) g.V.Scalar.kind) e
+    (overwrites c.in_ok-self.ensures.segment c.in_ok-self.ensures.location
+    c.insert.new.self.segment.now g.K.Scalar.kind
+    g.V.Scalar.kind (g.K.Scalar.whole c.args.at) c.insert.ensures.overwrite)

@@ -1,22 +1,23 @@
--- The pair is searched for in the object's map, by the call for the bound.
-use Rattle.segment_manager.proofs.{Common.true, Common.false, containers.MapAnswers.past-there}
-use Rattle.segment_manager.proofs.{containers.MapAnswers.some-there, containers.ScalarTypes.of-map}
+-- The pair is searched for in the map that is found, by the call for the bound.
+use Rattle.segment_manager.proofs.Common.{sym, subst, numbers_in, answer_of_map, AnswersWith, Ok, pair_above, pair_from}
+use Rattle.segment_manager.proofs.bound.ByKey.{tells}
 use Rattle.segment_manager.proofs.segment.Segment.pair_past.Goals as goal
-
-pub next_after-requires : goal.next_after-requires
-next_after-requires g c = some-there (of-map g.met.K.Scalar) (of-map g.met.V.Scalar) c.self.view_is _ c.at-map.ensures
-    c.self.invariant c.in_ok-place.ensures
-
-pub first_from-requires : goal.first_from-requires
-first_from-requires g c = some-there (of-map g.met.K.Scalar) (of-map g.met.V.Scalar) c.self.view_is _ c.at-map.ensures
-    c.self.invariant c.in_ok-place.ensures
+use Rattle.segment_manager.specs.containers.Walks.{pair_past}
 
 pub returns-then-above : goal.returns-then-above
-returns-then-above g c =
-    past-there (of-map g.met.K.Scalar) (of-map g.met.V.Scalar) c.self.view_is _ c.at-map.ensures c.self.invariant
-    c.in_ok-place.ensures true c.args.above c.if-above.true c.args.bound c.next_after.result c.next_after.ensures.item
+returns-then-above g c = subst (λ b. AnswersWith c.args.self.now (λ d. answer_of_map d (g.O.ObjectRef.key
+    c.args.key.now) g.K.Scalar.kind
+    g.V.Scalar.kind (pair_past b (g.K.Scalar.whole c.args.bound)))
+    (Ok (numbers_in g.K.Scalar.whole g.V.Scalar.whole c.next_after.result))) (sym c.if-above.true)
+    (tells c.in_ok-map.ensures.segment c.in_ok-map.ensures.location g.K.Scalar.kind g.V.Scalar.kind
+    (pair_above (g.K.Scalar.whole c.args.bound))
+    c.next_after.ensures)
 
 pub returns-else-above : goal.returns-else-above
-returns-else-above g c =
-    past-there (of-map g.met.K.Scalar) (of-map g.met.V.Scalar) c.self.view_is _ c.at-map.ensures c.self.invariant
-    c.in_ok-place.ensures false c.args.above c.if-above.false c.args.bound c.first_from.result c.first_from.ensures.item
+returns-else-above g c = subst (λ b. AnswersWith c.args.self.now (λ d. answer_of_map d (g.O.ObjectRef.key
+    c.args.key.now) g.K.Scalar.kind
+    g.V.Scalar.kind (pair_past b (g.K.Scalar.whole c.args.bound)))
+    (Ok (numbers_in g.K.Scalar.whole g.V.Scalar.whole c.first_from.result))) (sym c.if-above.false)
+    (tells c.in_ok-map.ensures.segment c.in_ok-map.ensures.location g.K.Scalar.kind g.V.Scalar.kind
+    (pair_from (g.K.Scalar.whole c.args.bound))
+    c.first_from.ensures)

@@ -4,7 +4,6 @@ use Rattle.segment_views.proofs.ranges.MapItemsDoubleEndedIterator.next_back.Goa
 
 pub invariant_of-self : goal.invariant_of-self
 invariant_of-self g c = record {
-  live = c.self.invariant.live;
   few = fewer-back c.self.invariant g.K.Scalar.whole g.V.Scalar.whole c.in_ok-pair.was c.last_between.ensures;
 }
 

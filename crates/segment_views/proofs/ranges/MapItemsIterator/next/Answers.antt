@@ -4,7 +4,6 @@ use Rattle.segment_views.proofs.ranges.MapItemsIterator.next.Goals as goal
 
 pub invariant_of-self : goal.invariant_of-self
 invariant_of-self g c = record {
-  live = c.self.invariant.live;
   few = fewer c.self.invariant g.K.Scalar.whole g.V.Scalar.whole c.in_ok-pair.was c.first_between.ensures;
 }
 

@@ -16,7 +16,7 @@ returns-then-wanted-own c = ap (placed c.args.self.handle (value_offset c.args.s
     (λ e. c.if-wanted-own.true (c.code-wanted.ensures ∙ e ∙ sym c.code-own.ensures))))
 
 pub returns : goal.returns
-returns c = ap (λ (at : ℕ). placed c.args.self.handle at true) c.value_at.ensures
+returns c = ap (λ (p : Place). let r : Result Place Refusal = Ok p in r) c.own_container.ensures
     ∙ ap (placed c.args.self.handle (value_offset c.args.self)) (sym
     (eq-eqb (code_of c.args.kind) (code_of c.args.self.kind)
     (sym c.code-wanted.ensures ∙ c.if-wanted-own.false ∙ c.code-own.ensures)))

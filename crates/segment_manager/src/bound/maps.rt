@@ -1,0 +1,186 @@
+//! Maps that were looked up once.
+ghost use Rattle.std.specs.Prelude.{◌≡◌, IfErr, Ok, OnErr, length};
+ghost use Rattle.seg_types.specs.Commands.{Lookup, Put, Remove, literal_of};
+ghost use Rattle.seg_types.specs.declared.kinds.Kind.TheVariants.{Map as MapOf};
+ghost use Rattle.seg_types.specs.declared.refusals.Refusal.TheVariants.{NoSpace as NoSpaceLeft};
+ghost use Rattle.segment_manager.specs.Keeping.{ChangesValue, LacksPair, UnchangedWhere};
+ghost use Rattle.segment_manager.specs.State.{AnswersWith, AnswersQueryOfKind, TakesStepOfKind, truth_answer};
+ghost use Rattle.segment_manager.specs.containers.Maps.{answer_of_map, numbers_in, pair_above, pair_at_end};
+ghost use Rattle.segment_manager.specs.containers.Maps.{pair_below, pair_from, pair_up_to, value_answer};
+ghost use Rattle.segment_manager.specs.objects.BoundObjects.{key_of};
+
+use crate::bound::{Bound, BoundContent, BoundMut};
+use raw_region::Steps;
+use seg_map::SegMap;
+use seg_types::theorems::holds_value;
+use seg_types::{Kind, Refusal, Scalar};
+use std::marker::PhantomData;
+
+/// Pairs of map keys of one type and values of another.
+#[derive(Drop)]
+pub struct Pairs<K, V> {
+    of: PhantomData<(K, V)>,
+}
+
+/// A map that was looked up, for reading.
+pub type Map<'a, K, V> = Bound<'a, Pairs<K, V>>;
+
+/// A map that was looked up, to change it.
+pub type MapMut<'a, K, V> = BoundMut<'a, Pairs<K, V>>;
+
+impl<K: Scalar, V: Scalar> BoundContent for Pairs<K, V> {
+    ghost kind = { MapOf K.kind V.kind };
+
+    fn kind() -> Kind {
+        Kind::Map(K::kind(), V::kind())
+    }
+}
+
+impl<'a, K: Scalar, V: Scalar> Bound<'a, Pairs<K, V>> {
+    /// Returns the value of a map key, or `None` if the map lacks it.
+    ///
+    /// Example: `let year: Option<i64> = years.get(5)`.
+    pub fn get(&self, at: K) -> Option<V>
+        ensures { AnswersQueryOfKind self.now.segment.now (key_of self.now.object) (MapOf K.kind V.kind)
+            (Lookup (key_of self.now.object) (literal_of K.kind (K.whole at)))
+            (value_answer V.kind V.whole (Ok result)) }
+    {
+        holds_value(at);
+        let segment = self.segment;
+        SegMap::<K, V>::at(self.object.own_container()).get(&segment.heap, at, &mut Steps::new())
+    }
+
+    /// Returns the number of pairs.
+    ///
+    /// Example: `let count = years.len()`.
+    pub fn len(&self) -> u64
+        ensures { AnswersWith self.now.segment.now (λ d.
+            answer_of_map d (key_of self.now.object) K.kind V.kind length) (Ok result) }
+    {
+        let segment = self.segment;
+        SegMap::<K, V>::at(self.object.own_container()).len(&segment.heap)
+    }
+
+    /// Returns the first pair whose map key is not below `from`.
+    ///
+    /// Example: `let next = years.first_from(2)`.
+    pub fn first_from(&self, from: K) -> Option<(K, V)>
+        ensures { AnswersWith self.now.segment.now (λ d.
+            answer_of_map d (key_of self.now.object) K.kind V.kind (pair_from (K.whole from)))
+            (Ok (numbers_in K.whole V.whole result)) }
+    {
+        let segment = self.segment;
+        SegMap::<K, V>::at(self.object.own_container()).first_from(
+            &segment.heap,
+            from,
+            &mut Steps::new(),
+        )
+    }
+
+    /// Returns the next pair after the map key `after`.
+    ///
+    /// Example: `let next = years.next_after(2)`.
+    pub fn next_after(&self, after: K) -> Option<(K, V)>
+        ensures { AnswersWith self.now.segment.now (λ d.
+            answer_of_map d (key_of self.now.object) K.kind V.kind (pair_above (K.whole after)))
+            (Ok (numbers_in K.whole V.whole result)) }
+    {
+        let segment = self.segment;
+        SegMap::<K, V>::at(self.object.own_container()).next_after(
+            &segment.heap,
+            after,
+            &mut Steps::new(),
+        )
+    }
+
+    /// Returns the last pair, or `None` if the map is empty.
+    ///
+    /// Example: `let latest = years.last()`.
+    pub fn last(&self) -> Option<(K, V)>
+        ensures { AnswersWith self.now.segment.now (λ d.
+            answer_of_map d (key_of self.now.object) K.kind V.kind pair_at_end)
+            (Ok (numbers_in K.whole V.whole result)) }
+    {
+        let segment = self.segment;
+        SegMap::<K, V>::at(self.object.own_container()).last(&segment.heap, &mut Steps::new())
+    }
+
+    /// Returns the last pair whose map key is not above `to`.
+    ///
+    /// Example: `let before = years.last_up_to(2)`.
+    pub fn last_up_to(&self, to: K) -> Option<(K, V)>
+        ensures { AnswersWith self.now.segment.now (λ d.
+            answer_of_map d (key_of self.now.object) K.kind V.kind (pair_up_to (K.whole to)))
+            (Ok (numbers_in K.whole V.whole result)) }
+    {
+        let segment = self.segment;
+        SegMap::<K, V>::at(self.object.own_container()).last_up_to(
+            &segment.heap,
+            to,
+            &mut Steps::new(),
+        )
+    }
+
+    /// Returns the previous pair before the map key `before`.
+    ///
+    /// Example: `let before = years.previous_before(2)`.
+    pub fn previous_before(&self, before: K) -> Option<(K, V)>
+        ensures { AnswersWith self.now.segment.now (λ d.
+            answer_of_map d (key_of self.now.object) K.kind V.kind (pair_below (K.whole before)))
+            (Ok (numbers_in K.whole V.whole result)) }
+    {
+        let segment = self.segment;
+        SegMap::<K, V>::at(self.object.own_container()).previous_before(
+            &segment.heap,
+            before,
+            &mut Steps::new(),
+        )
+    }
+}
+
+impl<'a, K: Scalar, V: Scalar> BoundMut<'a, Pairs<K, V>> {
+    ghost use Rattle.segment_manager.specs.Bounds.{SameBound};
+
+    /// Sets the value of the map key `at`, and returns true if `at` is new. All other pairs keep their blocks, and so
+    /// does a pair whose map key is not new.
+    ///
+    /// Example: `let is_new = years.insert(5, 1999)?`.
+    ///
+    /// # Errors
+    ///
+    /// `NoSpace` if `at` is new and no gap is long enough for its block. Nothing changes.
+    pub fn insert(&mut self, at: K, value: V) -> Result<bool, Refusal>
+        ensures unchanged { SameBound self.old self.new }
+        ensures step { TakesStepOfKind self.old.segment.now self.new.segment.now (key_of self.old.object)
+            (MapOf K.kind V.kind) (Put (key_of self.old.object) (literal_of K.kind (K.whole at))
+            (literal_of V.kind (V.whole value))) (truth_answer result) }
+        ensures refused { OnErr result (self.new.segment.now ≡ self.old.segment.now) }
+        ensures error { IfErr result (λ why. why ≡ NoSpaceLeft) }
+        ensures overwrite { ChangesValue self.old.segment.now self.new.segment.now (key_of self.old.object) K.kind
+            (K.whole at) V.kind }
+    {
+        holds_value(at);
+        holds_value(value);
+        let map = SegMap::<K, V>::at(self.object.own_container());
+        let segment = &mut *self.segment;
+        map.put(&mut segment.heap, at, value, &mut Steps::new())
+            .or(Err(Refusal::NoSpace))
+    }
+
+    /// Erases the map key `at`, frees its block, and returns true if the map had it. All other pairs keep their blocks.
+    ///
+    /// Example: `let was_there = years.erase(5)`.
+    pub fn erase(&mut self, at: K) -> bool
+        ensures unchanged { SameBound self.old self.new }
+        ensures step { TakesStepOfKind self.old.segment.now self.new.segment.now (key_of self.old.object)
+            (MapOf K.kind V.kind) (Remove (key_of self.old.object) (literal_of K.kind (K.whole at)))
+            (truth_answer (Ok result)) }
+        ensures absent { UnchangedWhere self.old.segment.now self.new.segment.now
+            (LacksPair (key_of self.old.object) (K.whole at)) }
+    {
+        holds_value(at);
+        let map = SegMap::<K, V>::at(self.object.own_container());
+        let segment = &mut *self.segment;
+        map.erase(&mut segment.heap, at, &mut Steps::new())
+    }
+}

@@ -22,7 +22,8 @@ only (x ∷ y ∷ rest) = None
 -- What is read of the bytes of a word: the text that the bytes are; otherwise a stand-in of the bytes, or nothing.
 pub record IsArgumentOf (bytes : List ℕ) (read : Option (List ℕ)) : Type 0 where
   pub text : IsUtf8 bytes → read ≡ Some bytes
-  pub stand_in : (IsUtf8 bytes → ⊥) → IfSome read (λ word. (stands_in word ≡ true) × (path_text word ≡ quoted_text bytes))
+  pub stand_in : (IsUtf8 bytes → ⊥)
+      → IfSome read (λ made. (stands_in made ≡ true) × (path_text made ≡ quoted_text bytes))
 
 -- how many words stand for words that are no UTF-8
 abbrev pub stand_in_count : List (List ℕ) → ℕ

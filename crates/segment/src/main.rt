@@ -1,7 +1,8 @@
 //! The program `segment`: keeps a segment in a file, and does to it what the command line asks for.
 #![tactic(auto)]
 
-ghost use Rattle.std.specs.Prelude.{◌≡◌, ⊤, IfOk, map, option_map};
+ghost use Rattle.std.specs.Prelude.{◌≡◌, IfOk, map, option_map};
+ghost use Rattle.std.specs.Io.KnownBytes.{ReadConsumes};
 ghost use Rattle.segment_commands.specs.Reports.{command_status};
 ghost use Rattle.segment_commands.specs.declared.command_faults.CommandFault.TheVariants.{Usage};
 ghost use Rattle.segment_disk.specs.Events.{nothing_taken};
@@ -505,7 +506,8 @@ impl<'a, R: Read> Prompted<'a, R> {
 }
 
 impl<'a, R: Read> ReadOnce for Prompted<'a, R> {
-    ghost read_gives = { λ old answer bytes new. ⊤ };
+    ghost read_gives = { λ old answer bytes new.
+        ReadConsumes (R.remaining old.inner) (R.remaining new.inner) answer bytes };
 
     fn read_once(&mut self, into: &mut [u8]) -> Result<usize, DeviceFault> {
         if self.is_prompting && !into.is_empty() {

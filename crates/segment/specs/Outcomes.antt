@@ -1,5 +1,6 @@
 -- What the program says on standard error after a command, and which commands end without a word.
-use Rattle.std.specs.Prelude.{ℕ, Bool, true, false, ◌||◌, List, Option, Some, Result, Ok, Err, if◌then◌else◌}
+use Rattle.std.specs.Prelude.{◌≡◌, ◌⊎◌, ℕ, Bool, true, false, ◌||◌, List, Option, Some, Result, Ok, Err}
+use Rattle.std.specs.Prelude.{if◌then◌else◌}
 use Rattle.segment_cli.specs.declared.faults.SessionFault.TheVariants.{Image, ReadFault, WriteFault}
 use Rattle.segment_commands.specs.declared.command_faults.CommandFault.{CommandFault}
 use Rattle.segment_commands.specs.declared.command_faults.CommandFault.TheVariants.{InUse, Session}
@@ -52,6 +53,12 @@ explains Log answer = is_locked answer || is_done answer
 explains Owner answer = is_locked answer || is_read_fault answer || is_done answer
 explains Writer answer = is_locked answer || is_read_fault answer || is_no_segment answer
 explains other answer = is_locked answer || is_read_fault answer || is_write_fault answer
+
+-- ---- the status of a run
+
+-- a run that is done has the status 0; with `--fail` it may have the status 5, which says that an answer is an error
+abbrev pub IsRunStatus : Bool → ℕ → Type 0
+IsRunStatus fails status = (status ≡ 0) ⊎ ((fails ≡ true) × (status ≡ 5))
 
 -- ---- a reader of standard output that ended first
 

@@ -1,8 +1,10 @@
 -- The words of a command line, and the run that the words ask for.
-use Rattle.std.specs.Prelude.{◌≡◌, ◌+◌, ℕ, Bool, List, [], ◌∷◌, Option, Some, None, codes, if◌then◌else◌}
+use Rattle.std.specs.Prelude.{◌≡◌, ◌+◌, ℕ, Bool, true, List, [], ◌∷◌, Option, Some, None, codes, IfSome}
+use Rattle.std.specs.Prelude.{if◌then◌else◌}
 use Rattle.std.specs.List.{count_by, list_any}
-use Rattle.std.specs.Str.{bytes_eq}
-use Rattle.segment_commands.specs.Paths.{stands_in}
+use Rattle.std.specs.Str.{bytes_eq, IsUtf8}
+use Rattle.segment_lang.specs.Texts.{quoted_text}
+use Rattle.segment_commands.specs.Paths.{path_text, stands_in}
 use Rattle.segment_commands.specs.declared.running.RunRequest.{RunRequest}
 use Rattle.segment_invocation.specs.declared.invocations.ModeName.{ModeName}
 use Rattle.segment_invocation.specs.Invocations.{OptionValues, Origin, from_file, from_lines, input}
@@ -16,6 +18,12 @@ only (x ∷ []) = Some x
 only (x ∷ y ∷ rest) = None
 
 -- ---- words that are no UTF-8
+
+-- What is read of the bytes of a word: the text that the bytes are; otherwise a stand-in of the bytes, or nothing.
+pub record IsArgumentOf (bytes : List ℕ) (read : Option (List ℕ)) : Type 0 where
+  pub text : IsUtf8 bytes → read ≡ Some bytes
+  pub stand_in : (IsUtf8 bytes → ⊥)
+      → IfSome read (λ made. (stands_in made ≡ true) × (path_text made ≡ quoted_text bytes))
 
 -- how many words stand for words that are no UTF-8
 abbrev pub stand_in_count : List (List ℕ) → ℕ

@@ -1,10 +1,13 @@
 //! The program `segment`: keeps a segment in a file, and does to it what the command line asks for.
 #![tactic(auto)]
 
-ghost use Rattle.std.specs.Prelude.{◌≡◌, ⊤, map, option_map};
+ghost use Rattle.std.specs.Prelude.{◌≡◌, IfOk, map, option_map};
+ghost use Rattle.std.specs.Io.KnownBytes.{ReadConsumes};
+ghost use Rattle.segment_commands.specs.Reports.{command_status};
+ghost use Rattle.segment_commands.specs.declared.command_faults.CommandFault.TheVariants.{Usage};
 ghost use Rattle.segment_disk.specs.Events.{nothing_taken};
 ghost use Rattle.segment_invocation.specs.Invocations.{options_by, request_by};
-ghost use Rattle.segment.specs.Outcomes.{explains, fault_beside, is_quiet_end, problem_at};
+ghost use Rattle.segment.specs.Outcomes.{IsRunStatus, explains, fault_beside, is_quiet_end, problem_at};
 ghost use Rattle.segment.specs.Requests.{IsRunFor, is_among_pleas, only, stand_in_count, unusable_count};
 
 mod requests;
@@ -48,7 +51,9 @@ fn main(rt: HostRuntime) -> ExitCode {
 }
 
 /// Says what a fault is, and returns its status.
-fn tell(rt: &HostRuntime, fault: CommandFault) -> u8 {
+fn tell(rt: &HostRuntime, fault: CommandFault) -> u8
+    ensures { result ≡ command_status fault }
+{
     report(fault, &mut StdSink::new(rt.stderr()))
 }
 
@@ -71,7 +76,9 @@ fn obey(rt: &HostRuntime) -> Result<u8, NoAnswerMemory> {
 }
 
 /// Says that a word is no UTF-8 that has to be, and returns the status.
-fn tell_no_text(rt: &HostRuntime) -> u8 {
+fn tell_no_text(rt: &HostRuntime) -> u8
+    ensures { result ≡ command_status Usage }
+{
     let _ = eprintln!(rt; "error: the command line is no UTF-8");
     tell(rt, CommandFault::Usage)
 }
@@ -310,6 +317,7 @@ impl<'a> Host<'a> {
         out: O,
     ) -> Result<u8, CommandFault>
         requires { O.history out ≡ nothing_taken }
+        ensures { IfOk result (IsRunStatus (options_by how.now).fails) }
     {
         if how.answering.numbered {
             return self.answer_watched(request, how, NumberedOutput::new(out));
@@ -326,6 +334,7 @@ impl<'a> Host<'a> {
         out: O,
     ) -> Result<u8, CommandFault>
         requires { O.history out ≡ nothing_taken }
+        ensures { IfOk result (IsRunStatus (options_by how.now).fails) }
     {
         if how.answering.fail {
             let mut watch = RefusalWatch::new(out);
@@ -348,6 +357,7 @@ impl<'a> Host<'a> {
         out: &mut O,
     ) -> Result<u8, CommandFault>
         requires { O.history out.old ≡ nothing_taken }
+        ensures { IfOk result (λ status. status ≡ 0) }
     {
         match &how.script {
             Script::Input => {
@@ -379,6 +389,7 @@ impl<'a> Host<'a> {
     ) -> Result<u8, CommandFault>
         requires script { (S.history script.old).failures ≡ 0 }
         requires out { O.history out.old ≡ nothing_taken }
+        ensures { IfOk result (λ status. status ≡ 0) }
     {
         let (alloc, disk) = (self.rt.alloc(), &mut self.disk);
         if self.is_committing {
@@ -495,7 +506,8 @@ impl<'a, R: Read> Prompted<'a, R> {
 }
 
 impl<'a, R: Read> ReadOnce for Prompted<'a, R> {
-    ghost read_gives = { λ old answer bytes new. ⊤ };
+    ghost read_gives = { λ old answer bytes new.
+        ReadConsumes (R.remaining old.inner) (R.remaining new.inner) answer bytes };
 
     fn read_once(&mut self, into: &mut [u8]) -> Result<usize, DeviceFault> {
         if self.is_prompting && !into.is_empty() {

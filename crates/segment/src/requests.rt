@@ -1,6 +1,7 @@
 //! The requests for memory of the program itself, for its command line and its answers: each in a function that alone
 //! makes the token of its refusal.
-ghost use Rattle.std.specs.Prelude.{IfOk, MatchResult, map};
+ghost use Rattle.std.specs.Prelude.{IfOk, MatchResult, map, option_map, string_bytes};
+ghost use Rattle.segment.specs.Requests.{IsArgumentOf};
 ghost use Rattle.segment_invocation.specs.Invocations.{IsRequestedBy, IsWrongBy, request_by};
 
 use segment_commands::stand_in;
@@ -59,7 +60,9 @@ fn raw_arguments(rt: &HostRuntime) -> Result<Option<Vec<String>>, NoAnswerMemory
 }
 
 /// Returns a word as text, or its stand-in, but none for an option that is no UTF-8.
-fn argument_of(alloc: Global, bytes: &[u8]) -> Result<Option<String>, AllocError> {
+fn argument_of(alloc: Global, bytes: &[u8]) -> Result<Option<String>, AllocError>
+    ensures { IfOk result (λ read. IsArgumentOf bytes.now (option_map string_bytes read)) }
+{
     match std::str::from_utf8(bytes) {
         Ok(text) => {
             let mut argument = String::new(alloc);

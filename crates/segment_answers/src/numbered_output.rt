@@ -187,7 +187,7 @@ impl<O: Output> Sink for NumberedOutput<O> {
 }
 
 impl<O: Output> Output for NumberedOutput<O> {
-    ghost flushes = { λ old ok new. O.flushes old.inner ok new.inner };
+    ghost flushes = { λ old ok new. O.flushes old.inner ok new.inner × (new.number ≡ old.number) };
 
     fn flush(&mut self) -> Result<(), DeviceFault> {
         self.inner.flush()
@@ -195,7 +195,7 @@ impl<O: Output> Output for NumberedOutput<O> {
 }
 
 impl<O: Output> LineOutput for NumberedOutput<O> {
-    ghost turns = { λ old new. new.number ≡ min (old.number + 1) (2 ^ 64 - 1) };
+    ghost turns = { λ old new. (new.number ≡ min (old.number + 1) (2 ^ 64 - 1)) × (new.inner ≡ old.inner) };
 
     fn next_line(&mut self) {
         self.number = self.number.saturating_add(1);

@@ -1,3 +1,4 @@
+pub mod Losses
 pub mod Standing
 pub mod Work
 pub mod Steps

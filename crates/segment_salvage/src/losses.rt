@@ -1,4 +1,7 @@
 //! What is left out of a salvage, and why.
+ghost use Rattle.std.specs.Prelude.{◌≡◌, ◌++◌, ◌∷◌, [], OnOk};
+ghost use Rattle.segment_salvage.specs.Losses.{cause_of};
+ghost use Rattle.segment_salvage.specs.declared.losses.Unbuilt.TheVariants.{Lost as IsLost, OutOfMemory as IsRefused};
 
 use seg_types::Refusal;
 use std::alloc::AllocError;
@@ -37,7 +40,10 @@ pub(crate) fn lose(
     at: u64,
     name_len: u64,
     cause: LossCause,
-) -> Result<(), AllocError> {
+) -> Result<(), AllocError>
+    ensures { OnOk result (losses.new.items
+        ≡ losses.old.items ++ (record { at = at; name_len = name_len; cause = cause } ∷ [])) }
+{
     losses.push(Loss {
         at,
         name_len,
@@ -56,12 +62,16 @@ pub(crate) enum Unbuilt {
 }
 
 impl From<AllocError> for Unbuilt {
+    ghost from_gives = { λ refused unbuilt. unbuilt ≡ IsRefused refused };
+
     fn from(refused: AllocError) -> Unbuilt {
         Unbuilt::OutOfMemory(refused)
     }
 }
 
 impl From<Refusal> for Unbuilt {
+    ghost from_gives = { λ refusal unbuilt. unbuilt ≡ IsLost (cause_of refusal) };
+
     fn from(refusal: Refusal) -> Unbuilt {
         Unbuilt::Lost(match refusal {
             Refusal::NoSpace => LossCause::NoSpace,

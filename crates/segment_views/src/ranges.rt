@@ -14,7 +14,7 @@ ghost use Rattle.segment_views.specs.Ranged.{is_up_to as is_up_to_end, last_betw
 
 use seg_types::theorems::scalar_is_number;
 use seg_types::{Scalar, ScalarKind, ScalarValue};
-use segment_manager::Map;
+use segment_manager::{BoundContent, Map, Pairs};
 use std::marker::Model;
 use std::ops::Bound;
 
@@ -26,7 +26,10 @@ const LONGEST: usize = 8;
 ///
 /// Contracts see the segment, the map's key, the bounds of the pairs that are left, and how many these are at most.
 #[derive(Drop)]
-pub struct MapItems<'a, K: Scalar, V: Scalar> {
+pub struct MapItems<'a, K: Scalar, V: Scalar>
+where
+    Pairs<K, V>: BoundContent,
+{
     map: Map<'a, K, V>,
     start: Bound<K>,
     end: Bound<K>,

@@ -40,6 +40,7 @@ impl<'a, K: Scalar, V: Scalar> Bound<'a, Pairs<K, V>> {
     /// Returns the value of a map key, or `None` if the map lacks it.
     ///
     /// Example: `let year: Option<i64> = years.get(5)`.
+    #[inline(always)]
     pub fn get(&self, at: K) -> Option<V>
         ensures { AnswersQueryOfKind self.now.segment.now (key_of self.now.object) (MapOf K.kind V.kind)
             (Lookup (key_of self.now.object) (literal_of K.kind (K.whole at)))
@@ -149,6 +150,7 @@ impl<'a, K: Scalar, V: Scalar> BoundMut<'a, Pairs<K, V>> {
     /// # Errors
     ///
     /// `NoSpace` if `at` is new and no gap is long enough for its block. Nothing changes.
+    #[inline(always)]
     pub fn insert(&mut self, at: K, value: V) -> Result<bool, Refusal>
         ensures unchanged { SameBound self.old self.new }
         ensures step { TakesStepOfKind self.old.segment.now self.new.segment.now (key_of self.old.object)
@@ -170,6 +172,7 @@ impl<'a, K: Scalar, V: Scalar> BoundMut<'a, Pairs<K, V>> {
     /// Erases the map key `at`, frees its block, and returns true if the map had it. All other pairs keep their blocks.
     ///
     /// Example: `let was_there = years.erase(5)`.
+    #[inline(always)]
     pub fn erase(&mut self, at: K) -> bool
         ensures unchanged { SameBound self.old self.new }
         ensures step { TakesStepOfKind self.old.segment.now self.new.segment.now (key_of self.old.object)

@@ -15,7 +15,7 @@ mod views;
 pub use arrays::{Array, ArrayItems, ArrayView};
 pub use elements::{SliceItems, TextItems};
 pub use maps::MapRanges;
-pub use ranges::MapItems;
+pub use ranges::{BoundItems, MapItems};
 pub use slices::{Slice, Storage};
 pub use string_lists::{StringsView, Texts};
 pub use strings::{StringBytes, StringView};

@@ -10,21 +10,21 @@ use segment_manager::Map;
 use std::ops::{Bound, RangeBounds};
 
 /// A map whose pairs can be read one after another.
-pub trait MapRanges<'a, K: Scalar, V: Scalar> {
+pub trait MapRanges<K: Scalar, V: Scalar> {
     /// Returns its pairs with keys in a range, one after another by rising keys, or by falling ones from the other end.
     /// There are none where the range runs backwards.
     ///
     /// Examples: `for (number, year) in years.range(2..=5)`, `for (number, year) in years.range(2..=5).rev()`.
-    fn range<R: RangeBounds<K>>(&self, range: R) -> MapItems<'a, K, V>;
+    fn range<R: RangeBounds<K>>(&self, range: R) -> MapItems<'_, K, V>;
 
     /// Returns all its pairs, one after another by rising keys, or by falling ones from the other end.
     ///
     /// Examples: `for (number, year) in years.iter()`, `let latest = years.iter().next_back()`.
-    fn iter(&self) -> MapItems<'a, K, V>;
+    fn iter(&self) -> MapItems<'_, K, V>;
 }
 
-impl<'a, K: Scalar, V: Scalar> MapRanges<'a, K, V> for Map<'a, K, V> {
-    fn range<R: RangeBounds<K>>(&self, range: R) -> MapItems<'a, K, V>
+impl<'a, K: Scalar, V: Scalar> MapRanges<K, V> for Map<'a, K, V> {
+    fn range<R: RangeBounds<K>>(&self, range: R) -> MapItems<'_, K, V>
         ensures segment { result.segment ≡ self.now.segment.now }
         ensures key { result.key ≡ key_of self.now.object }
         ensures start { R.has_bounds range → result.start ≡ bound_map K.whole (R.start_bound range) }
@@ -35,7 +35,7 @@ impl<'a, K: Scalar, V: Scalar> MapRanges<'a, K, V> for Map<'a, K, V> {
         MapItems::new(self, start, end)
     }
 
-    fn iter(&self) -> MapItems<'a, K, V>
+    fn iter(&self) -> MapItems<'_, K, V>
         ensures segment { result.segment ≡ self.now.segment.now }
         ensures key { result.key ≡ key_of self.now.object }
         ensures start { result.start ≡ Unbounded }

@@ -15,28 +15,30 @@ ghost use Rattle.segment_views.specs.Ranged.{is_up_to as is_up_to_end, last_betw
 use seg_types::theorems::scalar_is_number;
 use seg_types::{Scalar, ScalarKind, ScalarValue};
 use segment_manager::{BoundContent, Map, Pairs};
-use std::marker::Model;
+use std::marker::{Model, PhantomData};
 use std::ops::Bound;
 
 /// The longest spelling of a scalar, in bytes.
 const LONGEST: usize = 8;
 
-/// The pairs of a map with keys in a range, one after another by rising keys, and by falling keys from the other end.
-/// What one end gave, the other does not give again. Each is looked for from the root of the tree.
+/// The pairs of a map that was looked up with keys in a range, one after another by rising keys, and by falling keys
+/// from the other end. What one end gave, the other does not give again. Each is looked for from the root of the tree.
 ///
-/// Contracts see the segment, the map's key, the bounds of the pairs that are left, and how many these are at most.
+/// Contracts see the segment, the map's key, the bounds of the pairs that are left, and how many these are at most. The
+/// content is a parameter, because a struct can hold an object that was looked up only with a bound on a parameter.
 #[derive(Drop)]
-pub struct MapItems<'a, K: Scalar, V: Scalar>
-where
-    Pairs<K, V>: BoundContent,
-{
-    map: Map<'a, K, V>,
+pub struct BoundItems<'a, C: BoundContent, K: Scalar, V: Scalar> {
+    map: segment_manager::Bound<'a, C>,
     start: Bound<K>,
     end: Bound<K>,
     left: u64,
+    of: PhantomData<V>,
 }
 
-impl<'a, K: Scalar, V: Scalar> Model for MapItems<'a, K, V> {
+/// The pairs of a map with keys in a range, one after another from either end.
+pub type MapItems<'a, K, V> = BoundItems<'a, Pairs<K, V>, K, V>;
+
+impl<'a, C: BoundContent, K: Scalar, V: Scalar> Model for BoundItems<'a, C, K, V> {
     ghost use Rattle.std.specs.Range.Bound.{bound_map};
     ghost use Rattle.segment_manager.specs.objects.BoundObjects.{key_of};
     ghost use Rattle.segment_views.specs.Ranged.{IsPairWalk, PairWalk};
@@ -60,7 +62,7 @@ impl<'a, K: Scalar, V: Scalar> Model for MapItems<'a, K, V> {
     }) };
 }
 
-impl<'a, K: Scalar, V: Scalar> MapItems<'a, K, V> {
+impl<'a, K: Scalar, V: Scalar> BoundItems<'a, Pairs<K, V>, K, V> {
     /// Makes the pairs of a map with keys between two bounds.
     pub(crate) fn new(map: &Map<'a, K, V>, start: Bound<K>, end: Bound<K>) -> MapItems<'a, K, V>
         ensures segment { result.segment ≡ map.now.segment.now }
@@ -74,11 +76,12 @@ impl<'a, K: Scalar, V: Scalar> MapItems<'a, K, V> {
             start,
             end,
             left,
+            of: PhantomData,
         }
     }
 }
 
-impl<'a, K: Scalar, V: Scalar> Iterator for MapItems<'a, K, V> {
+impl<'a, K: Scalar, V: Scalar> Iterator for BoundItems<'a, Pairs<K, V>, K, V> {
     type Item = (K, V);
 
     ghost next_gives = { GoesOnPairs K.kind V.kind (λ pair. (K.whole pair.0, V.whole pair.1)) };
@@ -96,7 +99,7 @@ impl<'a, K: Scalar, V: Scalar> Iterator for MapItems<'a, K, V> {
     }
 }
 
-impl<'a, K: Scalar, V: Scalar> DoubleEndedIterator for MapItems<'a, K, V> {
+impl<'a, K: Scalar, V: Scalar> DoubleEndedIterator for BoundItems<'a, Pairs<K, V>, K, V> {
     ghost next_back_gives = { GoesBackPairs K.kind V.kind (λ pair. (K.whole pair.0, V.whole pair.1)) };
 
     fn next_back(&mut self) -> Option<(K, V)> {

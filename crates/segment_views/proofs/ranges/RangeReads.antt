@@ -1,27 +1,23 @@
 -- What is read of a map says of the pairs between two bounds.
-use Rattle.std.proofs.Common.{◌≡◌, refl, sym, ap, ◌∙◌, ℕ, ◌-◌, ◌≤◌, ℤ, Bool, true, false, Option, Some, None, Result}
-use Rattle.std.proofs.Common.{Ok, Err, List, [], ◌∷◌, ◌++◌, length, arith, subst, if◌then◌else◌}
+use Rattle.std.proofs.Common.{◌≡◌, refl, sym, ap, ◌∙◌, ℕ, ◌-◌, ◌≤◌, ℤ, Bool, true, false, Option, Some, None, Ok}
+use Rattle.std.proofs.Common.{List, [], ◌∷◌, ◌++◌, length, arith, subst, if◌then◌else◌}
 use Rattle.std.specs.Bool.{then_some}
-use Rattle.std.specs.Prelude.{MatchResult, option_map, slice_get}
+use Rattle.std.specs.Prelude.{option_map, slice_get}
 use Rattle.std.proofs.lemmas.List.{length-append}
 use Rattle.std.specs.declared.ops.Bound.{Bound}
 use Rattle.std.specs.declared.ops.Bound.TheVariants.{Excluded, Unbounded}
-use Rattle.seg_types.specs.declared.kinds.Kind.TheVariants.{Map as MapOf}
 use Rattle.seg_types.specs.declared.kinds.ScalarKind.{ScalarKind}
-use Rattle.seg_types.specs.declared.refusals.Refusal.{Refusal}
 use Rattle.seg_types.specs.Kinds.{lowest}
 use Rattle.seg_types.specs.Names.{Key}
 use Rattle.seg_map.specs.Numbers.{NumberPair}
 use Rattle.seg_map.specs.Places.{item_of}
-use Rattle.segment_manager.specs.declared.objects.object_ref.Object.{Object as Located}
 use Rattle.segment_manager.specs.Directory.{Directory}
-use Rattle.segment_manager.specs.objects.ElementLists.{length_at_kind, number_or_none}
-use Rattle.segment_manager.specs.containers.Maps.{numbers_in, pair_from, pair_result, answer_of_map}
+use Rattle.segment_manager.specs.containers.Maps.{answer_of_map, numbers_in, pair_from}
 use Rattle.segment_manager.specs.State.{AnswersWith, SegmentState, DenotesCurrent}
 use Rattle.segment_manager.specs.containers.Walks.{first_of, pairs_at_kinds}
-use Rattle.segment_manager.proofs.Laws.{map-least, map-length, map-rises, map-told}
+use Rattle.segment_manager.proofs.Laws.{map-least, map-rises, map-told}
 use Rattle.segment_views.specs.Ranged.{GoesBackPairs, GoesOnPairs, IsPairWalk, PairWalk, is_from, is_up_to}
-use Rattle.segment_views.specs.Ranged.{last_between, pair_or_none, pairs_left, range_of}
+use Rattle.segment_views.specs.Ranged.{last_between, pairs_left, range_of}
 use Rattle.segment_views.proofs.ranges.Bounds.{admitted, last-within, range-begins, range-empty, range-ends, range-few}
 use Rattle.segment_views.proofs.ranges.Bounds.{range-none, range-within}
 

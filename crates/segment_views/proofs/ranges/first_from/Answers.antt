@@ -42,10 +42,10 @@ pub returns-in-Unbounded : goal.returns-in-Unbounded
 returns-in-Unbounded g c =
     let s = c.args.map.now.segment.now in
     let key = key_of c.args.map.now.object in
-    let o = numbers_in g.K.Scalar.whole g.V.Scalar.whole c.first_from.result in
+    let o = numbers_in g.K.Scalar.whole g.V.Scalar.whole c.first_from-in-Unbounded.result in
     subst (λ b. AnswersWith s (λ d.
     slice_get (range_of (bound_map g.K.Scalar.whole b) Unbounded
     (pairs_at_kinds d key g.K.Scalar.kind g.V.Scalar.kind)) 0) o) (sym c.in-Unbounded.is)
     (reads-told s key g.K.Scalar.kind g.V.Scalar.kind (λ ps. option_map item_of (first_of ps))
     (λ ps. slice_get (range_of Unbounded Unbounded ps) 0) all-ranged o
-    (reads-least s key g.K.Scalar.kind g.V.Scalar.kind c.lowest.ensures o c.first_from.ensures))
+    (reads-least s key g.K.Scalar.kind g.V.Scalar.kind c.lowest.ensures o c.first_from-in-Unbounded.ensures))

@@ -2,7 +2,7 @@
 use Rattle.std.specs.Range.Bound.{bound_map}
 use Rattle.segment_manager.specs.objects.BoundObjects.{key_of}
 use Rattle.segment_views.proofs.ranges.RangeReads.{all-few}
-use Rattle.segment_views.proofs.ranges.MapItems.new.Goals as goal
+use Rattle.segment_views.proofs.ranges.BoundItems+Pairs+K+V+K+V.new.Goals as goal
 
 pub invariant_of-result : goal.invariant_of-result
 invariant_of-result g c = record {

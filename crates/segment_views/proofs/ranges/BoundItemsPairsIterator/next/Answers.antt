@@ -1,6 +1,6 @@
 -- The first pair is taken, and the others are left.
 use Rattle.segment_views.proofs.ranges.RangeReads.{fewer, finds-none, finds-one}
-use Rattle.segment_views.proofs.ranges.MapItemsIterator.next.Goals as goal
+use Rattle.segment_views.proofs.ranges.BoundItemsPairsIterator.next.Goals as goal
 
 pub invariant_of-self : goal.invariant_of-self
 invariant_of-self g c = record {

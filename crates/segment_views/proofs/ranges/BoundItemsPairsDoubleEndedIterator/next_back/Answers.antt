@@ -1,6 +1,6 @@
 -- The last pair is taken, and the others are left.
 use Rattle.segment_views.proofs.ranges.RangeReads.{fewer-back, finds-none-back, finds-one-back}
-use Rattle.segment_views.proofs.ranges.MapItemsDoubleEndedIterator.next_back.Goals as goal
+use Rattle.segment_views.proofs.ranges.BoundItemsPairsDoubleEndedIterator.next_back.Goals as goal
 
 pub invariant_of-self : goal.invariant_of-self
 invariant_of-self g c = record {

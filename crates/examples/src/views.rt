@@ -62,7 +62,10 @@ fn look_into_a_map(segment: &mut Segment, name: &Name) -> Result<([Option<(i32, 
     segment.construct_map::<i32, i64, _>(name)?;
     record_years(&mut MapMut::of(segment, name)?)?;
     let years = Map::of(segment, name)?;
-    Ok(([years.iter().next(), years.next_after(3)], add_up_years(&years)))
+    Ok((
+        [years.iter().next(), years.next_after(3)],
+        add_up_years(&years),
+    ))
 }
 
 /// Prints the last two pairs of the map, the last one first.

@@ -13,10 +13,10 @@ use Rattle.segment_cli.specs.Beginning.{BeginsSession}
 use Rattle.segment_commands.specs.declared.command_faults.CommandFault.{CommandFault}
 use Rattle.segment_commands.specs.declared.command_faults.CommandFault.TheVariants.{Exists, Session}
 use Rattle.segment_commands.specs.Faults.{region_refused}
-use Rattle.segment_disk.specs.declared.presence.Presence.{Presence}
 use Rattle.segment_disk.specs.declared.presence.Presence.TheVariants.{There}
-use Rattle.segment_disk.specs.Events.{New, Event, Looked, After}
+use Rattle.segment_disk.specs.Events.{CreateMode, New, Event, Looked, After}
 use Rattle.segment_file.specs.Files.{WritesImage}
+use Rattle.segment_file.specs.SegmentFiles.{IsBehindLook}
 use Rattle.segment_commands.specs.Opening.{OpensFile, VerifiesFile}
 use Rattle.segment_commands.specs.Telling.{WritesAndFlushes}
 
@@ -48,51 +48,42 @@ pub record MakesFreshSegment (size : ℕ) (result : Result SegmentState SessionF
 abbrev pub MakesSegment : ℕ → Result SegmentState SessionFault → Type 0
 MakesSegment size result = IsSizeless size result ⊎ MakesFreshSegment size result
 
+-- ---- what each end of a command says
+
+-- the command is refused for this reason, and this is as before
+pub record RefusesFor {A B : Type 0} (old new : B) (told : A → CommandFault) (Why : A → Type 0)
+    (result : Result (Unit {0}) CommandFault) : Type 0 where
+  pub fault : A
+  pub why : Why fault
+  pub unchanged : new ≡ old
+  pub refused : result ≡ Err (told fault)
+
+-- the image of a segment that was made so was written to a file, or that failed
+pub record WritesMade {D : Type 0} (step : D → Event → D → Type 0) (old new : D) (path : List ℕ) (how : CreateMode)
+    (IsMade : SegmentState → Type 0) (result : Result (Unit {0}) CommandFault) : Type 0 where
+  pub segment : SegmentState
+  pub made : IsMade segment
+  pub writes : WritesImage step old new how path segment.cut.bytes result
+  pub answer : (fault : CommandFault) → result ≡ Err fault → fault ≡ Session WriteFault
+
 module _ {D : Type 0} (step : D → Event → D → Type 0) (old new : D) (path : List ℕ) where
   -- something is at the path, and the command asks the disk nothing else
   pub record RefusesExisting (result : Result (Unit {0}) CommandFault) : Type 0 where
     pub asked : After step old (Looked path There ∷ []) new
     pub refused : result ≡ Err Exists
 
-  -- the look finds nothing at the path, but no segment was made, and the command asks the disk nothing else
-  pub record CreatesFileErr (size : ℕ) (result : Result (Unit {0}) CommandFault) : Type 0 where
-    pub found : Presence
-    pub free : found ≢ There
-    pub asked : After step old (Looked path found ∷ []) new
-    pub fault : SessionFault
-    pub why : MakesSegment size (Err fault)
-    pub refused : result ≡ Err (Session fault)
-
-  -- the look finds nothing at the path, and the command writes the image of an empty segment to a new file
-  pub record CreatesFileOk (size : ℕ) (result : Result (Unit {0}) CommandFault) : Type 0 where
-    pub found : Presence
-    pub free : found ≢ There
-    pub looked : D
-    pub asked : step old (Looked path found) looked
-    pub segment : SegmentState
-    pub made : MakesSegment size (Ok segment)
-    pub writes : WritesImage step looked new New path segment.cut.bytes result
-    pub answer : (fault : CommandFault) → result ≡ Err fault → fault ≡ Session WriteFault
-
-  -- `create`
+  -- `create`: something is there; no segment and no file; or the image of an empty segment is in a new file
   abbrev pub RunsCreate : ℕ → Result (Unit {0}) CommandFault → Type 0
-  RunsCreate size result = RefusesExisting result ⊎ (CreatesFileErr size result ⊎ CreatesFileOk size result)
+  RunsCreate size result = RefusesExisting result ⊎ IsBehindLook step old path (λ found. found ≢ There) (λ looked.
+      RefusesFor looked new Session (λ fault. MakesSegment size (Err fault)) result
+      ⊎ WritesMade step looked new path New (λ s. MakesSegment size (Ok s)) result)
 
   -- ---- a file that is looked at
 
-  -- the file does not open as a segment, because of `fault`, and the command writes nothing
-  pub record RefusesUnopened {O : Type 0} (out out' : O) (result : Result (Unit {0}) CommandFault) : Type 0 where
-    pub fault : SessionFault
-    pub opens : OpensFile step old new path ReadOnly (Err fault)
-    pub silent : out' ≡ out
-    pub refused : result ≡ Err (Session fault)
-
-  -- a check refuses the image of the file, and the command writes nothing
-  pub record RefusesUnverified {O : Type 0} (out out' : O) (result : Result (Unit {0}) CommandFault) : Type 0 where
-    pub fault : SessionFault
-    pub verifies : VerifiesFile step old new path (Err fault)
-    pub silent : out' ≡ out
-    pub refused : result ≡ Err (Session fault)
+  -- the file does not open as a segment, because of the fault, and the command writes nothing
+  abbrev pub RefusesUnopened : {O : Type 0} → O → O → Result (Unit {0}) CommandFault → Type 0
+  RefusesUnopened out out' result =
+      RefusesFor out out' Session (λ fault. OpensFile step old new path ReadOnly (Err fault)) result
 
   -- the file has a segment, and the command writes `ok`
   pub record ChecksFileOk {O : Type 0} (history : O → WriterHistory) (flushes : O → Bool → O
@@ -104,7 +95,8 @@ module _ {D : Type 0} (step : D → Event → D → Type 0) (old new : D) (path 
   -- `check`: nothing is opened for writing
   abbrev pub RunsCheck : {O : Type 0} → (O → WriterHistory) → (O → Bool → O → Type 0) → O → O
       → Result (Unit {0}) CommandFault → Type 0
-  RunsCheck history flushes out out' result = RefusesUnverified out out' result
+  RunsCheck history flushes out out' result =
+      RefusesFor out out' Session (λ fault. VerifiesFile step old new path (Err fault)) result
       ⊎ ChecksFileOk history flushes out out' result
 
 -- ---- what the program says of itself

@@ -1,28 +1,26 @@
 -- How a script is run on the segment of a file, and what it changed is committed to the log beside the file.
-use Rattle.std.specs.Prelude.{◌≡◌, ◌≢◌, ◌⊎◌, ℕ, Bool, true, List, Option, Some, None, Result, Ok, Err, MatchResult}
-use Rattle.raw_region.specs.Device.{ReaderHistory, ReadDelta, WriterHistory, read_delta, write_delta}
+use Rattle.std.specs.Prelude.{◌≡◌, ◌≢◌, ◌⊎◌, ℕ, Bool, true, List, Option, Some, Result, Ok, Err, MatchResult}
+use Rattle.raw_region.specs.Device.{ReaderHistory, WriterHistory}
 use Rattle.segment_manager.specs.declared.modes.Mode.TheVariants.{Write}
 use Rattle.segment_scripts.specs.declared.ends.End.{End}
 use Rattle.segment_scripts.specs.declared.ends.End.TheVariants.{Complete, Refused}
 use Rattle.segment_log.specs.Events.{LogEvent}
-use Rattle.segment_cli.specs.declared.faults.Start.TheVariants.{Image}
 use Rattle.segment_cli.specs.declared.faults.SessionFault.{SessionFault}
 use Rattle.segment_cli.specs.declared.faults.SessionFault.TheVariants.{WriteFault}
 use Rattle.segment_disk.specs.declared.presence.Presence.TheVariants.{Absent}
-use Rattle.segment_disk.specs.Events.{Event, After, Truncate}
+use Rattle.segment_disk.specs.Events.{Event, Truncate}
 use Rattle.segment_file.specs.declared.committing.CommitFault.{CommitFault}
 use Rattle.segment_file.specs.Committing.{CommitsSegment}
-use Rattle.segment_file.specs.Files.{all_of, open_events}
-use Rattle.segment_file.specs.Opening.{file_region}
+use Rattle.segment_file.specs.Files.{all_of}
+use Rattle.segment_file.specs.SegmentFiles.{IsBehindLook}
 use Rattle.segment_invocation.specs.declared.invocations.ModeName.{ModeName}
-use Rattle.segment_invocation.specs.declared.invocations.ModeName.TheVariants.{CreateOnly, OpenOnly, OpenOrCreate}
-use Rattle.segment_invocation.specs.declared.invocations.ModeName.TheVariants.{OpenReadOnly, OpenCopyOnWrite}
+use Rattle.segment_invocation.specs.declared.invocations.ModeName.TheVariants.{OpenOnly, OpenOrCreate}
 use Rattle.segment_commands.specs.declared.command_faults.CommandFault.{CommandFault}
 use Rattle.segment_commands.specs.declared.running.RunRequest.{RunRequest}
 use Rattle.segment_commands.specs.Holding.{HoldsLock}
 use Rattle.segment_commands.specs.Modes.{RefusesMissingSize}
 use Rattle.segment_commands.specs.Running.{Act, EndsRunLost, EndsRunRefused, EndsRunStopped, FailsScript, IsAnswerOf}
-use Rattle.segment_commands.specs.Running.{IsRunBehind, IsUnrefusedAct, Ran, RunsMade, RunsOpenedErr}
+use Rattle.segment_commands.specs.Running.{IsUnrefusedAct, Ran, RunsMade, RunsOpenedTo}
 
 module _ {D : Type 0} (step : D → Event → D → Type 0) (log_step : D → LogEvent → D → Type 0) (old new : D)
     (path : List ℕ) (act : Act) (Flushed : Bool → Type 0) where
@@ -58,31 +56,10 @@ module _ {D : Type 0} (step : D → Event → D → Type 0) (log_step : D → Lo
 module _ {D O : Type 0} (step : D → Event → D → Type 0) (log_step : D → LogEvent → D → Type 0) (old new : D)
     (request : RunRequest) (script script' : ReaderHistory) (history : O → WriterHistory) (flushes : Bool → Type 0)
     (out out' : O) where
-  -- the file was opened, read and closed, with its log, and the script ran on its segment, in a region with room for
-  -- what the disk told of the file's length, and for what the image says
-  pub record CommitsOpenedOk (result : Result End SessionFault) : Type 0 where
-    pub len : ℕ
-    pub image : ReadDelta
-    pub capacity : ℕ
-    pub room : capacity ≡ file_region len 0 image.bytes
-    pub read : D
-    pub asked : After step old (open_events request.path.now len image) read
-    pub ends : EndsCommit step log_step read new request.path.now
-        (record {
-          start = Image;
-          mode = Write;
-          capacity = capacity;
-          image = image;
-          until = request.until;
-          script = read_delta script script';
-          out = write_delta (history out) (history out');
-        })
-        flushes result
-
-  -- the file of a run was opened, or not
+  -- the file of a run was opened with its log, or not
   abbrev pub CommitsOpened : Result End SessionFault → Type 0
-  CommitsOpened result = RunsOpenedErr step old new request Write script script' out out' result
-      ⊎ CommitsOpenedOk result
+  CommitsOpened result = RunsOpenedTo step old new request Write script script' history out out' result (λ read act.
+      EndsCommit step log_step read new request.path.now act flushes result)
 
 module _ {D O : Type 0} (step : D → Event → D → Type 0) (log_step : D → LogEvent → D → Type 0) (old new : D)
     (request : RunRequest) (script script' : ReaderHistory) (history : O → WriterHistory) (flushes : Bool → Type 0)
@@ -107,9 +84,9 @@ module _ {D O : Type 0} (step : D → Event → D → Type 0) (log_step : D → 
     (out out' : O) (result : Result (Unit {0}) CommandFault) where
   -- a run on the segment in the file, which is committed, or on a new one if nothing is there
   abbrev pub CommitsAnyFile : ℕ → Type 0
-  CommitsAnyFile size = IsRunBehind step old request.path.now (λ found. found ≡ Absent)
+  CommitsAnyFile size = IsBehindLook step old request.path.now (λ found. found ≡ Absent)
       (RunsMade step old new request size script script' history flushes out out' result)
-      ⊎ IsRunBehind step old request.path.now (λ found. found ≢ Absent) (λ looked.
+      ⊎ IsBehindLook step old request.path.now (λ found. found ≢ Absent) (λ looked.
       CommitsOnFile step log_step looked new request script script' history flushes out out' result)
 
   -- `run_and_commit`
@@ -117,11 +94,4 @@ module _ {D O : Type 0} (step : D → Event → D → Type 0) (log_step : D → 
   CommitsInMode OpenOnly size =
       CommitsOnFile step log_step old new request script script' history flushes out out' result
   CommitsInMode OpenOrCreate (Some size) = CommitsAnyFile size
-  CommitsInMode OpenOrCreate None =
-      RefusesMode step log_step old new request script script' history flushes out out' result
-  CommitsInMode CreateOnly size =
-      RefusesMode step log_step old new request script script' history flushes out out' result
-  CommitsInMode OpenReadOnly size =
-      RefusesMode step log_step old new request script script' history flushes out out' result
-  CommitsInMode OpenCopyOnWrite size =
-      RefusesMode step log_step old new request script script' history flushes out out' result
+  CommitsInMode mode size = RefusesMode step log_step old new request script script' history flushes out out' result

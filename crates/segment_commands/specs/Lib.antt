@@ -17,7 +17,6 @@ pub mod Reporting
 pub mod Drawing
 pub mod Explaining
 pub mod Loading
-pub mod LoadOver
 pub mod Reports
 pub mod RawValues
 pub mod Getting

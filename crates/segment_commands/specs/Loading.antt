@@ -22,10 +22,10 @@ use Rattle.segment_cli.specs.declared.faults.SessionFault.TheVariants.{ScriptToo
 use Rattle.segment_commands.specs.declared.command_faults.CommandFault.{CommandFault}
 use Rattle.segment_commands.specs.declared.command_faults.CommandFault.TheVariants.{BadDump, NoSpace, Exists, Session}
 use Rattle.segment_commands.specs.Faults.{IsNoMemory, region_refused}
-use Rattle.segment_disk.specs.declared.presence.Presence.{Presence}
 use Rattle.segment_disk.specs.declared.presence.Presence.TheVariants.{There}
-use Rattle.segment_disk.specs.Events.{New, Event, Looked, After}
-use Rattle.segment_file.specs.Files.{WritesImage}
+use Rattle.segment_disk.specs.Events.{CreateMode, New, Replacement, Event, Looked, After}
+use Rattle.segment_file.specs.SegmentFiles.{IsBehindLook}
+use Rattle.segment_commands.specs.{Commands.RefusesFor, Commands.WritesMade, Holding.HoldsLock}
 
 -- ---- a text that is read whole
 
@@ -161,41 +161,45 @@ module _ (size : Option ℕ) (script script' : ReaderHistory) (result : Result S
 
 -- ---- `load`
 
-module _ {D : Type 0} (step : D → Event → D
-    → Type 0) (old new : D) (path : List ℕ) (size : Option ℕ) (script script' : ReaderHistory)
-    (result : Result (Unit {0}) CommandFault) where
+module _ {D : Type 0} (step : D → Event → D → Type 0) (old new : D) (path : List ℕ) (size : Option ℕ)
+    (script script' : ReaderHistory) (result : Result (Unit {0}) CommandFault) where
+  -- the image of the segment of a dump was written, or that failed
+  abbrev pub LoadsOk : CreateMode → Type 0
+  LoadsOk how = WritesMade step old new path how (λ s. LoadsDump size script script' (Ok s)) result
+
+  -- there is no segment, and the disk was not asked for anything; or its image was written
+  abbrev pub LoadsInto : CreateMode → Type 0
+  LoadsInto how = RefusesFor old new (λ fault. fault) (λ fault. LoadsDump size script script' (Err fault)) result
+      ⊎ LoadsOk how
+
+module _ {D : Type 0} (step : D → Event → D → Type 0) (old new : D) (path : List ℕ) (size : Option ℕ)
+    (script script' : ReaderHistory) (result : Result (Unit {0}) CommandFault) where
   -- something is there under the path, and nothing else was asked for
   pub record LoadsNothing : Type 0 where
     pub asked : After step old (Looked path There ∷ []) new
     pub unasked : script' ≡ script
     pub refused : result ≡ Err Exists
 
-  -- nothing is there, and no segment was made: no file is made
-  pub record LoadsToErr : Type 0 where
-    pub found : Presence
-    pub free : found ≢ There
-    pub asked : After step old (Looked path found ∷ []) new
-    pub fault : CommandFault
-    pub why : LoadsDump size script script' (Err fault)
-    pub refused : result ≡ Err fault
-
-  -- nothing is there, and the image of the segment was written to a new file
-  pub record LoadsToOk : Type 0 where
-    pub found : Presence
-    pub free : found ≢ There
-    pub looked : D
-    pub asked : step old (Looked path found) looked
-    pub segment : SegmentState
-    pub made : LoadsDump size script script' (Ok segment)
-    pub writes : WritesImage step looked new New path segment.cut.bytes result
-    pub answer : (fault : CommandFault) → result ≡ Err fault → fault ≡ Session WriteFault
-
   -- `load`: something is there; no segment and no file; or its image is in a new file
   abbrev pub RunsLoad : Type 0
-  RunsLoad = LoadsNothing ⊎ (LoadsToErr ⊎ LoadsToOk)
+  RunsLoad = LoadsNothing ⊎ IsBehindLook step old path (λ found. found ≢ There) (λ looked.
+      LoadsInto step looked new path size script script' result New)
 
   -- If a dump was read that fits, of whatever segment, and with whatever notes, its segment is in the file, but for
   -- something that is there, memory that is not given, or a file that cannot be written.
   pub record LoadsWhatFits : Type 0 where
     pub loads : (text : List ℕ) → IsReadWhole (read_delta script script') text → IsFitting text size
-        → LoadsNothing ⊎ (((fault : CommandFault) × IsNoMemory fault × (result ≡ Err fault)) ⊎ LoadsToOk)
+        → LoadsNothing ⊎ (((fault : CommandFault) × IsNoMemory fault × (result ≡ Err fault))
+        ⊎ IsBehindLook step old path (λ found. found ≢ There) (λ looked.
+        LoadsOk step looked new path size script script' result New))
+
+-- `load --replace`: a new file, if nothing is there or that can't be known; and otherwise the image takes the place of
+-- the file, whose right is taken first
+abbrev pub RunsLoadOver : {D : Type 0} → (D → Event → D → Type 0) → D → D → List ℕ → Option ℕ → ReaderHistory
+    → ReaderHistory → Result (Unit {0}) CommandFault → Type 0
+RunsLoadOver step old new path size script script' result =
+    IsBehindLook step old path (λ found. found ≢ There) (λ looked.
+    RunsLoad step looked new path size script script' result)
+    ⊎ IsBehindLook step old path (λ found. found ≡ There) (λ looked.
+    HoldsLock step looked new path (script' ≡ script) (λ held done.
+    LoadsInto step held done path size script script' result Replacement) result)

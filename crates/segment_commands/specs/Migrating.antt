@@ -10,7 +10,7 @@ use Rattle.segment_commands.specs.declared.command_faults.CommandFault.{CommandF
 use Rattle.segment_commands.specs.declared.command_faults.CommandFault.TheVariants.{Session}
 use Rattle.segment_disk.specs.Events.{CreateMode, Event}
 use Rattle.segment_file.specs.Files.{WritesImage}
-use Rattle.segment_commands.specs.Opening.{OpensWith}
+use Rattle.segment_commands.specs.{Commands.RefusesFor, Opening.OpensWith}
 use Rattle.segment_commands.specs.Telling.{WritesAndFlushes}
 
 -- a writing that answers Ok
@@ -21,13 +21,6 @@ module _ {D : Type 0} (step : D → Event → D → Type 0) (old new : D) (path 
   -- the segment of a file of any of the three formats
   abbrev pub OpensAnyFile : Result SegmentState SessionFault → Type 0
   OpensAnyFile result = OpensWith step old new path All Write 0 result
-
-  -- the file has no segment of any format, for this reason
-  pub record MigratesUnopened {O : Type 0} (out out' : O) (result : Result (Unit {0}) CommandFault) : Type 0 where
-    pub fault : SessionFault
-    pub opens_file : OpensAnyFile (Err fault)
-    pub silent : out' ≡ out
-    pub refused : result ≡ Err (Session fault)
 
 -- the file was read, and its image could not be written
 pub record MigratesFileErr {D O : Type 0} (step : D → Event → D
@@ -55,6 +48,6 @@ pub record MigratesFileOk {D O : Type 0} (step : D → Event → D
 abbrev pub RunsMigrate : {D O : Type 0} → (D → Event → D → Type 0) → D → D → List ℕ → CreateMode → (O → WriterHistory)
     → (O → Bool → O → Type 0) → O → O → Result (Unit {0}) CommandFault → Type 0
 RunsMigrate step old new path how history flushes out out' result =
-    MigratesUnopened step old new path out out' result
+    RefusesFor out out' Session (λ fault. OpensAnyFile step old new path (Err fault)) result
     ⊎ (MigratesFileErr step old new path how out out' result
     ⊎ MigratesFileOk step old new path how history flushes out out' result)

@@ -10,7 +10,6 @@ use Rattle.seg_types.specs.Commands.{Size}
 use Rattle.grow_shrink.specs.declared.refusals.GrowError.{GrowError}
 use Rattle.grow_shrink.specs.declared.refusals.GrowError.TheVariants.{RegionTooSmall}
 use Rattle.grow_shrink.specs.Resized.{IsRefusedBy, growth_refusal, grown, room_of, shrink_refusal, shrunk}
-use Rattle.segment_cli.specs.declared.faults.SessionFault.{SessionFault}
 use Rattle.segment_cli.specs.declared.faults.SessionFault.TheVariants.{WriteFault}
 use Rattle.segment_commands.specs.declared.command_faults.CommandFault.{CommandFault}
 use Rattle.segment_commands.specs.declared.command_faults.CommandFault.TheVariants.{Growth, Session}
@@ -18,7 +17,7 @@ use Rattle.segment_commands.specs.declared.changing.Resize.{Resize}
 use Rattle.segment_commands.specs.declared.changing.Resize.TheVariants.{Grow, Shrink}
 use Rattle.segment_disk.specs.Events.{CreateMode, Event}
 use Rattle.segment_file.specs.Files.{WritesImage}
-use Rattle.segment_commands.specs.Opening.{OpensWith}
+use Rattle.segment_commands.specs.{Commands.RefusesFor, Opening.OpensWith}
 use Rattle.image_check.specs.declared.versions.AcceptedVersions.TheVariants.{Current}
 use Rattle.segment_commands.specs.Telling.{WritesAndFlushes}
 
@@ -71,13 +70,6 @@ module _ {D O : Type 0} (step : D → Event → D
   abbrev pub TellsAndWrites : {E : Type 0} → SegmentState → Result (Unit {0}) E → Type 0
   TellsAndWrites s result = TellsSizeErr s result ⊎ TellsSizeAndWrites s result
 
-  -- the file has no segment, for this reason
-  pub record ResizesUnopened (more : ℕ) (result : Result (Unit {0}) CommandFault) : Type 0 where
-    pub fault : SessionFault
-    pub opens : OpensWith step old new path Current Write more (Err fault)
-    pub silent : out' ≡ out
-    pub refused : result ≡ Err (Session fault)
-
   -- the segment does not become larger or smaller, for this reason, which is none of its region
   pub record ResizesFileErr (more : ℕ) (why : SegmentState → Directory
       → Option GrowError) (result : Result (Unit {0}) CommandFault) : Type 0 where
@@ -108,6 +100,6 @@ abbrev pub RunsResize : {D O : Type 0} → (D → Event → D → Type 0) → D 
     → ℕ → (SegmentState → Directory → Option GrowError) → (Directory → Directory) → Result (Unit {0}) CommandFault
     → Type 0
 RunsResize step old new path how history flushes out out' more why next result =
-    ResizesUnopened step old new path how history flushes out out' more result
+    RefusesFor out out' Session (λ fault. OpensWith step old new path Current Write more (Err fault)) result
     ⊎ (ResizesFileErr step old new path how history flushes out out' more why result
     ⊎ ResizesFile step old new path how history flushes out out' more next result)

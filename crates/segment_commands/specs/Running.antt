@@ -7,7 +7,7 @@ use Rattle.segment_manager.specs.declared.modes.Mode.{Mode}
 use Rattle.segment_manager.specs.declared.modes.Mode.TheVariants.{Write, ReadOnly, CopyOnWrite}
 use Rattle.segment_manager.specs.Directory.{Directory}
 use Rattle.segment_manager.specs.State.{SegmentState}
-use Rattle.segment_lang.specs.Language.{whole_language as whole_language}
+use Rattle.segment_lang.specs.Language.{whole_language}
 use Rattle.segment_scripts.specs.declared.ends.End.{End}
 use Rattle.segment_scripts.specs.declared.ends.End.TheVariants.{Complete, Refused}
 use Rattle.segment_scripts.specs.declared.ends.Until.{Until}
@@ -26,13 +26,13 @@ use Rattle.segment_commands.specs.declared.command_faults.CommandFault.TheVarian
 use Rattle.segment_cli.specs.Serving.{ServesOk, ServesErr}
 use Rattle.segment_cli.specs.Session.{LeavesZeros, RunsSession, SessionIo, StartsFrom}
 use Rattle.segment_disk.specs.Events.{CreateMode, New, Replacement, create_mode_of}
-use Rattle.segment_disk.specs.declared.presence.Presence.{Presence}
 use Rattle.segment_disk.specs.declared.presence.Presence.TheVariants.{Absent, There}
 use Rattle.segment_disk.specs.Events.{Event, Looked, After}
 use Rattle.segment_file.specs.Files.{WriteOutcome, Overtaken, Unchanged, NotMade, Closed, Offered, HasImage}
 use Rattle.segment_file.specs.Files.{write_events, all_of, open_events}
 use Rattle.segment_commands.specs.Holding.{HoldsLock}
 use Rattle.segment_file.specs.Opening.{file_region}
+use Rattle.segment_file.specs.SegmentFiles.{IsBehindLook}
 use Rattle.segment_commands.specs.Opening.{OpensFile}
 use Rattle.segment_commands.specs.Commands.{MakesSegment}
 
@@ -74,6 +74,19 @@ pub record Act : Type 0 where
   pub until : Until
   pub script : ReadDelta
   pub out : WriteDelta
+
+-- the run of a request: how it began and in which mode, its capacity, and what went in and out
+abbrev pub act_of : {O : Type 0} → RunRequest → Start → Mode → ℕ → ReadDelta → ReaderHistory → ReaderHistory
+    → (O → WriterHistory) → O → O → Act
+act_of request start mode capacity image script script' history out out' = record {
+  start = start;
+  mode = mode;
+  capacity = capacity;
+  image = image;
+  until = request.until;
+  script = read_delta script script';
+  out = write_delta (history out) (history out');
+}
 
 -- what went in and out of a run that saved this
 abbrev pub io_of : Act → WriteDelta → SessionIo
@@ -213,10 +226,11 @@ pub record FailsScript {D O : Type 0} (old new : D) (script script' : ReaderHist
   pub silent : out' ≡ out
   pub refused : result ≡ Err (Session ReadFault)
 
-module _ {D : Type 0} (step : D → Event → D
-    → Type 0) (old new : D) (request : RunRequest) (mode : Mode) (script script' : ReaderHistory) where
+module _ {D O : Type 0} (step : D → Event → D → Type 0) (old new : D) (request : RunRequest) (mode : Mode)
+    (script script' : ReaderHistory) (history : O → WriterHistory) (out out' : O)
+    (result : Result End SessionFault) where
   -- the file has no segment, for this reason; the script was not asked for
-  pub record RunsOpenedErr {O : Type 0} (out out' : O) (result : Result End SessionFault) : Type 0 where
+  pub record RunsOpenedErr : Type 0 where
     pub fault : SessionFault
     pub opens_file : OpensFile step old new request.path.now mode (Err fault)
     pub unasked : script' ≡ script
@@ -224,32 +238,26 @@ module _ {D : Type 0} (step : D → Event → D
     pub refused : result ≡ Err fault
 
   -- the file was opened, read and closed, and the script ran on its segment, in a region with room for what the disk
-  -- told of the file's length, and for what the image says
-  pub record RunsOpenedOk {O : Type 0} (history : O → WriterHistory) (flushes : Bool
-      → Type 0) (out out' : O) (result : Result End SessionFault) : Type 0 where
+  -- told of the file's length, and for what the image says; from there on the run ended so
+  pub record RunsOpenedOk (Ends : D → Act → Type 0) : Type 0 where
     pub len : ℕ
     pub image : ReadDelta
     pub capacity : ℕ
     pub room : capacity ≡ file_region len 0 image.bytes
     pub read : D
     pub asked : After step old (open_events request.path.now len image) read
-    pub ends : EndsRun step read new (create_mode_of request.saving) request.path.now
-        (record {
-          start = Image;
-          mode = mode;
-          capacity = capacity;
-          image = image;
-          until = request.until;
-          script = read_delta script script';
-          out = write_delta (history out) (history out');
-        })
-        flushes result
+    pub ends : Ends read (act_of request Image mode capacity image script script' history out out')
 
-  -- the file of a run was opened, or not
-  abbrev pub RunsOpened : {O : Type 0} → (O → WriterHistory) → (Bool → Type 0) → O → O → Result End SessionFault
-      → Type 0
-  RunsOpened history flushes out out' result =
-      RunsOpenedErr out out' result ⊎ RunsOpenedOk history flushes out out' result
+  -- the file of a run was opened and the run ended so, or it was not opened
+  abbrev pub RunsOpenedTo : (D → Act → Type 0) → Type 0
+  RunsOpenedTo Ends = RunsOpenedErr ⊎ RunsOpenedOk Ends
+
+-- the file of a run was opened, or not
+abbrev pub RunsOpened : {D O : Type 0} → (D → Event → D → Type 0) → D → D → RunRequest → Mode → ReaderHistory
+    → ReaderHistory → (O → WriterHistory) → (Bool → Type 0) → O → O → Result End SessionFault → Type 0
+RunsOpened step old new request mode script script' history flushes out out' result =
+    RunsOpenedTo step old new request mode script script' history out out' result (λ read act.
+    EndsRun step read new (create_mode_of request.saving) request.path.now act flushes result)
 
 module _ {D O : Type 0} (step : D → Event → D
     → Type 0) (old new : D) (request : RunRequest) (script script' : ReaderHistory) (history : O
@@ -295,16 +303,7 @@ module _ {D : Type 0} (step : D → Event → D
     pub capacity : ℕ
     pub room : capacity ≡ region_len size
     pub ends : EndsRun step old new New request.path.now
-        (record {
-          start = Fresh size;
-          mode = Write;
-          capacity = capacity;
-          image = image;
-          until = request.until;
-          script = read_delta script script';
-          out = write_delta (history out) (history out');
-        })
-        flushes result
+        (act_of request (Fresh size) Write capacity image script script' history out out') flushes result
 
   -- the empty segment of a run was made, or not
   abbrev pub MakesRun : {O : Type 0} → (O → WriterHistory) → (Bool → Type 0) → O → O → Result End SessionFault → Type 0
@@ -317,15 +316,6 @@ module _ {D : Type 0} (step : D → Event → D
     pub silent : out' ≡ out
     pub refused : result ≡ Err Exists
 
--- the path was looked at and this was found, and then a run went on from there
-pub record IsRunBehind {D : Type 0} (step : D → Event → D → Type 0) (old : D) (path : List ℕ) (IsWhere : Presence
-    → Type 0) (goes_on : D → Type 0) : Type 0 where
-  pub found : Presence
-  pub is : IsWhere found
-  pub looked : D
-  pub asked : step old (Looked path found) looked
-  pub goes : goes_on looked
-
 module _ {D O : Type 0} (step : D → Event → D
     → Type 0) (old new : D) (request : RunRequest) (size : ℕ) (script script' : ReaderHistory) (history : O
     → WriterHistory) (flushes : Bool → Type 0) (out out' : O) (result : Result (Unit {0}) CommandFault) where
@@ -336,10 +326,10 @@ module _ {D O : Type 0} (step : D → Event → D
   -- a run on a segment that is made, in a file that is not there
   abbrev pub RunsNewFile : Type 0
   RunsNewFile = RunsNothing step old new request size script script' out out' result
-      ⊎ IsRunBehind step old request.path.now (λ found. found ≢ There) RunsMade
+      ⊎ IsBehindLook step old request.path.now (λ found. found ≢ There) RunsMade
 
   -- a run on the segment in the file, or on a new one if nothing is there
   abbrev pub RunsAnyFile : Type 0
-  RunsAnyFile = IsRunBehind step old request.path.now (λ found. found ≡ Absent) RunsMade
-      ⊎ IsRunBehind step old request.path.now (λ found. found ≢ Absent) (λ looked.
+  RunsAnyFile = IsBehindLook step old request.path.now (λ found. found ≡ Absent) RunsMade
+      ⊎ IsBehindLook step old request.path.now (λ found. found ≢ Absent) (λ looked.
       RunsFile step looked new request script script' history flushes out out' result Write)

@@ -1,33 +1,22 @@
 //! The command that runs a script on the segment in a file, and commits what the script changed.
-ghost use Rattle.std.specs.Prelude.{◌≡◌, ◌-◌, ◌<◌, ◌^◌};
+ghost use Rattle.std.specs.Prelude.{◌-◌, ◌<◌, ◌^◌};
 ghost use Rattle.segment_disk.specs.Events.{IsFlushed};
-ghost use Rattle.segment_commands.specs.{Running.as_saved};
-ghost use Rattle.segment_commands.specs.Committing.{CommitsHeld, CommitsInMode, CommitsOnFile, CommitsOpened};
+ghost use Rattle.segment_commands.specs.Committing.{CommitsInMode, CommitsOnFile, CommitsOpened};
 
 use crate::answering::run_script;
 use crate::command_faults::CommandFault;
 use crate::opening::open_segment;
-use crate::running::{RunRequest, answered, can_be_read, is_whole, run_made};
+use crate::running::{RunRequest, answered, can_be_read, is_whole, run_made, saved};
 use image_check::AcceptedVersions;
 use raw_region::Source;
 use segment_answers::LineOutput;
 use segment_cli::SessionFault;
 use segment_disk::{Disk, Presence};
-use segment_file::{CommitFault, commit_segment};
+use segment_file::commit_segment;
 use segment_invocation::ModeName;
 use segment_manager::Mode;
 use segment_scripts::End;
 use std::alloc::Global;
-
-/// Returns the result of a run whose script ended, by the result of its commit.
-fn committed(answer: Result<(), CommitFault>) -> Result<End, SessionFault>
-    ensures { result ≡ as_saved answer }
-{
-    match answer {
-        Ok(()) => Ok(End::Complete),
-        Err(_) => Err(SessionFault::WriteFault),
-    }
-}
 
 /// Runs a script on the segment in a file, gives out its answers, and commits it, unless the run ended at a refusal.
 fn commit_opened<D: Disk, S: Source, O: LineOutput>(
@@ -47,32 +36,13 @@ fn commit_opened<D: Disk, S: Source, O: LineOutput>(
     let mut segment = open_segment(alloc, disk, path, AcceptedVersions::Current, Mode::Write, 0)?;
     let ended = run_script(&mut segment, request.until, script, out);
     if is_whole(ended) {
-        committed(commit_segment(alloc, disk, path, hold, &segment))
+        saved(commit_segment(alloc, disk, path, hold, &segment))
     } else {
         ended
     }
 }
 
-/// Runs a script on the segment in a file, and commits it, under the lock of the file.
-fn commit_held<D: Disk, S: Source, O: LineOutput>(
-    alloc: Global,
-    disk: &mut D,
-    request: &RunRequest<'_>,
-    script: &mut S,
-    out: &mut O,
-) -> Result<(), CommandFault>
-    requires script { (S.history script.old).failures < 2 ^ 64 - 1 }
-    requires out { (O.history out.old).failures < 2 ^ 64 - 1 }
-    ensures { CommitsHeld D.step D.log_step disk.old disk.new request.now (S.history script.old) (S.history script.new)
-        O.history (IsFlushed O.history O.flushes out.new) out.old out.new result }
-{
-    let mut hold = disk.lock(request.path)?;
-    let answer = commit_opened(alloc, disk, request, &mut hold, script, out);
-    disk.unlock(hold);
-    answered(answer)
-}
-
-/// Runs a script that can be read on the segment in a file that is there, and commits it.
+/// Runs a script on the segment in a file that is there, and commits it, under the lock of the file.
 fn commit_on_file<D: Disk, S: Source, O: LineOutput>(
     alloc: Global,
     disk: &mut D,
@@ -88,7 +58,10 @@ fn commit_on_file<D: Disk, S: Source, O: LineOutput>(
     if !can_be_read(script) {
         return Err(CommandFault::Session(SessionFault::ReadFault));
     }
-    commit_held(alloc, disk, request, script, out)
+    let mut hold = disk.lock(request.path)?;
+    let answer = commit_opened(alloc, disk, request, &mut hold, script, out);
+    disk.unlock(hold);
+    answered(answer)
 }
 
 /// Runs a script on the segment in a file, and gives out its answers. When all answers went out, what the script

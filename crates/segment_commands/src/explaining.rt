@@ -1,5 +1,5 @@
 //! The command that tells why an image is refused, and where.
-ghost use Rattle.std.specs.Prelude.{◌≡◌, ◌^◌, ◌-◌, ◌<◌};
+ghost use Rattle.std.specs.Prelude.{◌^◌, ◌-◌, ◌<◌};
 ghost use Rattle.segment_commands.specs.Explaining.{RunsExplain, verdict_text};
 ghost use Rattle.segment_commands.specs.Telling.{WritesAndFlushes};
 

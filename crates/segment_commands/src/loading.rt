@@ -1,10 +1,10 @@
 //! The commands that make a segment of a dump: in a new file, or in the place of one that is there.
 ghost use Rattle.std.specs.Prelude.{◌≡◌, ◌^◌, ◌-◌, ◌<◌, ℕ, true, false, Some};
 ghost use Rattle.block_tags.specs.Format.{is_legal_size};
-ghost use Rattle.segment_commands.specs.LoadOver.{RunsLoadOver, LoadsOver};
+ghost use Rattle.segment_disk.specs.Events.{Replacement};
 ghost use Rattle.segment_commands.specs.Loading.{IsFitting, IsMadeIfGiven, IsRequestedOrWritten, IsSizeFit};
-ghost use Rattle.segment_commands.specs.Loading.{IsWantedSize, LoadsDump};
-ghost use Rattle.segment_commands.specs.Loading.{LoadsSegment, LoadsWhatFits, NeedsRoom, RunsLoad, load_fault};
+ghost use Rattle.segment_commands.specs.Loading.{IsWantedSize, LoadsDump, LoadsInto, LoadsSegment, LoadsWhatFits};
+ghost use Rattle.segment_commands.specs.Loading.{NeedsRoom, RunsLoad, RunsLoadOver, load_fault};
 
 use crate::command_faults::{CommandFault, written};
 use crate::creating::write_made;
@@ -135,7 +135,8 @@ fn load_held<D: Disk, S: Source>(
     script: &mut S,
 ) -> Result<(), CommandFault>
     requires { (S.history script.old).failures < 2 ^ 64 - 1 }
-    ensures { LoadsOver D.step disk.old disk.new path.now size (S.history script.old) (S.history script.new) result }
+    ensures { LoadsInto D.step disk.old disk.new path.now size (S.history script.old) (S.history script.new) result
+        Replacement }
 {
     let segment = load_dump(alloc, size, script)?;
     written(write_image(disk, path, SaveMode::Replacing, hold, &segment))

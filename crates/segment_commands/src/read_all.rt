@@ -1,5 +1,5 @@
 //! A text that is read whole.
-ghost use Rattle.std.specs.Prelude.{◌≡◌, ◌^◌, ◌-◌, ◌<◌, MatchResult};
+ghost use Rattle.std.specs.Prelude.{◌^◌, ◌-◌, ◌<◌, MatchResult};
 ghost use Rattle.raw_region.specs.Device.{read_delta};
 ghost use Rattle.segment_commands.specs.Loading.{IsReadWhole, IsWhyUnread};
 

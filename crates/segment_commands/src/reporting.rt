@@ -1,5 +1,5 @@
 //! The commands that tell what people want to see of the segment in a file: figures, a picture, names, or all as text.
-ghost use Rattle.std.specs.Prelude.{◌≡◌, ◌^◌, ◌-◌, ◌<◌};
+ghost use Rattle.std.specs.Prelude.{◌^◌, ◌-◌, ◌<◌};
 ghost use Rattle.segment_manager.specs.{Directory.Directory, State.DenotesCurrent};
 ghost use Rattle.raw_region.specs.Device.{Writes};
 ghost use Rattle.segment_report.specs.Names.{names_text};

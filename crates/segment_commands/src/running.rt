@@ -4,14 +4,14 @@ ghost use Rattle.segment_scripts.specs.declared.ends.End.TheVariants.{Complete};
 ghost use Rattle.segment_manager.specs.declared.modes.Mode.TheVariants.{Write};
 ghost use Rattle.segment_disk.specs.Events.{IsFlushed};
 ghost use Rattle.segment_commands.specs.{Modes.RunsInMode, Running.as_program, Running.as_saved};
-ghost use Rattle.segment_commands.specs.Running.{MakesRun, RunsAnyFile, RunsFile, RunsHeld, RunsNewFile, RunsOpened};
+ghost use Rattle.segment_commands.specs.Running.{MakesRun, RunsFile, RunsHeld, RunsOpened};
 
 use crate::answering::run_script;
 use crate::command_faults::CommandFault;
 use crate::creating::{new_segment, write_made};
 use crate::opening::open_segment;
 use image_check::AcceptedVersions;
-use raw_region::{DeviceFault, Source};
+use raw_region::Source;
 use segment_answers::LineOutput;
 use segment_cli::SessionFault;
 use segment_disk::{Disk, Presence, SaveMode};
@@ -62,10 +62,16 @@ pub fn run<D: Disk, S: Source, O: LineOutput>(
 {
     let mode = match (request.mode, request.size) {
         (ModeName::CreateOnly, Some(size)) => {
-            return run_in_new_file(alloc, disk, request, size, script, out);
+            if disk.path_status(request.path) == Presence::There {
+                return Err(CommandFault::Exists);
+            }
+            return answered(run_made(alloc, disk, request, size, script, out));
         }
         (ModeName::OpenOrCreate, Some(size)) => {
-            return run_on_file_or_new(alloc, disk, request, size, script, out);
+            if disk.path_status(request.path) == Presence::Absent {
+                return answered(run_made(alloc, disk, request, size, script, out));
+            }
+            Mode::Write
         }
         (ModeName::CreateOnly | ModeName::OpenOrCreate, None) => {
             return Err(CommandFault::Usage);
@@ -98,13 +104,13 @@ pub(crate) fn is_whole(ended: Result<End, SessionFault>) -> bool
     }
 }
 
-/// Returns the result of a run whose script ended, by the result of its save.
-fn saved(answer: Result<(), DeviceFault>) -> Result<End, SessionFault>
+/// Returns the result of a run whose script ended, by the result of its save or its commit.
+pub(crate) fn saved<E: Drop>(answer: Result<(), E>) -> Result<End, SessionFault>
     ensures { result ≡ as_saved answer }
 {
     match answer {
         Ok(()) => Ok(End::Complete),
-        Err(refused) => Err(SessionFault::from(refused)),
+        Err(_) => Err(SessionFault::WriteFault),
     }
 }
 
@@ -217,46 +223,6 @@ pub(crate) fn run_made<D: Disk, S: Source, O: LineOutput>(
     } else {
         ended
     }
-}
-
-/// Runs a script on an empty segment of `size` bytes, in a file that must not be there.
-fn run_in_new_file<D: Disk, S: Source, O: LineOutput>(
-    alloc: Global,
-    disk: &mut D,
-    request: &RunRequest<'_>,
-    size: u64,
-    script: &mut S,
-    out: &mut O,
-) -> Result<(), CommandFault>
-    requires script { (S.history script.old).failures < 2 ^ 64 - 1 }
-    requires out { (O.history out.old).failures < 2 ^ 64 - 1 }
-    ensures { RunsNewFile D.step disk.old disk.new request.now size (S.history script.old) (S.history script.new)
-        O.history (IsFlushed O.history O.flushes out.new) out.old out.new result }
-{
-    if disk.path_status(request.path) == Presence::There {
-        return Err(CommandFault::Exists);
-    }
-    answered(run_made(alloc, disk, request, size, script, out))
-}
-
-/// Runs a script on the segment in a file, and on an empty one of `size` bytes if no file is there.
-fn run_on_file_or_new<D: Disk, S: Source, O: LineOutput>(
-    alloc: Global,
-    disk: &mut D,
-    request: &RunRequest<'_>,
-    size: u64,
-    script: &mut S,
-    out: &mut O,
-) -> Result<(), CommandFault>
-    requires script { (S.history script.old).failures < 2 ^ 64 - 1 }
-    requires out { (O.history out.old).failures < 2 ^ 64 - 1 }
-    ensures { RunsAnyFile D.step disk.old disk.new request.now size (S.history script.old) (S.history script.new)
-        O.history (IsFlushed O.history O.flushes out.new) out.old out.new result }
-{
-    if disk.path_status(request.path) == Presence::Absent {
-        return answered(run_made(alloc, disk, request, size, script, out));
-    }
-    run_on_file(alloc, disk, request, Mode::Write, script, out)
 }
 
 /// Returns what a run answered, as the program answers it.

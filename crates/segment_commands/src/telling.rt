@@ -1,5 +1,5 @@
 //! What a command says, and that it went out.
-ghost use Rattle.std.specs.Prelude.{◌≡◌, ◌^◌, ◌-◌, ◌<◌, flat_map};
+ghost use Rattle.std.specs.Prelude.{◌^◌, ◌-◌, ◌<◌, flat_map};
 ghost use Rattle.segment_scripts.specs.CommandRows.{row_text};
 ghost use Rattle.segment_commands.specs.{Commands.Prints, Telling.WritesAndFlushes};
 

@@ -1,9 +1,8 @@
 -- What the program may be asked on its command line, over the matches that clap states for its words.
 use Rattle.std.specs.Prelude.{◌≡◌, ◌⊎◌, ◌==◌, ◌∷◌, ◌++◌, ℕ, Bool, true, false, not, List, [], Option, Some, None}
-use Rattle.std.specs.Prelude.{is_some, Result, MatchResult, IsTrue, option_map, option_and_then, codes, fold}
-use Rattle.std.specs.Prelude.{◌&&◌, ◌||◌, flat_map, length, map, nat_lt, unwrap_or}
+use Rattle.std.specs.Prelude.{is_some, Result, MatchResult, IsTrue, option_map, option_and_then, codes, fold, ◌&&◌}
+use Rattle.std.specs.Prelude.{◌||◌, flat_map, length, map, nat_lt, unwrap_or, if◌then◌else◌}
 use Rattle.std.specs.List.{list_all}
-use Rattle.std.specs.Prelude.{if◌then◌else◌}
 use Rattle.std.specs.Str.{bytes_eq}
 use denote.Ref.{Bor}
 use Rattle.clap.specs.Walk.{Row, Rule, Text, all_of, first_of}
@@ -17,8 +16,7 @@ use Rattle.segment_lang.specs.Lexing.{number_of}
 use Rattle.segment_invocation.specs.declared.invocations.Invocation.{Invocation}
 use Rattle.segment_invocation.specs.declared.invocations.Invocation.TheVariants.{Create, Run, Check, Grow, Shrink}
 use Rattle.segment_invocation.specs.declared.invocations.Invocation.TheVariants.{Migrate, Tell, Names, Get, Load, Lint}
-use Rattle.segment_invocation.specs.declared.invocations.Invocation.TheVariants.{Salvage}
-use Rattle.segment_invocation.specs.declared.invocations.Invocation.TheVariants.{Language, Version}
+use Rattle.segment_invocation.specs.declared.invocations.Invocation.TheVariants.{Salvage, Language, Version}
 use Rattle.segment_invocation.specs.declared.invocations.Options.{Options}
 use Rattle.segment_invocation.specs.declared.invocations.Request.{Request}
 use Rattle.segment_invocation.specs.declared.invocations.FileCommand.{FileCommand}
@@ -35,9 +33,8 @@ use Rattle.segment_invocation.specs.declared.invocations.Script.{Script}
 use Rattle.segment_invocation.specs.declared.invocations.Script.TheVariants as script
 use Rattle.segment_invocation.specs.declared.usage.UsageError.{UsageError}
 use Rattle.segment_invocation.specs.declared.usage.UsageError.TheVariants.{Arguments, Command, File, Number, Mode}
-use Rattle.segment_invocation.specs.declared.usage.UsageError.TheVariants.{Modes, Key}
-use Rattle.segment_invocation.specs.declared.usage.UsageError.TheVariants.{Size, Script as TwoScripts, Files}
-use Rattle.segment_invocation.specs.declared.usage.UsageError.TheVariants.{Capacities as JsonCapacities, Commit}
+use Rattle.segment_invocation.specs.declared.usage.UsageError.TheVariants.{Modes, Key, Size, Script as TwoScripts}
+use Rattle.segment_invocation.specs.declared.usage.UsageError.TheVariants.{Files, Capacities as JsonCapacities, Commit}
 
 -- ---- the command line, as clap reads it
 

@@ -4,12 +4,12 @@ use denote.Ref.{Bor}
 use Rattle.clap.specs.Walk.{Rule, Text}
 use Rattle.clap.specs.Simple.{Shape, new_app, with_rule}
 use Rattle.segment_invocation.specs.Invocations.{flag, lines, maybe, operand, operands, option, switch}
-use Rattle.segment_invocation.specs.declared.command_line.CommandArgument.{CommandArgument}
-use Rattle.segment_invocation.specs.declared.command_line.CommandArgument.TheVariants as argument
+use Rattle.segment_invocation.specs.declared.command_line.Argument.{Argument}
+use Rattle.segment_invocation.specs.declared.command_line.Argument.TheVariants as argument
 use Rattle.segment_invocation.specs.declared.command_line.HelpEnd.{HelpEnd}
 
 -- a word, as clap reads it
-abbrev pub argument_rule : CommandArgument → Rule
+abbrev pub argument_rule : Argument → Rule
 argument_rule (argument.Operand name shown help) = operand name.now
 argument_rule (argument.Operands name shown help) = operands name.now
 argument_rule (argument.Optional name shown help) = maybe name.now
@@ -20,7 +20,7 @@ argument_rule (argument.Switch name letter help) = switch name.now letter
 
 -- a command's name, what it does, what its help has at the end, and its words
 abbrev pub CommandSpec : Type 0
-CommandSpec = Bor Text × Bor Text × Option HelpEnd × Bor (List CommandArgument)
+CommandSpec = Bor Text × Bor Text × Option HelpEnd × Bor (List Argument)
 
 -- a command, as clap reads it
 abbrev pub row_shape : CommandSpec → Shape

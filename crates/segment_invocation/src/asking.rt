@@ -5,14 +5,13 @@ ghost use Rattle.clap.specs.{Matches.found_of, Values.kind_of, Walk.first_of, Wa
 ghost use Rattle.clap.specs.declared.error.kind.ErrorKind.TheVariants.{DisplayVersion, OutOfMemory as NoMemory};
 ghost use Rattle.segment_lang.specs.Lexing.{number_of};
 ghost use Rattle.segment_invocation.specs.Invocations.{InvocationValue, IsAskedBy, IsRequestedBy, IsRequestWritten};
-ghost use Rattle.segment_invocation.specs.Invocations.{IsWritten, IsWrongBy, ParsesTo, RequestValue};
-ghost use Rattle.segment_invocation.specs.Invocations.{asked_as, asked_by, asked_in, asked_run, commits_amiss};
-ghost use Rattle.segment_invocation.specs.Invocations.{dumped_of, is_set};
-ghost use Rattle.segment_invocation.specs.Invocations.{json_capacities, list_of, mode_in, no_number};
-ghost use Rattle.segment_invocation.specs.Invocations.{of_version, options_by, options_of, origin_by, origin_of};
-ghost use Rattle.segment_invocation.specs.Invocations.{request_by, requested_in, saving_of, seconds_of, size_of};
-ghost use Rattle.segment_invocation.specs.Invocations.{two_scripts, wrong_by, wrong_command, wrong_filed, wrong_in};
-ghost use Rattle.segment_invocation.specs.Invocations.{wrong_mode, wrong_options, wrong_run};
+ghost use Rattle.segment_invocation.specs.Invocations.{IsWritten, IsWrongBy, ParsesTo, RequestValue, asked_as};
+ghost use Rattle.segment_invocation.specs.Invocations.{asked_by, asked_in, asked_run, commits_amiss, dumped_of, is_set};
+ghost use Rattle.segment_invocation.specs.Invocations.{json_capacities, list_of, mode_in, no_number, of_version};
+ghost use Rattle.segment_invocation.specs.Invocations.{options_by, options_of, origin_by, origin_of, request_by};
+ghost use Rattle.segment_invocation.specs.Invocations.{requested_in, saving_of, seconds_of, size_of, two_scripts};
+ghost use Rattle.segment_invocation.specs.Invocations.{wrong_by, wrong_command, wrong_filed, wrong_in, wrong_mode};
+ghost use Rattle.segment_invocation.specs.Invocations.{wrong_options, wrong_run};
 ghost use Rattle.segment_invocation.specs.declared.usage.InvocationFault.TheVariants.{OutOfMemory, Usage};
 ghost use Rattle.segment_invocation.specs.declared.usage.UsageError.TheVariants.{Arguments};
 

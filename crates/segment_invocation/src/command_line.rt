@@ -103,7 +103,7 @@ Example:
 const SIZES: &str = "A number of bytes: 144, or a multiple of 16 from 176 to 1073741824";
 
 /// A word of a command, with its name and what help says of it.
-pub enum CommandArgument {
+pub enum Argument {
     /// A value in its place, which must be there; help calls it by the second text.
     Operand(&'static str, &'static str, &'static str),
     /// A value in its place, of which there may be more.
@@ -145,160 +145,137 @@ type Row = (
     &'static str,
     &'static str,
     Option<HelpEnd>,
-    &'static [CommandArgument],
+    &'static [Argument],
 );
 
 // The words of the commands, each with what help says of it.
-const FILE: CommandArgument = CommandArgument::Operand(
-    "file",
-    "FILE",
-    "The path of the file with the segment",
-);
+const FILE: Argument = Argument::Operand("file", "FILE", "The path of the file with the segment");
 
-const FILES: CommandArgument = CommandArgument::Operands(
-    "file",
-    "FILE",
-    "The path of the file with the segment",
-);
+const FILES: Argument = Argument::Operands("file", "FILE", "The path of the file with the segment");
 
-const SCRIPT: CommandArgument = CommandArgument::Optional(
+const SCRIPT: Argument = Argument::Optional(
     "script",
     "SCRIPT",
     "The path of a file with the script",
 );
 
-const LINE: CommandArgument = CommandArgument::Short(
+const LINE: Argument = Argument::Short(
     "line",
     'c',
     "LINE",
     "A line of the script; the next -c has the next one",
 );
 
-const SIZE: CommandArgument = CommandArgument::Operand("number", "SIZE", SIZES);
+const SIZE: Argument = Argument::Operand("number", "SIZE", SIZES);
 
-const BYTES: CommandArgument = CommandArgument::Operand(
-    "number",
-    "BYTES",
-    "A multiple of 16 from 32 on",
-);
+const BYTES: Argument = Argument::Operand("number", "BYTES", "A multiple of 16 from 32 on");
 
-const MODE: CommandArgument = CommandArgument::Option(
-    "mode",
-    "MODE",
-    "One of the five modes below",
-);
+const MODE: Argument = Argument::Option("mode", "MODE", "One of the five modes below");
 
-const READ_ONLY: CommandArgument = CommandArgument::Switch(
+const READ_ONLY: Argument = Argument::Switch(
     "read-only",
     'r',
     "The mode open_read_only, in the place of --mode",
 );
 
-const RUN_SIZE: CommandArgument = CommandArgument::Option("size", "SIZE", SIZES);
+const RUN_SIZE: Argument = Argument::Option("size", "SIZE", SIZES);
 
-const REPLACE: CommandArgument = CommandArgument::Flag(
+const REPLACE: Argument = Argument::Flag(
     "replace",
     "The image goes to a new file beside FILE, which then takes its place: one of the two is whole at each moment",
 );
 
-const COMMIT: CommandArgument = CommandArgument::Flag(
+const COMMIT: Argument = Argument::Flag(
     "commit",
     "Writes what changed to the log beside FILE, FILE-log; FILE gets it once the log is long, or by a command without this",
 );
 
-const WAIT: CommandArgument = CommandArgument::Option(
+const WAIT: Argument = Argument::Option(
     "wait",
     "SECONDS",
     "How long to wait for FILE where another program writes it; without it that is told at once",
 );
 
-const WHOLE: CommandArgument = CommandArgument::Flag(
+const WHOLE: Argument = Argument::Flag(
     "replace",
     "FILE gets its name when it is whole: what ends the program before leaves no FILE",
 );
 
-const WAIT_TO_READ: CommandArgument = CommandArgument::Option(
+const WAIT_TO_READ: Argument = Argument::Option(
     "wait",
     "SECONDS",
     "How long to wait for FILE where another program writes it; without it FILE is read as it is",
 );
 
-const STRICT: CommandArgument = CommandArgument::Flag(
+const STRICT: Argument = Argument::Flag(
     "strict",
     "The first answer that is an error ends the run, with status 1, and nothing is saved",
 );
 
-const FAIL: CommandArgument = CommandArgument::Flag(
+const FAIL: Argument = Argument::Flag(
     "fail",
     "The status is 5 where an answer is an error; the segment is saved all the same",
 );
 
-const NUMBERED: CommandArgument = CommandArgument::Flag(
+const NUMBERED: Argument = Argument::Flag(
     "numbered",
     "Each line of an answer stands behind the number of the line that it answers, as in '3: #192'",
 );
 
-const EXPLAIN: CommandArgument = CommandArgument::Flag(
+const EXPLAIN: Argument = Argument::Flag(
     "explain",
     "Where FILE holds no segment, tells in words why, and at which byte, from 0 on, that shows",
 );
 
-const QUIET: CommandArgument = CommandArgument::Flag(
-    "quiet",
-    "Prints nothing for a FILE that holds a segment",
-);
+const QUIET: Argument = Argument::Flag("quiet", "Prints nothing for a FILE that holds a segment");
 
-const HTML: CommandArgument = CommandArgument::Flag(
+const HTML: Argument = Argument::Flag(
     "html",
     "Prints a page for a browser: the picture, the figures of stat, and the objects as a table",
 );
 
-const ALL: CommandArgument = CommandArgument::Flag(
+const ALL: Argument = Argument::Flag(
     "all",
     "Draws more than 10000 objects too; without it they are refused",
 );
 
-const JSON: CommandArgument = CommandArgument::Flag(
+const JSON: Argument = Argument::Flag(
     "json",
     "Writes each object as a line of JSON: class, name, kind and value; not with --capacities",
 );
 
-const CAPACITIES: CommandArgument = CommandArgument::Flag(
+const CAPACITIES: Argument = Argument::Flag(
     "capacities",
     "Behind the objects, tells the capacities: of the indexes, vectors, strings and vectors of strings",
 );
 
-const PREFIX: CommandArgument = CommandArgument::Option(
+const PREFIX: Argument = Argument::Option(
     "prefix",
     "TEXT",
     "Prints only names that begin with TEXT",
 );
 
-const MOST: CommandArgument = CommandArgument::Option(
-    "most",
-    "N",
-    "Prints the first N of them at most",
-);
+const MOST: Argument = Argument::Option("most", "N", "Prints the first N of them at most");
 
-const KEY: CommandArgument = CommandArgument::Operand(
+const KEY: Argument = Argument::Operand(
     "key",
     "KEY",
     "The object: a name, @KIND, or #n, as in a script",
 );
 
-const INDEX: CommandArgument = CommandArgument::Optional(
+const INDEX: Argument = Argument::Optional(
     "index",
     "INDEX",
     "The place of the value, from 0, or its key in a map; without it the whole string, or the first value",
 );
 
-const LOADED: CommandArgument = CommandArgument::Option(
+const LOADED: Argument = Argument::Option(
     "size",
     "SIZE",
     "The bytes of the segment, as for create; without it the segment is made as long as the dump says, and then shrunk",
 );
 
-const VERBOSE: CommandArgument = CommandArgument::Flag(
+const VERBOSE: Argument = Argument::Flag(
     "verbose",
     "Behind a read fault or write fault of FILE, tells FILE and why, as far as the system says",
 );
@@ -370,26 +347,26 @@ fn flag_arg<'a>(alloc: Global, name: &'a str, help: &'a str) -> Arg<'a>
 }
 
 /// Returns a word of a command, for clap.
-fn arg_of<'a>(alloc: Global, argument: &CommandArgument) -> Arg<'a>
+fn arg_of<'a>(alloc: Global, argument: &Argument) -> Arg<'a>
     ensures rule { rule_of result ≡ argument_rule argument.now }
     ensures local { result.global ≡ false }
 {
     match *argument {
-        CommandArgument::Operand(name, shown, help) => {
+        Argument::Operand(name, shown, help) => {
             valued_arg(alloc, name, shown, help).required(true)
         }
-        CommandArgument::Operands(name, shown, help) => valued_arg(alloc, name, shown, help)
+        Argument::Operands(name, shown, help) => valued_arg(alloc, name, shown, help)
             .required(true)
             .action(ArgAction::Append),
-        CommandArgument::Optional(name, shown, help) => valued_arg(alloc, name, shown, help),
-        CommandArgument::Short(name, letter, shown, help) => valued_arg(alloc, name, shown, help)
+        Argument::Optional(name, shown, help) => valued_arg(alloc, name, shown, help),
+        Argument::Short(name, letter, shown, help) => valued_arg(alloc, name, shown, help)
             .short(letter)
             .action(ArgAction::Append),
-        CommandArgument::Option(name, shown, help) => valued_arg(alloc, name, shown, help)
+        Argument::Option(name, shown, help) => valued_arg(alloc, name, shown, help)
             .long(name)
             .action(ArgAction::Set),
-        CommandArgument::Flag(name, help) => flag_arg(alloc, name, help),
-        CommandArgument::Switch(name, letter, help) => flag_arg(alloc, name, help).short(letter),
+        Argument::Flag(name, help) => flag_arg(alloc, name, help),
+        Argument::Switch(name, letter, help) => flag_arg(alloc, name, help).short(letter),
     }
 }
 
@@ -414,7 +391,7 @@ fn bare_command<'a>(
 fn with_arguments<'a>(
     alloc: Global,
     begun: Command<'a>,
-    words: &[CommandArgument],
+    words: &[Argument],
 ) -> Result<Command<'a>, AllocError>
     requires { (fields_of begun).has_globals ≡ false }
     ensures app { IfOk result (λ c. app_of c ≡ fold with_rule (app_of begun.entry) (map argument_rule words.now)) }

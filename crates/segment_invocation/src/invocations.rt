@@ -7,34 +7,21 @@ use raw_region::{OutOfMemory, append};
 use segment_disk::SaveMode;
 use std::alloc::Global;
 
-/// A command that takes a file.
+/// A command that takes a file, by its word: [`Invocation`] says what each does.
 #[derive(Clone, Copy)]
 pub(crate) enum FileCommand {
-    /// `create`: a file is made, with an empty segment.
     Create,
-    /// `run`: a script is run.
     Run,
-    /// `check`: files are checked.
     Check,
-    /// `grow`: free bytes are added at the end.
     Grow,
-    /// `shrink`: the free bytes at the end go.
     Shrink,
-    /// `migrate`: the image is written in the newest format.
     Migrate,
-    /// `stat`: the figures are told.
     Stat,
-    /// `draw`: a picture or a page is told.
     Draw,
-    /// `dump`: the objects are told, as text or JSON.
     Dump,
-    /// `names`: the names are told.
     Names,
-    /// `get`: one value is printed.
     Get,
-    /// `load`: a dump is loaded.
     Load,
-    /// `salvage`: a damaged image is told.
     Salvage,
 }
 

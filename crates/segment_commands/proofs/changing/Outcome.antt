@@ -7,7 +7,7 @@ use Rattle.segment_file.specs.Files.{WritesImage}
 use Rattle.segment_cli.specs.declared.faults.SessionFault.TheVariants.{WriteFault}
 use Rattle.segment_commands.specs.declared.command_faults.CommandFault.{CommandFault}
 use Rattle.segment_commands.specs.declared.command_faults.CommandFault.TheVariants.{Session}
-use Rattle.segment_commands.specs.{Commands.written_as, Resizing.TellsAndWrites}
+use Rattle.segment_commands.specs.{Commands.WritesMade, Commands.written_as, Resizing.TellsAndWrites}
 
 module _ {A B D : Type 0} (step : D → Event → D → Type 0) (old new : D) (how : CreateMode) (path image : List ℕ) where
   -- an image that was written whole is so whatever the error's type
@@ -46,6 +46,18 @@ module _ {A : Type 0} where
       → MatchResult (written_as answer) (λ u. T) (λ fault. F)
   told T F (Ok done) t = t
   told T F (Err a) f = f
+
+-- the image of a segment that was made was written or not, as the command answers it
+pub segment_written : {A D : Type 0} (step : D → Event → D → Type 0) (old new : D) (path : List ℕ) (how : CreateMode)
+    (IsMade : SegmentState → Type 0) (s : SegmentState) → IsMade s → (answer : Result (Unit {0}) A)
+    → WritesImage step old new how path s.cut.bytes answer
+    → WritesMade step old new path how IsMade (written_as answer)
+segment_written step old new path how IsMade s made answer w = record {
+  segment = s;
+  made = made;
+  writes = image_written step old new how path s.cut.bytes answer w;
+  answer = write_fault answer;
+}
 
 module _ {A B D O : Type 0} (step : D → Event → D
     → Type 0) (old new : D) (path : List ℕ) (how : CreateMode) (history : O → WriterHistory) (flushes : O → Bool → O

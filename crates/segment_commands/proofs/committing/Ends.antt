@@ -1,6 +1,6 @@
 -- How a run that commits ends, from what its steps answered.
-use Rattle.std.proofs.Common.{◌≡◌, ℕ, Bool, true, inl, inr, refl, sym, subst, ◌∙◌, List, length, Result, Ok, Err}
-use Rattle.raw_region.specs.Device.{ReaderHistory, ReadDelta, WriterHistory, WriteDelta, read_delta, write_delta}
+use Rattle.std.proofs.Common.{◌≡◌, ℕ, Bool, true, inl, inr, refl, List, Result, Ok, Err}
+use Rattle.raw_region.specs.Device.{ReadDelta, WriteDelta}
 use Rattle.segment_manager.specs.declared.modes.Mode.TheVariants.{Write}
 use Rattle.segment_manager.specs.Directory.{Directory}
 use Rattle.segment_manager.specs.State.{SegmentState, DenotesCurrent}
@@ -8,25 +8,16 @@ use Rattle.segment_scripts.specs.declared.ends.End.{End}
 use Rattle.segment_scripts.specs.declared.ends.End.TheVariants.{Complete, Refused}
 use Rattle.segment_scripts.specs.declared.ends.Until.{Until}
 use Rattle.segment_log.specs.Events.{LogEvent}
-use Rattle.image_check.specs.declared.versions.AcceptedVersions.TheVariants.{Current}
 use Rattle.image_check.specs.Saving.{IsSaved}
 use Rattle.segment_cli.specs.declared.faults.SessionFault.{SessionFault}
 use Rattle.segment_cli.specs.declared.faults.Start.TheVariants.{Image}
 use Rattle.segment_cli.specs.Beginning.{BeginsSession}
-use Rattle.segment_disk.specs.Events.{Event, After, Truncate}
+use Rattle.segment_disk.specs.Events.{Event, Truncate}
 use Rattle.segment_file.specs.declared.committing.CommitFault.{CommitFault}
-use Rattle.segment_file.specs.declared.file_errors.FileError.{FileError}
 use Rattle.segment_file.specs.Committing.{CommitsSegment}
-use Rattle.segment_file.specs.Files.{open_events}
-use Rattle.segment_file.specs.Opening.{OpensFile as ReadsFile, OpensImage, OpensImageOk, unopened_error}
-use Rattle.segment_file.proofs.Laws.{read-fits}
-use Rattle.segment_commands.specs.declared.running.RunRequest.{RunRequest}
-use Rattle.segment_commands.specs.Committing.{CommitsOpened, EndsCommit}
-use Rattle.segment_commands.specs.Opening.{OpensFile}
+use Rattle.segment_commands.specs.Committing.{EndsCommit}
 use Rattle.segment_commands.specs.Running.{Act, AnswersScript, RunsScript, as_saved}
 use Rattle.segment_commands.proofs.running.Ends.{done, halted, refusing_run, unrefused}
-use Rattle.segment_commands.proofs.running.Session.{begun}
-use Rattle.segment_commands.proofs.running.Start.{no_error, was_read}
 
 module _ {D : Type 0} (step : D → Event → D → Type 0) (log_step : D → LogEvent → D → Type 0) (path : List ℕ)
     (capacity : ℕ) (image : ReadDelta) (until : Until) (script : ReadDelta) (out : WriteDelta) (Flushed : Bool → Type 0)
@@ -72,42 +63,3 @@ module _ {D : Type 0} (step : D → Event → D → Type 0) (log_step : D → Lo
   uncommitted_run old (Err fault) is_not why =
       elim (halted step Truncate path Image Write capacity image until script out Flushed s s' h old fault why)
       [ inl p ↦ inl p | inr p ↦ inr (inl p) ]
-
-module _ {D O : Type 0} (step : D → Event → D → Type 0) (log_step : D → LogEvent → D → Type 0) (old read new : D)
-    (request : RunRequest) (script script' : ReaderHistory) (history : O → WriterHistory) (flushes : Bool → Type 0)
-    (out out' : O) (result : Result End SessionFault) (s : SegmentState)
-    (ends : (capacity : ℕ) (image : ReadDelta) → BeginsSession Image Write 0 capacity image (Ok s)
-    → EndsCommit step log_step read new request.path.now
-    (record {
-      start = Image;
-      mode = Write;
-      capacity = capacity;
-      image = image;
-      until = request.until;
-      script = read_delta script script';
-      out = write_delta (history out) (history out');
-    }) flushes result) where
-  begun_commit : (len : ℕ) (image : ReadDelta) → After step old (open_events request.path.now len image) read
-      → OpensImageOk Current len 0 Write image s
-      → CommitsOpened step log_step old new request script script' history flushes out out' result
-  begun_commit len image asked r = inr (record {
-    len = len;
-    image = image;
-    capacity = length r.region;
-    room = r.room;
-    read = read;
-    asked = asked;
-    ends = ends (length r.region) image
-        (begun image r.region Write s r.opened (read-fits Current len 0 Write image s r));
-  })
-
-  read_commit : (x : Result SegmentState FileError) → ReadsFile step old read request.path.now Current Write 0 x
-      → x ≡ Ok s → CommitsOpened step log_step old new request script script' history flushes out out' result
-  read_commit x (inl u) e = absurd (no_error s (unopened_error u.why) (sym e ∙ u.refused))
-  read_commit x (inr r) e =
-      begun_commit r.len r.image r.asked (subst (OpensImage Current 0 Write r.len r.image) e r.answer)
-
-  -- a run goes on from an opened segment
-  pub opened_commit : OpensFile step old read request.path.now Write (Ok s)
-      → CommitsOpened step log_step old new request script script' history flushes out out' result
-  opened_commit o = read_commit o.read o.reads (was_read o.read s o.answer)

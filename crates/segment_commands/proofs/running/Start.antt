@@ -1,6 +1,6 @@
 -- A run goes on from the segment that a file was opened with, or that was made.
 use Rattle.std.proofs.Common.{◌≡◌, ◌≢◌, ℕ, Bool, refl, sym, ap, subst, ◌∙◌, inl, inr, length, Result, Ok, Err}
-use Rattle.raw_region.specs.Device.{ReaderHistory, ReadDelta, WriterHistory, read_delta, write_delta}
+use Rattle.raw_region.specs.Device.{ReaderHistory, ReadDelta, WriterHistory}
 use Rattle.segment_manager.specs.declared.modes.Mode.{Mode}
 use Rattle.segment_manager.specs.declared.modes.Mode.TheVariants.{Write, ReadOnly, CopyOnWrite}
 use Rattle.segment_manager.specs.State.{SegmentState}
@@ -8,7 +8,7 @@ use Rattle.segment_cli.specs.declared.faults.Start.TheVariants.{Fresh, Image}
 use Rattle.segment_cli.specs.declared.faults.SessionFault.{SessionFault}
 use Rattle.segment_cli.specs.Beginning.{BeginsSession}
 use Rattle.segment_scripts.specs.declared.ends.End.{End}
-use Rattle.segment_disk.specs.Events.{New, Event, After, create_mode_of}
+use Rattle.segment_disk.specs.Events.{New, Event, After}
 use Rattle.image_check.specs.declared.versions.AcceptedVersions.TheVariants.{Current}
 use Rattle.segment_file.specs.declared.file_errors.FileError.{FileError}
 use Rattle.segment_file.specs.Files.{open_events}
@@ -18,7 +18,7 @@ use Rattle.segment_file.proofs.Laws.{read-fits}
 use Rattle.segment_commands.proofs.running.Session.{begun}
 use Rattle.segment_commands.specs.Opening.{OpensFile, as_session, session_fault}
 use Rattle.segment_commands.specs.Commands.{MakesSegment}
-use Rattle.segment_commands.specs.Running.{EndsRun, RunsFree, RunsOpened, RunsReadable, MakesRun}
+use Rattle.segment_commands.specs.Running.{Act, EndsRun, RunsFree, RunsOpenedTo, RunsReadable, MakesRun, act_of}
 use Rattle.segment_commands.specs.declared.running.RunRequest.{RunRequest}
 use Rattle.segment_commands.specs.declared.command_faults.CommandFault.{CommandFault}
 
@@ -40,25 +40,17 @@ pub was_read : (x : Result SegmentState FileError) (s : SegmentState) → Ok s �
 was_read (Ok t) s e = ap (λ (u : SegmentState). Ok u) (same_segment s t e)
 was_read (Err error) s e = absurd (no_fault s (session_fault error) e)
 
-module _ {D O : Type 0} (step : D → Event → D
-    → Type 0) (old read new : D) (request : RunRequest) (script script' : ReaderHistory) (history : O
-    → WriterHistory) (flushes : Bool → Type 0) (out out' : O)
-    (result : Result End SessionFault) (s : SegmentState) where
-  module _ (mode : Mode)
+module _ {D O : Type 0} (step : D → Event → D → Type 0) (old read new : D) (request : RunRequest)
+    (script script' : ReaderHistory) (history : O → WriterHistory) (out out' : O) (result : Result End SessionFault)
+    (s : SegmentState) where
+  module _ (mode : Mode) (Ends : D → Act → Type 0)
       (ends : (capacity : ℕ) (image : ReadDelta) → BeginsSession Image mode 0 capacity image (Ok s)
-      → EndsRun step read new (create_mode_of request.saving) request.path.now
-      (record {
-        start = Image;
-        mode = mode;
-        capacity = capacity;
-        image = image;
-        until = request.until;
-        script = read_delta script script';
-        out = write_delta (history out) (history out');
-      }) flushes result) where
+      → Ends read (act_of request Image mode capacity image script script' history out out')) where
+    abbrev Goes : Type 0
+    Goes = RunsOpenedTo step old new request mode script script' history out out' result Ends
+
     begun_run : (len : ℕ) (image : ReadDelta) → After step old (open_events request.path.now len image) read
-        → OpensImageOk Current len 0 mode image s
-        → RunsOpened step old new request mode script script' history flushes out out' result
+        → OpensImageOk Current len 0 mode image s → Goes
     begun_run len image asked r = inr (record {
       len = len;
       image = image;
@@ -71,28 +63,18 @@ module _ {D O : Type 0} (step : D → Event → D
     })
 
     read_run : (x : Result SegmentState FileError) → ReadsFile step old read request.path.now Current mode 0 x
-        → x ≡ Ok s
-        → RunsOpened step old new request mode script script' history flushes out out' result
+        → x ≡ Ok s → Goes
     read_run x (inl u) e = absurd (no_error s (unopened_error u.why) (sym e ∙ u.refused))
     read_run x (inr r) e = begun_run r.len r.image r.asked (subst (OpensImage Current 0 mode r.len r.image) e r.answer)
 
     -- a run goes on from an opened segment
-    pub opened_run : OpensFile step old read request.path.now mode (Ok s)
-        → RunsOpened step old new request mode script script' history flushes out out' result
+    pub opened_run : OpensFile step old read request.path.now mode (Ok s) → Goes
     opened_run o = read_run o.read o.reads (was_read o.read s o.answer)
 
-  module _ (size : ℕ)
+  module _ (size : ℕ) (flushes : Bool → Type 0)
       (ends : (capacity : ℕ) (image : ReadDelta) → BeginsSession (Fresh size) Write 0 capacity image (Ok s)
       → EndsRun step old new New request.path.now
-      (record {
-        start = Fresh size;
-        mode = Write;
-        capacity = capacity;
-        image = image;
-        until = request.until;
-        script = read_delta script script';
-        out = write_delta (history out) (history out');
-      }) flushes result) where
+      (act_of request (Fresh size) Write capacity image script script' history out out') flushes result) where
     -- a run goes on from a new segment
     pub made_run : MakesSegment size (Ok s)
         → MakesRun step old new request size script script' history flushes out out' result

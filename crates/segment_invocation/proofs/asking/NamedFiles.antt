@@ -1,6 +1,5 @@
 -- What is asked for by the name of a command, and what values and numbers its words have.
-use Rattle.std.proofs.Common.{◌≡◌, ◌∙◌, ◌++◌, ap, map, true, false, List, [], Option, Some, None, codes, refl}
-use Rattle.std.proofs.Common.{ℕ}
+use Rattle.std.proofs.Common.{◌≡◌, ◌∙◌, ◌++◌, ap, map, true, false, List, [], Option, Some, None, codes, refl, ℕ}
 use Rattle.std.specs.Prelude.{option_and_then, option_map, unwrap_or}
 use Rattle.std.specs.Str.{bytes_eq}
 use Rattle.std.proofs.lemmas.Slice.Eq.{bytes_eq-Decides}
@@ -10,8 +9,7 @@ use Rattle.clap.specs.Walk.{Row, Text, first_of, rows_of}
 use Rattle.clap.specs.declared.parser.matches.Found.{Found}
 use Rattle.clap.proofs.WalkLemmas.{raw_values-rows}
 use Rattle.segment_lang.specs.Lexing.{number_of}
-use Rattle.segment_invocation.specs.Invocations.{asked_as, asked_in, command_called, language, lint, list_of}
-use Rattle.segment_invocation.specs.Invocations.{size_of}
+use Rattle.segment_invocation.specs.Invocations.{asked_as, asked_in, command_called, language, lint, list_of, size_of}
 
 module _ (name : Text) (rows : List Row) where
   -- the name of `lint` asks for a lint

@@ -25,9 +25,8 @@ use Rattle.segment_invocation.specs.declared.invocations.Request.{Request}
 use Rattle.segment_invocation.specs.declared.usage.InvocationFault.{InvocationFault}
 use Rattle.segment_invocation.specs.declared.usage.UsageError.{UsageError}
 use Rattle.segment_invocation.specs.declared.usage.UsageError.TheVariants.{Arguments, Command as NoCommand, File}
-use Rattle.segment_invocation.specs.declared.usage.UsageError.TheVariants.{Number}
-use Rattle.segment_invocation.specs.declared.usage.UsageError.TheVariants.{Key, Mode, Modes, Size, Script, Files}
-use Rattle.segment_invocation.specs.declared.usage.UsageError.TheVariants.{Capacities, Commit}
+use Rattle.segment_invocation.specs.declared.usage.UsageError.TheVariants.{Number, Key, Mode, Modes, Size, Script}
+use Rattle.segment_invocation.specs.declared.usage.UsageError.TheVariants.{Files, Capacities, Commit}
 use Rattle.segment_invocation.specs.declared.usage.InvocationFault.TheVariants.{OutOfMemory, Usage}
 use Rattle.segment_invocation.proofs.command_lines.AllUnderstood.{IsUnderstood, WantsVersion, free, simple as plain}
 

@@ -6,8 +6,8 @@ use Rattle.std.specs.Prelude.{◌⊎◌, is_some, if◌then◌else◌, IsTrue, n
 use Rattle.std.proofs.lemmas.Bool.{and_parts}
 use Rattle.std.proofs.lemmas.Bool.Decides.{nat_tests}
 use Rattle.clap.proofs.OnLiterals.{clap_on_literals}
-use Rattle.clap.specs.Walk.{Names, Text, Walk, finished, nothing_held, rows_after, stop_after, walk, walk_from}
-use Rattle.clap.specs.Walk.{walked}
+use Rattle.clap.specs.Walk.{Held, Names, Text, Walk, finished, idle, nothing_held, option as awaiting, rows_after}
+use Rattle.clap.specs.Walk.{stop_after, walk, walk_from, walked}
 use Rattle.clap.proofs.WalkLemmas.{walk_stopped}
 use Rattle.clap.specs.Simple.{App, Shape, built, entered, is_simple, names_of, subcommand_of}
 use Rattle.clap.specs.Takes.{built_takes, default_passes, entered_passes, is_valid, level_passes, settle_passes, takes}
@@ -17,17 +17,17 @@ use Rattle.clap.specs.declared.error.kind.ErrorKind.TheVariants.{DisplayVersion}
 use Rattle.segment_lang.specs.Lexing.{between, is_digit, is_numeral, number_after, number_of}
 use Rattle.segment_invocation.specs.Invocations.{InvocationValue, OptionValues, Origin, RequestValue, create, run}
 use Rattle.segment_invocation.specs.Invocations.{check, get, grow, shrink, migrate, tell, names, load, lint, language}
-use Rattle.segment_invocation.specs.Invocations.{salvage, version, input, from_file, from_lines}
-use Rattle.segment_invocation.specs.Invocations.{IsKeptWritten, IsModePart, IsNumberPart, IsOriginPart}
-use Rattle.segment_invocation.specs.Invocations.{IsPart, IsRequestWritten, IsRunWritten, IsSizePart, IsWaitPart}
-use Rattle.segment_invocation.specs.Invocations.{IsWrittenWith, check_options, check_arguments, command_line}
-use Rattle.segment_invocation.specs.Invocations.{flag_arguments}
-use Rattle.segment_invocation.specs.Invocations.{index_arguments, is_index, report_arguments}
-use Rattle.segment_invocation.specs.Invocations.{is_path, kept_options, lacks_size, mode_called, mode_of, mode_argument}
+use Rattle.segment_invocation.specs.Invocations.{salvage, version, input, from_file, from_lines, IsKeptWritten}
+use Rattle.segment_invocation.specs.Invocations.{IsModePart, IsNumberPart, IsOriginPart, IsPart, IsRequestWritten}
+use Rattle.segment_invocation.specs.Invocations.{IsRunWritten, IsSizePart, IsWaitPart, IsWrittenWith, check_command}
+use Rattle.segment_invocation.specs.Invocations.{check_options, check_arguments, command_line, create_command}
+use Rattle.segment_invocation.specs.Invocations.{draw_command, dump_command, file_command, get_command, grow_command}
+use Rattle.segment_invocation.specs.Invocations.{kept_command, line_arguments, load_command, names_command}
+use Rattle.segment_invocation.specs.Invocations.{flag_arguments, index_arguments, is_index, report_arguments, is_path}
+use Rattle.segment_invocation.specs.Invocations.{kept_options, lacks_size, mode_called, mode_of, mode_argument}
 use Rattle.segment_invocation.specs.Invocations.{no_options, of_version, plain_options, requested, requested_in}
 use Rattle.segment_invocation.specs.Invocations.{requested_of, run_of, options_of_run, run_sized, saving_part}
-use Rattle.segment_invocation.specs.Invocations.{seconds_of}
-use Rattle.segment_invocation.specs.Invocations.{size_of}
+use Rattle.segment_invocation.specs.Invocations.{seconds_of, size_of}
 use Rattle.segment_invocation.specs.declared.invocations.Report.{Report}
 use Rattle.segment_invocation.specs.declared.invocations.Report.TheVariants.{Figures, Picture, Page, Dump, Capacities}
 use Rattle.segment_invocation.specs.declared.invocations.Report.TheVariants.{Json}
@@ -36,19 +36,14 @@ use Rattle.segment_invocation.specs.declared.invocations.ModeName.TheVariants.{C
 use Rattle.segment_invocation.specs.declared.invocations.ModeName.TheVariants.{OpenReadOnly, OpenCopyOnWrite}
 use Rattle.segment_disk.specs.declared.presence.SaveMode.{SaveMode}
 use Rattle.segment_disk.specs.declared.presence.SaveMode.TheVariants.{InPlace}
-use Rattle.segment_invocation.proofs.command_lines.PlainArguments.{IsPlain}
-use Rattle.segment_invocation.proofs.command_lines.Subcommands.{ArePlain, Asking, IsAsk, IsPlainIn, asking, kept_in}
-use Rattle.segment_invocation.proofs.command_lines.Subcommands.{option_arguments}
-use Rattle.segment_invocation.proofs.command_lines.Subcommands.{check_leaf, grow_leaf, load_leaf, migrate_leaf}
-use Rattle.segment_invocation.proofs.command_lines.Subcommands.{names_leaf}
-use Rattle.segment_invocation.proofs.command_lines.Subcommands.{run_leaf, shrink_leaf}
-use Rattle.segment_invocation.proofs.command_lines.Subcommands.{capacities-asks, check-asks, create-asks, draw-asks}
-use Rattle.segment_invocation.proofs.command_lines.Subcommands.{dump-asks, get-asks, get_at-asks, grow-asks}
-use Rattle.segment_invocation.proofs.command_lines.Subcommands.{html-asks, json-asks}
-use Rattle.segment_invocation.proofs.command_lines.Subcommands.{lines-ask, load-asks}
-use Rattle.segment_invocation.proofs.command_lines.Subcommands.{migrate-asks, names-asks, run-asks}
-use Rattle.segment_invocation.proofs.command_lines.Subcommands.{salvage-asks, script-asks, shrink-asks}
-use Rattle.segment_invocation.proofs.command_lines.Subcommands.{stat-asks}
+use Rattle.segment_invocation.proofs.command_lines.PlainArguments.{IsPlain, plain_step}
+use Rattle.segment_invocation.proofs.command_lines.Subcommands.{Asking, IsAsked, IsEnding, IsPlainIn, IsSteps, IsTaken}
+use Rattle.segment_invocation.proofs.command_lines.Subcommands.{ArePlain, after_file, after_option, all-flags, asking}
+use Rattle.segment_invocation.proofs.command_lines.Subcommands.{at, at_line, at_option, either-saving, first-line}
+use Rattle.segment_invocation.proofs.command_lines.Subcommands.{flags, kept_in, leaf, lined, lines-asked, none}
+use Rattle.segment_invocation.proofs.command_lines.Subcommands.{option-steps, option_arguments, optioned, passes_at}
+use Rattle.segment_invocation.proofs.command_lines.Subcommands.{plain, plainly, run_leaf, said, said_with, steps}
+use Rattle.segment_invocation.proofs.command_lines.Subcommands.{with_option}
 
 -- ---- words that are no options
 
@@ -156,88 +151,6 @@ plain_request f a = with_options a (plain_options (f ∷ []))
 abbrev of_asking : Asking → Option RequestValue
 of_asking p = requested p.0 p.1
 
-behind-create : (f d : Text) (n : ℕ) → IsPlain f → number_of d ≡ Some n
-    → Behind (codes "create" ∷ f ∷ d ∷ []) (plain_request f (create f n))
-unfolding clap_on_literals
-behind-create f d n p h = record {
-  takes = ap (λ b. b && true) (create-asks f d p (number-plain d n h)).passes;
-  asks = ap of_asking (create-asks f d p (number-plain d n h)).found
-      ∙ ap (λ m. requested (option_map (create f) m) (Some (plain_options (f ∷ [])))) h;
-}
-
-behind-get : (f k : Text) → IsPlain f → IsPlain k
-    → Behind (codes "get" ∷ f ∷ k ∷ []) (plain_request f (get f k None))
-unfolding clap_on_literals
-behind-get f k p q = record {
-  takes = ap (λ b. b && true) (get-asks f k p q).passes;
-  asks = ap of_asking (get-asks f k p q).found;
-}
-
-behind-get_at : (f k i : Text) → IsPlain f → IsPlain k → IsPlain i
-    → Behind (codes "get" ∷ f ∷ k ∷ i ∷ []) (plain_request f (get f k (Some i)))
-unfolding clap_on_literals
-behind-get_at f k i p q r = record {
-  takes = ap (λ b. b && true) (get_at-asks f k i p q r).passes;
-  asks = ap of_asking (get_at-asks f k i p q r).found;
-}
-
-behind-value : (f k : Text) (index : Option Text) → IsPlain f → IsPlain k → IsTrue (is_index index)
-    → Behind (codes "get" ∷ f ∷ k ∷ index_arguments index) (plain_request f (get f k index))
-behind-value f k None p q h = behind-get f k p q
-behind-value f k (Some i) p q h = behind-get_at f k i p q (path-plain i h)
-
-behind-stat : (f : Text) → IsPlain f → Behind (codes "stat" ∷ f ∷ []) (plain_request f (tell f Figures))
-unfolding clap_on_literals
-behind-stat f p = record {
-  takes = ap (λ b. b && true) (stat-asks f p).passes;
-  asks = ap of_asking (stat-asks f p).found;
-}
-
-behind-salvage : (f : Text) → IsPlain f → Behind (codes "salvage" ∷ f ∷ []) (plain_request f (salvage f))
-unfolding clap_on_literals
-behind-salvage f p = record {
-  takes = ap (λ b. b && true) (salvage-asks f p).passes;
-  asks = ap of_asking (salvage-asks f p).found;
-}
-
-behind-draw : (f : Text) → IsPlain f → Behind (codes "draw" ∷ f ∷ []) (plain_request f (tell f Picture))
-unfolding clap_on_literals
-behind-draw f p = record {
-  takes = ap (λ b. b && true) (draw-asks f p).passes;
-  asks = ap of_asking (draw-asks f p).found;
-}
-
-behind-page : (f : Text) → IsPlain f
-    → Behind (codes "draw" ∷ f ∷ codes "--html" ∷ []) (plain_request f (tell f Page))
-unfolding clap_on_literals
-behind-page f p = record {
-  takes = ap (λ b. b && true) (html-asks f p).passes;
-  asks = ap of_asking (html-asks f p).found;
-}
-
-behind-dump : (f : Text) → IsPlain f → Behind (codes "dump" ∷ f ∷ []) (plain_request f (tell f Dump))
-unfolding clap_on_literals
-behind-dump f p = record {
-  takes = ap (λ b. b && true) (dump-asks f p).passes;
-  asks = ap of_asking (dump-asks f p).found;
-}
-
-behind-capacities : (f : Text) → IsPlain f
-    → Behind (codes "dump" ∷ f ∷ codes "--capacities" ∷ []) (plain_request f (tell f Capacities))
-unfolding clap_on_literals
-behind-capacities f p = record {
-  takes = ap (λ b. b && true) (capacities-asks f p).passes;
-  asks = ap of_asking (capacities-asks f p).found;
-}
-
-behind-json : (f : Text) → IsPlain f
-    → Behind (codes "dump" ∷ f ∷ codes "--json" ∷ []) (plain_request f (tell f Json))
-unfolding clap_on_literals
-behind-json f p = record {
-  takes = ap (λ b. b && true) (json-asks f p).passes;
-  asks = ap of_asking (json-asks f p).found;
-}
-
 behind-lint : Behind (codes "lint" ∷ []) (with_options lint no_options)
 unfolding clap_on_literals
 behind-lint = record { takes = refl; asks = refl }
@@ -284,110 +197,225 @@ module _ (name : Text) (s : Shape) (met : walked app.top.rules (names_of app) (w
   name-words words = ap₂ ◌&&◌ passes (ap (λ (w : Walk). walk_passes app.top (names_of app) w words) met
       ∙ stopped-passes app.top (names_of app) (walk_from nothing_held) name [] words)
 
-  behind-name : (words : List Text) (wanted : Asking) (a : InvocationValue) (o : OptionValues)
-      → IsAsk s (asking name) words wanted → wanted.0 ≡ Some a → wanted.1 ≡ Some o
-      → Behind (name ∷ words) (with_options a o)
-  behind-name words wanted a o r e h = record {
-    takes = ap₂ takes_at (name-walk words) (name-words words) ∙ (taken words ∙ ap (λ b. b && true) r.passes);
-    asks = ap (λ (w : Walk). requested_of (entered app w.stopped)) (name-walk words)
-        ∙ (asked words ∙ (ap of_asking r.found ∙ ap₂ requested e h));
-  }
+  -- a file and words after it are understood, that lead to a place and ask there for this
+  behind-file : (f : Text) (words : List Text) (end : Walk) (wanted : Asking) (a : InvocationValue) (o : OptionValues)
+      → IsPlain f → IsTaken s nothing_held idle 1 f → IsSteps s (after_file s f) words end → IsAsked s name end wanted
+      → wanted.0 ≡ Some a → wanted.1 ≡ Some o → Behind (name ∷ f ∷ words) (with_options a o)
+  behind-file f words end wanted a o p t w h e g =
+      let path = steps s (walk_from nothing_held) (after_file s f) end (f ∷ []) words
+      (plain s nothing_held idle 1 f p t) w in
+      record {
+        takes = ap₂ takes_at (name-walk (f ∷ words)) (name-words (f ∷ words)) ∙ (taken (f ∷ words)
+            ∙ ap (λ b. b && true) (ap₂ (passes_at s) path.passes path.walk ∙ ap (λ (x : Asking × Bool). x.1) h));
+        asks = ap (λ (w : Walk). requested_of (entered app w.stopped)) (name-walk (f ∷ words)) ∙ (asked (f ∷ words)
+            ∙ (ap of_asking (ap (λ (w : Walk). asking name (finished s.rules w.held)) path.walk
+            ∙ ap (λ (x : Asking × Bool). x.0) h) ∙ ap₂ requested e g));
+      }
 
-run-behind : (words : List Text) (wanted : Asking) (a : InvocationValue) (o : OptionValues)
-    → IsAsk run_leaf (asking (codes "run")) words wanted → wanted.0 ≡ Some a → wanted.1 ≡ Some o
-    → Behind (codes "run" ∷ words) (with_options a o)
-unfolding clap_on_literals
-run-behind = behind-name (codes "run") run_leaf refl refl (λ words. refl) (λ words. refl)
+  -- the same with flags after them
+  behind-flags : (f : Text) (words more : List Text) (to : Walk) (wanted : Asking) (a : InvocationValue)
+      (o : OptionValues) → IsPlain f → IsTaken s nothing_held idle 1 f → IsSteps s (after_file s f) words to
+      → IsEnding s name to more wanted → wanted.0 ≡ Some a → wanted.1 ≡ Some o
+      → Behind (name ∷ f ∷ words ++ more) (with_options a o)
+  behind-flags f words more to wanted a o p t w h = behind-file f (words ++ more) (fold (walked s.rules []) to more)
+      wanted a o p t (steps s (after_file s f) to (fold (walked s.rules []) to more) words more w (flags s to more h.0))
+      h.1
 
-check-behind : (words : List Text) (wanted : Asking) (a : InvocationValue) (o : OptionValues)
-    → IsAsk check_leaf (asking (codes "check")) words wanted → wanted.0 ≡ Some a → wanted.1 ≡ Some o
-    → Behind (codes "check" ∷ words) (with_options a o)
+  -- a command that writes a file, with its own words and then these options
+  module _ (f : Text) (begun : List Text) (h : Held) (position : ℕ) (wanted : Option InvocationValue)
+      (a : InvocationValue) (t : IsTaken s nothing_held idle 1 f)
+      (path : IsSteps s (after_file s f) begun (at h idle position)) (is : wanted ≡ Some a) where
+    abbrev IsKept : Walk → Option Text → SaveMode → Type 0
+    IsKept to wait saving = IsEnding s name to (saving_part saving) (wanted, kept_in f wait saving)
+
+    closed : (more : List Text) (to : Walk) (wait : Option Text) (saving : SaveMode) (n : ℕ) → IsPlain f
+        → IsSteps s (at h idle position) more to → IsKept to wait saving → seconds_of wait ≡ Some n
+        → Behind (name ∷ f ∷ begun ++ (more ++ saving_part saving)) (with_options a (kept_options f saving n))
+    closed more to wait saving n p m k v =
+        let end : Walk = fold (walked s.rules []) to (saving_part saving) in
+        behind-file f (begun ++ (more ++ saving_part saving)) end (wanted, kept_in f wait saving) a
+        (kept_options f saving n) p t (steps s (after_file s f) (at h idle position) end begun
+        (more ++ saving_part saving) path (steps s (at h idle position) to end more (saving_part saving) m
+        (flags s to (saving_part saving) k.0))) k.1 is (ap (option_and_then (λ w. Some (kept_options f saving w))) v)
+
+    module _ (kept : (saving : SaveMode) → IsKept (at h idle position) None saving)
+        (e : walked s.rules [] (at h idle position) (codes "--wait") ≡ at_option s (codes "wait") (at h idle position))
+        (q : turn_passes s [] (at h idle position) (codes "--wait") ≡ true)
+        (u : (w : Text) → IsTaken s (at_option s (codes "wait") (at h idle position)).held (awaiting (codes "wait"))
+        position w)
+        (waited : (w : Text) (saving : SaveMode)
+        → IsKept (after_option s (codes "wait") w (at h idle position)) (Some w) saving) where
+      behind-wait : (wait : Option Text) (saving : SaveMode) (n : ℕ) → IsPlain f → IsPlainIn wait
+          → seconds_of wait ≡ Some n
+          → Behind (name ∷ f ∷ begun ++ (option_arguments (codes "--wait") wait ++ saving_part saving))
+          (with_options a (kept_options f saving n))
+      behind-wait None saving n p r v =
+          closed [] (at h idle position) None saving n p (none s (at h idle position)) (kept saving) v
+      behind-wait (Some w) saving n p r v =
+          closed (codes "--wait" ∷ w ∷ []) (after_option s (codes "wait") w (at h idle position)) (Some w) saving n p
+          (option-steps s h idle position (codes "--wait") (codes "wait") w r e q (u w)) (waited w saving) v
+
+      behind-kept : (how : OptionValues) (words : List Text) → IsKeptWritten (name ∷ f ∷ begun) f how words
+          → Behind words (with_options a how)
+      behind-kept how words (p, waits, w, i, k) =
+          let o = wait-option waits how.wait w in
+          let spelled = k ∙ ap (λ (ws : List Text). name ∷ f ∷ begun ++ (ws ++ saving_part how.saving)) o.spelled in
+          subst (λ (r : OptionValues). Behind words (with_options a r)) (sym i)
+          (subst (λ (ws : List Text). Behind ws (with_options a (kept_options f how.saving how.wait))) (sym spelled)
+          (behind-wait o.argument how.saving how.wait (path-plain f p) o.plain o.value))
+
+-- ---- commands of a file
+
+-- a report of a file
+behind-report : (f : Text) (what : Report) → IsPlain f
+    → Behind (report_arguments what f) (plain_request f (tell f what))
 unfolding clap_on_literals
-check-behind = behind-name (codes "check") check_leaf refl refl (λ words. refl) (λ words. refl)
+behind-report f Figures p = behind-flags (codes "stat") (leaf (file_command (codes "stat"))) refl refl (λ ws. refl)
+    (λ ws. refl) f [] [] _ (plainly f (tell f Figures)) _ _ p refl (none _ _) (refl, refl) refl refl
+behind-report f Picture p = behind-flags (codes "draw") (leaf draw_command) refl refl (λ ws. refl) (λ ws. refl) f []
+    [] _ (plainly f (tell f Picture)) _ _ p refl (none _ _) (refl, refl) refl refl
+behind-report f Page p = behind-flags (codes "draw") (leaf draw_command) refl refl (λ ws. refl) (λ ws. refl) f []
+    (codes "--html" ∷ []) _ (plainly f (tell f Page)) _ _ p refl (none _ _) (refl, refl) refl refl
+behind-report f Dump p = behind-flags (codes "dump") (leaf dump_command) refl refl (λ ws. refl) (λ ws. refl) f []
+    [] _ (plainly f (tell f Dump)) _ _ p refl (none _ _) (refl, refl) refl refl
+behind-report f Capacities p = behind-flags (codes "dump") (leaf dump_command) refl refl (λ ws. refl) (λ ws. refl) f
+    [] (codes "--capacities" ∷ []) _ (plainly f (tell f Capacities)) _ _ p refl (none _ _) (refl, refl) refl refl
+behind-report f Json p = behind-flags (codes "dump") (leaf dump_command) refl refl (λ ws. refl) (λ ws. refl) f []
+    (codes "--json" ∷ []) _ (plainly f (tell f Json)) _ _ p refl (none _ _) (refl, refl) refl refl
+
+behind-salvage : (f : Text) → IsPlain f → Behind (codes "salvage" ∷ f ∷ []) (plain_request f (salvage f))
+unfolding clap_on_literals
+behind-salvage f p = behind-flags (codes "salvage") (leaf (file_command (codes "salvage"))) refl refl (λ ws. refl)
+    (λ ws. refl) f [] [] _ (plainly f (salvage f)) _ _ p refl (none _ _) (refl, refl) refl refl
+
+-- a check of one file, with its flags
+check-flags : (f : Text) (explains quiet : Bool) (words : List Text) → IsPlain f
+    → IsEnding (leaf check_command) (codes "check") (after_file (leaf check_command) f) words
+    (Some (check f), Some (check_options f explains quiet))
+    → Behind (codes "check" ∷ f ∷ words) (with_options (check f) (check_options f explains quiet))
+unfolding clap_on_literals
+check-flags f explains quiet words p h = behind-flags (codes "check") (leaf check_command) refl refl (λ ws. refl)
+    (λ ws. refl) f [] words _ (Some (check f), Some (check_options f explains quiet)) _ _ p refl (none _ _) h refl refl
 
 behind-check : (f : Text) (explains quiet : Bool) → IsPlain f
     → Behind (check_arguments f explains quiet) (with_options (check f) (check_options f explains quiet))
-behind-check f explains quiet p = check-behind _ _ _ _ (check-asks f explains quiet p) refl refl
-
-grow-behind : (words : List Text) (wanted : Asking) (a : InvocationValue) (o : OptionValues)
-    → IsAsk grow_leaf (asking (codes "grow")) words wanted → wanted.0 ≡ Some a → wanted.1 ≡ Some o
-    → Behind (codes "grow" ∷ words) (with_options a o)
 unfolding clap_on_literals
-grow-behind = behind-name (codes "grow") grow_leaf refl refl (λ words. refl) (λ words. refl)
+behind-check f false false p = check-flags f false false [] p (refl, refl)
+behind-check f false true p = check-flags f false true (codes "--quiet" ∷ []) p (refl, refl)
+behind-check f true false p = check-flags f true false (codes "--explain" ∷ []) p (refl, refl)
+behind-check f true true p = check-flags f true true (codes "--explain" ∷ codes "--quiet" ∷ []) p (refl, refl)
 
-shrink-behind : (words : List Text) (wanted : Asking) (a : InvocationValue) (o : OptionValues)
-    → IsAsk shrink_leaf (asking (codes "shrink")) words wanted → wanted.0 ≡ Some a → wanted.1 ≡ Some o
-    → Behind (codes "shrink" ∷ words) (with_options a o)
+behind-create : (f d : Text) (n : ℕ) → IsPlain f → number_of d ≡ Some n
+    → Behind (codes "create" ∷ f ∷ d ∷ []) (plain_request f (create f n))
 unfolding clap_on_literals
-shrink-behind = behind-name (codes "shrink") shrink_leaf refl refl (λ words. refl) (λ words. refl)
+behind-create f d n p h =
+    let s : Shape = leaf create_command in
+    behind-file (codes "create") s refl refl (λ ws. refl) (λ ws. refl) f (d ∷ [])
+    (plain_step s.rules (after_file s f) d) (option_map (create f) (number_of d), Some (plain_options (f ∷ []))) _ _ p
+    refl
+    (plain s (after_file s f).held idle 2 d (number-plain d n h) refl) refl (ap (option_map (create f)) h) refl
 
-migrate-behind : (words : List Text) (wanted : Asking) (a : InvocationValue) (o : OptionValues)
-    → IsAsk migrate_leaf (asking (codes "migrate")) words wanted → wanted.0 ≡ Some a → wanted.1 ≡ Some o
-    → Behind (codes "migrate" ∷ words) (with_options a o)
+behind-value : (f k : Text) (index : Option Text) → IsPlain f → IsPlain k → IsTrue (is_index index)
+    → Behind (codes "get" ∷ f ∷ k ∷ index_arguments index) (plain_request f (get f k index))
 unfolding clap_on_literals
-migrate-behind = behind-name (codes "migrate") migrate_leaf refl refl (λ words. refl) (λ words. refl)
-
-load-behind : (words : List Text) (wanted : Asking) (a : InvocationValue) (o : OptionValues)
-    → IsAsk load_leaf (asking (codes "load")) words wanted → wanted.0 ≡ Some a → wanted.1 ≡ Some o
-    → Behind (codes "load" ∷ words) (with_options a o)
-unfolding clap_on_literals
-load-behind = behind-name (codes "load") load_leaf refl refl (λ words. refl) (λ words. refl)
-
-names-behind : (words : List Text) (wanted : Asking) (a : InvocationValue) (o : OptionValues)
-    → IsAsk names_leaf (asking (codes "names")) words wanted → wanted.0 ≡ Some a → wanted.1 ≡ Some o
-    → Behind (codes "names" ∷ words) (with_options a o)
-unfolding clap_on_literals
-names-behind = behind-name (codes "names") names_leaf refl refl (λ words. refl) (λ words. refl)
+behind-value f k None p q h =
+    let s : Shape = leaf get_command in
+    behind-file (codes "get") s refl refl (λ ws. refl) (λ ws. refl) f (k ∷ []) (plain_step s.rules (after_file s f) k)
+    (plainly f (get f k None)) _ _ p refl (plain s (after_file s f).held idle 2 k q refl) refl refl refl
+behind-value f k (Some i) p q h =
+    let s : Shape = leaf get_command in
+    let at_key : Walk = plain_step s.rules (after_file s f) k in
+    behind-file (codes "get") s refl refl (λ ws. refl) (λ ws. refl) f (k ∷ i ∷ []) (plain_step s.rules at_key i)
+    (plainly f (get f k (Some i))) _ _ p refl
+    (steps s (after_file s f) at_key (plain_step s.rules at_key i) (k ∷ []) (i ∷ [])
+    (plain s (after_file s f).held idle 2 k q refl) (plain s at_key.held idle 3 i (path-plain i h) refl))
+    refl refl refl
 
 -- ---- commands that write a file
 
--- the seconds are read
-kept-read : (f : Text) (argument : Option Text) (saving : SaveMode) (wait : ℕ) → seconds_of argument ≡ Some wait
-    → kept_in f argument saving ≡ Some (kept_options f saving wait)
-kept-read f argument saving wait v = ap (option_and_then (λ w. Some (kept_options f saving w))) v
-
--- options of ours after words that are requested with them
-module _ (a : InvocationValue) (f : Text) (begun : List Text) (each : (argument : Option Text) (saving : SaveMode)
-    (wait : ℕ) → IsPlain f → IsPlainIn argument → seconds_of argument ≡ Some wait
-    → Behind (begun ++ (option_arguments (codes "--wait") argument ++ saving_part saving)) (with_options a
-    (kept_options f
-    saving
-    wait))) where
-  behind-kept : (how : OptionValues) (words : List Text) → IsKeptWritten begun f how words
-      → Behind words (with_options a how)
-  behind-kept how words (p, waits, w, h, e) =
-      let o = wait-option waits how.wait w in
-      let spelled = e ∙ ap (λ (ws : List Text). begun ++ (ws ++ saving_part how.saving)) o.spelled in
-      subst (λ (r : OptionValues). Behind words (with_options a r)) (sym h)
-      (subst (λ (ws : List Text). Behind ws (with_options a (kept_options f how.saving how.wait))) (sym spelled)
-      (each o.argument how.saving how.wait (path-plain f p) o.plain o.value))
-
 behind-grow : (f d : Text) (n : ℕ) (how : OptionValues) (words : List Text) → number_of d ≡ Some n
     → IsKeptWritten (codes "grow" ∷ f ∷ d ∷ []) f how words → Behind words (with_options (grow f n) how)
-behind-grow f d n how words h = behind-kept (grow f n) f (codes "grow" ∷ f ∷ d ∷ []) (λ argument saving wait p q v.
-    grow-behind _ _ _ _ (grow-asks f d argument saving p (number-plain d n h) q) (ap (option_map (grow f)) h)
-    (kept-read f argument saving wait v)) how words
+unfolding clap_on_literals
+behind-grow f d n how words h =
+    let s : Shape = leaf grow_command in
+    behind-kept (codes "grow") s refl refl (λ ws. refl) (λ ws. refl) f (d ∷ [])
+    (plain_step s.rules (after_file s f) d).held 3 (option_map (grow f) (number_of d)) (grow f n) refl
+    (plain s (after_file s f).held idle 2 d (number-plain d n h) refl) (ap (option_map (grow f)) h)
+    (either-saving _ (refl, refl) (refl, refl)) refl refl (λ w. refl)
+    (λ w. either-saving _ (refl, refl) (refl, refl)) how words
 
 behind-shrink : (f : Text) (how : OptionValues) (words : List Text)
-    → IsKeptWritten (codes "shrink" ∷ f ∷ []) f how words
-    → Behind words (with_options (shrink f) how)
-behind-shrink f = behind-kept (shrink f) f (codes "shrink" ∷ f ∷ []) (λ argument saving wait p q v.
-    shrink-behind _ _ _ _ (shrink-asks f argument saving p q) refl (kept-read f argument saving wait v))
+    → IsKeptWritten (codes "shrink" ∷ f ∷ []) f how words → Behind words (with_options (shrink f) how)
+unfolding clap_on_literals
+behind-shrink f =
+    let s : Shape = leaf (kept_command (codes "shrink")) in
+    behind-kept (codes "shrink") s refl refl (λ ws. refl) (λ ws. refl) f [] (after_file s f).held 2 (Some (shrink f))
+    (shrink f) refl (none s (after_file s f)) refl (either-saving _ (refl, refl) (refl, refl)) refl refl (λ w. refl)
+    (λ w. either-saving _ (refl, refl) (refl, refl))
 
 behind-migrate : (f : Text) (how : OptionValues) (words : List Text)
     → IsKeptWritten (codes "migrate" ∷ f ∷ []) f how words → Behind words (with_options (migrate f) how)
-behind-migrate f = behind-kept (migrate f) f (codes "migrate" ∷ f ∷ []) (λ argument saving wait p q v.
-    migrate-behind _ _ _ _ (migrate-asks f argument saving p q) refl (kept-read f argument saving wait v))
+unfolding clap_on_literals
+behind-migrate f =
+    let s : Shape = leaf (kept_command (codes "migrate")) in
+    behind-kept (codes "migrate") s refl refl (λ ws. refl) (λ ws. refl) f [] (after_file s f).held 2 (Some (migrate f))
+    (migrate f) refl (none s (after_file s f)) refl (either-saving _ (refl, refl) (refl, refl)) refl refl (λ w. refl)
+    (λ w. either-saving _ (refl, refl) (refl, refl))
 
 behind-load : (f : Text) (size : Option ℕ) (how : OptionValues) (sizes words : List Text)
     → IsNumberPart (codes "--size") sizes size → IsKeptWritten (codes "load" ∷ f ∷ sizes) f how words
     → Behind words (with_options (load f size) how)
-behind-load f size how sizes words s = behind-kept (load f size) f (codes "load" ∷ f ∷ sizes)
-    (λ argument saving wait p q v. let o = number-option (codes "--size") sizes size s in
-    subst (λ (ws : List Text). Behind (codes "load" ∷ f ∷ ws ++ (option_arguments (codes "--wait") argument
-    ++ saving_part saving)) (with_options (load f size) (kept_options f saving wait))) (sym o.spelled)
-    (load-behind _ _ _ _ (load-asks f o.argument argument saving p o.plain q) (ap (option_map (load f)) o.value)
-    (kept-read f argument saving wait v))) how words
+unfolding clap_on_literals
+behind-load f None how sizes words e =
+    let s : Shape = leaf load_command in
+    rw e (behind-kept (codes "load") s refl refl (λ ws. refl) (λ ws. refl) f [] (after_file s f).held 2
+    (Some (load f None)) (load f None) refl (none s (after_file s f)) refl (either-saving _ (refl, refl) (refl, refl))
+    refl refl (λ w. refl) (λ w. either-saving _ (refl, refl) (refl, refl)) how words)
+behind-load f (Some n) how sizes words (d, h, e) =
+    let s : Shape = leaf load_command in
+    rw e (behind-kept (codes "load") s refl refl (λ ws. refl) (λ ws. refl) f (codes "--size" ∷ d ∷ [])
+    (with_option s f (codes "size") d).held 2 (option_map (load f) (size_of (Some d))) (load f (Some n)) refl
+    (option-steps s (after_file s f).held idle 2 (codes "--size") (codes "size") d (number-plain d n h) refl refl refl)
+    (ap (λ m. option_map (load f) (option_map Some m)) h) (either-saving _ (refl, refl) (refl, refl)) refl refl
+    (λ w. refl) (λ w. either-saving _ (refl, refl) (refl, refl)) how words)
+
+-- ---- names
+
+-- what names are asked for, by their words
+abbrev listed : Text → Option Text → Option Text → Asking
+listed f prefix most = (option_map (names f (unwrap_or prefix [])) (size_of most), Some (plain_options (f ∷ [])))
+
+-- the command `names`
+abbrev names_leaf : Shape
+names_leaf = leaf names_command
+
+prefix-steps : (f t : Text) → IsPlain t
+    → IsSteps names_leaf (after_file names_leaf f) (codes "--prefix" ∷ t ∷ [])
+    (with_option names_leaf f (codes "prefix") t)
+unfolding clap_on_literals
+prefix-steps f t q = option-steps names_leaf (after_file names_leaf f).held idle 2 (codes "--prefix")
+    (codes "prefix") t q refl refl refl
+
+names-asked : (f : Text) (prefix most : Option Text) (a : InvocationValue) → IsPlain f → IsPlainIn prefix
+    → IsPlainIn most → (listed f prefix most).0 ≡ Some a → Behind (codes "names" ∷ f ∷ option_arguments
+    (codes "--prefix") prefix ++ option_arguments (codes "--most") most) (plain_request f a)
+unfolding clap_on_literals
+names-asked f None None a p q r h = behind-file (codes "names") names_leaf refl refl (λ ws. refl) (λ ws. refl) f []
+    (after_file names_leaf f) (listed f None None) _ _ p refl (none _ _) refl h refl
+names-asked f (Some t) None a p q r h = behind-file (codes "names") names_leaf refl refl (λ ws. refl) (λ ws. refl) f
+    (codes "--prefix" ∷ t ∷ []) (with_option names_leaf f (codes "prefix") t) (listed f (Some t) None) _ _ p refl
+    (prefix-steps f t q) refl h refl
+names-asked f None (Some d) a p q r h = behind-file (codes "names") names_leaf refl refl (λ ws. refl) (λ ws. refl) f
+    (codes "--most" ∷ d ∷ []) (with_option names_leaf f (codes "most") d) (listed f None (Some d)) _ _ p refl
+    (option-steps names_leaf (after_file names_leaf f).held idle 2 (codes "--most") (codes "most") d r refl refl refl)
+    refl h refl
+names-asked f (Some t) (Some d) a p q r h =
+    behind-file (codes "names") names_leaf refl refl (λ ws. refl) (λ ws. refl) f
+    (codes "--prefix" ∷ t ∷ codes "--most" ∷ d ∷ [])
+    (after_option names_leaf (codes "most") d (with_option names_leaf f (codes "prefix") t))
+    (listed f (Some t) (Some d)) _ _ p refl (optioned names_leaf (after_file names_leaf f) (codes "--prefix" ∷ t ∷ [])
+    (with_option names_leaf f (codes "prefix") t).held 2 (codes "--most") (codes "most") d r (prefix-steps f t q) refl
+    refl refl) refl h refl
 
 behind-names : (f : Text) (prefix : Text) (most : Option ℕ) (prefixes mosts : List Text) → IsPlain f
     → IsPart (codes "--prefix") prefixes prefix → IsNumberPart (codes "--most") mosts most
@@ -397,10 +425,9 @@ behind-names f prefix most prefixes mosts p a m =
     let u = number-option (codes "--most") mosts most m in
     subst (λ (ws : List Text). Behind (codes "names" ∷ f ∷ ws) (plain_request f (names f prefix most)))
     (sym (ap₂ ◌++◌ o.spelled u.spelled))
-    (names-behind _ _ _ _ (names-asks f o.argument u.argument p o.plain u.plain)
+    (names-asked f o.argument u.argument (names f prefix most) p o.plain u.plain
     (ap (option_map (names f (unwrap_or o.argument []))) u.value ∙ ap (option_map (λ (t : Text). names f t most))
-    o.value)
-    refl)
+    o.value))
 
 -- ---- runs
 
@@ -410,6 +437,99 @@ sized : (f : Text) (mode : Option ModeName) (size : Option Text) (m : ModeName) 
 sized f mode size m n hm hn hl =
     ap (option_and_then (λ m. option_and_then (run_sized f m) (size_of size))) hm
     ∙ (ap (option_and_then (run_sized f m)) hn ∙ ap (λ b. if b then None else Some (run f m n)) hl)
+
+-- the words of a run are understood, with all flags
+module _ (f : Text) (words : List Text) (to : Walk) (a : SaveMode → Bool → Bool → Asking)
+    (path : IsSteps run_leaf (after_file run_leaf f) words to)
+    (each : (saving : SaveMode) (strict numbered : Bool)
+    → IsEnding run_leaf (codes "run") to (flag_arguments saving strict numbered) (a saving strict numbered))
+    (saving : SaveMode) (strict numbered : Bool) (i : InvocationValue) (o : OptionValues) (p : IsPlain f)
+    (h : (a saving strict numbered).0 ≡ Some i) (g : (a saving strict numbered).1 ≡ Some o) where
+  run-flags : Behind (codes "run" ∷ f ∷ words ++ flag_arguments saving strict numbered) (with_options i o)
+  unfolding clap_on_literals
+  run-flags = behind-flags (codes "run") run_leaf refl refl (λ ws. refl) (λ ws. refl) f words
+      (flag_arguments saving strict numbered) to (a saving strict numbered) i o p refl path
+      (each saving strict numbered) h g
+
+-- `--mode M` and `--size N` right after the file, and both
+abbrev at_mode : Text → Text → Walk
+at_mode f m = with_option run_leaf f (codes "mode") m
+
+abbrev at_size : Text → Text → Walk
+at_size f d = with_option run_leaf f (codes "size") d
+
+abbrev at_both : Text → Text → Text → Walk
+at_both f m d = after_option run_leaf (codes "size") d (at_mode f m)
+
+mode-steps : (f m : Text) → IsPlain m → IsSteps run_leaf (after_file run_leaf f) (codes "--mode" ∷ m ∷ []) (at_mode f m)
+unfolding clap_on_literals
+mode-steps f m q = option-steps run_leaf (after_file run_leaf f).held idle 2 (codes "--mode") (codes "mode") m q
+    refl refl refl
+
+size-steps : (f d : Text) → IsPlain d → IsSteps run_leaf (after_file run_leaf f) (codes "--size" ∷ d ∷ []) (at_size f d)
+unfolding clap_on_literals
+size-steps f d q = option-steps run_leaf (after_file run_leaf f).held idle 2 (codes "--size") (codes "size") d q
+    refl refl refl
+
+both-steps : (f m d : Text) → IsPlain m → IsPlain d
+    → IsSteps run_leaf (after_file run_leaf f) (codes "--mode" ∷ m ∷ codes "--size" ∷ d ∷ []) (at_both f m d)
+unfolding clap_on_literals
+both-steps f m d q r = optioned run_leaf (after_file run_leaf f) (codes "--mode" ∷ m ∷ []) (at_mode f m).held 2
+    (codes "--size") (codes "size") d r (mode-steps f m q) refl refl refl
+
+-- a run of standard input, by its words
+run-asked : (f : Text) (mode size wait : Option Text) (saving : SaveMode) (strict numbered : Bool)
+    (i : InvocationValue) (o : OptionValues) → IsPlainIn mode → IsPlainIn size → IsPlainIn wait → IsPlain f
+    → (said f mode size wait saving strict numbered).0 ≡ Some i
+    → (said f mode size wait saving strict numbered).1 ≡ Some o
+    → Behind (codes "run" ∷ f ∷ option_arguments (codes "--mode") mode ++ (option_arguments (codes "--size") size
+    ++ (option_arguments (codes "--wait") wait ++ flag_arguments saving strict numbered))) (with_options i o)
+unfolding clap_on_literals
+run-asked f None None None v x n i o q r t = run-flags f []
+    (after_file run_leaf f) (said f None None None)
+    (none _ _)
+    (all-flags _ (refl, refl) (refl, refl) (refl, refl) (refl, refl)
+    (refl, refl) (refl, refl) (refl, refl) (refl, refl)) v x n i o
+run-asked f (Some m) None None v x n i o q r t = run-flags f (codes "--mode" ∷ m ∷ [])
+    (at_mode f m) (said f (Some m) None None)
+    (mode-steps f m q)
+    (all-flags _ (refl, refl) (refl, refl) (refl, refl) (refl, refl)
+    (refl, refl) (refl, refl) (refl, refl) (refl, refl)) v x n i o
+run-asked f None (Some d) None v x n i o q r t = run-flags f (codes "--size" ∷ d ∷ [])
+    (at_size f d) (said f None (Some d) None)
+    (size-steps f d r)
+    (all-flags _ (refl, refl) (refl, refl) (refl, refl) (refl, refl)
+    (refl, refl) (refl, refl) (refl, refl) (refl, refl)) v x n i o
+run-asked f (Some m) (Some d) None v x n i o q r t = run-flags f (codes "--mode" ∷ m ∷ codes "--size" ∷ d ∷ [])
+    (at_both f m d) (said f (Some m) (Some d) None)
+    (both-steps f m d q r)
+    (all-flags _ (refl, refl) (refl, refl) (refl, refl) (refl, refl)
+    (refl, refl) (refl, refl) (refl, refl) (refl, refl)) v x n i o
+run-asked f None None (Some w) v x n i o q r t = run-flags f (codes "--wait" ∷ w ∷ [])
+    (after_option run_leaf (codes "wait") w (after_file run_leaf f)) (said f None None (Some w))
+    (option-steps run_leaf (after_file run_leaf f).held idle 2 (codes "--wait") (codes "wait") w t refl refl
+    refl)
+    (all-flags _ (refl, refl) (refl, refl) (refl, refl) (refl, refl)
+    (refl, refl) (refl, refl) (refl, refl) (refl, refl)) v x n i o
+run-asked f (Some m) None (Some w) v x n i o q r t = run-flags f (codes "--mode" ∷ m ∷ codes "--wait" ∷ w ∷ [])
+    (after_option run_leaf (codes "wait") w (at_mode f m)) (said f (Some m) None (Some w))
+    (optioned run_leaf (after_file run_leaf f) (codes "--mode" ∷ m ∷ []) (at_mode f m).held 2 (codes "--wait")
+    (codes "wait") w t (mode-steps f m q) refl refl refl)
+    (all-flags _ (refl, refl) (refl, refl) (refl, refl) (refl, refl)
+    (refl, refl) (refl, refl) (refl, refl) (refl, refl)) v x n i o
+run-asked f None (Some d) (Some w) v x n i o q r t = run-flags f (codes "--size" ∷ d ∷ codes "--wait" ∷ w ∷ [])
+    (after_option run_leaf (codes "wait") w (at_size f d)) (said f None (Some d) (Some w))
+    (optioned run_leaf (after_file run_leaf f) (codes "--size" ∷ d ∷ []) (at_size f d).held 2 (codes "--wait")
+    (codes "wait") w t (size-steps f d r) refl refl refl)
+    (all-flags _ (refl, refl) (refl, refl) (refl, refl) (refl, refl)
+    (refl, refl) (refl, refl) (refl, refl) (refl, refl)) v x n i o
+run-asked f (Some m) (Some d) (Some w) v x n i o q r t = run-flags f
+    (codes "--mode" ∷ m ∷ codes "--size" ∷ d ∷ codes "--wait" ∷ w ∷ [])
+    (after_option run_leaf (codes "wait") w (at_both f m d)) (said f (Some m) (Some d) (Some w))
+    (optioned run_leaf (after_file run_leaf f) (codes "--mode" ∷ m ∷ codes "--size" ∷ d ∷ []) (at_both f m d).held 2
+    (codes "--wait") (codes "wait") w t (both-steps f m d q r) refl refl refl)
+    (all-flags _ (refl, refl) (refl, refl) (refl, refl) (refl, refl)
+    (refl, refl) (refl, refl) (refl, refl) (refl, refl)) v x n i o
 
 behind-options : (f : Text) (modes sizes waits : List Text) (mode : ModeName) (size : Option ℕ) (wait : ℕ)
     (saving : SaveMode) (strict numbered : Bool) → IsPlain f
@@ -423,8 +543,8 @@ behind-options f modes sizes waits mode size wait v t n p m (s, l) w =
     subst (λ (ws : List Text). Behind (codes "run" ∷ f ∷ ws)
     (with_options (run f mode size) (options_of_run f input v wait t n)))
     (sym (ap₂ ◌++◌ a.spelled (ap₂ ◌++◌ o.spelled (ap (λ (ws : List Text). ws ++ flag_arguments v t n) u.spelled))))
-    (run-behind _ _ _ _ (run-asks f a.argument o.argument u.argument v t n p a.plain o.plain u.plain)
-    (sized f (mode_of false a.argument) o.argument mode size a.value o.value l)
+    (run-asked f a.argument o.argument u.argument v t n (run f mode size) (options_of_run f input v wait t n) a.plain
+    o.plain u.plain p (sized f (mode_of false a.argument) o.argument mode size a.value o.value l)
     (ap (option_and_then (λ w. Some (options_of_run f input v w t n))) u.value))
 
 -- a run of a script that the command line names or has
@@ -433,6 +553,7 @@ of_script f origin = with_options (run f OpenOnly None) (options_of_run f origin
 
 behind-origin : (f : Text) (words : List Text) (origin : Origin) → IsPlain f → IsOriginPart words origin
     → Behind (codes "run" ∷ f ∷ words) (of_script f origin)
+unfolding clap_on_literals
 behind-origin f words input p e =
     rw e (behind-options f [] [] [] OpenOnly None 0 InPlace false false p (inr (refl, refl)) (refl, refl) (
       None,
@@ -440,11 +561,18 @@ behind-origin f words input p e =
       refl,
     ))
 behind-origin f words (from_file path) p (t, e) =
-    rw e (run-behind _ _ _ _ (script-asks f path p (path-plain path t)) refl refl)
+    rw e (behind-file (codes "run") run_leaf refl refl (λ ws. refl) (λ ws. refl) f (path ∷ [])
+    (plain_step run_leaf.rules (after_file run_leaf f) path) (said_with f (from_file path)) _ _ p refl
+    (plain run_leaf (after_file run_leaf f).held idle 2 path (path-plain path t) refl) refl refl refl)
 behind-origin f words (from_lines []) p h = absurd h
 behind-origin f words (from_lines (l ∷ ls)) p (t, e) =
     let both = and_parts (is_path l) (list_all is_path ls) t in
-    rw e (run-behind _ _ _ _ (lines-ask f l ls p (path-plain l both.0) (lines-plain ls both.1)) refl refl)
+    let more = lined f [] l ls (lines-plain ls both.1) in
+    rw e (behind-file (codes "run") run_leaf refl refl (λ ws. refl) (λ ws. refl) f (line_arguments (l ∷ ls))
+    (at_line f more.before more.final) (said_with f (from_lines (l ∷ ls))) _ _ p refl
+    (steps run_leaf (after_file run_leaf f) (at_line f [] l) (at_line f more.before more.final) (codes "-c" ∷ l ∷ [])
+    (line_arguments ls) (first-line f l (path-plain l both.0)) more.path)
+    (lines-asked f more.before more.final ∙ ap (λ ls. (said_with f (from_lines ls), true)) more.all) refl refl)
 
 behind-script : (f : Text) (mode : ModeName) (size : Option ℕ) (origin : Origin) (saving : SaveMode) (wait : ℕ)
     (strict numbered : Bool) (words origins : List Text) → IsPlain f → IsOriginPart origins origin
@@ -473,16 +601,6 @@ pub record IsVersion (words : List Text) (r : RequestValue) : Type 0 where
 asks-version : IsVersion (codes "--version" ∷ []) of_version
 unfolding clap_on_literals
 asks-version = record { is = refl; fault = refl }
-
--- a report of a file
-behind-report : (f : Text) (what : Report) → IsPlain f → Behind (report_arguments what f) (plain_request f (tell
-    f what))
-behind-report f Figures p = behind-stat f p
-behind-report f Picture p = behind-draw f p
-behind-report f Page p = behind-page f p
-behind-report f Dump p = behind-dump f p
-behind-report f Capacities p = behind-capacities f p
-behind-report f Json p = behind-json f p
 
 behind : (words : List Text) (a : InvocationValue) (how : OptionValues) → IsWrittenWith a how words
     → Behind words (with_options a how) ⊎ IsVersion words (with_options a how)

@@ -4,12 +4,12 @@ use Rattle.segment_commands.proofs.running.Start.{opened_run}
 use Rattle.segment_commands.proofs.running.run_opened.Goals as goal
 
 pub returns-then-is_whole : goal.returns-then-is_whole
-returns-then-is_whole g c = rw c.saved.ensures (opened_run _ _ _ _ _ _ _ _ _ _ _ _ c.in_ok-segment.segment _
+returns-then-is_whole g c = rw c.saved.ensures (opened_run _ _ _ _ _ _ _ _ _ _ _ c.in_ok-segment.segment _ _
     (λ capacity image h. saving_run _ _ _ _ _ _ _ _ _ _ _ _ c.run_script-ended.new.segment h _
     (let is = c.is_whole.ensures.complete search in rw is at c.run_script-ended.ensures) _ refl
     c.write_image.result c.write_image.ensures) c.in_ok-segment.ensures)
 
 pub returns : goal.returns
-returns g c = opened_run _ _ _ _ _ _ _ _ _ _ _ _ c.in_ok-segment.segment _
+returns g c = opened_run _ _ _ _ _ _ _ _ _ _ _ c.in_ok-segment.segment _ _
     (λ capacity image h. unsaved_run _ _ _ _ _ _ _ _ _ _ _ _ c.run_script-ended.new.segment h _
     c.run_script-ended.result (c.is_whole.ensures.early_stop search) c.run_script-ended.ensures) c.in_ok-segment.ensures

@@ -120,7 +120,7 @@ void fill(zaluxhoni::segment &segment) {
     }
 }
 
-void count_vectors(zaluxhoni::segment &segment, InC kept, InC named) {
+[[gnu::noinline]] void count_vectors(zaluxhoni::segment &segment, InC kept, InC named) {
     auto vector = segment.vector<Number>("v");
     const auto at = [](int i) { return static_cast<std::uint64_t>(i % ELEMENTS); };
     count("v.get(i)", "C++ by handle", [&](int i) { return vector.get(at(i)) == i % ELEMENTS; });
@@ -194,7 +194,7 @@ template <class T> using Shared = ipc::allocator<T, ipc::managed_mapped_file::se
 using Vector = ipc::vector<Number, Shared<Number>>;
 using Map = ipc::map<Number, Number, std::less<Number>, Shared<std::pair<const Number, Number>>>;
 
-void count_vectors(ipc::managed_mapped_file &segment) {
+[[gnu::noinline]] void count_vectors(ipc::managed_mapped_file &segment) {
     Vector *vector = segment.find<Vector>("v").first;
     const auto at = [](int i) { return static_cast<std::size_t>(i % ELEMENTS); };
     const auto named = [&]() -> Vector & { return *segment.find<Vector>("v").first; };

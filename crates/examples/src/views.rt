@@ -1,12 +1,12 @@
-//! Views: each looks its object up once, and then needs no name. Boost: the pointer that `find` and `construct` return.
+//! Objects that are looked up once: their calls need no name. Boost: the pointer that `find` and `construct` return.
 use anyhow::Result;
 use zaluxhoni::{
-    ArrayView, Disk, Map, MapMut, MapRanges, Name, Refusal, Segment, SegmentFile, StringView,
-    StringsView, VectorView, named,
+    ArrayMut, Disk, Map, MapMut, MapRanges, Name, Refusal, Segment, SegmentFile, SliceReads,
+    StringMut, StringsMut, TextSequence, VectorMut, named,
 };
 
 /// Puts numbers into a queue, and takes some out.
-fn fill(queue: &mut VectorView<'_, i64>) -> Result<(), Refusal> {
+fn fill(queue: &mut VectorMut<'_, i64>) -> Result<(), Refusal> {
     queue.push(4)?;
     queue.insert(0, 3)?;
     queue.set(1, 5)?;
@@ -18,23 +18,23 @@ fn fill(queue: &mut VectorView<'_, i64>) -> Result<(), Refusal> {
 /// Makes a queue of numbers. Returns their sum, how many they are, and the last one, which `pop` takes out.
 fn take_of_a_queue(segment: &mut Segment, name: &Name) -> Result<(i64, u64, i64), Refusal> {
     segment.construct_vec::<i64, _>(name, &[])?;
-    let mut queue = VectorView::<i64>::of(segment, name)?;
+    let mut queue = VectorMut::<i64>::of(segment, name)?;
     fill(&mut queue)?;
     let mut sum = 0i64;
-    for number in queue.iter() {
+    for number in queue.read().iter() {
         sum = sum.saturating_add(number);
     }
-    Ok((sum, queue.len()?, queue.pop()?))
+    Ok((sum, queue.read().len(), queue.pop()?))
 }
 
 /// Makes an array of two bytes, changes it, and returns the greater byte.
 fn change_an_array(segment: &mut Segment, name: &Name) -> Result<u8, Refusal> {
     segment.construct(name, 2, 7u8)?;
-    let mut flags = ArrayView::<u8>::of(segment, name)?;
+    let mut flags = ArrayMut::<u8>::of(segment, name)?;
     flags.copy_from(&[1, 8])?;
     flags.set(1, 9)?;
     let mut both = [0u8; 2];
-    flags.copy_to(&mut both)?;
+    flags.read().copy_to(&mut both)?;
     Ok(both[0].max(both[1]))
 }
 
@@ -79,24 +79,25 @@ fn tell_the_last(rt: &HostRuntime, years: &Map<'_, i32, i64>) -> Result<()> {
 /// Makes a string, appends to it, changes it, and returns its length.
 fn lengthen_a_text(segment: &mut Segment, name: &Name) -> Result<usize, Refusal> {
     segment.construct_string(name, b"red")?;
-    let mut title = StringView::of(segment, name)?;
+    let mut title = StringMut::of(segment, name)?;
     title.append(b"-black")?;
     title.set(0, b'R')?;
     title.assign(b"splay")?;
-    Ok(title.as_bytes()?.len())
+    Ok(title.read().as_bytes().len())
 }
 
 /// Makes a list of three texts, takes two out, changes the one left, and returns how many bytes it has.
 fn shorten_a_list(segment: &mut Segment, name: &Name) -> Result<usize, Refusal> {
     segment.construct_texts(name, &[b"second"])?;
-    let mut lines = StringsView::of(segment, name)?;
+    let mut lines = StringsMut::of(segment, name)?;
     lines.push(b"third")?;
     lines.insert(0, b"first")?;
     lines.pop()?;
     lines.erase(0)?;
     lines.set(0, b"only")?;
+    let left = lines.read();
     let mut bytes = 0usize;
-    for line in lines.iter() {
+    for line in left.iter() {
         bytes = bytes.saturating_add(line.len());
     }
     Ok(bytes)

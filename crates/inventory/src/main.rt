@@ -7,7 +7,7 @@
 use anyhow::Result;
 use std::alloc::Global;
 use std::{env, fs};
-use zaluxhoni::{Disk, HostDisk, Name, Segment, SegmentFile, VectorView, named};
+use zaluxhoni::{Disk, HostDisk, Name, Segment, SegmentFile, VectorMut, named};
 
 /// What is kept of an article, as the bytes of a struct of C. Its weight is the bits of a double.
 #[derive(Clone, Copy)]
@@ -78,7 +78,7 @@ fn add(
     price: i64,
     supplier: &str,
 ) -> Result<()> {
-    VectorView::<u8>::of(shop, &named("articles")?)?.extend(&article.to_bytes())?;
+    VectorMut::<u8>::of(shop, &named("articles")?)?.extend(&article.to_bytes())?;
     shop.map_put(&named("prices")?, article.number, price)?;
     record_name(alloc, shop, article.number, name)?;
     record_supplier(alloc, shop, article.number, supplier)

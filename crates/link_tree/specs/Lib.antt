@@ -10,4 +10,5 @@ pub mod Besides
 pub mod Shrinking
 pub mod Checking
 pub mod Walking
+pub mod Listing
 pub mod Frame

@@ -19,6 +19,12 @@ insert_point_of before (fork red left n right) =
     if before n then entry_over red n right (insert_point_of before right) else entry_over red n left
     (insert_point_of before left)
 
+-- the last node on the path of a search; `above` if the tree is empty
+abbrev pub last_on : (ℕ → Bool) → Option ℕ → Tree → Option ℕ
+last_on before above leaf = above
+last_on before above (fork red left n right) =
+    if before n then last_on before (Some n) right else last_on before (Some n) left
+
 -- the node is the last one on the path of a search: an insertion at the end of the path begins at it if it is black
 pub record IsPathEnd (good : ℕ → Bool) (cells : ℕ → Cell) (before : ℕ → Bool) (t : Tree) (n : ℕ) : Type 0 where
   pub node : good n ≡ true

@@ -6,7 +6,7 @@ ghost use Rattle.std.specs.Option.{option_or};
 ghost use Rattle.link_tree.specs.Tree.{Tree, IsSearchTree, nodes_of, bits};
 ghost use Rattle.link_tree.specs.Nodes.{leads, first_not_before};
 ghost use Rattle.link_tree.specs.Searching.{path_length};
-ghost use Rattle.link_tree.specs.Ways.{EndsPath, insert_point_of, remove_point_of, passed, reached, followed};
+ghost use Rattle.link_tree.specs.Ways.{EndsPath, insert_point_of, last_on, remove_point_of, passed, reached, followed};
 
 use crate::cursor::NodeCursor;
 use crate::descending::{PathFold, descend};
@@ -184,6 +184,8 @@ pub fn find_path_end<N: Nodes>(nodes: &N, root: Option<u64>, probe: &N::Probe) -
     // None if every node precedes the probe.
     ensures first { (t : Tree) → IsSearchTree (N.order nodes.now) (N.cells nodes.now) root t
         → result.node ≡ first_not_before (N.before nodes.now probe.now) (nodes_of t) }
+    ensures path_end { (t : Tree) → IsSearchTree (N.order nodes.now) (N.cells nodes.now) root t
+        → result.last ≡ last_on (N.before nodes.now probe.now) None t }
     // An insertion begins at the last node on the path if that node is black.
     ensures last { (t : Tree) → IsSearchTree (N.order nodes.now) (N.cells nodes.now) root t
         → EndsPath (N.is_node nodes.now) (N.cells nodes.now) (N.before nodes.now probe.now) t result.last }

@@ -24,12 +24,12 @@ pub struct TreeChange {
     pub steps: u64,
 }
 
-/// Makes the node red and sets both of its links to none.
-fn make_red_leaf<N: NodesMut>(visits: &mut NodeCursorMut<N>, node: u64)
+/// Gives the node this colour and sets both of its links to none.
+fn make_leaf<N: NodesMut>(visits: &mut NodeCursorMut<N>, node: u64, red: bool)
     requires node { N.is_node visits.old.nodes.now node ≡ true }
     requires no_overflow { visits.old.steps + 3 < 2 ^ 64 }
     ensures layout { BecomesTree (N.cells visits.old.nodes.now) (N.cells visits.new.nodes.now) (node ∷ [])
-        (Some node) (fork true leaf node leaf) }
+        (Some node) (fork red leaf node leaf) }
     ensures steps_upper { visits.new.steps ≤ visits.old.steps + 3 }
     ensures steps_lower { visits.old.steps ≤ visits.new.steps }
     ensures progress { visits.old.at ≡ None → visits.old.steps < visits.new.steps }
@@ -38,11 +38,43 @@ fn make_red_leaf<N: NodesMut>(visits: &mut NodeCursorMut<N>, node: u64)
 {
     visits.set_child(node, Side::Left, None);
     visits.set_child(node, Side::Right, None);
-    visits.set_red(node, true);
+    visits.set_red(node, red);
+}
+
+/// Inserts the node into the tree whose root is `at` and returns the root of the new tree.
+fn insert_below<N: NodesMut>(visits: &mut NodeCursorMut<N>, at: u64, node: u64) -> u64
+    requires top { N.is_node visits.old.nodes.now at ≡ true }
+    requires node { N.is_node visits.old.nodes.now node ≡ true }
+    requires tree { (t : Tree)
+        × CanInsert (N.order visits.old.nodes.now) (N.cells visits.old.nodes.now) (Some at) node t
+        × (visits.old.steps + 13 * height t + 16 < 2 ^ 64) }
+    ensures growth { (t : Tree)
+        → CanInsert (N.order visits.old.nodes.now) (N.cells visits.old.nodes.now) (Some at) node t
+        → BecomesTree (N.cells visits.old.nodes.now) (N.cells visits.new.nodes.now) (node ∷ nodes_of t)
+        (Some result) (after_insert (N.order visits.old.nodes.now) node t) }
+    ensures steps { (t : Tree)
+        → CanInsert (N.order visits.old.nodes.now) (N.cells visits.old.nodes.now) (Some at) node t
+        → visits.new.steps ≤ visits.old.steps + 13 * height t + 3 }
+    ensures root { N.is_node visits.old.nodes.now result ≡ true }
+    ensures steps_lower { visits.old.steps ≤ visits.new.steps }
+    ensures progress { visits.old.at ≡ None → visits.old.steps < visits.new.steps }
+    ensures same_borrow { visits.new.nodes.ghost_name ≡ visits.old.nodes.ghost_name }
+    ensures keeper { SameExceptCells N.Nodes visits.old.nodes.now visits.new.nodes.now }
+{
+    let way = visits.toward(node, at);
+    let Some(next) = way.link else {
+        // a red leaf has no red child, so nothing is repaired
+        make_leaf(visits, node, true);
+        visits.set_child(at, way.side, Some(node));
+        return at;
+    };
+    let child = insert_below(visits, next, node);
+    visits.set_child(at, way.side, Some(child));
+    fix_double_red(visits, at, way.side)
 }
 
 /// Inserts the node into the tree behind the link and returns the root of the new tree.
-fn insert_below<N: NodesMut>(visits: &mut NodeCursorMut<N>, link: Option<u64>, node: u64) -> u64
+fn insert_behind<N: NodesMut>(visits: &mut NodeCursorMut<N>, link: Option<u64>, node: u64) -> u64
     requires link { leads (N.is_node visits.old.nodes.now) link ≡ true }
     requires node { N.is_node visits.old.nodes.now node ≡ true }
     requires tree { (t : Tree)
@@ -62,13 +94,10 @@ fn insert_below<N: NodesMut>(visits: &mut NodeCursorMut<N>, link: Option<u64>, n
     ensures keeper { SameExceptCells N.Nodes visits.old.nodes.now visits.new.nodes.now }
 {
     let Some(at) = link else {
-        make_red_leaf(visits, node);
+        make_leaf(visits, node, true);
         return node;
     };
-    let way = visits.toward(node, at);
-    let child = insert_below(visits, way.link, node);
-    visits.set_child(at, way.side, Some(child));
-    fix_double_red(visits, at, way.side)
+    insert_below(visits, at, node)
 }
 
 /// Inserts the node, beginning at the `entry` that `find_insert_point` returned.
@@ -108,16 +137,26 @@ pub fn insert_at<N: NodesMut>(
 {
     let mut visits = NodeCursorMut::new(nodes);
     if let Some(start) = entry {
-        insert_below(&mut visits, Some(start), node);
+        // the insertion leaves no red node under a red one below `start`, so `start` needs no repair
+        let way = visits.toward(node, start);
+        let child = insert_behind(&mut visits, way.link, node);
+        visits.set_child(start, way.side, Some(child));
         return TreeChange {
             root,
             steps: visits.steps(),
         };
     }
-    let top = insert_below(&mut visits, root, node);
-    paint(&mut visits, Some(top), false);
+    let Some(top) = root else {
+        make_leaf(&mut visits, node, false);
+        return TreeChange {
+            root: Some(node),
+            steps: visits.steps(),
+        };
+    };
+    let risen = insert_below(&mut visits, top, node);
+    paint(&mut visits, Some(risen), false);
     TreeChange {
-        root: Some(top),
+        root: Some(risen),
         steps: visits.steps(),
     }
 }

@@ -12,6 +12,7 @@ mod checking;
 mod cursor;
 mod descending;
 mod insertion;
+mod listing;
 mod nodes;
 mod removing;
 mod rotation;
@@ -26,6 +27,7 @@ pub use change_points::{
 };
 pub use checking::{CheckedTree, check};
 pub use insertion::{TreeChange, insert, insert_at};
+pub use listing::{Listing, list_nodes_from};
 pub use nodes::{Nodes, NodesMut};
 pub use removing::{remove, remove_at};
 pub use searching::{SearchResult, find_first_not_before, find_last, find_last_before};

@@ -3,7 +3,7 @@
 use crate::checks::{done, holds, same};
 use crate::dumps::{empty, is_dumped, loaded, text_of, writer};
 use crate::segments::{named, new_named};
-use seg_types::{Handle, Key, ScalarKind, ScalarValue};
+use seg_types::{Handle, Key, ScalarKind};
 use segment_dump::{declared_size, dump_json, dump_with_capacities, without_notes};
 use segment_manager::{AnonymousInstance, Segment, UniqueInstance};
 use std::process::Abort;
@@ -17,12 +17,7 @@ const ONE_OF_EACH: &[u8] =
 
 /// Makes a pair of a map of truths.
 fn puts(rt: &impl Abort, segment: &mut Segment, map: Handle, key: i32, value: bool) {
-    let (key, value) = (ScalarValue::I32(key), ScalarValue::Bool(value));
-    same(
-        rt,
-        segment.map_put_any(&Key::Handle(map), key, value),
-        Ok(true),
-    );
+    same(rt, segment.map_put(&Key::Handle(map), key, value), Ok(true));
 }
 
 /// Makes one object of each kind.

@@ -1,7 +1,8 @@
 //! Maps by the types of their keys and values.
 use crate::bench::Bench;
 use crate::segments::fresh;
-use seg_types::{IndexKey, Key, Kind, NewKey, Refusal, ScalarKind, ScalarValue};
+use seg_types::{IndexKey, Key, Kind, NewKey, Refusal, Scalar, ScalarKind};
+use segment_manager::Map;
 
 /// The kind of maps from i64 to u8.
 const BYTES: Kind = Kind::Map(ScalarKind::I64, ScalarKind::U8);
@@ -50,17 +51,22 @@ fn stands(bench: &mut Bench, key: i64, from: Pair, above: Pair) {
 /// Checks the pair of the map `m` up to a key, and the one below the key.
 fn stands_back(bench: &mut Bench, key: i64, up_to: Pair, below: Pair) {
     let map = map(bench);
-    let got = bench.segment.map_last_up_to(&map, key);
-    bench.same(got, Ok(up_to));
-    let got = bench.segment.map_previous_before(&map, key);
-    bench.same(got, Ok(below));
+    let (to, before) = match Map::<i64, u8>::of(&bench.segment, &map) {
+        Ok(map) => (map.last_up_to(key), map.previous_before(key)),
+        Err(_) => (None, None),
+    };
+    bench.same(to, up_to);
+    bench.same(before, below);
 }
 
 /// Checks the last pair of the map `m`.
 fn ends(bench: &mut Bench, last: Pair) {
     let map = map(bench);
-    let got = bench.segment.map_last(&map);
-    bench.same(got, Ok(last));
+    let got = match Map::<i64, u8>::of(&bench.segment, &map) {
+        Ok(map) => map.last(),
+        Err(_) => None,
+    };
+    bench.same(got, last);
 }
 
 /// Makes a segment with the map `m`.
@@ -157,17 +163,16 @@ fn a_map_is_found_or_made(rt: HostRuntime) {
     bench.ends(&rt);
 }
 
-/// Looks a key up in the map at 144, and takes it out, with values of a kind.
-fn asks(
+/// Looks a key up in the map at 144, and takes it out, with values of a type.
+fn asks<V: Scalar + PartialEq>(
     bench: &mut Bench,
-    values: ScalarKind,
-    found: Result<Option<ScalarValue>, Refusal>,
+    found: Result<Option<V>, Refusal>,
     erased: Result<bool, Refusal>,
 ) {
-    let (map, key) = (Key::Handle(144), ScalarValue::U8(255));
-    let got = bench.segment.map_get_any(&map, key, values);
+    let map = Key::Handle(144);
+    let got = bench.segment.map_get::<u8, V, _>(&map, 255);
     bench.same(got, found);
-    let got = bench.segment.map_erase_any(&map, key, values);
+    let got = bench.segment.map_erase::<u8, V, _>(&map, 255);
     bench.same(got, erased);
 }
 
@@ -179,7 +184,7 @@ fn a_map_has_values_of_its_kind(rt: HostRuntime) {
     let made = bench.segment.construct_map_of(&NewKey::Anonymous, from, to);
     bench.same(made, Ok(144));
     let wrong = Refusal::WrongKind;
-    asks(&mut bench, from, Err(wrong), Err(wrong));
-    asks(&mut bench, to, Ok(None), Ok(false));
+    asks::<u8>(&mut bench, Err(wrong), Err(wrong));
+    asks::<bool>(&mut bench, Ok(None), Ok(false));
     bench.ends(&rt);
 }

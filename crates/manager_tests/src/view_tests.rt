@@ -3,8 +3,8 @@ use crate::bench::Bench;
 use crate::checks::{done, same};
 use crate::segments::fresh;
 use seg_types::{Key, NewKey, Refusal};
-use segment_manager::Map;
-use segment_views::{ArrayView, MapRanges, StringsView, VectorView};
+use segment_manager::{Array, Map, Strings, Vector};
+use segment_views::{MapRanges, SliceReads, TextSequence};
 use std::ops::RangeBounds;
 use std::process::Abort;
 
@@ -13,64 +13,68 @@ const MADE: Key<'static> = Key::Handle(144);
 
 const BEHIND: Refusal = Refusal::OutOfRange;
 
-/// Returns a view of an array of three elements.
-fn array<'a>(rt: &impl Abort, bench: &'a mut Bench) -> ArrayView<'a, i64> {
+/// Returns an array of three elements.
+fn array<'a>(rt: &impl Abort, bench: &'a mut Bench) -> Array<'a, i64> {
     let made = bench.segment.construct(&NewKey::Anonymous, 3, 7i64);
     same(rt, made, Ok(144));
-    done(rt, ArrayView::of(&mut bench.segment, &MADE))
+    done(rt, Array::of(&bench.segment, &MADE))
 }
 
 #[test]
 fn elements_of_an_array(rt: HostRuntime) {
     let mut bench = fresh(&rt);
-    let view = array(&rt, &mut bench);
-    same(&rt, view.len(), Ok(3));
-    same(&rt, view.get(2), Ok(7));
-    same(&rt, view.get(3), Err(BEHIND));
-    let mut left = view.iter();
+    let numbers = array(&rt, &mut bench);
+    same(&rt, numbers.len(), 3);
+    same(&rt, numbers.get(2), Ok(7));
+    same(&rt, numbers.get(3), Err(BEHIND));
+    let mut left = numbers.iter();
     same(&rt, left.nth(2), Some(7));
     same(&rt, left.next(), None);
     bench.ends(&rt);
 }
 
-/// Returns a view of a vector of the numbers 3, 5 and 8.
-fn vector<'a>(rt: &impl Abort, bench: &'a mut Bench) -> VectorView<'a, i32> {
+/// Returns a vector of the numbers 3, 5 and 8.
+fn vector<'a>(rt: &impl Abort, bench: &'a mut Bench) -> Vector<'a, i32> {
     let numbers = [3i32, 5, 8];
     let made = bench.segment.construct_vec(&NewKey::Anonymous, &numbers);
     same(rt, made, Ok(144));
-    done(rt, VectorView::of(&mut bench.segment, &MADE))
+    done(rt, Vector::of(&bench.segment, &MADE))
 }
 
 #[test]
 fn elements_of_a_vector(rt: HostRuntime) {
     let mut bench = fresh(&rt);
-    let view = vector(&rt, &mut bench);
-    same(&rt, view.measure(), Ok((3, 3)));
-    same(&rt, view.get(1), Ok(5));
+    let numbers = vector(&rt, &mut bench);
+    same(&rt, numbers.measure(), (3, 3));
+    same(&rt, numbers.get(1), Ok(5));
     let mut values = [0, 0];
-    same(&rt, view.copy_to(&mut values), Ok(()));
+    same(&rt, numbers.copy_to(&mut values), Ok(()));
     same(&rt, values, [3, 5]);
     let mut values = [9, 9, 9, 9];
-    same(&rt, view.copy_to(&mut values), Err(BEHIND));
+    same(&rt, numbers.copy_to(&mut values), Err(BEHIND));
     same(&rt, values, [9, 9, 9, 9]);
     bench.ends(&rt);
 }
 
-/// Returns a view of a vector of a text and an empty one.
-fn texts<'a>(rt: &impl Abort, bench: &'a mut Bench) -> StringsView<'a> {
+/// Returns a vector of a text and an empty one.
+fn texts<'a>(rt: &impl Abort, bench: &'a mut Bench) -> Strings<'a> {
+    let segment = &mut bench.segment;
     let texts: [&[u8]; 2] = [b"one", b""];
-    let made = bench.segment.construct_texts(&NewKey::Anonymous, &texts);
+    let made = segment.construct_texts(&NewKey::Anonymous, &texts);
     same(rt, made, Ok(144));
-    done(rt, StringsView::of(&mut bench.segment, &MADE))
+    done(rt, Strings::of(segment, &MADE))
 }
 
 #[test]
 fn texts_of_a_list(rt: HostRuntime) {
     let mut bench = fresh(&rt);
-    let view = texts(&rt, &mut bench);
-    same(&rt, view.len(), Ok(2));
-    same(&rt, view.get(0), Ok(b"one".as_slice()));
-    same(&rt, view.get(2), Err(BEHIND));
+    let list = texts(&rt, &mut bench);
+    same(&rt, list.len(), 2);
+    same(&rt, list.get(0), Ok(b"one".as_slice()));
+    same(&rt, list.get(2), Err(BEHIND));
+    let mut left = list.iter();
+    same(&rt, left.nth(1), Some(b"".as_slice()));
+    same(&rt, left.next(), None);
     bench.ends(&rt);
 }
 

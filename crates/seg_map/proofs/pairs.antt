@@ -6,3 +6,4 @@ pub mod Lookup
 pub mod Put
 pub mod Erase
 pub mod Frame
+pub mod Listing

@@ -6,3 +6,4 @@ pub mod Places
 pub mod Searches
 pub mod Linking
 pub mod Changing
+pub mod Listing

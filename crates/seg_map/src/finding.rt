@@ -33,7 +33,7 @@ pub struct KeyCursor {
     pub start: Option<u64>,
 }
 
-/// The result of a search for a key that is to be put.
+/// The result of a put's search for its key.
 #[derive(Clone, Copy)]
 pub struct KeyPath {
     /// The node; none if the map lacks the key.
@@ -113,7 +113,7 @@ impl<K: Plain, V: Plain> SegMap<K, V> {
     }
 
     /// Returns the map's pairs as a tree, for a search.
-    fn open(self, heap: &Heap) -> PairTree<&Heap, K>
+    pub(crate) fn open(self, heap: &Heap) -> PairTree<&Heap, K>
         requires { IsSomeMap K.Plain V.Plain heap.now.bytes self.place.handle self.place.at }
         ensures root { result.root ≡ link_at (bytes_of heap.now.bytes) (self.place.handle + self.place.at) }
         ensures link_target { leads (is_pair_node (16 + K.SIZE) result.own result.heap.now) result.root ≡ true }

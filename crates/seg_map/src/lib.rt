@@ -3,6 +3,7 @@
 
 mod finding;
 mod linking;
+mod listing;
 mod maps;
 mod nodes;
 mod putting;

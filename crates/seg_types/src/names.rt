@@ -3,6 +3,9 @@ ghost use Rattle.std.specs.Prelude.{◌≡◌, ◌&&◌, not, true, Some, None, 
 ghost use Rattle.std.specs.List.{list_all};
 ghost use Rattle.std.specs.Str.{chars};
 ghost use Rattle.seg_types.specs.Names.{is_control, is_name, is_printable_name, is_text_name};
+ghost use Rattle.seg_types.specs.Texts.{is_bare_name};
+
+use crate::key_texts::is_bare_name;
 
 /// The greatest length of a name in bytes.
 pub const MAX_NAME_LEN: usize = 255;
@@ -25,6 +28,18 @@ impl<'a> Name<'a> {
         ensures { option_map name_seen result ≡ (if is_text_name bytes.now then Some bytes.now else None) }
     {
         if !is_text_name(bytes) {
+            return None;
+        }
+        Some(Name { bytes })
+    }
+
+    /// Makes a name of these bytes if it needs no quotes, and returns `None` otherwise. The bytes are read once.
+    #[tactic(auto, using(crate::proofs::names::Texts::bare_is_text, crate::proofs::names::Texts::long_is_no_text))]
+    pub fn bare(bytes: &'a [u8]) -> Option<Name<'a>>
+        ensures { option_map name_seen result
+            ≡ (if is_bare_name bytes.now && is_text_name bytes.now then Some bytes.now else None) }
+    {
+        if bytes.len() > MAX_NAME_LEN || !is_bare_name(bytes) {
             return None;
         }
         Some(Name { bytes })

@@ -118,6 +118,7 @@ pub fn put_at(heap: &mut Heap, place: Place, each: u64, spot: WritePos, bytes: &
 }
 
 /// Writes a value at a position.
+#[inline(always)]
 pub fn put_value<T: Plain>(heap: &mut Heap, place: Place, spot: WritePos, value: T)
     requires container { IsStanding heap.old.bytes place T.SIZE }
     requires spot { HasSpot heap.old.bytes place spot }
@@ -132,6 +133,7 @@ pub fn put_value<T: Plain>(heap: &mut Heap, place: Place, spot: WritePos, value:
 }
 
 /// Writes the value through a buffer of `N` bytes.
+#[inline(always)]
 fn put_by<T: Plain, const N: usize>(heap: &mut Heap, place: Place, spot: WritePos, value: T)
     requires buffer { T.SIZE ≤ N }
     requires max_len { N ≤ 4096 }

@@ -162,6 +162,7 @@ impl<T: Plain> SegVec<T> {
     /// # Errors
     ///
     /// `NoSpace` if the vector is full and its storage cannot be regrown. Nothing changes.
+    #[inline(always)]
     pub fn push(self, heap: &mut Heap, value: T) -> Result<(), Refusal>
         requires { IsSomeVector T.SIZE T.is_value T.spelling heap.old.bytes self.place }
         ensures { Pushes T.SIZE T.is_value T.spelling heap.old heap.new self.place value result }

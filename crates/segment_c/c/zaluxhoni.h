@@ -414,6 +414,8 @@ zx_code zx_get(zx_segment *segment, const zx_key *key, uint64_t index, zx_value 
 zx_code zx_set(zx_segment *segment, const zx_key *key, uint64_t index, const zx_value *value);
 /* For vectors only. zx_extend appends the values: all of them or none. */
 zx_code zx_push(zx_segment *segment, const zx_key *key, const zx_value *value);
+/* Does what zx_push does with zx_handle(handle) and zx_i64(number), in fewer instructions. */
+zx_code zx_push_i64(zx_segment *segment, uint64_t handle, int64_t number);
 zx_code zx_pop(zx_segment *segment, const zx_key *key, zx_value *value);
 zx_code zx_insert(zx_segment *segment, const zx_key *key, uint64_t index, const zx_value *value);
 zx_code zx_extend(zx_segment *segment, const zx_key *key, const zx_values *values);
@@ -447,13 +449,15 @@ zx_code zx_write_elements(zx_segment *segment, const zx_key *key, uint64_t first
 /* Tells where the elements of an array, a vector of scalars or a string are. Between calls the program may read them
    there, as long as zx_is_current holds. Errors: ZX_NOT_FOUND, ZX_WRONG_KIND. */
 zx_code zx_view(zx_segment *segment, const zx_key *key, zx_elements *elements);
+/* Does what zx_view does with zx_handle(handle), in fewer instructions. */
+zx_code zx_view_of(zx_segment *segment, uint64_t handle, zx_elements *elements);
 /* Tells where the elements are, as zx_view does, for a program that also writes them. It writes nothing else there, and
    each element as the bytes of a value of its kind. Other views stay current. Errors: ZX_READ_ONLY, ZX_NOT_FOUND,
    ZX_WRONG_KIND. */
 zx_code zx_view_mut(zx_segment *segment, const zx_key *key, zx_elements *elements);
 /* Tells whether the elements are still there: no call has changed the segment since the view. */
 static inline bool zx_is_current(const zx_segment *segment, const zx_elements *elements) {
-    return segment->at && segment->changes == elements->changes;
+    return segment->changes == elements->changes && segment->at;
 }
 /* Returns the address of the first element of a zx_view_mut view, or null if the view is no longer current. */
 static inline void *zx_elements_mut(const zx_segment *segment, const zx_elements *elements) {
@@ -748,8 +752,7 @@ static inline zx_code zx_look_up(zx_segment *segment, const zx_key *key, zx_obje
 #endif
 static inline zx_code zx_is_at(zx_segment *segment, zx_object *object, uint64_t index, uint32_t kind) {
     if (!zx_is_current(segment, &object->there)) {
-        const zx_key key = zx_handle(object->handle);
-        const zx_code code = zx_view(segment, &key, &object->there);
+        const zx_code code = zx_view_of(segment, object->handle, &object->there);
         if (code != ZX_DONE) return code;
     }
     if (object->there.kind != kind) return ZX_WRONG_KIND;

@@ -747,6 +747,11 @@ struct spot {
         const zx_code code = code_of(call, args...);
         if (__builtin_expect(code != ZX_DONE, false)) lengthen_after(of, handle, code, more, call, args...);
     }
+    /// Appends a number to a vector.
+    void push(std::int64_t number) const {
+        const zx_code code = zx_push_i64(of->raw(), handle, number);
+        if (__builtin_expect(code != ZX_DONE, false)) push_after(of, handle, code, number);
+    }
     friend bool operator==(const spot &a, const spot &b) { return a.of == b.of && a.handle == b.handle; }
 
   private:
@@ -765,6 +770,11 @@ struct spot {
         segment->lengthen_after(
             code, [&](zx_segment *raw) { return call(raw, &at, args...); },
             [&] { return spot{segment, object}.has_room(more); });
+    }
+    [[gnu::noinline, gnu::cold]] static void push_after(state *segment, std::uint64_t object, zx_code code,
+                                                        std::int64_t number) {
+        const zx_value passed = zx_i64(number);
+        lengthen_after(segment, object, code, 1, zx_push, &passed);
     }
     /// Gets storage for `more` elements at least: for half of the capacity more, a fourth, and so on.
     [[gnu::noinline, gnu::cold]] bool has_room(std::uint64_t more) const {
@@ -893,7 +903,7 @@ template <class T> struct values {
     static placed_spot located(const spot &of) noexcept {
         placed_spot found(of);
         zx_elements there; // the call fills it, if it is done
-        if (of.code_of(zx_view, &there) == ZX_DONE && there.kind == stored<T>::kind &&
+        if (zx_view_of(of.of->raw(), of.handle, &there) == ZX_DONE && there.kind == stored<T>::kind &&
             there.count % stored<T>::width == 0) {
             found.at = const_cast<void *>(there.at);
             found.count = there.count / stored<T>::width;
@@ -2087,7 +2097,10 @@ template <class T> class vector : public detail::row<const_vector<T>, detail::va
 
     void push_back(value_of<T> value) const {
         const T of = value;
-        if constexpr (is_scalar<T>) {
+        if constexpr (std::is_same_v<T, std::int64_t>) {
+            this->spot().push(of);
+            this->appended();
+        } else if constexpr (is_scalar<T>) {
             const zx_value passed = stored<T>::value(of);
             this->spot().lengthen(1, zx_push, &passed);
             this->appended();

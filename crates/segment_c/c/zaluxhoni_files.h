@@ -184,10 +184,15 @@ zx_code zx_log_body(const uint8_t *payload, size_t len, uint8_t *body, size_t ro
 /* Writes a gate, of 4096 bytes. */
 zx_code zx_log_gate(bool is_open, uint8_t *gate, size_t room);
 
-/* Writes the image that a file and its log make together. Stores the length of the image in `len`, the offset at which
-   the log's records end in `end`, and the fingerprint of the file in `mark`. Errors: ZX_FILE_LOG_FOREIGN. */
-zx_code zx_log_recover(const uint8_t *base, size_t base_len, const uint8_t *log, size_t log_len, uint8_t *image,
-                       size_t room, uint64_t *len, uint64_t *end, uint64_t *mark);
+/* Returns the most bytes that an image has while the records of a log are applied to a file of `len` bytes. */
+uint64_t zx_log_most(uint64_t len, const uint8_t *log, size_t log_len);
+
+/* Makes the image of a file and its log in place. `image` has a copy of the file and zeros behind it, and then has the
+   image and zeros behind that. Stores the length of the image in `len`, the offset at which the log's records end in
+   `end`, and the fingerprints of the file and of the image in `base` and `after`. On failure all is unchanged. Errors:
+   ZX_SHORT_BUFFER, if `room` is less than zx_log_most says; ZX_FILE_LOG_FOREIGN. */
+zx_code zx_log_recover(const uint8_t *file, size_t file_len, const uint8_t *log, size_t log_len, uint8_t *image,
+                       size_t room, uint64_t *len, uint64_t *end, uint64_t *base, uint64_t *after);
 
 /* Gives the words for a code of this header or of zaluxhoni.h, as zx_words does. */
 void zx_file_words(zx_code code, zx_text *words);

@@ -13,7 +13,7 @@ use crate::keys::ObjectKey;
 use crate::segment_slot::{SegmentSlot, take};
 use crate::slices::CScalars;
 use crate::values::CScalar;
-use seg_types::{Handle, IndexKey, Key, Kind, NewKey, ScalarKind, ScalarValue};
+use seg_types::{IndexKey, Key, Kind, NewKey, ScalarKind, ScalarValue};
 use segment_manager::Segment;
 use std::alloc::Global;
 
@@ -42,19 +42,6 @@ fn take_for(alloc: Global, h: &mut SegmentSlot, key: &Key<'_>) -> Result<Box<Seg
     if let Key::Handle(handle) = key {
         segment.remember(*handle);
     }
-    Ok(segment)
-}
-
-/// Takes the segment out of its handle for a call on the object with a handle, which is noted.
-#[inline(always)]
-pub fn take_at(alloc: Global, h: &mut SegmentSlot, handle: Handle) -> Result<Box<Segment>, u32>
-    ensures transfer { MatchResult result (λ segment. (h.old.segment.value ≡ Some segment.value)
-        × (h.new.segment.value ≡ None)) (λ code.
-        RefusesCall 0 code h.old.segment.value h.new.segment.value) }
-    ensures marks { h.new.marks ≡ h.old.marks }
-{
-    let mut segment = take(alloc, h)?;
-    segment.remember(handle);
     Ok(segment)
 }
 

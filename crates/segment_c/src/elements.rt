@@ -1,5 +1,5 @@
 //! Elements of objects of scalars, of vectors and of strings.
-ghost use Rattle.std.specs.Prelude.{◌≡◌, ◌≤◌, IsTrue, OnErr, true};
+ghost use Rattle.std.specs.Prelude.{◌≡◌, ◌≤◌, IsTrue, OnErr};
 ghost use Rattle.std.specs.declared.option.Option.TheVariants.{Some as Held};
 ghost use Rattle.seg_types.specs.Commands.{Erase, Get, Insert, Integer, Pop, Push, Set};
 ghost use Rattle.seg_types.specs.{Keys.key_seen, Names.ByHandle, Written.literal_seen};
@@ -15,7 +15,7 @@ ghost use Rattle.segment_manager.specs.Calls.{scalar_reply};
 ghost use Rattle.segment_manager.specs.State.{AnswersWith, TakesStep, TakesStepOfKind, Transitions, done_answer};
 ghost use Rattle.segment_manager.specs.State.{scalar_answer};
 ghost use Rattle.segment_manager.specs.Step.{step_of_kind};
-ghost use Rattle.segment_manager.specs.{containers.TextLists.LeadsOnOfKind, objects.Found.is_object_at};
+ghost use Rattle.segment_manager.specs.{containers.TextLists.LeadsOnOfKind};
 ghost use Rattle.segment_values.specs.Changes.{command_at};
 
 use crate::calls::{enter, enter_with, passed};
@@ -25,8 +25,8 @@ use crate::keys::{FoundHandle, ObjectKey};
 use crate::segment_slot::{SegmentSlot, take};
 use crate::values::CScalar;
 use seg_types::{Handle, Key, Kind, Refusal, ScalarKind, ScalarValue, by_kind};
-use segment_manager::{Segment, locate};
-use segment_values::InsertSpot;
+use segment_manager::{Segment, is_remembered, locate, push_within};
+use segment_values::{InsertSpot, add_scalar, get};
 use std::alloc::Global;
 
 /// Returns the element at `index` in the object of a key: of scalars, of a vector of scalars, or of a string, which has
@@ -45,7 +45,7 @@ pub extern "C" fn zx_get(
     ensures outputs_on_error { 1 ≤ result → value.new ≡ value.old }
 {
     let (which, segment) = passed!(enter(alloc, h, key));
-    element(segment.get_any(&which, index), value, h, segment)
+    element(get(&segment, &which, index), value, h, segment)
 }
 
 /// Makes a value the element at `index` in the object of a key: of scalars, of a vector of scalars, or of a string.
@@ -76,18 +76,22 @@ pub extern "C" fn zx_push(
     ensures call { ChangesHandle (or_else (key_wrong key.now) (value_wrong value.now)) result h.old h.new
         (λ s t. TakesStep s t (Push (key_of key.now) (literal_in value.now)) (answer_for result Done)) }
 {
-    let Some(handle) = key.as_handle() else {
+    let (Some(handle), Some(number)) = (key.as_handle(), value.as_i64()) else {
         return push_any(alloc, h, key, value);
     };
-    let Some(number) = value.as_i64() else {
-        return push_any(alloc, h, key, value);
-    };
-    let mut segment = passed!(take(alloc, h));
-    if segment.remember(handle) {
-        number_pushed(h, segment, handle, number)
-    } else {
-        number_added(h, segment, handle, number)
-    }
+    let segment = passed!(take(alloc, h));
+    number_pushed(h, segment, handle, number)
+}
+
+/// Puts a number after the last element of the vector of a handle, which can be any number, as `zx_push` does. It packs
+/// no key and no value.
+#[unsafe(no_mangle)]
+pub extern "C" fn zx_push_i64(alloc: Global, h: &mut SegmentSlot, handle: u64, number: i64) -> u32
+    ensures call { ChangesHandle 0 result h.old h.new
+        (λ s t. TakesStep s t (Push (ByHandle handle) (Integer number)) (answer_for result Done)) }
+{
+    let segment = passed!(take(alloc, h));
+    number_pushed(h, segment, handle, number)
 }
 
 /// Puts a value after the last element of the vector of a key, for any form of key and any value.
@@ -100,11 +104,10 @@ fn push_any(alloc: Global, h: &mut SegmentSlot, key: &ObjectKey<'_>, value: &CSc
     done(push(&mut segment, &which, new), h, segment)
 }
 
-/// Puts a number after the last element of the vector of an object's handle, and answers so. It looks the vector up
-/// once if that is of `i64`.
+/// Puts a number after the last element of the vector of a handle, and answers so. It is inlined, and what it calls for
+/// a handle that is not remembered, a vector of another kind or a full one is not.
 #[inline(always)]
 fn number_pushed(h: &mut SegmentSlot, segment: Box<Segment>, handle: Handle, number: i64) -> u32
-    requires { AnswersWith segment.value (λ d. is_object_at d handle) true }
     ensures step { HoldsSegment h.new.segment.value (λ t. TakesStep segment.value t
         (Push (ByHandle handle) (Integer number)) (answer_for result Done)) }
     ensures answer { IsTrue (is_answer result) }
@@ -112,16 +115,16 @@ fn number_pushed(h: &mut SegmentSlot, segment: Box<Segment>, handle: Handle, num
     ensures marks { h.new.marks ≡ raised h.old.marks }
 {
     let mut segment = segment;
-    match segment.vec_push(&FoundHandle { handle }, number) {
-        Ok(()) => done(Ok(()), h, segment),
-        Err(refusal) => match refusal {
-            Refusal::WrongKind => number_added(h, segment, handle, number),
-            _ => done(Err(refusal), h, segment),
-        },
+    if is_remembered(&segment, handle)
+        && push_within(&mut segment, &FoundHandle { handle }, number)
+    {
+        return done(Ok(()), h, segment);
     }
+    number_added(h, segment, handle, number)
 }
 
-/// Puts a number after the last element of the vector of a handle, of whatever kind, and answers so.
+/// Puts a number after the last element of the vector of a handle, of whatever kind, and answers so. It remembers the
+/// handle.
 #[inline(never)]
 fn number_added(h: &mut SegmentSlot, segment: Box<Segment>, handle: Handle, number: i64) -> u32
     ensures step { HoldsSegment h.new.segment.value (λ t. TakesStep segment.value t
@@ -131,6 +134,7 @@ fn number_added(h: &mut SegmentSlot, segment: Box<Segment>, handle: Handle, numb
     ensures marks { h.new.marks ≡ raised h.old.marks }
 {
     let mut segment = segment;
+    segment.remember(handle);
     let value = ScalarValue::I64(number);
     let answer = add(&mut segment, &Key::Handle(handle), InsertSpot::End, value);
     done(answer, h, segment)
@@ -143,7 +147,7 @@ fn push(segment: &mut Segment, key: &Key, value: ScalarValue) -> Result<(), Refu
         (done_answer result) }
     ensures refused { OnErr result (segment.new ≡ segment.old) }
 {
-    match segment.vec_push_value(key, value) {
+    match add_scalar(segment, key, InsertSpot::End, value) {
         Ok(()) => Ok(()),
         Err(why) => match why {
             Refusal::WrongKind => add(segment, key, InsertSpot::End, value),

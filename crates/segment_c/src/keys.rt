@@ -1,5 +1,5 @@
 //! The keys that C passes.
-ghost use Rattle.std.specs.Prelude.{◌≡◌, ◌≢◌, ◌≤◌, ⊤, IfSome, MatchResult, true};
+ghost use Rattle.std.specs.Prelude.{◌≡◌, ◌≢◌, ◌≤◌, IfSome, MatchResult, true};
 ghost use Rattle.seg_types.specs.Keys.{index_key_seen, key_seen};
 ghost use Rattle.seg_types.specs.Names.{ByHandle, NoKey};
 ghost use Rattle.segment_c.specs.Passed.{entry_of, entry_wrong, key_of, key_wrong};
@@ -79,29 +79,6 @@ impl<'a> ObjectKey<'a> {
             }
             4 => Err(NULL_SLICE),
             _ => Err(BAD_KEY),
-        }
-    }
-}
-
-/// A handle that C passes, which can be any number. A call on its object is compiled for handles alone.
-#[derive(Clone, Copy)]
-pub struct PassedHandle {
-    /// The handle.
-    pub handle: Handle,
-}
-
-impl ObjectRef for PassedHandle {
-    ghost key = { λ passed. ByHandle passed.handle };
-
-    // It can be used in each segment.
-    ghost stands = { λ passed s. ⊤ };
-
-    #[inline(always)]
-    fn find(&self, segment: &Segment) -> Option<Object> {
-        if segment.is_object_handle(self.handle) {
-            Some(object_here(segment, self.handle))
-        } else {
-            None
         }
     }
 }

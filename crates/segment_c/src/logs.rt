@@ -1,17 +1,16 @@
 //! The bytes of the log beside a file: C makes and reads them by these calls alone.
-ghost use Rattle.std.specs.Prelude.{◌≡◌, ◌≢◌, ◌≤◌, ◌<◌, ◌⊎◌, ◌++◌, ◌^◌, IfOk, MatchResult, length};
-ghost use Rattle.segment_log.specs.Crashes.{with_log};
-ghost use Rattle.segment_log.specs.Edits.{edit_text};
+ghost use Rattle.std.specs.Prelude.{◌≡◌, ◌≤◌, ◌<◌, ◌++◌, ◌^◌, MatchResult, length};
+ghost use Rattle.segment_log.specs.Edits.{Holds, edit_text, most_len};
 ghost use Rattle.segment_log.specs.Fingerprints.{fingerprint, page_mark};
-ghost use Rattle.segment_log.specs.Records.{body_at, number_bytes};
-ghost use Rattle.segment_log.specs.Tags.{AreTogether, tag_text};
+ghost use Rattle.segment_log.specs.Records.{body_at, number_bytes, recovered};
+ghost use Rattle.segment_log.specs.Tags.{tag_text};
 ghost use Rattle.segment_c.specs.Logs.{OpensWithLog, WritesOut, gate_of};
 
-use crate::codes::{LOG_FOREIGN, NO_MEMORY, SHORT_BUFFER, TOO_LARGE};
+use crate::codes::{DONE, LOG_FOREIGN, NO_MEMORY, SHORT_BUFFER, TOO_LARGE};
 use crate::images::copy_out;
 use segment_log::{
-    MAX_LOG_LEN, RecoverError, begin_payload, edit_head, fingerprint, open_gate, page_mark,
-    record_body, recover, shut_gate,
+    MAX_LOG_LEN, begin_payload, edit_head, fingerprint, most_len, open_gate, page_mark,
+    record_body, recover_within, shut_gate,
 };
 use std::alloc::{AllocError, Global};
 
@@ -100,47 +99,45 @@ pub extern "C" fn zx_log_gate(alloc: Global, is_open: bool, out: &mut [u8]) -> u
     }
 }
 
-/// Returns a copy of bytes.
-fn copy_of(alloc: Global, bytes: &[u8]) -> Result<Vec<u8>, AllocError>
-    ensures { IfOk result (λ copy. copy.items ≡ bytes.now) }
+/// Returns the most bytes that an image has while the records of a log are applied to a file of `len` bytes.
+#[unsafe(no_mangle)]
+pub extern "C" fn zx_log_most(len: u64, log: &[u8]) -> u64
+    ensures { result ≡ most_len (recovered log.now) len }
 {
-    let mut copy = Vec::with_capacity(alloc, bytes.len())?;
-    copy.extend_from_slice(bytes)?;
-    Ok(copy)
+    most_len(log, len as usize) as u64
 }
 
-/// Writes the image that a file stands for with its log, and says its length, where the records of the log end, and
-/// the fingerprint of the file. The image is written if the code is 0, and the others also if the buffer is too short;
-/// else nothing changes.
+/// Makes the image that a file stands for with its log, in a buffer that has a copy of the file and zeros behind it.
+/// Says the length of the image, where the records of the log end, and the fingerprints of the file and of the image.
+/// If the code is not 0, nothing changes.
 #[unsafe(no_mangle)]
 pub extern "C" fn zx_log_recover(
-    alloc: Global,
-    base: &[u8],
+    file: &[u8],
     log: &[u8],
-    out: &mut [u8],
+    image: &mut [u8],
     len: &mut u64,
     end: &mut u64,
-    mark: &mut u64,
+    base: &mut u64,
+    after: &mut u64,
 ) -> u32
-    ensures opening { result ≢ 26 → result ≢ 54
-        → OpensWithLog base.now log.now out.old out.new result len.new end.new mark.new }
-    ensures tags { result ≢ 26 → result ≢ 54 → AreTogether (with_log base.now log.now) }
-    ensures cause { result ≡ 54 → AreTogether (with_log base.now log.now) → ⊥ }
-    ensures unchanged_on_error { 1 ≤ result → out.new ≡ out.old }
-    ensures refused { (result ≡ 26) ⊎ (result ≡ 54)
-        → (len.new ≡ len.old) × (end.new ≡ end.old) × (mark.new ≡ mark.old) }
+    ensures size { length image.old < most_len (recovered log.now) (length file.now) → result ≡ 24 }
+    ensures opening { most_len (recovered log.now) (length file.now) ≤ length image.old → Holds image.old file.now
+        → OpensWithLog file.now log.now image.new result len.new end.new base.new after.new }
+    ensures unchanged_on_error { Holds image.old file.now → 1 ≤ result → image.new ≡ image.old }
+    ensures refused { 1 ≤ result
+        → (len.new ≡ len.old) × (end.new ≡ end.old) × (base.new ≡ base.old) × (after.new ≡ after.old) }
 {
-    let Ok(copy) = copy_of(alloc, base) else {
-        return NO_MEMORY;
-    };
-    match recover(alloc, copy, log) {
+    if image.len() < most_len(log, file.len()) {
+        return SHORT_BUFFER;
+    }
+    match recover_within(file, log, image) {
         Ok(found) => {
-            *len = found.image.len() as u64;
+            *len = found.len as u64;
             *end = found.end as u64;
-            *mark = found.base;
-            copy_out(&found.image, out)
+            *base = found.base;
+            *after = found.after;
+            DONE
         }
-        Err(RecoverError::ForeignLog) => LOG_FOREIGN,
-        Err(RecoverError::OutOfMemory) => NO_MEMORY,
+        Err(_) => LOG_FOREIGN,
     }
 }

@@ -1,30 +1,31 @@
 //! Maps: values at keys, and neighbours.
-ghost use Rattle.std.specs.Prelude.{◌≡◌, ◌≤◌, IsTrue, Ok, OnErr, Some, option_map};
+ghost use Rattle.std.specs.Prelude.{◌≡◌, ◌≤◌, IsTrue, Ok, OnErr, Some, option_map, true};
 ghost use Rattle.std.specs.declared.option.Option.TheVariants.{Some as Held};
 ghost use Rattle.seg_types.specs.Commands.{Integer, Lookup, Put, Remove};
 ghost use Rattle.seg_types.specs.{Keys.key_seen, Names.ByHandle, Written.literal_seen};
 ghost use Rattle.seg_types.specs.declared.kinds.{Kind.TheVariants.Map as MapOf, ScalarKind.TheVariants.I64};
 ghost use Rattle.segment_c.specs.{Calls.ReachesSegment, Handles.ChangesHandle, Handles.AsksHandle, Handles.ReadsHandle};
 ghost use Rattle.segment_c.specs.Codes.{answer_for, is_answer};
+ghost use Rattle.segment_c.specs.{Calls.HoldsSegment, Marked.raised};
 ghost use Rattle.segment_c.specs.Passed.{element_in, key_of, key_wrong, literal_in, or_else, value_wrong};
 ghost use Rattle.segment_c.specs.Reads.{TellsPair, TellsPairOf, first_at, next_at};
 ghost use Rattle.segment_manager.specs.Answers.{Boolean};
 ghost use Rattle.segment_manager.specs.Directory.{Directory};
 ghost use Rattle.segment_manager.specs.Keeping.{UnchangedWhere};
-ghost use Rattle.segment_manager.specs.State.{AnswersQuery, AnswersQueryOfKind, DenotesCurrent, TakesStep};
-ghost use Rattle.segment_manager.specs.State.{truth_answer};
+ghost use Rattle.segment_manager.specs.State.{AnswersQuery, AnswersQueryOfKind, AnswersWith, DenotesCurrent, TakesStep};
+ghost use Rattle.segment_manager.specs.{State.truth_answer, objects.Found.is_object_at};
 ghost use Rattle.segment_manager.specs.containers.{Maps.any_value_answer, Walks.item_of_kinds};
 ghost use Rattle.segment_values.specs.Absent.{LacksLiteral};
 
-use crate::calls::{enter, enter_pair, enter_with, passed, take_at};
+use crate::calls::{enter, enter_pair, enter_with, passed};
 use crate::codes::{ABSENT, DONE, NOT_FOUND, WRONG_KIND, code_of, truth, value_found};
-use crate::keys::{ObjectKey, PassedHandle};
-use crate::segment_slot::{SegmentSlot, put};
+use crate::keys::{FoundHandle, ObjectKey};
+use crate::segment_slot::{SegmentSlot, put, take};
 use crate::values::CScalar;
 use seg_types::theorems::holds_value;
 use seg_types::{Handle, Key, Kind, Refusal, ScalarValue, WrittenValue};
-use segment_manager::unchecked::{first_pair, next_pair};
-use segment_manager::{ObjectRef, Segment, locate};
+use segment_manager::{ObjectRef, Segment, is_remembered, locate};
+use segment_values::{first_pair, next_pair};
 use std::alloc::Global;
 
 /// Returns the value at a key of the map of a key.
@@ -44,8 +45,12 @@ pub extern "C" fn zx_map_get(
     let (Some(handle), Some(number)) = (key.as_handle(), at.as_i64()) else {
         return get_any(alloc, h, key, at, value);
     };
-    let segment = passed!(take_at(alloc, h, handle));
-    number_found(h, segment, handle, number, value)
+    let segment = passed!(take(alloc, h));
+    if is_remembered(&segment, handle) {
+        number_found(h, segment, handle, number, value)
+    } else {
+        number_found_in_any(h, segment, handle, number, value)
+    }
 }
 
 /// Returns the value at a key of the map of a key, for any form of key and any value.
@@ -76,6 +81,7 @@ fn number_found(
     at: i64,
     value: &mut CScalar,
 ) -> u32
+    requires { AnswersWith segment.value (λ d. is_object_at d handle) true }
     ensures read { AnswersQuery segment.value (Lookup (ByHandle handle) (Integer at))
         (answer_for result (element_in value.new)) }
     ensures answer { IsTrue (is_answer result) }
@@ -92,7 +98,7 @@ fn number_found(
     }
 }
 
-/// Answers the value of a number in the map of a handle, of whatever kinds.
+/// Answers the value of a number in the map of a handle, of whatever kinds. It remembers the handle.
 #[inline(never)]
 fn number_found_in_any(
     h: &mut SegmentSlot,
@@ -108,6 +114,8 @@ fn number_found_in_any(
     ensures effect { h.new.segment.value ≡ Held segment.value }
     ensures marks { h.new.marks ≡ h.old.marks }
 {
+    let mut segment = segment;
+    segment.remember(handle);
     let answer = segment_values::look_up(&segment, &Key::Handle(handle), &ScalarValue::I64(at));
     value_found(answer, value, h, segment)
 }
@@ -115,10 +123,11 @@ fn number_found_in_any(
 /// Returns the value of a number in a map from `i64` to `i64`.
 #[inline(always)]
 fn number_at(segment: &Segment, handle: Handle, at: i64) -> Result<Option<ScalarValue>, Refusal>
+    requires { AnswersWith segment.now (λ d. is_object_at d handle) true }
     ensures { AnswersQueryOfKind segment.now (ByHandle handle) (MapOf I64 I64) (Lookup (ByHandle handle) (Integer at))
         (any_value_answer result) }
 {
-    match segment.map_get::<i64, i64, PassedHandle>(&PassedHandle { handle }, at) {
+    match segment.map_get::<i64, i64, FoundHandle>(&FoundHandle { handle }, at) {
         Ok(None) => Ok(None),
         Ok(Some(value)) => Ok(Some(ScalarValue::I64(value))),
         Err(why) => Err(why),
@@ -145,9 +154,58 @@ pub extern "C" fn zx_map_put(
     else {
         return put_any(alloc, h, key, at, value, is_new);
     };
-    let mut segment = passed!(take_at(alloc, h, handle));
-    let (object, key) = (PassedHandle { handle }, Key::Handle(handle));
-    let answer = put_numbers(&mut segment, &object, &key, number, new);
+    let segment = passed!(take(alloc, h));
+    number_put(h, segment, handle, number, is_new, new)
+}
+
+/// Puts a number at a number in the map of a handle, and says whether that is new. It is not inlined, so that a call
+/// with a name needs no room for it.
+#[inline(never)]
+fn number_put(
+    h: &mut SegmentSlot,
+    segment: Box<Segment>,
+    handle: Handle,
+    at: i64,
+    is_new: &mut bool,
+    value: i64,
+) -> u32
+    ensures step { HoldsSegment h.new.segment.value (λ t. TakesStep segment.value t
+        (Put (ByHandle handle) (Integer at) (Integer value)) (answer_for result (Boolean is_new.new))) }
+    ensures answer { IsTrue (is_answer result) }
+    ensures unchanged_on_error { 1 ≤ result → (h.new.segment.value ≡ Held segment.value) × (is_new.new ≡ is_new.old) }
+    ensures marks { h.new.marks ≡ raised h.old.marks }
+{
+    let mut segment = segment;
+    if is_remembered(&segment, handle) {
+        let (object, key) = (FoundHandle { handle }, Key::Handle(handle));
+        let answer = put_numbers(&mut segment, &object, &key, at, value);
+        return truth(answer, is_new, h, segment);
+    }
+    put_searched(h, segment, handle, at, is_new, value)
+}
+
+/// Puts a number at a number in the map of a handle, and says whether that is new. It searches for the handle, and
+/// remembers it.
+#[inline(never)]
+fn put_searched(
+    h: &mut SegmentSlot,
+    segment: Box<Segment>,
+    handle: Handle,
+    at: i64,
+    is_new: &mut bool,
+    value: i64,
+) -> u32
+    ensures step { HoldsSegment h.new.segment.value (λ t. TakesStep segment.value t
+        (Put (ByHandle handle) (Integer at) (Integer value)) (answer_for result (Boolean is_new.new))) }
+    ensures answer { IsTrue (is_answer result) }
+    ensures unchanged_on_error { 1 ≤ result → (h.new.segment.value ≡ Held segment.value) × (is_new.new ≡ is_new.old) }
+    ensures marks { h.new.marks ≡ raised h.old.marks }
+{
+    let mut segment = segment;
+    segment.remember(handle);
+    let (new_key, new_value) = (ScalarValue::I64(at), ScalarValue::I64(value));
+    let key = Key::Handle(handle);
+    let answer = segment_values::put_pair(&mut segment, &key, &new_key, &new_value);
     truth(answer, is_new, h, segment)
 }
 
@@ -293,8 +351,38 @@ pub extern "C" fn zx_map_next(
     let (Some(handle), Some(number)) = (key.as_handle(), after.as_i64()) else {
         return next_any(alloc, h, key, after, at, value);
     };
-    let segment = passed!(take_at(alloc, h, handle));
-    put(next_number(&segment, handle, number, at, value), h, segment)
+    let segment = passed!(take(alloc, h));
+    if is_remembered(&segment, handle) {
+        return put(next_number(&segment, handle, number, at, value), h, segment);
+    }
+    next_searched(h, segment, handle, at, value, number)
+}
+
+/// Returns the pair with the least key above a number of the map of a handle. It searches for the handle, and remembers
+/// it.
+#[inline(never)]
+fn next_searched(
+    h: &mut SegmentSlot,
+    segment: Box<Segment>,
+    handle: Handle,
+    at: &mut CScalar,
+    value: &mut CScalar,
+    after: i64,
+) -> u32
+    ensures read { (d : Directory) → DenotesCurrent segment.value.cut.bytes d
+        → TellsPair at.new value.new result (next_at d (ByHandle handle) (Integer after)) }
+    ensures unchanged_on_error { 1 ≤ result → (at.new ≡ at.old) × (value.new ≡ value.old) }
+    ensures effect { h.new.segment.value ≡ Held segment.value }
+    ensures marks { h.new.marks ≡ h.old.marks }
+{
+    let mut segment = segment;
+    segment.remember(handle);
+    let below = ScalarValue::I64(after);
+    put(
+        next(&segment, &Key::Handle(handle), below, at, value),
+        h,
+        segment,
+    )
 }
 
 /// Returns the pair with the least key above `after` of the map of a key, for any form of key and any value.
@@ -326,12 +414,13 @@ fn next_number(
     at: &mut CScalar,
     value: &mut CScalar,
 ) -> u32
+    requires { AnswersWith segment.now (λ d. is_object_at d handle) true }
     ensures read { (d : Directory) → DenotesCurrent segment.now.cut.bytes d
         → TellsPair at.new value.new result (next_at d (ByHandle handle) (Integer after)) }
     ensures unchanged_on_error { 1 ≤ result → (at.new ≡ at.old) × (value.new ≡ value.old) }
 {
     holds_value(after);
-    match segment.map_next_after::<i64, i64, Key>(&Key::Handle(handle), after) {
+    match segment.map_next_after::<i64, i64, FoundHandle>(&FoundHandle { handle }, after) {
         Ok(pair) => numbers_out(pair, at, value),
         Err(_) => next(
             segment,

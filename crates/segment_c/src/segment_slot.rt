@@ -142,6 +142,22 @@ pub fn put(code: u32, handle: &mut SegmentSlot, segment: Box<Segment>) -> u32
     code
 }
 
+/// Puts a segment back into the handle out of which a call took it, and returns the call's code. The handle has none to
+/// free, so nothing looks for one.
+#[inline(always)]
+pub fn put_taken_back(code: u32, handle: &mut SegmentSlot, segment: Box<Segment>) -> u32
+    requires { handle.old.segment.value ≡ None }
+    ensures effect { handle.new.segment.value ≡ Some segment.value }
+    ensures code { result ≡ code }
+    ensures marks { handle.new.marks ≡ handle.old.marks }
+{
+    let segment = HeldSegment::of(RawBox::from_box(segment));
+    match std::mem::replace(&mut handle.segment, segment).into_loose() {
+        None => code,
+        Some(_) => unreachable!(),
+    }
+}
+
 /// Puts a segment into a handle at the end of a call that may have changed it, and returns the call's code.
 #[inline(always)]
 pub fn put_changed(code: u32, handle: &mut SegmentSlot, segment: Box<Segment>) -> u32

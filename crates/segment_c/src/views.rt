@@ -1,7 +1,8 @@
 //! Where elements stand, for C that reads and writes them there.
 ghost use denote.RawPtr.{block_ptr};
 ghost use Rattle.std.specs.Prelude.{◌≡◌, ◌≤◌};
-ghost use Rattle.seg_types.specs.Keys.{key_seen};
+ghost use Rattle.std.specs.declared.option.Option.TheVariants.{None, Some as Held};
+ghost use Rattle.seg_types.specs.{Keys.key_seen, Names.ByHandle};
 ghost use Rattle.segment_c.specs.{Calls.HoldsSegment, Calls.PerformsRead, Handles.ReadsHandle};
 ghost use Rattle.segment_c.specs.Marked.{LendsRange};
 ghost use Rattle.segment_c.specs.Passed.{key_of, key_wrong};
@@ -14,9 +15,9 @@ ghost use Rattle.segment_manager.specs.containers.ElementRuns.{run_at};
 use crate::calls::{enter, passed};
 use crate::codes::{DONE, READ_ONLY, code_of};
 use crate::keys::{FoundHandle, ObjectKey};
-use crate::segment_slot::{SegmentSlot, put, take};
-use seg_types::Key;
-use segment_manager::{Mode, ObjectRef, Segment};
+use crate::segment_slot::{Marks, SegmentSlot, put, put_taken_back, take};
+use seg_types::{Handle, Key};
+use segment_manager::{Mode, ObjectRef, Segment, is_remembered};
 use std::alloc::Global;
 
 /// Elements that stand one after another. The fields say where the first stands, its offset in the segment, how many
@@ -55,13 +56,68 @@ pub extern "C" fn zx_view(
     let Some(handle) = key.as_handle() else {
         return view_any(alloc, h, key, view);
     };
-    let mut segment = passed!(take(alloc, h));
-    let changes = h.marks.changes;
-    let code = if segment.remember(handle) {
-        fill_view(&segment, &FoundHandle { handle }, changes, view)
-    } else {
-        fill_view(&segment, &Key::Handle(handle), changes, view)
-    };
+    let segment = passed!(take(alloc, h));
+    view_found(h, segment, handle, view)
+}
+
+/// Says where the elements of the object of a handle stand, which can be any number, as `zx_view` does.
+#[unsafe(no_mangle)]
+pub extern "C" fn zx_view_of(
+    alloc: Global,
+    h: &mut SegmentSlot,
+    handle: u64,
+    view: &mut CView,
+) -> u32
+    ensures read { ReadsHandle 0 result h.old h.new
+        (λ s. (d : Directory) → DenotesCurrent s.cut.bytes d
+        → IsCoded (IsView view.new) result (run_at d (ByHandle handle))) }
+    ensures bytes { result ≡ 0 → HoldsSegment h.old.segment.value (λ s. HasView s (ByHandle handle) view.new) }
+    ensures current { result ≡ 0 → view.new.changes ≡ h.old.marks.changes }
+    ensures outputs_on_error { 1 ≤ result → view.new ≡ view.old }
+{
+    let segment = passed!(take(alloc, h));
+    view_found(h, segment, handle, view)
+}
+
+/// Says where the elements of the object of a handle stand. It is inlined, and the search for a handle that is not
+/// remembered is not.
+#[inline(always)]
+fn view_found(h: &mut SegmentSlot, segment: Box<Segment>, handle: Handle, view: &mut CView) -> u32
+    requires { h.old.segment.value ≡ None }
+    ensures read { (d : Directory) → DenotesCurrent segment.value.cut.bytes d
+        → IsCoded (IsView view.new) result (run_at d (ByHandle handle)) }
+    ensures bytes { result ≡ 0 → HasView segment.value (ByHandle handle) view.new }
+    ensures current { result ≡ 0 → view.new.changes ≡ h.old.marks.changes }
+    ensures unchanged_on_error { 1 ≤ result → view.new ≡ view.old }
+    ensures effect { h.new.segment.value ≡ Held segment.value }
+    ensures marks { h.new.marks ≡ h.old.marks }
+{
+    if is_remembered(&segment, handle) {
+        let code = fill_view(&segment, &FoundHandle { handle }, &h.marks, view);
+        return put_taken_back(code, h, segment);
+    }
+    view_searched(h, segment, handle, view)
+}
+
+/// Says where the elements of the object of a handle stand. It searches for the handle, and remembers it.
+#[inline(never)]
+fn view_searched(
+    h: &mut SegmentSlot,
+    segment: Box<Segment>,
+    handle: Handle,
+    view: &mut CView,
+) -> u32
+    ensures read { (d : Directory) → DenotesCurrent segment.value.cut.bytes d
+        → IsCoded (IsView view.new) result (run_at d (ByHandle handle)) }
+    ensures bytes { result ≡ 0 → HasView segment.value (ByHandle handle) view.new }
+    ensures current { result ≡ 0 → view.new.changes ≡ h.old.marks.changes }
+    ensures unchanged_on_error { 1 ≤ result → view.new ≡ view.old }
+    ensures effect { h.new.segment.value ≡ Held segment.value }
+    ensures marks { h.new.marks ≡ h.old.marks }
+{
+    let mut segment = segment;
+    segment.remember(handle);
+    let code = fill_view(&segment, &Key::Handle(handle), &h.marks, view);
     put(code, h, segment)
 }
 
@@ -76,7 +132,7 @@ fn view_any(alloc: Global, h: &mut SegmentSlot, key: &ObjectKey<'_>, view: &mut 
     ensures outputs_on_error { 1 ≤ result → view.new ≡ view.old }
 {
     let (which, segment) = passed!(enter(alloc, h, key));
-    let code = fill_view(&segment, &which, h.marks.changes, view);
+    let code = fill_view(&segment, &which, &h.marks, view);
     put(code, h, segment)
 }
 
@@ -97,7 +153,7 @@ pub extern "C" fn zx_view_mut(
     ensures marks { LendsRange result h.old.marks h.new.marks }
 {
     let (which, segment) = passed!(enter(alloc, h, key));
-    let code = fill_view_mut(&segment, &which, h.marks.changes, view);
+    let code = fill_view_mut(&segment, &which, &h.marks, view);
     if code == DONE {
         h.marks.is_shared = true;
     }
@@ -105,26 +161,27 @@ pub extern "C" fn zx_view_mut(
 }
 
 /// Fills a view of elements of a segment that C is to write.
-fn fill_view_mut(segment: &Segment, key: &Key, changes: u64, view: &mut CView) -> u32
+fn fill_view_mut(segment: &Segment, key: &Key, marks: &Marks, view: &mut CView) -> u32
     ensures read { (d : Directory) → DenotesCurrent segment.now.cut.bytes d
         → IsCoded (IsView view.new) result (writable segment.now.mode (run_at d (key_seen key.now))) }
     ensures bytes { result ≡ 0 → HasView segment.now (key_seen key.now) view.new }
-    ensures current { result ≡ 0 → view.new.changes ≡ changes }
+    ensures current { result ≡ 0 → view.new.changes ≡ marks.now.changes }
     ensures unchanged_on_error { 1 ≤ result → view.new ≡ view.old }
 {
     if segment.mode() == Mode::ReadOnly {
         return READ_ONLY;
     }
-    fill_view(segment, key, changes, view)
+    fill_view(segment, key, marks, view)
 }
 
 /// Returns where the elements of an object of a segment stand.
-fn fill_view<O: ObjectRef>(segment: &Segment, key: &O, changes: u64, view: &mut CView) -> u32
+#[inline(always)]
+fn fill_view<O: ObjectRef>(segment: &Segment, key: &O, marks: &Marks, view: &mut CView) -> u32
     requires { O.stands key.now segment.now }
     ensures read { (d : Directory) → DenotesCurrent segment.now.cut.bytes d
         → IsCoded (IsView view.new) result (run_at d (O.key key.now)) }
     ensures bytes { result ≡ 0 → HasView segment.now (O.key key.now) view.new }
-    ensures current { result ≡ 0 → view.new.changes ≡ changes }
+    ensures current { result ≡ 0 → view.new.changes ≡ marks.now.changes }
     ensures unchanged_on_error { 1 ≤ result → view.new ≡ view.old }
 {
     match segment.element_run(key) {
@@ -133,7 +190,7 @@ fn fill_view<O: ObjectRef>(segment: &Segment, key: &O, changes: u64, view: &mut 
                 at: start_of(&segment.as_bytes()[run.offset as usize..]),
                 offset: run.offset,
                 count: run.count,
-                changes,
+                changes: marks.changes,
                 kind: run.kind.code(),
             };
             DONE

@@ -72,7 +72,7 @@ fn commit_on_file<D: Disk, S: Source, O: LineOutput>(
 /// # Errors
 ///
 /// `Usage` for a mode other than `open_only` and `open_or_create`, and for `open_or_create` without a size. Otherwise
-/// those of [`run`](crate::run). After `WriteFault` an opening finds the old image, or the new one if the log was
+/// as [`run`](crate::run). After `WriteFault` an opening finds the old image, or the new one if the log was
 /// written and its sync failed.
 pub fn run_and_commit<D: Disk, S: Source, O: LineOutput>(
     alloc: Global,

@@ -81,7 +81,7 @@ fn element_at<'a>(segment: &'a Segment, key: &Key<'_>, index: u64) -> Option<Raw
     ensures { AnswersWith segment.now (λ d. element_of segment.now.mode d (key_seen key.now) index)
         (option_map raw_text result) }
 {
-    match as_scalar(segment.get_any(key, index)) {
+    match as_scalar(segment_values::get(segment, key, index)) {
         Some(value) => Some(value),
         None => as_text(segment.texts_get(key, index)),
     }

@@ -112,7 +112,7 @@ pub trait Disk: LogDisk {
     fn end_log(&mut self, path: &str, hold: &mut Self::Hold)
         ensures { step self.old (LogEnded path.now) self.new };
 
-    /// Syncs a locked file, the log beside it, and their folder. After Ok, a crash leaves the image of both. Fails if a
+    /// Syncs a locked file, the log beside it, and their folder. After Ok, both files survive a crash. Fails if a
     /// sync fails, or another file has taken the name of the locked file.
     fn sync(&mut self, path: &str, hold: &mut Self::Hold) -> Result<(), DeviceFault>
         ensures { step self.old (Synced path.now (is_ok result)) self.new };

@@ -12,6 +12,7 @@ use crate::tokens::{Lines, next_pair, next_value};
 use seg_types::{Kind, Refusal, ScalarKind};
 use segment_lang::LineBuffer;
 use segment_manager::{Object, Segment};
+use segment_values::{InsertSpot, add_scalar, put_scalars, set_in_array};
 
 /// Fills an object with the values of the next lines.
 pub fn fill(
@@ -117,7 +118,7 @@ fn set_next(
 {
     let at = lines.at();
     let value = next_value(lines, kind)?;
-    ended(segment.set_value(&object, index, value), at)
+    ended(set_in_array(segment, &object, index, value), at)
 }
 
 /// Puts the value of the next line after the elements of a vector.
@@ -135,7 +136,7 @@ fn push_next(
 {
     let at = lines.at();
     let value = next_value(lines, kind)?;
-    ended(segment.vec_push_value(&object, value), at)
+    ended(add_scalar(segment, &object, InsertSpot::End, value), at)
 }
 
 /// Puts the pair of the next line into a map.
@@ -154,7 +155,7 @@ fn put_next(
 {
     let at = lines.at();
     let (key, value) = next_pair(lines, keys, values)?;
-    match segment.map_put_any(&object, key, value) {
+    match put_scalars(segment, &object, key, value) {
         Ok(_) => Ok(()),
         Err(why) => Err(build_error_of(why, at)),
     }

@@ -15,17 +15,14 @@ use crate::kinds::kind_named;
 use crate::literals::is_token;
 use crate::numbers::number_of;
 use crate::tokens::Token;
-use seg_types::{Handle, IndexKey, Key, Kind, Name, NewKey, is_bare_name};
+use seg_types::{Handle, IndexKey, Key, Kind, Name, NewKey};
 
 /// Returns the name that a bare word is.
 fn bare_name(token: &[u8]) -> Option<Name<'_>>
     ensures { option_map name_seen result
         ≡ (if is_bare_name token.now && is_name current token.now then Some token.now else None) }
 {
-    if !is_bare_name(token) {
-        return None;
-    }
-    Name::new(token)
+    Name::bare(token)
 }
 
 /// Returns the entry of an index: a name, or `@` and a kind.

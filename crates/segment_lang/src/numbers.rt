@@ -1,6 +1,6 @@
 //! Numbers in plain decimal.
 
-ghost use Rattle.std.specs.Prelude.{◌≡◌, ◌≤◌, ◌&&◌, IsTrue, Some, None, if◌then◌else◌, nat_le};
+ghost use Rattle.std.specs.Prelude.{◌≡◌, ◌≤◌, ◌&&◌, Some, None, if◌then◌else◌, nat_le};
 ghost use Rattle.std.specs.List.{list_all};
 ghost use Rattle.segment_lang.specs.Lexing.{is_digit, is_numeral, number_after, number_of, negative_of, whole_of};
 ghost use Rattle.segment_lang.specs.Reading.{number};
@@ -16,35 +16,18 @@ pub fn is_digit(byte: u8) -> bool
     byte.is_ascii_digit()
 }
 
-/// Tells whether each byte is a digit.
-fn are_digits(bytes: &[u8]) -> bool
-    ensures { result ≡ list_all is_digit bytes.now }
-{
-    bytes.iter().all(|byte| is_digit(*byte))
-}
-
-/// Tells whether a word is `0`, or digits without a leading zero.
-#[tactic(auto, using(crate::proofs::values::Decimals::long_numeral))]
-fn is_numeral(token: &[u8]) -> bool
-    ensures { result ≡ is_numeral token.now }
-{
-    match token {
-        [] => false,
-        [digit] => is_digit(*digit),
-        [first, rest @ ..] => *first != b'0' && is_digit(*first) && are_digits(rest),
-    }
-}
-
-/// Returns the number that digits spell, from 0 to 18446744073709551615, or `None` if it is greater.
-#[tactic(auto, using(crate::proofs::values::Decimals::digits))]
+/// Returns the number that digits spell, from 0 to 18446744073709551615. `None` is a greater number, or a byte that is
+/// no digit.
 fn value_of_digits(digits: &[u8]) -> Option<u64>
-    requires { IsTrue (list_all is_digit digits.now) }
-    ensures { result ≡ (if nat_le (number_after 0 digits.now) 18446744073709551615
+    ensures { result ≡ (if list_all is_digit digits.now && nat_le (number_after 0 digits.now) 18446744073709551615
         then Some (number_after 0 digits.now) else None) }
 {
     let mut number: u64 = 0;
     let mut rest = digits;
     'digits: while let [digit, tail @ ..] = rest {
+        if !is_digit(*digit) {
+            return None;
+        }
         let next = 10 * u128::from(number) + u128::from(*digit - b'0');
         if next > u128::from(u64::MAX) {
             return None;
@@ -57,13 +40,15 @@ fn value_of_digits(digits: &[u8]) -> Option<u64>
 
 /// Returns the number that a word spells: `0`, or digits without a leading zero, at most 18446744073709551615. `None`
 /// is any other word.
+#[tactic(auto, using(crate::proofs::values::Decimals::long_numeral))]
 pub fn number_of(token: &[u8]) -> Option<u64>
     ensures { result ≡ number_of token.now }
 {
-    if !is_numeral(token) {
-        return None;
+    match token {
+        [] => None,
+        [b'0', _, ..] => None,
+        _ => value_of_digits(token),
     }
-    value_of_digits(token)
 }
 
 /// A whole number from -9223372036854775808 to 18446744073709551615, in as much room as a slice.

@@ -2,3 +2,4 @@
 pub mod Reading
 pub mod Twice
 pub mod Images
+pub mod Within

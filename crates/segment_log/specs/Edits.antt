@@ -1,7 +1,7 @@
 -- What the payload of a record does to an image. A payload is the new length of the image in 8 bytes, and edits: each
 -- is an offset and a length in 8 bytes each, and as many bytes.
-use Rattle.std.specs.Prelude.{◌≡◌, ◌⊎◌, ℕ, zero, suc, ◌+◌, ◌-◌, ◌%◌, List, [], ◌∷◌, ◌++◌, length, take, drop, nat_lt}
-use Rattle.std.specs.Prelude.{if◌then◌else◌, Option, Some, None}
+use Rattle.std.specs.Prelude.{◌≡◌, ◌⊎◌, ℕ, zero, suc, ◌+◌, ◌-◌, ◌%◌, max, List, [], ◌∷◌, ◌++◌, length, take, drop}
+use Rattle.std.specs.Prelude.{nat_lt, if◌then◌else◌, Option, Some, None}
 use Rattle.segment_log.specs.Crashes.{LoggedFile}
 use Rattle.segment_log.specs.Records.{number_of, number_bytes, zeros, recovered}
 
@@ -57,6 +57,28 @@ applied payload image =
 abbrev pub applied_all : List (List ℕ) → List ℕ → List ℕ
 applied_all [] image = image
 applied_all (payload ∷ payloads) image = applied_all payloads (applied payload image)
+
+-- how many bytes an image of n bytes has after a payload
+abbrev pub len_after : List ℕ → ℕ → ℕ
+len_after payload n = if nat_lt (length payload) 8 then n else number_of payload
+
+-- how many it has after payloads, one after the other
+abbrev pub lens_after : List (List ℕ) → ℕ → ℕ
+lens_after [] n = n
+lens_after (payload ∷ payloads) n = lens_after payloads (len_after payload n)
+
+-- the most bytes that it has on the way
+abbrev pub most_len : List (List ℕ) → ℕ → ℕ
+most_len [] n = n
+most_len (payload ∷ payloads) n = max n (most_len payloads (len_after payload n))
+
+-- a buffer has the image at its front, and zeros behind it
+abbrev pub Holds : List ℕ → List ℕ → Type 0
+Holds buffer image = buffer ≡ image ++ zeros (length buffer - length image)
+
+-- a buffer that had an image of n bytes has what f makes of that image
+abbrev pub TurnsInto : ℕ → (List ℕ → List ℕ) → List ℕ → List ℕ → Type 0
+TurnsInto n f old new = (image : List ℕ) → length image ≡ n → Holds old image → Holds new (f image)
 
 -- the image that a file stands for, with the log beside it
 abbrev pub stands_for : LoggedFile → List ℕ

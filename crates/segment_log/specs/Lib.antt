@@ -9,3 +9,4 @@ pub mod Openings
 pub mod Histories
 pub mod Committing
 pub mod CommittedImages
+pub mod Recoveries

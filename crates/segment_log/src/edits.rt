@@ -1,7 +1,7 @@
 //! What the payload of a record does to an image.
 ghost use Rattle.std.specs.Prelude.{◌≡◌, ◌≤◌, length, take, OnOk, MatchOption, Some, None};
 ghost use Rattle.segment_log.specs.Records.{number_of, zeros};
-ghost use Rattle.segment_log.specs.Edits.{applied, edited, next_edit, put, resized};
+ghost use Rattle.segment_log.specs.Edits.{applied, edited, next_edit, put, resized, TurnsInto, len_after};
 
 use crate::records::{number_of, zeros};
 use std::alloc::{AllocError, Global};
@@ -61,6 +61,43 @@ fn resize(alloc: Global, image: &mut Vec<u8>, len: usize) -> Result<(), AllocErr
         image.extend_from_slice(&more)?;
     }
     Ok(())
+}
+
+/// Sets bytes to 0.
+pub(crate) fn clear(bytes: &mut [u8])
+    ensures { bytes.new ≡ zeros (length bytes.old) }
+{
+    'bytes: for at in 0..bytes.len() {
+        bytes[at] = 0;
+    }
+}
+
+/// Cuts the image at the front of a buffer, or makes it longer: the zeros behind it are part of it then.
+fn resize_within(buffer: &mut [u8], from: usize, len: usize)
+    requires in_bounds { from ≤ length buffer.now }
+    requires room { len ≤ length buffer.now }
+    ensures { TurnsInto from (resized len) buffer.old buffer.new }
+{
+    if len < from {
+        clear(&mut buffer[len..from]);
+    }
+}
+
+/// Makes of the image at the front of a buffer, of `len` bytes, what the payload of a record says, and returns how many
+/// bytes it has then.
+pub(crate) fn apply_within(buffer: &mut [u8], len: usize, payload: &[u8]) -> usize
+    requires in_bounds { len ≤ length buffer.now }
+    requires room { len_after payload.now len ≤ length buffer.now }
+    ensures image { TurnsInto len (applied payload.now) buffer.old buffer.new }
+    ensures len { result ≡ len_after payload.now len }
+{
+    if payload.len() < 8 {
+        return len;
+    }
+    let made = number_of(payload) as usize;
+    resize_within(buffer, len, made);
+    edit(&mut buffer[..made], &payload[8..]);
+    made
 }
 
 /// Makes of an image what the payload of a record says. After an error the image may be cut or longer.

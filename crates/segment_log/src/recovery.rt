@@ -1,14 +1,16 @@
 //! The opening of a file with its log, as a crash may have left both.
-ghost use Rattle.std.specs.Prelude.{◌≡◌, IfErr, IfOk, OnOk};
+ghost use Rattle.std.specs.Prelude.{◌≡◌, ◌≤◌, length, IfErr, IfOk, OnOk};
 ghost use Rattle.segment_log.specs.Crashes.{with_log};
-ghost use Rattle.segment_log.specs.Edits.{stands_for};
+ghost use Rattle.segment_log.specs.Edits.{stands_for, Holds, most_len};
 ghost use Rattle.segment_log.specs.Fingerprints.{fingerprint};
-ghost use Rattle.segment_log.specs.Records.{IsEndOfLog};
+ghost use Rattle.segment_log.specs.Records.{IsEndOfLog, recovered};
+ghost use Rattle.segment_log.specs.Recoveries.{RefusesForeign, RecoversTo};
 ghost use Rattle.segment_log.specs.Tags.{AreTogether};
 ghost use Rattle.segment_log.specs.declared.recovery.RecoverError.TheVariants.{ForeignLog, OutOfMemory as NoMemory};
 
+use crate::edits::clear;
 use crate::fingerprints::fingerprint;
-use crate::replaying::replay;
+use crate::replaying::{replay, replay_within};
 use crate::tags::{belongs, fits};
 use std::alloc::{AllocError, Global};
 use thiserror::Error;
@@ -68,5 +70,63 @@ pub fn recover(alloc: Global, base: Vec<u8>, log: &[u8]) -> Result<RecoveredImag
         image,
         end,
         base: id,
+    })
+}
+
+/// What a file stands for with its log, where the image was made in place.
+#[derive(Clone, Copy)]
+pub struct RecoveredWithin {
+    /// How many bytes the image has.
+    pub len: usize,
+    /// Where the records of the log end.
+    pub end: usize,
+    /// The fingerprint of the file.
+    pub base: u64,
+    /// The fingerprint of the image.
+    pub after: u64,
+}
+
+/// Puts the bytes of a file at the front of a buffer, and zeros behind them.
+fn put_back(file: &[u8], buffer: &mut [u8])
+    requires room { length file.now ≤ length buffer.now }
+    ensures image { Holds buffer.new file.now }
+    ensures len { length buffer.new ≡ length buffer.old }
+{
+    buffer[..file.len()].copy_from_slice(file);
+    clear(&mut buffer[file.len()..]);
+}
+
+/// Makes the image of a file with its log in a buffer that has a copy of the file, and zeros behind it. Nothing but the
+/// bytes of the records is copied.
+///
+/// # Errors
+///
+/// `ForeignLog` exactly if the log does not belong to the file: the buffer has the file again.
+pub fn recover_within(
+    file: &[u8],
+    log: &[u8],
+    buffer: &mut [u8],
+) -> Result<RecoveredWithin, RecoverError>
+    requires room { most_len (recovered log.now) (length file.now) ≤ length buffer.now }
+    ensures opening { Holds buffer.old file.now → IfOk result
+        (λ r. RecoversTo file.now log.now buffer.new r.len r.end r.base r.after) }
+    ensures refused { Holds buffer.old file.now → IfErr result
+        (λ error. (error ≡ ForeignLog) × RefusesForeign file.now log.now buffer.old buffer.new) }
+{
+    let base = fingerprint(&buffer[..file.len()]);
+    if !belongs(log, base) {
+        return Err(RecoverError::ForeignLog);
+    }
+    let made = replay_within(buffer, file.len(), log);
+    let after = fingerprint(&buffer[..made.len]);
+    if !fits(log, after) {
+        put_back(file, buffer);
+        return Err(RecoverError::ForeignLog);
+    }
+    Ok(RecoveredWithin {
+        len: made.len,
+        end: made.end,
+        base,
+        after,
     })
 }

@@ -1,10 +1,10 @@
 //! What a file stands for with its log, and the end of a log.
 ghost use Rattle.std.specs.Prelude.{◌≡◌, ◌≤◌, length, Decides, IfOk, OnOk};
 ghost use Rattle.segment_log.specs.Records.{IsAjar, IsEndOfLog, recovered};
-ghost use Rattle.segment_log.specs.Edits.{applied_all};
+ghost use Rattle.segment_log.specs.Edits.{applied_all, TurnsInto, len_after, lens_after, most_len};
 
-use crate::edits::apply;
-use crate::records::{GATE_LEN, next_record};
+use crate::edits::{apply, apply_within};
+use crate::records::{GATE_LEN, next_record, number_of};
 use std::alloc::{AllocError, Global};
 
 /// Makes of an image what all records of a log say, one after the other, and returns where they end. After an error
@@ -19,6 +19,60 @@ pub fn replay(alloc: Global, image: &mut Vec<u8>, log: &[u8]) -> Result<usize, A
         rest = behind;
     }
     Ok(log.len() - rest.len())
+}
+
+/// Returns how many bytes an image of `len` bytes has after a payload.
+fn len_after(payload: &[u8], len: usize) -> usize
+    ensures { result ≡ len_after payload.now len }
+{
+    if payload.len() < 8 {
+        len
+    } else {
+        number_of(payload) as usize
+    }
+}
+
+/// Returns the most bytes that an image has while the records of a log are applied to a file of `len` bytes.
+pub fn most_len(log: &[u8], len: usize) -> usize
+    ensures { result ≡ most_len (recovered log.now) len }
+{
+    let mut rest = log;
+    let mut so_far = len;
+    let mut most = len;
+    while let Some((payload, behind)) = next_record(rest) {
+        so_far = len_after(payload, so_far);
+        most = most.max(so_far);
+        rest = behind;
+    }
+    most
+}
+
+/// Where a replay ended.
+#[derive(Clone, Copy)]
+pub(crate) struct Replayed {
+    /// How many bytes the image has.
+    pub len: usize,
+    /// Where the records of the log end.
+    pub end: usize,
+}
+
+/// Makes of the image at the front of a buffer, of `len` bytes, what all records of a log say, one after the other.
+pub(crate) fn replay_within(buffer: &mut [u8], len: usize, log: &[u8]) -> Replayed
+    requires room { most_len (recovered log.now) len ≤ length buffer.now }
+    ensures image { TurnsInto len (applied_all (recovered log.now)) buffer.old buffer.new }
+    ensures len { result.len ≡ lens_after (recovered log.now) len }
+    ensures end { IsEndOfLog 4096 log.now result.end }
+{
+    let mut rest = log;
+    let mut so_far = len;
+    while let Some((payload, behind)) = next_record(rest) {
+        so_far = apply_within(buffer, so_far, payload);
+        rest = behind;
+    }
+    Replayed {
+        len: so_far,
+        end: log.len() - rest.len(),
+    }
 }
 
 /// Tells whether the gate at the end of a log is open or not whole. It is to be shut before the next commit.

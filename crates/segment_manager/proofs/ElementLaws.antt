@@ -15,3 +15,5 @@ pub use Rattle.segment_manager.proofs.containers.ContentPlans.{text-refused}
 pub use Rattle.segment_manager.proofs.containers.ElementRuns.{IsElementAt, IsSliceOfKind, AnArray, AVector}
 pub use Rattle.segment_manager.proofs.containers.ElementRuns.{series-element}
 pub use Rattle.segment_manager.proofs.containers.ElementRuns.{run-kind}
+-- reading one element in the run of an object
+pub use Rattle.segment_manager.proofs.objects.ElementReads.{run-past, run-reads, run-refused}

@@ -48,8 +48,7 @@ pub use Rattle.segment_manager.proofs.objects.MadeObjects.{made-here}
 pub use Rattle.segment_manager.proofs.blocks.OwnWalks.{objects-few, tile-here}
 -- the elements of a key's object, one after another: the result of reading one, and their number
 unfoldable pub use Rattle.segment_manager.proofs.objects.ElementLists.{got}
-pub use Rattle.segment_manager.proofs.objects.ElementLists.{array-length, array-read, text-read, vector-length}
-pub use Rattle.segment_manager.proofs.objects.ElementLists.{vector-read}
+pub use Rattle.segment_manager.proofs.objects.ElementLists.{text-read}
 -- the pairs of a key's map of kinds: functions of the map are functions of them; their number; they rise by their map
 -- keys
 pub use Rattle.segment_manager.proofs.containers.MapLists.{map-least, map-length, map-rises, map-told}

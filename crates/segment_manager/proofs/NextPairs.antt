@@ -6,6 +6,8 @@ use Rattle.segment_manager.proofs.Common.{AnswersWith, SegmentState, DenotesCurr
 use Rattle.segment_manager.proofs.Common.{item_seen}
 use Rattle.segment_manager.proofs.{Common.pairs_at, containers.PairWalks.first-at, containers.PairWalks.walk-next}
 use Rattle.segment_manager.specs.{Parts.part_of, containers.Walks.KindedPair}
+-- what is read of a map is read of its pairs, and its first pair is the one from the least key on
+pub use Rattle.segment_manager.proofs.containers.PairWalks.{first-walked, pair-walked}
 
 -- the next pair is the one at a place
 abbrev pub IsNext : SegmentState → ℕ → ScalarKind → ScalarKind → Option (ScalarValue × ScalarValue) → ℕ → Type 0

@@ -30,6 +30,7 @@ pub mod NewValues
 pub mod NotBegun
 pub mod Here
 pub mod AnyKind
+pub mod ElementReads
 pub mod ElementCommands
 pub mod ArrayItems
 pub mod Locating

@@ -2,6 +2,7 @@
 pub mod Found
 pub mod Located
 pub mod BoundObjects
+pub mod BoundSteps
 pub mod Heads
 pub mod NewObjects
 pub mod Items

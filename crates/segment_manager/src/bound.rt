@@ -5,7 +5,7 @@ ghost use Rattle.std.specs.Borrow.{sem, RestsIfErr};
 ghost use Rattle.seg_types.specs.declared.kinds.Kind.{Kind as AnyKind};
 ghost use Rattle.segment_manager.specs.{Step.is_read_only, containers.ToChange.IsNotToChange};
 ghost use Rattle.segment_manager.specs.{objects.BoundObjects.IsBound, objects.BoundObjects.LacksKind};
-ghost use Rattle.segment_manager.specs.objects.Located.{IsLocated};
+ghost use Rattle.segment_manager.specs.objects.Located.{IsLocated, IsObject};
 ghost use Rattle.segment_manager.specs.contracts.segment.Segment.{the_row};
 
 use crate::objects::object_ref::{Object, ObjectRef, locate};
@@ -15,6 +15,8 @@ use std::alloc::AllocError;
 use std::marker::PhantomData;
 
 pub(crate) mod maps;
+pub(crate) mod slices;
+pub(crate) mod texts;
 
 /// What an object contains: it says the kind of the object.
 pub trait BoundContent {
@@ -67,6 +69,25 @@ impl<'a, C: BoundContent> Bound<'a, C> {
             of: PhantomData,
         })
     }
+
+    /// Returns the segment.
+    ///
+    /// Example: `let size = years.segment().size()`.
+    pub fn segment(&self) -> &'a Segment
+        ensures { result.now ≡ self.now.segment.now }
+    {
+        self.segment
+    }
+
+    /// Returns the object as it was looked up.
+    ///
+    /// Example: `let handle = years.object().handle`.
+    pub fn object(&self) -> Object
+        ensures object { result ≡ self.now.object }
+        ensures location { IsObject result self.now.segment.now }
+    {
+        self.object
+    }
 }
 
 /// An object that was looked up, in a segment that can be written. Its calls change the object.
@@ -112,6 +133,7 @@ impl<'a, C: BoundContent> BoundMut<'a, C> {
     /// Returns the object for reading, as long as it does not change.
     ///
     /// Example: `let year = years.read().get(5)`.
+    #[inline(always)]
     pub fn read(&self) -> Bound<'_, C>
         ensures segment { result.segment.now ≡ self.now.segment.now }
         ensures object { result.object ≡ self.now.object }

@@ -1,7 +1,6 @@
 //! Objects that are vectors, strings and maps: calls that construct, read and change them, with the blocks of their
 //! contents.
-pub(crate) mod any_elements;
-pub(crate) mod any_pairs;
+pub(crate) mod appending;
 pub(crate) mod constructing_containers;
 pub(crate) mod element_runs;
 pub(crate) mod fillings;
@@ -14,4 +13,3 @@ pub(crate) mod storages;
 pub(crate) mod text_lists;
 pub(crate) mod texts;
 pub(crate) mod vectors;
-pub(crate) mod walking_pairs;

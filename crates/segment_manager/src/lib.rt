@@ -29,7 +29,10 @@ pub mod unchecked;
 pub use blocks::tiles::TileInfo;
 pub use blocks::walking_tiles::Tiles;
 pub use bound::maps::{Map, MapMut, Pairs};
+pub use bound::slices::{Array, ArrayMut, Fixed, Growable, Slice, SliceStorage, Vector, VectorMut};
+pub use bound::texts::{StringBytes, StringMut, StringRef, Strings, StringsMut, Texts};
 pub use bound::{Bound, BoundContent, BoundMut};
+pub use containers::appending::{is_remembered, push_within};
 pub use containers::element_runs::ElementRun;
 pub use containers::fillings::{
     NewMap, NewNumbers, NewString, NewTexts, NewVector, ObjectInit, ObjectShape,

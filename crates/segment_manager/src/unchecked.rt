@@ -4,8 +4,6 @@
 //! Each names, under `# Conditions`, a call that does the same without one.
 pub use crate::blocks::sizing::{cut_end, extend_end};
 pub use crate::blocks::tiles::next_tile;
-pub use crate::containers::any_elements::set_any;
-pub use crate::containers::walking_pairs::{first_pair, next_pair};
 pub use crate::objects::finding::{named_at, unique_at};
 pub use crate::objects::instance_info::{instance_here, named_instance, unique_instance};
 pub use crate::objects::object_ref::object_here;

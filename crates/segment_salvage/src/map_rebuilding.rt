@@ -14,6 +14,7 @@ use crate::losses::{LossCause, Unbuilt};
 use crate::nodes::{Pair, pairs_at};
 use seg_types::{Handle, Key, ScalarKind};
 use segment_manager::Segment;
+use segment_values::put_scalars;
 use std::alloc::Global;
 
 /// Makes a map with its pairs.
@@ -98,7 +99,7 @@ fn put_pair(
     ensures { Salvages _image.now segment.old segment.new }
 {
     segment.remember(handle);
-    match segment.map_put_any(&Key::Handle(handle), pair.key, pair.value) {
+    match put_scalars(segment, &Key::Handle(handle), pair.key, pair.value) {
         Ok(true) => Ok(()),
         Ok(false) => Err(LossCause::BadValue),
         Err(_) => Err(LossCause::NoSpace),

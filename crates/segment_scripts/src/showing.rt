@@ -20,7 +20,7 @@ use raw_region::{DeviceFault, Sink};
 use seg_types::{Key, Kind, ScalarValue};
 use segment_lang::{Piece, put_pieces};
 use segment_manager::{Object, Segment, locate};
-use segment_values::{Layout, count_of, put_content};
+use segment_values::{Layout, count_of, get, put_content};
 
 /// Writes the kind and the value of the object of a key, or that there is none.
 #[inline(never)]
@@ -137,7 +137,7 @@ pub fn put_get_answer<W: Sink>(
     match locate(segment, key) {
         Ok(object) => match object.kind {
             Kind::Strings => put_text_at(segment, object, index, out),
-            _ => put_answer(segment, element(segment.get_any(&object, index)), out),
+            _ => put_answer(segment, element(get(segment, &object, index)), out),
         },
         Err(why) => put_refusal_line(out, why),
     }

@@ -14,10 +14,11 @@ ghost use Rattle.segment_values.specs.Asked.{length_in, pair_part};
 ghost use Rattle.segment_values.specs.Layouts.{count_at, laid_at, part_at};
 ghost use Rattle.segment_values.specs.Writing.{WritesFor};
 
+use crate::elements::get;
 use crate::layouts::Layout;
+use crate::walking::{first_pair, next_pair};
 use raw_region::{DeviceFault, Sink};
 use seg_types::{Kind, ScalarKind, ScalarValue};
-use segment_manager::unchecked::{first_pair, next_pair};
 use segment_manager::{Object, Segment};
 
 /// Returns the number of scalars, texts or pairs of an object. A string is one text.
@@ -106,7 +107,7 @@ fn put_element<L: Layout, W: Sink>(
             Ok(text) => layout.put_text(index, text, out),
             Err(_) => Ok(()),
         },
-        _ => match segment.get_any(&object, index) {
+        _ => match get(segment, &object, index) {
             Ok(value) => layout.put_scalar(index, value, out),
             Err(_) => Ok(()),
         },

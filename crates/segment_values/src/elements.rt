@@ -1,20 +1,41 @@
-//! Sets elements of arrays, vectors and strings to values as callers write them.
-ghost use Rattle.std.specs.Prelude.{◌≡◌, Ok, OnErr, OnOk, false};
-ghost use Rattle.seg_types.specs.declared.kinds.Kind.TheVariants.{Strings as StringsKind};
+//! Reads and sets elements of arrays, vectors and strings, with values as callers write them.
+ghost use Rattle.std.specs.Prelude.{◌≡◌, OnErr, OnOk};
+ghost use Rattle.seg_types.specs.declared.kinds.Kind.TheVariants.{Scalar as ScalarOf, Vector as VectorOf};
 ghost use Rattle.seg_types.specs.declared.kinds.ScalarKind.{ScalarKind as AnyScalarKind};
-ghost use Rattle.seg_types.specs.Commands.{Set};
+ghost use Rattle.seg_types.specs.Commands.{Get, Set};
 ghost use Rattle.seg_types.specs.Keys.{key_seen};
 ghost use Rattle.seg_types.specs.Names.{ByHandle};
-ghost use Rattle.segment_manager.specs.{Calls.elements_at, Keeping.ChangesElement};
+ghost use Rattle.seg_types.specs.Values.{kind_of_scalar};
+ghost use Rattle.seg_types.specs.Written.{literal_seen};
+ghost use Rattle.segment_manager.specs.{Calls.scalar_reply, Keeping.ChangesElement};
 ghost use Rattle.segment_manager.specs.objects.Located.{IsObject};
-ghost use Rattle.segment_manager.specs.State.{AnswersWith, TakesStep, done_answer};
-ghost use Rattle.segment_manager.specs.Step.{is_read_only};
-ghost use Rattle.segment_values.specs.Changes.{IsChangeable};
+ghost use Rattle.segment_manager.specs.State.{AnswersWith, TakesStep, TakesStepOfKind, done_answer, scalar_answer};
 
 use crate::objects::object_to_change;
-use seg_types::{Key, Kind, Refusal, ScalarKind, WrittenValue};
-use segment_manager::unchecked::set_any;
-use segment_manager::{Object, Segment};
+use seg_types::{Key, Kind, Refusal, ScalarKind, ScalarValue, WrittenValue, by_value};
+use segment_manager::{Object, ObjectRef, Segment};
+
+/// Returns the element at `index`. The object is an array of scalars, a vector of scalars, or a string, whose elements
+/// are bytes.
+///
+/// # Errors
+///
+/// `NotFound` if no object has the key, `WrongKind` if its elements are not scalars, `OutOfRange` if `index` is not
+/// below the length.
+pub fn get<O: ObjectRef>(segment: &Segment, key: &O, index: u64) -> Result<ScalarValue, Refusal>
+    requires { O.stands key.now segment.now }
+    ensures { AnswersWith segment.now
+        (λ d. scalar_reply segment.now.mode d (O.key key.now) (Get (O.key key.now) index)) (scalar_answer result) }
+{
+    let image = segment.as_bytes();
+    let run = segment.element_run(key)?;
+    if index >= run.count {
+        return Err(Refusal::OutOfRange);
+    }
+    let size = run.kind.size();
+    let from = (run.offset + size * index) as usize;
+    ScalarValue::read(run.kind, &image[from..from + size as usize]).ok_or(Refusal::WrongKind)
+}
 
 /// Sets the element at `index`. The object is an array of scalars, a vector of scalars or of strings, or a string,
 /// whose elements are bytes. In an array no other byte changes.
@@ -44,52 +65,59 @@ pub fn set<L: WrittenValue>(
 {
     let object = object_to_change(segment, key)?;
     match object.kind {
-        Kind::Scalar(element) | Kind::Vector(element) => {
-            set_scalar(segment, object, element, index, value)
+        Kind::Scalar(kind) => {
+            let scalar = value.value_of(kind)?;
+            set_in_array(segment, &object, index, scalar)
         }
-        Kind::String => set_scalar(segment, object, ScalarKind::U8, index, value),
-        Kind::Strings => set_text(segment, object, index, value, scratch),
+        Kind::Vector(kind) => {
+            let scalar = value.value_of(kind)?;
+            set_in_vector(segment, object, index, scalar)
+        }
+        Kind::String => match value.value_of(ScalarKind::U8)? {
+            ScalarValue::U8(byte) => segment.string_set(&object, index, byte),
+            _ => Err(Refusal::WrongKind),
+        },
+        Kind::Strings => match value.text(scratch) {
+            Some(text) => segment.texts_set(&object, index, text),
+            None => Err(Refusal::WrongKind),
+        },
         Kind::Map(_, _) => Err(Refusal::WrongKind),
     }
 }
 
-/// Sets an element of an object whose elements are scalars of `kind`.
-fn set_scalar<L: WrittenValue>(
+/// Sets the element at `index` of an array of scalars of the value's kind. No other byte changes.
+///
+/// # Errors
+///
+/// `ReadOnly` if the segment is open for reading. Otherwise `NotFound` if no object has the key, `WrongKind` if the
+/// object has another kind, `OutOfRange` if `index` is not below the length. Nothing changes.
+pub fn set_in_array<O: ObjectRef>(
     segment: &mut Segment,
-    object: Object,
-    kind: ScalarKind,
+    key: &O,
     index: u64,
-    value: &L,
+    value: ScalarValue,
 ) -> Result<(), Refusal>
-    requires object { IsObject object segment.old }
-    requires writing { is_read_only segment.old.mode ≡ false }
-    requires elements { AnswersWith segment.old (λ d. elements_at d (ByHandle object.handle)) (Ok kind) }
-    ensures step { TakesStep segment.old segment.new (Set (ByHandle object.handle) index (L.literal value.now))
-        (done_answer result) }
+    requires { O.stands key.now segment.old }
+    ensures step { TakesStepOfKind segment.old segment.new (O.key key.now) (ScalarOf (kind_of_scalar value))
+        (Set (O.key key.now) index (literal_seen value)) (done_answer result) }
     ensures refused { OnErr result (segment.new ≡ segment.old) }
-    ensures element { OnOk result (ChangesElement segment.old segment.new (ByHandle object.handle) kind index) }
+    ensures element { OnOk result
+        (ChangesElement segment.old segment.new (O.key key.now) (kind_of_scalar value) index) }
 {
-    let element = value.value_of(kind)?;
-    set_any(segment, &object, index, element)
+    by_value!(value, it => segment.set(key, index, it))
 }
 
-/// Sets an element of a vector of strings.
-fn set_text<L: WrittenValue>(
+/// Sets the element at `index` of a vector of scalars of the value's kind.
+fn set_in_vector(
     segment: &mut Segment,
     object: Object,
     index: u64,
-    value: &L,
-    scratch: &mut L::Scratch,
+    value: ScalarValue,
 ) -> Result<(), Refusal>
-    requires object { IsObject object segment.old }
-    requires kind_fit { IsChangeable segment.old (ByHandle object.handle) StringsKind }
-    requires fits { L.fits value.now }
-    ensures step { TakesStep segment.old segment.new (Set (ByHandle object.handle) index (L.literal value.now))
-        (done_answer result) }
+    requires { IsObject object segment.old }
+    ensures step { TakesStepOfKind segment.old segment.new (ByHandle object.handle) (VectorOf (kind_of_scalar value))
+        (Set (ByHandle object.handle) index (literal_seen value)) (done_answer result) }
     ensures refused { OnErr result (segment.new ≡ segment.old) }
 {
-    match value.text(scratch) {
-        Some(text) => segment.texts_set(&object, index, text),
-        None => Err(Refusal::WrongKind),
-    }
+    by_value!(value, it => segment.vec_set(&object, index, it))
 }

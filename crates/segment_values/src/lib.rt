@@ -10,12 +10,14 @@ mod objects;
 mod pairs;
 mod reads;
 mod vectors;
+mod walking;
 
 pub use arrays::construct_array;
 pub use contents::{count_of, length_of, put_content};
-pub use elements::set;
+pub use elements::{get, set, set_in_array};
 pub use layouts::Layout;
 pub use objects::object_to_change;
-pub use pairs::{erase_pair, look_up, put_pair};
+pub use pairs::{erase_pair, look_up, put_pair, put_scalars};
 pub use reads::read_elements;
-pub use vectors::{InsertSpot, add, erase};
+pub use vectors::{InsertSpot, add, add_scalar, erase};
+pub use walking::{first_pair, next_pair};

@@ -1,15 +1,23 @@
 //! Puts, looks up and erases pairs of maps, with keys and values as callers write them.
 ghost use Rattle.std.specs.Prelude.{◌≡◌, OnErr};
-ghost use Rattle.seg_types.specs.Commands.{Lookup, Put, Remove};
+ghost use Rattle.seg_types.specs.declared.kinds.Kind.TheVariants.{Map as MapOf};
+ghost use Rattle.seg_types.specs.Commands.{Lookup, Put, Remove, literal_of};
 ghost use Rattle.seg_types.specs.Keys.{key_seen};
-ghost use Rattle.segment_manager.specs.Keeping.{UnchangedWhere};
+ghost use Rattle.seg_types.specs.Names.{ByHandle};
+ghost use Rattle.seg_types.specs.Values.{kind_of_scalar, value_of_scalar};
+ghost use Rattle.seg_types.specs.Written.{literal_seen};
+ghost use Rattle.segment_manager.specs.Keeping.{ChangesValue, LacksPair, UnchangedWhere};
 ghost use Rattle.segment_manager.specs.containers.Maps.{any_value_answer};
-ghost use Rattle.segment_manager.specs.State.{AnswersQuery, TakesStep, truth_answer};
+ghost use Rattle.segment_manager.specs.objects.Located.{IsObject};
+ghost use Rattle.segment_manager.specs.State.{AnswersQuery, AnswersQueryOfKind, TakesStep, TakesStepOfKind};
+ghost use Rattle.segment_manager.specs.State.{truth_answer};
 ghost use Rattle.segment_values.specs.Absent.{LacksLiteral};
 
 use crate::objects::object_to_change;
-use seg_types::{Key, Kind, Refusal, ScalarValue, WrittenValue, pair_of};
-use segment_manager::{Segment, locate};
+use seg_types::{
+    Key, Kind, Refusal, Scalar, ScalarKind, ScalarValue, WrittenValue, by_kind, by_value, pair_of,
+};
+use segment_manager::{Object, ObjectRef, Segment, locate};
 
 /// Sets the value of a map key in a map, and returns true if the map key is new.
 ///
@@ -36,10 +44,54 @@ pub fn put_pair<A: WrittenValue, B: WrittenValue>(
     match object.kind {
         Kind::Map(keys, values) => {
             let (new_key, new_value) = pair_of(keys, values, at, value)?;
-            segment.map_put_any(&object, new_key, new_value)
+            put_scalars(segment, &object, new_key, new_value)
         }
         _ => Err(Refusal::WrongKind),
     }
+}
+
+/// Sets the value of the map key `at` in a map of the kinds of both, and returns true if `at` is new.
+///
+/// # Errors
+///
+/// The first that applies; nothing changes:
+/// - `ReadOnly` if the segment is open for reading;
+/// - `NotFound` if no object has the key;
+/// - `WrongKind` if the object has another kind;
+/// - `NoSpace` if `at` is new and no gap is long enough for its block.
+pub fn put_scalars<O: ObjectRef>(
+    segment: &mut Segment,
+    key: &O,
+    at: ScalarValue,
+    value: ScalarValue,
+) -> Result<bool, Refusal>
+    requires { O.stands key.now segment.old }
+    ensures step { TakesStepOfKind segment.old segment.new (O.key key.now)
+        (MapOf (kind_of_scalar at) (kind_of_scalar value))
+        (Put (O.key key.now) (literal_seen at) (literal_seen value)) (truth_answer result) }
+    ensures refused { OnErr result (segment.new ≡ segment.old) }
+    ensures overwrite { ChangesValue segment.old segment.new (O.key key.now) (kind_of_scalar at) (value_of_scalar at)
+        (kind_of_scalar value) }
+{
+    by_value!(at, at => put_by_key(segment, key, at, value))
+}
+
+/// Sets the value of the map key `at`, for map keys of a type, and returns true if `at` is new.
+#[inline(always)]
+fn put_by_key<K: Scalar, O: ObjectRef>(
+    segment: &mut Segment,
+    key: &O,
+    at: K,
+    value: ScalarValue,
+) -> Result<bool, Refusal>
+    requires { O.stands key.now segment.old }
+    ensures step { TakesStepOfKind segment.old segment.new (O.key key.now) (MapOf K.kind (kind_of_scalar value))
+        (Put (O.key key.now) (literal_of K.kind (K.whole at)) (literal_seen value)) (truth_answer result) }
+    ensures refused { OnErr result (segment.new ≡ segment.old) }
+    ensures overwrite { ChangesValue segment.old segment.new (O.key key.now) K.kind (K.whole at)
+        (kind_of_scalar value) }
+{
+    by_value!(value, value => segment.map_put(key, at, value))
 }
 
 /// Returns the value of a map key in a map, or `None` if the map lacks the map key.
@@ -62,10 +114,47 @@ pub fn look_up<L: WrittenValue>(
     match object.kind {
         Kind::Map(keys, values) => {
             let wanted = at.value_of(keys)?;
-            segment.map_get_any(&object, wanted, values)
+            look_up_scalar(segment, object, wanted, values)
         }
         _ => Err(Refusal::WrongKind),
     }
+}
+
+/// Returns the value of the map key `at` in a map of its kind and the kind `values`, or `None` if the map lacks it.
+fn look_up_scalar(
+    segment: &Segment,
+    object: Object,
+    at: ScalarValue,
+    values: ScalarKind,
+) -> Result<Option<ScalarValue>, Refusal>
+    requires { IsObject object segment.now }
+    ensures { AnswersQueryOfKind segment.now (ByHandle object.handle) (MapOf (kind_of_scalar at) values)
+        (Lookup (ByHandle object.handle) (literal_seen at)) (any_value_answer result) }
+{
+    by_value!(at, at => look_up_by_key(segment, object, at, values))
+}
+
+/// Returns the value of the map key `at`, for map keys of a type, or `None` if the map lacks it. It is inlined, as are
+/// the two calls like it, so the kind of the map key is matched on once.
+#[inline(always)]
+fn look_up_by_key<K: Scalar>(
+    segment: &Segment,
+    object: Object,
+    at: K,
+    values: ScalarKind,
+) -> Result<Option<ScalarValue>, Refusal>
+    requires { IsObject object segment.now }
+    ensures { AnswersQueryOfKind segment.now (ByHandle object.handle) (MapOf K.kind values)
+        (Lookup (ByHandle object.handle) (literal_of K.kind (K.whole at))) (any_value_answer result) }
+{
+    macro_rules! found {
+        ($type:ty, $kind:ident) => {
+            segment
+                .map_get::<_, $type, Object>(&object, at)?
+                .map(ScalarValue::$kind)
+        };
+    }
+    Ok(by_kind!(values, found))
 }
 
 /// Erases a map key from a map, and returns true if the map had it. If not, nothing changes.
@@ -92,8 +181,47 @@ pub fn erase_pair<L: WrittenValue>(
     match object.kind {
         Kind::Map(keys, values) => {
             let gone = at.value_of(keys)?;
-            segment.map_erase_any(&object, gone, values)
+            erase_scalar(segment, object, gone, values)
         }
         _ => Err(Refusal::WrongKind),
     }
+}
+
+/// Erases the map key `at` from a map of its kind and the kind `values`, and returns true if the map had it.
+fn erase_scalar(
+    segment: &mut Segment,
+    object: Object,
+    at: ScalarValue,
+    values: ScalarKind,
+) -> Result<bool, Refusal>
+    requires { IsObject object segment.old }
+    ensures step { TakesStepOfKind segment.old segment.new (ByHandle object.handle) (MapOf (kind_of_scalar at) values)
+        (Remove (ByHandle object.handle) (literal_seen at)) (truth_answer result) }
+    ensures refused { OnErr result (segment.new ≡ segment.old) }
+    ensures absent { UnchangedWhere segment.old segment.new
+        (LacksPair (ByHandle object.handle) (value_of_scalar at)) }
+{
+    by_value!(at, at => erase_by_key(segment, object, at, values))
+}
+
+/// Erases the map key `at`, for map keys of a type, and returns true if the map had it.
+#[inline(always)]
+fn erase_by_key<K: Scalar>(
+    segment: &mut Segment,
+    object: Object,
+    at: K,
+    values: ScalarKind,
+) -> Result<bool, Refusal>
+    requires { IsObject object segment.old }
+    ensures step { TakesStepOfKind segment.old segment.new (ByHandle object.handle) (MapOf K.kind values)
+        (Remove (ByHandle object.handle) (literal_of K.kind (K.whole at))) (truth_answer result) }
+    ensures refused { OnErr result (segment.new ≡ segment.old) }
+    ensures absent { UnchangedWhere segment.old segment.new (LacksPair (ByHandle object.handle) (K.whole at)) }
+{
+    macro_rules! erased {
+        ($type:ty, $kind:ident) => {
+            segment.map_erase::<_, $type, Object>(&object, at)
+        };
+    }
+    by_kind!(values, erased)
 }

@@ -12,7 +12,7 @@ ghost use Rattle.segment_values.specs.Changes.{command_at};
 
 use crate::objects::object_to_change;
 use seg_types::{Key, Kind, Refusal, ScalarKind, ScalarValue, WrittenValue, by_kind, by_value};
-use segment_manager::{Object, Segment};
+use segment_manager::{Object, ObjectRef, Segment};
 
 /// The position of a new element in a vector.
 #[derive(Clone, Copy)]
@@ -52,7 +52,7 @@ pub fn add<L: WrittenValue>(
     match object.kind {
         Kind::Vector(kind) => {
             let scalar = value.value_of(kind)?;
-            add_scalar(segment, object, spot, scalar)
+            add_scalar(segment, &object, spot, scalar)
         }
         Kind::Strings => match value.text(scratch) {
             Some(text) => add_text(segment, object, spot, text),
@@ -63,20 +63,25 @@ pub fn add<L: WrittenValue>(
 }
 
 /// Inserts a scalar into a vector of the scalar's kind.
-fn add_scalar(
+///
+/// # Errors
+///
+/// Those of `add`, for a value of the kind of the elements. Nothing changes.
+#[inline(always)]
+pub fn add_scalar<O: ObjectRef>(
     segment: &mut Segment,
-    object: Object,
+    key: &O,
     spot: InsertSpot,
     value: ScalarValue,
 ) -> Result<(), Refusal>
-    requires { IsObject object segment.old }
-    ensures step { TakesStepOfKind segment.old segment.new (ByHandle object.handle) (VectorOf (kind_of_scalar value))
-        (command_at spot (ByHandle object.handle) (literal_seen value)) (done_answer result) }
+    requires { O.stands key.now segment.old }
+    ensures step { TakesStepOfKind segment.old segment.new (O.key key.now) (VectorOf (kind_of_scalar value))
+        (command_at spot (O.key key.now) (literal_seen value)) (done_answer result) }
     ensures refused { OnErr result (segment.new ≡ segment.old) }
 {
     match spot {
-        InsertSpot::End => by_value!(value, it => segment.vec_push(&object, it)),
-        InsertSpot::Before(index) => by_value!(value, it => segment.vec_insert(&object, index, it)),
+        InsertSpot::End => by_value!(value, it => segment.vec_push(key, it)),
+        InsertSpot::Before(index) => by_value!(value, it => segment.vec_insert(key, index, it)),
     }
 }
 

@@ -1,4 +1,2 @@
-pub mod OfView
-pub mod Opened
 pub mod Walked
 pub mod Ranged

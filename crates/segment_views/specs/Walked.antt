@@ -1,11 +1,9 @@
--- What the iterators of views give.
-use Rattle.std.specs.Prelude.{◌≡◌, ℕ, Option, Some, None, Result, Ok, Err, List, length, option_map, slice_get}
+-- What iterators give.
+use Rattle.std.specs.Prelude.{◌≡◌, ℕ, Option, Some, None, Result, Ok, Err, List, option_map, slice_get}
 use Rattle.seg_types.specs.declared.refusals.Refusal.{Refusal}
 use Rattle.seg_types.specs.Names.{Key}
-use Rattle.segment_manager.specs.declared.objects.object_ref.Object.{Object as Located}
 use Rattle.segment_manager.specs.Directory.{Directory}
 use Rattle.segment_manager.specs.indexes.Iterating.{place_behind}
-use Rattle.segment_manager.specs.objects.Located.{IsObject}
 use Rattle.segment_manager.specs.State.{AnswersWith, SegmentState}
 
 -- an iterator over the elements of the object of a key: how many of them it has given
@@ -21,12 +19,6 @@ pub record GoesOnElements {A B : Type 0} (elements : Directory → Key → List 
   pub key : new.key ≡ old.key
   pub place : new.at ≡ place_behind old.at item
   pub says : AnswersWith old.segment (λ d. slice_get (elements d old.key) old.at) (option_map seen item)
-
--- the object is there, and has this many elements
-pub record IsWalkOver {B : Type 0} (elements : Directory
-    → List B) (s : SegmentState) (o : Located) (len : ℕ) : Type 0 where
-  pub live : IsObject o s
-  pub length_is : AnswersWith s (λ d. length (elements d)) len
 
 -- the element that is read, as it is seen; none if the reading is refused
 abbrev pub element_of : {A B : Type 0} → (A → B) → Result A Refusal → Option B

@@ -1,167 +1,107 @@
-//! Scalars of a type one after another, an array of them or a vector, in a segment that may be changed, looked up once.
-ghost use Rattle.std.specs.Prelude.{◌≡◌, ℕ, ℤ, List, OnErr, OnOk, Result as AnyResult, length, slice_get};
-ghost use Rattle.seg_types.specs.declared.kinds.Kind.{Kind as AnyKind};
-ghost use Rattle.seg_types.specs.declared.kinds.ScalarKind.{ScalarKind as AnyScalarKind};
-ghost use Rattle.seg_types.specs.declared.refusals.Refusal.{Refusal as AnyRefusal};
-ghost use Rattle.seg_types.specs.Commands.{Get, Set, literal_of};
-ghost use Rattle.seg_types.specs.Names.{ByHandle, Key};
-ghost use Rattle.segment_manager.specs.Answers.{Element};
-ghost use Rattle.segment_manager.specs.Directory.{Directory};
-ghost use Rattle.segment_manager.specs.objects.ElementLists.{number_or_none};
-ghost use Rattle.segment_manager.specs.objects.Located.{IsObject};
-ghost use Rattle.segment_manager.specs.State.{AnswersWith, AnswersQueryOfKind, TakesStepOfKind, SegmentState};
-ghost use Rattle.segment_manager.specs.State.{answer_of, done_answer};
+//! The elements of arrays and vectors of scalars that were looked up, one after another, or several at once.
+ghost use Rattle.std.specs.Prelude.{◌≡◌, ◌-◌, OnErr, length};
+ghost use Rattle.std.specs.Iterator.{at_most};
+ghost use Rattle.segment_manager.specs.objects.BoundObjects.{key_of};
+ghost use Rattle.segment_manager.specs.objects.ElementLists.{numbers_at};
+ghost use Rattle.segment_manager.specs.State.{AnswersWith};
 ghost use Rattle.segment_values.specs.Ranges.{range_at, read_into};
-ghost use Rattle.segment_views.specs.Walked.{element_of};
+ghost use Rattle.segment_views.specs.Walked.{GoesOnElements};
 
-use crate::elements::SliceItems;
-use crate::views::{View, ViewContent};
-use seg_types::{Kind, Refusal, Scalar, ScalarKind};
-use segment_manager::{Object, Segment};
+use seg_types::{Refusal, Scalar};
+use segment_manager::{Bound, BoundContent, Fixed, Growable, Slice, SliceStorage};
 use segment_values::read_elements;
-use std::marker::PhantomData;
+use std::marker::Model;
 
-/// Where the scalars of a row are: in the object itself, an array, or in a block of their own, those of a vector.
-pub trait Storage {
-    // The kind of the object, by that of its scalars.
-    ghost kind: { AnyScalarKind → AnyKind };
-
-    // The scalars of the object of a key.
-    ghost elements: { Directory → Key → AnyScalarKind → List ℤ };
-
-    // How many they are, or why there are none.
-    ghost count: { Directory → Key → AnyScalarKind → AnyResult ℕ AnyRefusal };
-
-    // What a change of the element at an index leaves, of the segment before and after.
-    ghost keeps: { SegmentState → SegmentState → Key → AnyScalarKind → ℕ → Type 0 };
-
-    /// Returns the kind of the object, by that of its scalars.
-    fn kind(of: ScalarKind) -> Kind
-        ensures { result ≡ kind of };
-
-    /// Returns the element at `index` of an object that was located.
-    ///
-    /// # Errors
-    ///
-    /// `OutOfRange` if there is none, `WrongKind` if the object is of another kind.
-    fn get<T: Scalar>(segment: &Segment, object: &Object, index: u64) -> Result<T, Refusal>
-        requires { IsObject object.now segment.now }
-        ensures reply { AnswersQueryOfKind segment.now (ByHandle object.now.handle) (kind T.kind)
-            (Get (ByHandle object.now.handle) index) (answer_of (λ x. Element T.kind (T.whole x)) result) }
-        ensures object { AnswersWith segment.now (λ d.
-            slice_get (elements d (ByHandle object.now.handle) T.kind) index) (element_of T.whole result) };
-
-    /// Returns how many elements an object has that was located.
-    ///
-    /// # Errors
-    ///
-    /// `WrongKind` if it is of another kind.
-    fn len<T: Scalar>(segment: &Segment, object: &Object) -> Result<u64, Refusal>
-        requires { IsObject object.now segment.now }
-        ensures result { AnswersWith segment.now (λ d. count d (ByHandle object.now.handle) T.kind) result }
-        ensures count { AnswersWith segment.now (λ d.
-            length (elements d (ByHandle object.now.handle) T.kind)) (number_or_none result) };
-
-    /// Makes a value the element at `index` of an object that was located.
-    ///
-    /// # Errors
-    ///
-    /// Those of `View::set`.
-    fn set<T: Scalar>(
-        segment: &mut Segment,
-        object: &Object,
-        index: u64,
-        value: T,
-    ) -> Result<(), Refusal>
-        requires { IsObject object.now segment.old }
-        ensures step { TakesStepOfKind segment.old segment.new (ByHandle object.now.handle) (kind T.kind)
-            (Set (ByHandle object.now.handle) index (literal_of T.kind (T.whole value))) (done_answer result) }
-        ensures refused { OnErr result (segment.new ≡ segment.old) }
-        ensures others { OnOk result (keeps segment.old segment.new (ByHandle object.now.handle) T.kind index) };
-}
-
-/// Scalars of a type, one after another.
-#[derive(Drop)]
-pub struct Slice<T, S> {
-    of: PhantomData<(T, S)>,
-}
-
-impl<T: Scalar, S: Storage> ViewContent for Slice<T, S> {
-    ghost kind = { S.kind T.kind };
-
-    fn kind() -> Kind {
-        S::kind(T::kind())
-    }
-}
-
-impl<'a, T: Scalar, S: Storage> View<'a, Slice<T, S>> {
-    ghost use Rattle.segment_views.specs.OfView.{SameView, key_of, segment_of};
-
-    /// Returns the element at `index`.
-    ///
-    /// # Errors
-    ///
-    /// `OutOfRange` if there is none, `WrongKind` if the object is of another kind.
-    pub fn get(&self, index: u64) -> Result<T, Refusal>
-        ensures { AnswersQueryOfKind (segment_of self.now) (key_of self.now) (S.kind T.kind)
-            (Get (key_of self.now) index) (answer_of (λ x. Element T.kind (T.whole x)) result) }
-    {
-        S::get::<T>(self.segment, &self.object, index)
-    }
-
-    /// Returns how many elements it has.
-    ///
-    /// Example: `let count = queue.len()?`.
-    ///
-    /// # Errors
-    ///
-    /// `WrongKind` if the object is of another kind.
-    pub fn len(&self) -> Result<u64, Refusal>
-        ensures { AnswersWith (segment_of self.now) (λ d. S.count d (key_of self.now) T.kind) result }
-    {
-        S::len::<T>(self.segment, &self.object)
-    }
-
-    /// Returns its elements, one after another. There are none if the object is of another kind.
+/// An array or a vector of scalars whose elements can be read one after another, or several at once.
+pub trait SliceReads<T: Scalar, S: SliceStorage> {
+    /// Returns its elements, one after another.
     ///
     /// Example: `for number in queue.iter()`.
-    pub fn iter(&self) -> SliceItems<'_, T, S>
-        ensures { result ≡ record { segment = segment_of self.now; key = key_of self.now; at = 0 } }
-    {
-        SliceItems::new(self.segment, self.object)
-    }
+    fn iter(&self) -> SliceItems<'_, T, S>;
 
-    /// Makes the values of a slice its first elements, as many as the slice has places.
+    /// Copies its first elements into `values`, as many as there is room for.
     ///
     /// Example: `queue.copy_to(&mut room)?`.
     ///
     /// # Errors
     ///
-    /// `WrongKind` if the object is of another kind, `OutOfRange` if the slice has more places than there are elements.
-    /// The slice does not change.
-    pub fn copy_to(&self, values: &mut [T]) -> Result<(), Refusal>
-        ensures read { AnswersWith (segment_of self.now) (λ d.
-            range_at d (key_of self.now) T.kind 0 (length values.old)) (read_into T.whole values.new result) }
-        ensures unchanged { OnErr result (values.new ≡ values.old) }
+    /// `OutOfRange` if `values` has more places than there are elements. `values` does not change.
+    fn copy_to(&self, values: &mut [T]) -> Result<(), Refusal>;
+}
+
+impl<'a, T: Scalar, S: SliceStorage> SliceReads<T, S> for Bound<'a, Slice<T, S>> {
+    fn iter(&self) -> SliceItems<'_, T, S>
+        ensures { result ≡ record { segment = self.now.segment.now; key = key_of self.now.object; at = 0 } }
     {
-        read_elements(self.segment, &self.object, 0, values)
+        let len = self.len();
+        SliceItems {
+            slice: *self,
+            at: 0,
+            len,
+        }
     }
 
-    /// Makes a value the element at `index`. Of an array no other byte changes.
-    ///
-    /// # Errors
-    ///
-    /// `ReadOnly` if the segment is open for reading. Otherwise `WrongKind` if the object is of another kind,
-    /// `OutOfRange` if it has no element there. Nothing changes.
-    pub fn set(&mut self, index: u64, value: T) -> Result<(), Refusal>
-        ensures unchanged { SameView self.old self.new }
-        ensures step { TakesStepOfKind (segment_of self.old) (segment_of self.new) (key_of self.old) (S.kind T.kind)
-            (Set (key_of self.old) index (literal_of T.kind (T.whole value))) (done_answer result) }
-        ensures refused { OnErr result (segment_of self.new ≡ segment_of self.old) }
-        ensures others { OnOk result (S.keeps (segment_of self.old) (segment_of self.new) (key_of self.old) T.kind
-            index) }
+    fn copy_to(&self, values: &mut [T]) -> Result<(), Refusal>
+        ensures read { AnswersWith self.now.segment.now (λ d.
+            range_at d (key_of self.now.object) T.kind 0 (length values.old)) (read_into T.whole values.new result) }
+        ensures unchanged { OnErr result (values.new ≡ values.old) }
     {
-        let _ = self.segment.as_bytes();
-        S::set::<T>(self.segment, &self.object, index, value)
+        read_elements(self.segment(), &self.object(), 0, values)
+    }
+}
+
+/// The elements of an object that was looked up, one after another.
+///
+/// Contracts see the segment, the object's key, and how many elements came. The content is a parameter, because a
+/// struct can hold an object that was looked up only with a bound on a parameter.
+#[derive(Drop)]
+pub struct BoundElements<'a, C: BoundContent> {
+    slice: Bound<'a, C>,
+    at: u64,
+    len: u64,
+}
+
+/// The scalars of an array or a vector, one after another.
+pub type SliceItems<'a, T, S> = BoundElements<'a, Slice<T, S>>;
+
+/// The elements of an array of scalars, one after another.
+pub type ArrayItems<'a, T> = SliceItems<'a, T, Fixed>;
+
+/// The elements of a vector of scalars, one after another.
+pub type VectorItems<'a, T> = SliceItems<'a, T, Growable>;
+
+impl<'a, C: BoundContent> Model for BoundElements<'a, C> {
+    ghost use Rattle.std.specs.Prelude.{length};
+    ghost use Rattle.segment_manager.specs.objects.BoundObjects.{key_of};
+    ghost use Rattle.segment_manager.specs.objects.ElementLists.{numbers_at};
+    ghost use Rattle.segment_manager.specs.State.{AnswersWith};
+    ghost use Rattle.segment_views.specs.Walked.{ElementWalk};
+
+    ghost Value = { ElementWalk };
+
+    ghost view = { λ w. record { segment = w.slice.segment.now; key = key_of w.slice.object; at = w.at } };
+
+    ghost invariant = { λ w. AnswersWith w.slice.segment.now (λ d.
+        length (numbers_at d (key_of w.slice.object) C.kind)) w.len };
+}
+
+impl<'a, T: Scalar, S: SliceStorage> Iterator for BoundElements<'a, Slice<T, S>> {
+    type Item = T;
+
+    ghost next_gives = { GoesOnElements (λ d key. numbers_at d key (S.kind T.kind)) T.whole };
+
+    ghost remaining = { λ w. at_most (18446744073709551615 - w.at) };
+
+    fn next(&mut self) -> Option<T> {
+        if self.at >= self.len {
+            return None;
+        }
+        match self.slice.get(self.at) {
+            Err(_) => None,
+            Ok(value) => {
+                self.at += 1;
+                Some(value)
+            }
+        }
     }
 }

@@ -1,151 +1,75 @@
-//! A vector of strings in a segment that may be changed, looked up once.
-ghost use Rattle.std.specs.Prelude.{◌≡◌, OnErr};
-ghost use Rattle.seg_types.specs.declared.kinds.Kind.TheVariants.{Strings as StringsKind};
-ghost use Rattle.seg_types.specs.Commands.{Erase, Get, Insert, Pop, Push, Quoted, Set};
-ghost use Rattle.segment_manager.specs.Answers.{TextElement};
-ghost use Rattle.segment_manager.specs.objects.ElementLists.{length_at_kind};
-ghost use Rattle.segment_manager.specs.State.{AnswersWith, AnswersQueryOfKind, TakesStepOfKind, UnchangedIfRefused};
-ghost use Rattle.segment_manager.specs.State.{answer_of};
-ghost use Rattle.segment_manager.specs.State.{done_answer, refusal_in};
-ghost use Rattle.segment_manager.specs.containers.TextLists.{LeadsOnOfKind};
+//! The texts of a vector of strings, one after another.
+ghost use Rattle.std.specs.Prelude.{◌≡◌, ◌-◌};
+ghost use Rattle.std.specs.Iterator.{at_most};
+ghost use Rattle.segment_manager.specs.objects.{BoundObjects.key_of, ElementLists.texts_at};
+ghost use Rattle.segment_views.specs.Walked.{GoesOnElements};
 
-use crate::elements::TextItems;
-use crate::views::{View, ViewContent};
-use seg_types::{Kind, Refusal};
+use segment_manager::{Bound, BoundContent, Strings, Texts};
+use std::marker::Model;
 
-/// Strings, one after another.
-#[derive(Drop)]
-pub struct Texts;
+/// A vector of strings whose texts can be read one after another.
+pub trait TextSequence {
+    /// Returns the bytes of its texts, one after another, borrowed from the segment.
+    ///
+    /// Example: `for line in lines.iter()`.
+    fn iter(&self) -> TextItems<'_>;
+}
 
-/// A vector of strings in a segment that may be changed, looked up once.
-pub type StringsView<'a> = View<'a, Texts>;
-
-impl ViewContent for Texts {
-    ghost kind = { StringsKind };
-
-    fn kind() -> Kind {
-        Kind::Strings
+impl<'a> TextSequence for Strings<'a> {
+    fn iter(&self) -> TextItems<'_>
+        ensures { result ≡ record { segment = self.now.segment.now; key = key_of self.now.object; at = 0 } }
+    {
+        let len = self.len();
+        TextItems {
+            texts: *self,
+            at: 0,
+            len,
+        }
     }
 }
 
-impl<'a> View<'a, Texts> {
-    ghost use Rattle.segment_views.specs.OfView.{SameView, key_of, segment_of};
+/// The texts of an object that was looked up, one after another. Contracts see the segment, the object's key, and how
+/// many texts came. The content is a parameter: only so a struct can hold an object that was looked up.
+#[derive(Drop)]
+pub struct BoundTexts<'a, C: BoundContent> {
+    texts: Bound<'a, C>,
+    at: u64,
+    len: u64,
+}
 
-    /// Returns the bytes of the string at `index`.
-    ///
-    /// # Errors
-    ///
-    /// `OutOfRange` if there is none, `WrongKind` if the object is no vector of strings.
-    pub fn get(&self, index: u64) -> Result<&[u8], Refusal>
-        ensures { AnswersQueryOfKind (segment_of self.now) (key_of self.now) StringsKind
-            (Get (key_of self.now) index) (answer_of (λ text. TextElement text.now) result) }
-    {
-        self.segment.texts_get(&self.object, index)
-    }
+/// The texts of a vector of strings, one after another.
+pub type TextItems<'a> = BoundTexts<'a, Texts>;
 
-    /// Returns how many strings it has.
-    ///
-    /// Example: `let count = lines.len()?`.
-    ///
-    /// # Errors
-    ///
-    /// `WrongKind` if the object is no vector of strings.
-    pub fn len(&self) -> Result<u64, Refusal>
-        ensures { AnswersWith (segment_of self.now) (λ d. length_at_kind d (key_of self.now) StringsKind) result }
-    {
-        self.segment.texts_len(&self.object)
-    }
+impl<'a, C: BoundContent> Model for BoundTexts<'a, C> {
+    ghost use Rattle.std.specs.Prelude.{length};
+    ghost use Rattle.segment_manager.specs.State.{AnswersWith};
+    ghost use Rattle.segment_manager.specs.objects.{BoundObjects.key_of, ElementLists.texts_at};
+    ghost use Rattle.segment_views.specs.Walked.{ElementWalk};
 
-    /// Returns the bytes of its strings, one after another, lent. There are none if the object is no vector of strings.
-    ///
-    /// Example: `for line in lines.iter()`.
-    pub fn iter(&self) -> TextItems<'_>
-        ensures { result ≡ record { segment = segment_of self.now; key = key_of self.now; at = 0 } }
-    {
-        TextItems::new(self.segment, self.object)
-    }
+    ghost Value = { ElementWalk };
 
-    /// Replaces the string at `index`.
-    ///
-    /// # Errors
-    ///
-    /// `ReadOnly` if the segment is open for reading. Otherwise `WrongKind` if the object is no vector of strings,
-    /// `OutOfRange` if it has no string there, `NoSpace` if the bytes have no fit. Nothing changes.
-    pub fn set(&mut self, index: u64, text: &[u8]) -> Result<(), Refusal>
-        ensures unchanged { SameView self.old self.new }
-        ensures step { TakesStepOfKind (segment_of self.old) (segment_of self.new) (key_of self.old) StringsKind
-            (Set (key_of self.old) index (Quoted text.now)) (done_answer result) }
-        ensures refused { OnErr result (segment_of self.new ≡ segment_of self.old) }
-    {
-        let _ = self.segment.as_bytes();
-        self.segment.texts_set(&self.object, index, text)
-    }
+    ghost view = { λ w. record { segment = w.texts.segment.now; key = key_of w.texts.object; at = w.at } };
 
-    /// Puts bytes after the last string. A full vector gets twice its places first, and at least 4.
-    ///
-    /// # Errors
-    ///
-    /// `ReadOnly` if the segment is open for reading. Otherwise `WrongKind` if the object is no vector of strings, and
-    /// nothing changes; `NoSpace` if its array cannot be regrown or the bytes have no fit: what the segment holds does
-    /// not change.
-    pub fn push(&mut self, text: &[u8]) -> Result<(), Refusal>
-        ensures unchanged { SameView self.old self.new }
-        ensures step { TakesStepOfKind (segment_of self.old) (segment_of self.new) (key_of self.old) StringsKind
-            (Push (key_of self.old) (Quoted text.now)) (done_answer result) }
-        ensures refused { UnchangedIfRefused (segment_of self.old) (segment_of self.new) result }
-    {
-        let _ = self.segment.as_bytes();
-        self.segment.texts_push(&self.object, text)
-    }
+    ghost invariant = { λ w. AnswersWith w.texts.segment.now (λ d. length (texts_at d (key_of w.texts.object))) w.len };
+}
 
-    /// Puts bytes where `index` other strings stand before them. Those from there on move up.
-    ///
-    /// # Errors
-    ///
-    /// `ReadOnly` if the segment is open for reading. Otherwise `WrongKind` if the object is no vector of strings,
-    /// `OutOfRange` if `index` is above the length, and nothing changes; `NoSpace` if its array cannot be regrown or
-    /// the bytes have no fit: what the segment holds does not change.
-    pub fn insert(&mut self, index: u64, text: &[u8]) -> Result<(), Refusal>
-        ensures unchanged { SameView self.old self.new }
-        ensures step { TakesStepOfKind (segment_of self.old) (segment_of self.new) (key_of self.old) StringsKind
-            (Insert (key_of self.old) index (Quoted text.now)) (done_answer result) }
-        ensures refused { UnchangedIfRefused (segment_of self.old) (segment_of self.new) result }
-    {
-        let _ = self.segment.as_bytes();
-        self.segment.texts_insert(&self.object, index, text)
-    }
+impl<'a> Iterator for BoundTexts<'a, Texts> {
+    type Item = &'a [u8];
 
-    /// Leaves out the string at `index`, and gives back its block. Those after it move down, and the places stay.
-    ///
-    /// # Errors
-    ///
-    /// `ReadOnly` if the segment is open for reading. Otherwise `WrongKind` if the object is no vector of strings,
-    /// `OutOfRange` if it has no string there. Nothing changes.
-    pub fn erase(&mut self, index: u64) -> Result<(), Refusal>
-        ensures unchanged { SameView self.old self.new }
-        ensures step { TakesStepOfKind (segment_of self.old) (segment_of self.new) (key_of self.old) StringsKind
-            (Erase (key_of self.old) index) (done_answer result) }
-        ensures refused { OnErr result (segment_of self.new ≡ segment_of self.old) }
-    {
-        let _ = self.segment.as_bytes();
-        self.segment.texts_erase(&self.object, index)
-    }
+    ghost next_gives = { GoesOnElements texts_at (λ text. text.now) };
 
-    /// Takes the last string out, and gives back its block. The places stay. What it was `get` tells before.
-    ///
-    /// Example: `lines.pop()?`.
-    ///
-    /// # Errors
-    ///
-    /// `ReadOnly` if the segment is open for reading. Otherwise `WrongKind` if the object is no vector of strings,
-    /// `OutOfRange` if it is empty. Nothing changes.
-    pub fn pop(&mut self) -> Result<(), Refusal>
-        ensures unchanged { SameView self.old self.new }
-        ensures step { LeadsOnOfKind (segment_of self.old) (segment_of self.new) (key_of self.old) StringsKind
-            (Pop (key_of self.old)) (refusal_in result) }
-        ensures refused { OnErr result (segment_of self.new ≡ segment_of self.old) }
-    {
-        let _ = self.segment.as_bytes();
-        self.segment.texts_pop(&self.object)
+    ghost remaining = { λ w. at_most (18446744073709551615 - w.at) };
+
+    fn next(&mut self) -> Option<&'a [u8]> {
+        if self.at >= self.len {
+            return None;
+        }
+        match self.texts.get(self.at) {
+            Err(_) => None,
+            Ok(text) => {
+                self.at += 1;
+                Some(text)
+            }
+        }
     }
 }

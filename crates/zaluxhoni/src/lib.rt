@@ -44,11 +44,11 @@ pub use seg_vector::{Place, SegVec};
 pub use segment_disk::{Disk, HostDisk, HostLock};
 pub use segment_file::{CommitFault, FileError, SegmentFile, check, migrate, read};
 pub use segment_manager::{
-    AnonymousInstance, ConstructKey, CreateError, CreateRefused, FindOrConstructKey, Instance,
-    Instances, Map, MapMut, Mode, Names, ObjectRef, Objects, RelocateRefused, Segment, TileInfo,
-    Tiles, UniqueInstance,
+    AnonymousInstance, Array, ArrayMut, ConstructKey, CreateError, CreateRefused,
+    FindOrConstructKey, Instance, Instances, Map, MapMut, Mode, Names, ObjectRef, Objects,
+    RelocateRefused, Segment, StringMut, StringRef, Strings, StringsMut, TileInfo, Tiles,
+    UniqueInstance, Vector, VectorMut,
 };
 pub use segment_views::{
-    ArrayItems, ArrayView, MapItems, MapRanges, StringView, StringsView, TextItems, VectorItems,
-    VectorView,
+    ArrayItems, MapItems, MapRanges, SliceReads, TextItems, TextSequence, VectorItems,
 };

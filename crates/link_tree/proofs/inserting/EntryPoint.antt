@@ -2,10 +2,10 @@
 use Rattle.std.proofs.Common.{◌≡◌, ℕ, Bool, true, false, not, Option, Some, None, [], ◌∷◌, refl, sym, ap, ◌∙◌, subst}
 use Rattle.std.proofs.Common.{inl, inr}
 use Rattle.std.proofs.lemmas.Bool.{true≢false, cases_Bool}
-use Rattle.link_tree.specs.Tree.{Cell, Tree, leaf, fork, nodes_of, AreCellsOf, IsSearchTree, is_sorted, has_black_root}
-use Rattle.link_tree.specs.Tree.{has_no_red_pair}
+use Rattle.link_tree.specs.Tree.{Cell, Tree, leaf, fork, root_of, nodes_of, AreCellsOf, IsTree, IsSearchTree}
+use Rattle.link_tree.specs.Tree.{is_sorted, has_black_root, has_no_red_pair}
 use Rattle.link_tree.specs.Nodes.{is_in, is_ordered_with, insert_in_order}
-use Rattle.link_tree.specs.Sides.{joined_at, side_of}
+use Rattle.link_tree.specs.Sides.{child_of, joined_at, side_of}
 use Rattle.link_tree.specs.Turning.{BecomesTree, rebalanced}
 use Rattle.link_tree.specs.Growing.{CanInsert, after_insert}
 use Rattle.link_tree.specs.Ways.{insert_point_of, entry_over}
@@ -13,12 +13,12 @@ use Rattle.link_tree.specs.declared.cursor.Side.{Side}
 use Rattle.link_tree.specs.declared.cursor.Side.TheVariants.{Left, Right}
 use Rattle.link_tree.proofs.trees.OrderedLists.{IsStrict}
 use Rattle.link_tree.proofs.inserting.Rotations.{outer_same}
-use Rattle.link_tree.proofs.trees.Linked.{IsChanged, some_same, none_some}
+use Rattle.link_tree.proofs.trees.Linked.{IsChanged, some_same, none_some, one_tree}
 use Rattle.link_tree.proofs.inserting.ChangePoint.{Begins, begins_deeper, begins_here, begun}
-use Rattle.link_tree.proofs.trees.OneSided.{joint_of, apart_of, in_near}
+use Rattle.link_tree.proofs.trees.OneSided.{joint_of, apart_of, in_near, child_of_cell}
 use Rattle.link_tree.proofs.trees.BlackHeights.{even_tree, IsEven, IsEvenFork, even_fork, under_red, rebalanced_red}
 use Rattle.link_tree.proofs.inserting.Insertion.{grown_even, after_insert-joined, nodes_of-after_insert, rises_put}
-use Rattle.link_tree.proofs.inserting.Insertion.{placed_apart}
+use Rattle.link_tree.proofs.inserting.Insertion.{placed_apart, Rebalances}
 use Rattle.link_tree.proofs.inserting.Insertion.{place_part, out_of}
 
 -- ---- balancing where there is no red pair
@@ -95,6 +95,8 @@ enters red n next (Some m) q e = deeper e
 pub record IsBegun (lt : ℕ → ℕ → Bool) (h : ℕ → Cell) (x : ℕ) (t : Tree) (p : ℕ) : Type 0 where
   pub begins : Begins lt h (x ∷ []) (after_insert lt x) (Some p) t
   pub even : has_no_red_pair (after_insert lt x t) ≡ true
+  -- so the node itself is not rebalanced
+  pub next : (u : Tree) → IsTree h (child_of (side_of (lt x p)) (h p)) u → has_no_red_pair (after_insert lt x u) ≡ true
 
 module _ {lt : ℕ → ℕ → Bool} (strict : IsStrict lt) (h : ℕ → Cell) (x : ℕ) where
   -- a node can be inserted below where the insertion begins
@@ -114,10 +116,18 @@ module _ {lt : ℕ → ℕ → Bool} (strict : IsStrict lt) (h : ℕ → Cell) (
       let even = (grown_even lt x near e.below e.left_even).even k in
       let is : after_insert lt x (joined_at side red near n far) ≡ joined_at side red (after_insert lt x near) n far =
       after_insert-joined lt x side red near n far s ∙ balance_same side red (after_insert lt x near) n far even in
+      let joint = joint_of h side red near n far w in
+      let there : IsTree h (child_of (side_of (lt x n)) (h n)) near = record {
+        root = ap (λ o. child_of o (h n)) s ∙ ap (λ c. child_of side c) joint.cell
+            ∙ child_of_cell side red (root_of near) (root_of far);
+        holds = joint.near_holds;
+      } in
       record {
         begins = begins_here strict h (x ∷ []) (after_insert lt x) side red near (after_insert lt x near) n far w o is;
         even = ap has_no_red_pair is ∙ no_pair_joined side red (after_insert lt x near) n far
             (λ q. absurd (true≢false (sym q ∙ r))) e.right_root even e.right_even.no_red_pair;
+        next = λ u v. subst (λ z. has_no_red_pair (after_insert lt x z) ≡ true)
+            (one_tree h (child_of (side_of (lt x n)) (h n)) near u there v) even;
       }
 
   begun_deeper : (side : Side) (red : Bool) (near : Tree) (n : ℕ) (far : Tree) (b q : ℕ)
@@ -136,6 +146,7 @@ module _ {lt : ℕ → ℕ → Bool} (strict : IsStrict lt) (h : ℕ → Cell) (
             g.begins;
         even = ap has_no_red_pair is ∙ no_pair_joined side red (after_insert lt x near) n far
             (λ r. g.begins.colour ∙ e.left_root r) e.right_root g.even e.right_even.no_red_pair;
+        next = g.next;
       }
 
   begun_over : (side : Side) (red : Bool) (near : Tree) (n : ℕ) (far : Tree) (b : ℕ) (q : ℕ)
@@ -179,6 +190,13 @@ module _ {lt : ℕ → ℕ → Bool} (strict : IsStrict lt) (h : ℕ → Cell) (
   pub begun_whole : (root : Option ℕ) (t : Tree) (p : ℕ) → IsSearchTree lt h root t
       → is_ordered_with lt x (nodes_of t) ≡ true → insert_point_of (λ m. not (lt x m)) t ≡ Some p → IsBegun lt h x t p
   begun_whole root t p s q e = starts t s.red_black.black.0 p s.tree.holds s.ordered q (even_tree t s.red_black) e
+
+  -- where the tree below has no red pair after the insertion, the node is not rebalanced
+  pub steady : (side : Side) (h2 : ℕ → Cell) (at : ℕ)
+      → ((u : Tree) → CanInsert lt h (child_of side (h at)) x u → has_no_red_pair (after_insert lt x u) ≡ true)
+      → Rebalances lt h h2 h2 side x at at
+  steady side h2 at even u far red w j o =
+      rw (balance_same side red (after_insert lt x u) at far (even u w)) (record { tree = j; frame = λ m i. refl })
 
   -- an insertion below its begin is an insertion into the whole tree
   pub entered : (lt' : ℕ → ℕ → Bool) (h1 h' : ℕ → Cell) (root : Option ℕ) (top : ℕ) (t : Tree) (p : ℕ)

@@ -5,8 +5,8 @@ use Rattle.std.specs.List.{list_all}
 use Rattle.std.proofs.lemmas.Bool.{true≢false, false≢true, and_parts, and_from, or_cases, or_from, or_parts, eqb-false}
 use Rattle.std.proofs.lemmas.Bool.{or_left, or_right, cases_Bool, eqb-true, ne_eqb, not-true, not_from_false}
 use Rattle.std.proofs.lemmas.Bool.{false_from_ne_true}
-use Rattle.link_tree.specs.Tree.{Cell, Tree, leaf, fork, root_of, nodes_of, IsSearchTree, is_sorted, has_black_root}
-use Rattle.link_tree.specs.Tree.{has_no_red_pair, has_black_height, IsRedBlack, height}
+use Rattle.link_tree.specs.Tree.{Cell, Tree, leaf, fork, root_of, nodes_of, IsTree, IsSearchTree, is_sorted}
+use Rattle.link_tree.specs.Tree.{has_black_root, has_no_red_pair, has_black_height, IsRedBlack, height}
 use Rattle.link_tree.specs.Nodes.{is_in, is_ordered_with, insert_in_order, with_left, with_right, with_red}
 use Rattle.link_tree.specs.Sides.{opposite, tree_on, child_of, with_child, joined_at, side_of}
 use Rattle.link_tree.specs.Turning.{BecomesTree, blackened, rebalanced, is_red_tree, balanced_outer, balanced_inner}
@@ -14,7 +14,7 @@ use Rattle.link_tree.specs.Growing.{CanInsert, after_insert}
 use Rattle.link_tree.specs.declared.cursor.Side.{Side}
 use Rattle.link_tree.specs.declared.cursor.Side.TheVariants.{Left, Right}
 use Rattle.link_tree.proofs.trees.OrderedLists.{IsStrict, Splits, rises_split, all_at, all_from, above_more}
-use Rattle.link_tree.proofs.trees.Linked.{IsChanged}
+use Rattle.link_tree.proofs.trees.Linked.{IsChanged, none_some}
 use Rattle.link_tree.proofs.inserting.ChangePoint.{blackened_whole}
 use Rattle.link_tree.proofs.trees.OneSided.{fork_joined, Makes, parted, cell_at, with_red-same, with_red-other}
 use Rattle.link_tree.proofs.trees.OneSided.{with_child-other, with_child-near, in_near, in_far, in_root, outside_all}
@@ -241,6 +241,15 @@ module _ (lt : ℕ → ℕ → Bool) (x : ℕ) where
 
 -- ---- cells
 
+-- the tree at a node is rebalanced, where a tree below the node grew
+abbrev pub Rebalances : (lt : ℕ → ℕ → Bool) (h h2 h3 : ℕ → Cell) (side : Side) (x at result : ℕ) → Type 0
+Rebalances lt h h2 h3 side x at result =
+    (u far : Tree) (red : Bool) → CanInsert lt h (child_of side (h at)) x u
+    → IsTree h2 (Some at) (joined_at side red (after_insert lt x u) at far)
+    → is_sorted lt (nodes_of (joined_at side red (after_insert lt x u) at far)) ≡ true
+    → BecomesTree h2 h3 (nodes_of (joined_at side red (after_insert lt x u) at far)) (Some result)
+    (rebalanced side (joined_at side red (after_insert lt x u) at far))
+
 module _ {lt : ℕ → ℕ → Bool} (strict : IsStrict lt) where
   -- a node that has its place beside another is another
   pub placed_apart : (x : ℕ) (ns : List ℕ) (m : ℕ) → is_ordered_with lt x ns ≡ true → is_in m ns ≡ true → m ≡ x → ⊥
@@ -260,7 +269,7 @@ module _ {lt : ℕ → ℕ → Bool} (strict : IsStrict lt) where
       → side_of (lt x at) ≡ side → CanInsert lt h (Some at) x t
       → ((u : Tree) → CanInsert lt h (child_of side (h at)) x u
       → BecomesTree h h1 (x ∷ nodes_of u) (Some child) (after_insert lt x u))
-      → h2 ≡ with_child side h1 at (Some child) → Makes lt h2 h3 (Some at) (Some result) (rebalanced side)
+      → h2 ≡ with_child side h1 at (Some child) → Rebalances lt h h2 h3 side x at result
       → BecomesTree h h3 (x ∷ nodes_of t) (Some result) (after_insert lt x t)
   grow_step side h h1 h2 h3 x at child result t before w below set balance =
       let o = parted strict side h at t w.tree w.ordered in
@@ -271,7 +280,9 @@ module _ {lt : ℕ → ℕ → Bool} (strict : IsStrict lt) where
       let placed : is_ordered_with lt x (nodes_of old) ≡ true = rw o.is at w.placed in
       let near_placed = place_part lt x (nodes_of o.near) (nodes_of old) (in_near side red o.near at o.far) placed in
       let new = after_insert lt x o.near in
-      let u = below o.near (record { tree = o.near_tree; ordered = apart.near_rises; placed = near_placed }) in
+      let can : CanInsert lt h (child_of side (h at)) x o.near =
+      record { tree = o.near_tree; ordered = apart.near_rises; placed = near_placed } in
+      let u = below o.near can in
       let new_nodes = nodes_of-after_insert strict x o.near apart.near_rises in
       let at_x = placed_apart x (nodes_of old) at placed (in_root side red o.near at o.far) in
       let far_x : (m : ℕ) → is_in m (nodes_of o.far) ≡ true → m ≡ x → ⊥ = λ m i. placed_apart x (nodes_of old) m placed
@@ -294,7 +305,7 @@ module _ {lt : ℕ → ℕ → Bool} (strict : IsStrict lt) where
       ∙ nodes_of-after_insert strict x old order in
       let new_order : is_sorted lt (nodes_of (joined_at side red new at o.far)) ≡ true = ap (is_sorted lt) grown_nodes
       ∙ rises_put lt strict.transitive x (nodes_of old) order placed in
-      let turned = balance (joined_at side red new at o.far) grafted new_order in
+      let turned = balance o.near o.far red can grafted new_order in
       record {
         tree = rw is_grown turned.tree;
         frame = λ m i.
@@ -306,9 +317,9 @@ module _ {lt : ℕ → ℕ → Bool} (strict : IsStrict lt) where
       }
 
 -- a node alone
-pub lay_step : (h h1 h2 h3 : ℕ → Cell) (n : ℕ) → h1 ≡ with_left h n None → h2 ≡ with_right h1 n None
-    → h3 ≡ with_red h2 n true → BecomesTree h h3 (n ∷ []) (Some n) (fork true leaf n leaf)
-lay_step h h1 h2 h3 n e1 e2 e3 =
+pub lay_step : (h h1 h2 h3 : ℕ → Cell) (n : ℕ) (red : Bool) → h1 ≡ with_left h n None → h2 ≡ with_right h1 n None
+    → h3 ≡ with_red h2 n red → BecomesTree h h3 (n ∷ []) (Some n) (fork red leaf n leaf)
+lay_step h h1 h2 h3 n red e1 e2 e3 =
     let c1 : h1 n ≡ cell_at Left (h n).red None (h n).right = ap (λ (f : ℕ → Cell). f n) e1
     ∙ with_child-near Left h n (h n).red (h n).left (h n).right None refl in
     let c2 : h2 n ≡ cell_at Right (h n).red None None = ap (λ (f : ℕ → Cell). f n) e2
@@ -317,17 +328,49 @@ lay_step h h1 h2 h3 n e1 e2 e3 =
       tree = record {
         root = refl;
         holds = (
-          ap (λ (f : ℕ → Cell). f n) e3 ∙ with_red-same h2 n (h n).red true None None c2,
+          ap (λ (f : ℕ → Cell). f n) e3 ∙ with_red-same h2 n (h n).red red None None c2,
           tt,
           tt,
         );
       };
       frame = λ m i.
           let d = (outside_x m n [] i).0 in
-          ap (λ (f : ℕ → Cell). f m) e3 ∙ with_red-other h2 n m true d
+          ap (λ (f : ℕ → Cell). f m) e3 ∙ with_red-other h2 n m red d
           ∙ ap (λ (f : ℕ → Cell). f m) e2 ∙ with_child-other Right h1 n m None d
           ∙ ap (λ (f : ℕ → Cell). f m) e1 ∙ with_child-other Left h n m None d;
     }
+
+-- a red node alone is the tree that an insertion behind no link makes
+pub leaf_grown : (lt : ℕ → ℕ → Bool) (h h1 : ℕ → Cell) (x : ℕ) (link : Option ℕ) → link ≡ None
+    → BecomesTree h h1 (x ∷ []) (Some x) (fork true leaf x leaf) → (u : Tree) → CanInsert lt h link x u
+    → BecomesTree h h1 (x ∷ nodes_of u) (Some x) (after_insert lt x u)
+leaf_grown lt h h1 x link e b leaf w = b
+leaf_grown lt h h1 x link e b (fork red l n r) w = absurd (none_some n (sym e ∙ w.tree.root))
+
+-- it has no red pair
+pub leaf_even : (lt : ℕ → ℕ → Bool) (h : ℕ → Cell) (x : ℕ) (link : Option ℕ) → link ≡ None → (u : Tree)
+    → CanInsert lt h link x u → has_no_red_pair (after_insert lt x u) ≡ true
+leaf_even lt h x link e leaf w = refl
+leaf_even lt h x link e (fork red l n r) w = absurd (none_some n (sym e ∙ w.tree.root))
+
+-- a black node alone is the tree after an insertion into an empty one
+pub laid : {lt : ℕ → ℕ → Bool} (lt' : ℕ → ℕ → Bool) (h h1 h' : ℕ → Cell) (root : Option ℕ) (x : ℕ) (t : Tree)
+    → root ≡ None → IsSearchTree lt h root t → BecomesTree h h1 (x ∷ []) (Some x) (fork false leaf x leaf) → h' ≡ h1
+    → IsChanged lt' h h' (Some x) (x ∷ nodes_of t) (insert_in_order lt x (nodes_of t))
+laid lt' h h1 h' root x leaf e k b eh =
+    rw eh (record {
+      tree = (
+        fork false leaf x leaf,
+        record {
+          tree = b.tree;
+          ordered = refl;
+          red_black = record { root = refl; no_red_pair = refl; black = (1, refl) };
+        },
+        refl,
+      );
+      frame = b.frame;
+    })
+laid lt' h h1 h' root x (fork red l n r) e k b eh = absurd (none_some n (sym e ∙ k.tree.root))
 
 -- the tree below a node, where another node is to go
 pub record GrowsBelow (lt : ℕ → ℕ → Bool) (h : ℕ → Cell) (side : Side) (at x : ℕ) (t : Tree) : Type 0 where

@@ -1,11 +1,11 @@
 -- The end of the path of a search: an insertion begins there if the last node is black.
 use Rattle.std.proofs.Common.{◌≡◌, ℕ, ◌≤◌, Bool, true, false, Option, Some, None, arith, refl, sym, ap, ◌∙◌, inl, inr}
-use Rattle.std.specs.Prelude.{◌⊎◌, MatchOption, if◌then◌else◌}
+use Rattle.std.specs.Prelude.{◌⊎◌, MatchOption}
 use Rattle.std.proofs.lemmas.Bool.{cases_Bool}
 use Rattle.link_tree.specs.Tree.{Cell, Tree, leaf, fork, nodes_of, height, AreCellsOf, IsTree}
 use Rattle.link_tree.specs.Nodes.{is_in}
 use Rattle.link_tree.specs.Searching.{noted, path_length}
-use Rattle.link_tree.specs.Ways.{EndsPath, insert_point_of, entry_over, reached}
+use Rattle.link_tree.specs.Ways.{EndsPath, insert_point_of, entry_over, last_on, reached}
 use Rattle.link_tree.specs.declared.change_points.Reached.{Reached}
 use Rattle.link_tree.proofs.trees.OrderedLists.{in_left, in_middle, in_right}
 use Rattle.link_tree.proofs.trees.Linked.{none_some, some_same}
@@ -18,13 +18,8 @@ path_low before (fork red l n r) =
     let right = path_low before r in
     elim (cases_Bool (before n)) [ inl e ↦ rw e (omega arith) | inr e ↦ rw e (omega arith) ]
 
--- the last node of the path, or the one above the tree
-abbrev last_on : (ℕ → Bool) → Option ℕ → Tree → Option ℕ
-last_on before above leaf = above
-last_on before above (fork red l n r) = if before n then last_on before (Some n) r else
-    last_on before (Some n) l
-
-last_noted : (before : ℕ → Bool) (folded : Reached) (t : Tree)
+-- the search notes the last node of its path
+pub last_noted : (before : ℕ → Bool) (folded : Reached) (t : Tree)
     → (noted reached before folded t).last ≡ last_on before folded.last t
 last_noted before folded leaf = refl
 last_noted before folded (fork red l n r) =

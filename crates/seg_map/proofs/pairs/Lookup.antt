@@ -157,7 +157,7 @@ module _ {K V : Type 0} {k : Plain K} {v : Plain V} {now c : WindowState} {at : 
       → SearchSteps k v c.bytes at 0 0 taken
   few_searched most = few most
 
-  -- the nodes of a search and the state are those of the map
+  -- a search has the map's nodes, and the map's state
   nodes_are : (ps : List (Pair K V)) (s : HoldsMap k v c.bytes at.handle at.at ps)
       → ◌≡◌ {A = List ℕ × WindowState} (own, now) (nodes_of s.map.tree.tree, c)
   nodes_are ps s = λ i. (o.nodes ps s i, o.same i)

@@ -23,11 +23,6 @@ bool rattle_find_block(const uintptr_t *words, size_t count, struct rattle_block
 /* Is called when a block ends, unless it is null. If the block is about to be freed, its bytes may be lost already. */
 extern void (*_Atomic rattle_ends)(const struct rattle_block *block, bool is_freed);
 
-/* How many calls fill each block that they allocate, and free it soon. Meanwhile the system is asked for long pages for
-   blocks of 4 MiB or more: their first bytes take fewer faults then. A block of another thread may get some too. */
-extern unsigned _Atomic rattle_fillers;
-void rattle_ask_long_pages(void *at, size_t len);
-
 /* Hold the list of blocks, and let it go, around a fork. */
 void rattle_hold_blocks(void);
 void rattle_let_blocks_go(void);

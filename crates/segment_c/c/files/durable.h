@@ -45,8 +45,8 @@ static zx_code synced(zx_code code) { return code == ZX_FILE_UNSYNCED ? (zx_code
 /* A longer buffer is freed after a commit, and so are pages that are kept no more, if they take more memory. */
 enum { LONG_BUFFER = 1 << 24 };
 
-/* Returns memory for a page that is to be kept. Pages that a checkpoint gave back are used again, since the system clears
-   each page that it gives. */
+/* Returns memory for a kept page. Takes first the pages that a checkpoint gave back, since the system clears each page
+   that it gives. */
 static uint8_t *new_page(struct commits *commits) {
     struct idle_page *page = commits->idle;
     if (!page) return malloc(sizeof *page);

@@ -141,7 +141,6 @@ static void unmap_all(struct zx_held_file *held) { munmap(held->at, held->room ?
    behind. */
 static void in_child(void) {
     forks++;
-    rattle_fillers = 0;
     for (struct zx_held_file *each = all_held; each; each = each->next) {
         close_all(each);
         if (each->at) unmap_all(each);

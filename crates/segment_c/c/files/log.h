@@ -66,33 +66,26 @@ static zx_code read_log(zx_file *file, int from, struct image *log) {
 
 /* What a file stands for with its log. */
 struct recovered {
-    struct image image; /* without bytes if the log has no record: then FILE is the image */
-    uint64_t base;      /* the fingerprint of the file */
-    uint64_t end;       /* where the records of the log end */
+    uint64_t len;   /* of the image */
+    uint64_t end;   /* where the records of the log end; 0 if it has none: then FILE is the image */
+    uint64_t base;  /* the fingerprint of the file */
+    uint64_t after; /* the fingerprint of the image */
 };
 
-/* Makes the image of a log that has records. */
-static zx_code recover_image(const uint8_t *image, uint64_t len, const struct image *log, struct recovered *made) {
-    uint64_t room = len + log->len < LARGEST ? len + log->len : LARGEST;
-    made->image = room_for(room);
-    if (!made->image.bytes) return ZX_NO_MEMORY;
-    rattle_ask_long_pages(made->image.bytes, room);
-    rattle_fillers++;
-    zx_code code = zx_log_recover(image, len, log->bytes, log->len, made->image.bytes, room, &made->image.len,
-                                  &made->end, &made->base);
-    rattle_fillers--;
-    bool has_size = made->end == 0 || (made->image.len > 0 && made->image.len % 16 == 0);
-    if (code == ZX_SHORT_BUFFER || (code == ZX_DONE && !has_size)) code = ZX_FILE_LOG_FOREIGN;
-    if (code != ZX_DONE) free(made->image.bytes);
-    return code;
+/* Finds how much room the image of a log takes while its records are applied to a file of `len` bytes. No file's log
+   makes an image that is too long. */
+static zx_code find_room(zx_file *file, uint64_t len, const struct image *log, uint64_t *room) {
+    *room = log->bytes ? zx_log_most(len, log->bytes, log->len) : len;
+    return *room <= LARGEST ? (zx_code)ZX_DONE : faulty(file, ZX_FILE_LOG_FOREIGN, ESTALE);
 }
 
-/* Makes the image that a file stands for with its log. The log of another file is refused. */
-static zx_code replay(zx_file *file, const uint8_t *image, uint64_t len, const struct image *log,
+/* Applies a log in place to `image`, which has a copy of the file's bytes and zeros behind it. The log of another file is
+   refused. */
+static zx_code replay(zx_file *file, const struct image *base, const struct image *log, const struct image *image,
                       struct recovered *made) {
-    *made = (struct recovered){ .end = 0 };
-    if (log->len < GATE || log->bytes[0] != 1) return ZX_DONE;
-    zx_code code = recover_image(image, len, log, made);
-    if (code != ZX_DONE) made->image.bytes = NULL;
+    zx_code code = zx_log_recover(base->bytes, base->len, log->bytes, log->len, image->bytes, image->len, &made->len,
+                                  &made->end, &made->base, &made->after);
+    bool has_size = made->end == 0 || (made->len > 0 && made->len % 16 == 0);
+    if (code == ZX_DONE && !has_size) code = ZX_FILE_LOG_FOREIGN;
     return code == ZX_FILE_LOG_FOREIGN ? faulty(file, code, ESTALE) : code;
 }

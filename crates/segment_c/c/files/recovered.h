@@ -1,82 +1,88 @@
 /* A part of files.c: files that are opened with a log beside them. */
 
 /* Maps a file to read all of it. Null if that fails. */
-static uint8_t *map_to_read(int file, uint64_t len) {
-    uint8_t *at = mmap(NULL, len, PROT_READ, MAP_SHARED | MAP_POPULATE, file, 0);
+static uint8_t *map_to_read(int file, uint64_t len, int flags) {
+    uint8_t *at = mmap(NULL, len, PROT_READ, MAP_SHARED | flags, file, 0);
     return at == MAP_FAILED ? NULL : at;
 }
 
-/* Applies the open log of a held file to the bytes of the file, and stores the resulting image in `made`. Nobody
-   else writes to the file or to the log. */
-static zx_code recover(zx_file *file, const struct zx_held_file *held, uint64_t len, struct recovered *made) {
+/* Maps the log of a held file to read it. Leaves `log` without bytes if there is no log, or its first gate is shut, so
+   that it has no record. */
+static zx_code map_log(zx_file *file, const struct zx_held_file *held, struct image *log) {
     struct stat found;
     uint8_t gate = 0;
-    *made = (struct recovered){ .end = 0 };
+    *log = (struct image){ NULL, 0 };
+    if (held->log < 0) return ZX_DONE;
     if (fstat(held->log, &found) != 0 || read_at(held->log, &gate, 1, 0) < 0) return fault(file);
     if (gate != 1) return ZX_DONE;
-    struct image log = { map_to_read(held->log, (uint64_t)found.st_size), (uint64_t)found.st_size };
-    uint8_t *base = log.bytes ? map_to_read(held->file, len) : NULL;
-    zx_code code = base ? replay(file, base, len, &log, made) : fault(file);
-    if (base) munmap(base, len);
-    if (log.bytes) munmap(log.bytes, log.len);
+    log->len = (uint64_t)found.st_size;
+    log->bytes = map_to_read(held->log, log->len, MAP_POPULATE);
+    return log->bytes ? (zx_code)ZX_DONE : fault(file);
+}
+
+static void unmap_image(const struct image *image) {
+    if (image->bytes) munmap(image->bytes, image->len);
+}
+
+/* Applies a log to the private mapping of a file of `len` bytes. The file does not change. */
+static zx_code replay_mapped(zx_file *file, struct zx_held_file *held, uint64_t len, const struct image *log,
+                             struct recovered *made) {
+    const struct image base = { map_to_read(held->file, len, 0), len }, image = { held->at, held->len };
+    if (!base.bytes) return fault(file);
+    // behind the end of the file its last page has what others wrote there, if they mapped it
+    if (held->len > len) memset(held->at + len, 0, pages_of(len) * PAGE - len);
+    // else each 16 pages are a fault of their own
+    (void)madvise(held->at, len, MADV_POPULATE_READ);
+    zx_code code = replay(file, &base, log, &image, made);
+    unmap_image(&base);
+    if (code == ZX_DONE) held->len = made->len;
     return code;
 }
 
-/* Keeps a page of the recovered image as committed. `old` is the same page in the file, and `len` the number of bytes
-   that the file has of that page. */
-static bool keep_recovered(struct commits *commits, const struct image *image, uint64_t page, const uint8_t *old,
-                           size_t len) {
-    commits->kept[page] = new_page(commits);
-    if (!commits->kept[page]) return errno = 0, false;
-    keep_page(commits, image->bytes, image->len, page);
-    commits->after -= share_of(page, old, len);
-    commits->after += share_of(page, commits->kept[page], page_len(image->len, page));
-    return true;
-}
-
-/* Copies the recovered image into the mapping of a file of `len` bytes. Writes only the pages that differ, because each
-   written page becomes a private copy. For a file with commits, also keeps each page whose bytes or length differ.
-   Returns false if there is no memory (errno is 0), or if the file can't be read. */
-static bool lay_over(const struct zx_held_file *held, uint64_t len, const struct image *image) {
-    struct commits *commits = held->commits;
+/* Whether a page of a mapping has what the file has, behind whose end are zeros. */
+static bool is_as_in_file(const struct zx_held_file *held, uint64_t page) {
     uint8_t bytes[PAGE];
-    for (uint64_t page = 0; page < pages_of(image->len); page++) {
-        uint8_t *at = held->at + page * PAGE;
-        const uint8_t *now = image->bytes + page * PAGE;
-        size_t before = page_len(len, page), after = page_len(image->len, page);
-        bool is_same = memcmp(at, now, after) == 0;
-        if (is_same && before == after) continue;
-        if (commits && !keep_recovered(commits, image, page, at, before)) return false;
-        if (!is_same) memcpy(at, now, after);
-    }
-    for (uint64_t page = pages_of(image->len); commits && page < pages_of(len); page++) {
-        if (!read_page(held->file, page, page_len(len, page), bytes)) return false;
-        commits->after -= share_of(page, bytes, page_len(len, page));
-    }
-    return true;
+    return read_page(held->file, page, PAGE, bytes) && memcmp(bytes, held->at + page * PAGE, PAGE) == 0;
 }
 
-/* Maps a file privately, and applies the records of its log to the mapping. */
-static zx_code map_recovered(zx_file *file, struct zx_held_file *held, uint64_t len, uint64_t room,
-                             struct recovered *made) {
-    zx_code code = recover(file, held, len, made);
-    if (code != ZX_DONE) return code;
-    uint64_t now = made->end > 0 ? made->image.len : len;
-    if (now > room) room = now;
-    if (!map_private(held, len, now, room) && !map_private(held, len, now, pages_of(now) * PAGE)) code = fault(file);
-    if (held->commits) held->commits->base = held->commits->after = made->base;
-    if (code == ZX_DONE && made->end > 0 && !lay_over(held, len, &made->image)) {
-        code = errno ? fault(file) : (zx_code)ZX_NO_MEMORY;
-        unmap_listed(held);
+/* Keeps the pages that the log changed as committed. Returns false if there is no memory. */
+static bool keep_own(const struct zx_held_file *held) {
+    struct commits *commits = held->commits;
+    uint64_t pages = pages_of(held->len);
+    uint8_t *own = malloc(pages);
+    bool is_told = own && find_own(held->at, pages, own), is_kept = own;
+    for (uint64_t page = 0; is_kept && (page = next_noted(own, pages, page)) < pages; page++) {
+        if (!is_told && is_as_in_file(held, page)) continue;
+        commits->kept[page] = new_page(commits);
+        is_kept = commits->kept[page];
+        if (is_kept) keep_page(commits, held->at, held->len, page);
     }
-    free(made->image.bytes);
+    free(own);
+    return is_kept;
+}
+
+/* Maps a file privately, reserves `room` bytes of addresses, and applies the records of its log to the mapping. */
+static zx_code map_recovered(zx_file *file, struct zx_held_file *held, uint64_t len, uint64_t room,
+                             const struct image *log, struct recovered *made) {
+    uint64_t most;
+    *made = (struct recovered){ .end = 0 };
+    zx_code code = find_room(file, len, log, &most);
+    if (code != ZX_DONE) return code;
+    if (room < most) room = most;
+    if (!map_private(held, len, most, room) && !map_private(held, len, most, pages_of(most) * PAGE)) return fault(file);
+    if (log->bytes) code = replay_mapped(file, held, len, log, made);
+    if (code == ZX_DONE && held->commits && made->end > 0 && !keep_own(held)) code = ZX_NO_MEMORY;
+    if (code != ZX_DONE) unmap_listed(held);
     return code;
 }
 
 /* Maps a file that is only read, applies the records of its log to the mapping, and opens the segment. */
 static zx_code read_recovered(zx_file *file, struct zx_held_file *held, uint64_t len, uint32_t how) {
+    struct image log;
     struct recovered made;
-    zx_code code = map_recovered(file, held, len, 0, &made);
+    zx_code code = map_log(file, held, &log);
+    if (code == ZX_DONE) code = map_recovered(file, held, len, 0, &log, &made);
+    unmap_image(&log);
     if (code != ZX_DONE) return code;
     if (how == ZX_READ) mprotect(held->at, held->len, PROT_READ);
     code = attach(file, held, held->len, how);
@@ -87,21 +93,21 @@ static zx_code read_recovered(zx_file *file, struct zx_held_file *held, uint64_t
 
 /* Maps a file and begins its commits. Applies the records of its log to the mapping, if there is a log. */
 static zx_code begin_commits(zx_file *file, struct zx_held_file *held, uint64_t len) {
-    struct recovered made = { .end = 0 };
-    uint64_t room = pages_of(LARGEST) * PAGE;
+    struct image log = { NULL, 0 };
+    struct recovered made;
     void *commits = mmap(NULL, commits_size(), PROT_READ | PROT_WRITE, MAP_PRIVATE | MAP_ANONYMOUS, -1, 0);
     if (commits == MAP_FAILED) return ZX_NO_MEMORY;
     held->commits = commits;
     held->commits->written = (uint8_t *)commits + notes_at();
     zx_code code = open_log(file, held);
+    if (code == ZX_DONE) code = map_log(file, held, &log);
+    if (code == ZX_DONE) code = map_recovered(file, held, len, pages_of(LARGEST) * PAGE, &log, &made);
+    unmap_image(&log);
     if (code != ZX_DONE) return code;
-    if (held->log < 0)
-        return map_private(held, len, len, room) || map_private(held, len, len, pages_of(len) * PAGE) ? (zx_code)ZX_DONE
-                                                                                                  : fault(file);
-    code = map_recovered(file, held, len, room, &made);
-    if (code != ZX_DONE) return code;
+    held->commits->base = made.base;
+    held->commits->after = made.after;
     held->commits->end = made.end;
-    held->commits->is_left = true;
+    held->commits->is_left = held->log >= 0;
     held->commits->is_marked = made.end > 0;
     return ZX_DONE;
 }
@@ -144,14 +150,18 @@ static zx_code open_folder(zx_file *file, struct zx_held_file *held) {
 
 /* Applies the records of the log to the file: replaces the file, and empties the log. */
 static zx_code replace_recovered(zx_file *file, struct zx_held_file *held, uint64_t len) {
+    struct image log = { NULL, 0 };
     struct recovered made = { .end = 0 };
-    zx_code code = len > 0 ? recover(file, held, len, &made) : (zx_code)ZX_DONE;
+    zx_code code = len > 0 ? map_log(file, held, &log) : (zx_code)ZX_DONE;
+    if (code == ZX_DONE && log.bytes) code = map_recovered(file, held, len, 0, &log, &made);
     if (code == ZX_DONE && made.end > 0) {
+        const struct image image = { held->at, made.len };
         code = renew_log(file, held, made.end);
-        if (code == ZX_DONE) code = replace(file, held, &made.image);
+        if (code == ZX_DONE) code = replace(file, held, &image);
         if (code == ZX_DONE) code = empty_log(file, held);
     }
-    free(made.image.bytes);
+    if (held->at) unmap_listed(held);
+    unmap_image(&log);
     return code;
 }
 
@@ -176,27 +186,38 @@ static zx_code drop_log(zx_file *file, struct zx_held_file *held) {
 
 /* ---- a file that is read while another process may write it */
 
+/* Applies `log` to a copy of the bytes that were read of a file, and opens the segment. */
+static zx_code open_replayed(zx_file *file, const struct image *base, const struct image *log, uint32_t how) {
+    struct recovered made = { .end = 0 };
+    struct image image;
+    zx_code code = find_room(file, base->len, log, &image.len);
+    if (code != ZX_DONE) return code;
+    image.bytes = calloc(image.len ? image.len : 1, 1);
+    if (!image.bytes) return ZX_NO_MEMORY;
+    memcpy(image.bytes, base->bytes, base->len);
+    code = replay(file, base, log, &image, &made);
+    if (code == ZX_DONE) {
+        uint64_t capacity = (made.len + 15) / 16 * 16;
+        code = zx_open_explained(&file->segment, image.bytes, made.len, capacity, how, &file->place);
+        code = explained(file, code, made.len);
+    }
+    free(image.bytes);
+    return code;
+}
+
 /* Reads a file, applies `log` to it and opens the segment. The caller read the log before the file. Returns
    ZX_FILE_LOG_FOREIGN if another process changed the file between the two reads. */
 static zx_code read_with_log(zx_file *file, int from, const struct image *log, uint32_t how) {
     struct stat found;
-    struct recovered made;
     if (fstat(from, &found) != 0) return fault(file);
     zx_code code = judge(file, &found);
     if (code != ZX_DONE) return code;
-    struct image image = room_for((uint64_t)found.st_size);
-    ssize_t len = image.bytes ? read_at(from, image.bytes, image.len, 0) : -1;
-    code = !image.bytes ? (zx_code)ZX_NO_MEMORY
-           : len < 0    ? fault(file)
-                        : replay(file, image.bytes, (uint64_t)len, log, &made);
-    if (code == ZX_DONE) {
-        const struct image *whole = made.end > 0 ? &made.image : &image;
-        uint64_t capacity = (whole->len + 15) / 16 * 16;
-        code = zx_open_explained(&file->segment, whole->bytes, whole->len, capacity, how, &file->place);
-        code = explained(file, code, whole->len);
-        free(made.image.bytes);
-    }
-    free(image.bytes);
+    struct image base = room_for((uint64_t)found.st_size);
+    if (!base.bytes) return ZX_NO_MEMORY;
+    ssize_t len = read_at(from, base.bytes, base.len, 0);
+    if (len >= 0) base.len = (uint64_t)len;
+    code = len < 0 ? fault(file) : open_replayed(file, &base, log, how);
+    free(base.bytes);
     return code;
 }
 

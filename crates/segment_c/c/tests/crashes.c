@@ -330,13 +330,20 @@ static void judge_state(void) {
     zx_file none = ZX_CLOSED_FILE;
     states++;
     if (!cut_power()) return say("no file is there");
-    const struct image log = { state_log.at, has_log ? state_log.len : 0 };
-    zx_code code = replay(&none, state_file.at, state_file.len, &log, &made);
+    const struct image log = { has_log ? state_log.at : NULL, has_log ? state_log.len : 0 };
+    const struct image base = { state_file.at, state_file.len };
+    struct image image;
+    made.len = base.len;
+    zx_code code = find_room(&none, base.len, &log, &image.len);
     if (code != ZX_DONE) return say(zx_message(code));
-    bool is_right = made.end > 0 ? is_allowed(made.image.bytes, made.image.len)
-                                 : is_allowed(state_file.at, state_file.len);
-    if (!is_right) say("another image");
-    free(made.image.bytes);
+    image.bytes = (calloc)(image.len + 1, 1);
+    if (!image.bytes) abort();
+    memcpy(image.bytes, base.bytes, base.len);
+    if (log.bytes) code = replay(&none, &base, &log, &image, &made);
+    if (code != ZX_DONE) say(zx_message(code));
+    else if (!is_allowed(image.bytes, made.len)) say("another image");
+    else if (made.len < image.len && image.bytes[made.len] != 0) say("no zeros behind the image");
+    (free)(image.bytes);
 }
 
 /* How many states are built at each moment. */

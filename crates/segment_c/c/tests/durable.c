@@ -75,6 +75,40 @@ static void a_fork(const char *folder) {
     DONE(zx_file_close(&file));
 }
 
+/* Opens the file in a mode, and compares its size and n. */
+static void has_size(uint32_t mode, uint64_t size) {
+    zx_file file = ZX_CLOSED_FILE;
+    uint64_t is = 0;
+    DONE(zx_file_open(&file, path, mode, 0));
+    DONE(zx_size(&file.segment, &is));
+    IS(is, size);
+    IS(number(&file, "n"), 1);
+    zx_file_discard(&file);
+}
+
+/* A commit writes no zeros of a longer image, so that the log may be much shorter than the image becomes. */
+static void a_longer_image(const char *folder) {
+    zx_file file = ZX_CLOSED_FILE;
+    const uint64_t size = 8192 + (1 << 24);
+    make(&file, folder, 8192);
+    DONE(zx_file_grow(&file, 1 << 24));
+    DONE(zx_file_commit(&file));
+    zx_file_discard(&file);
+    has_size(ZX_OPEN_ONLY | ZX_DURABLE, size);
+    has_size(ZX_OPEN_READ_ONLY, size);
+    has_size(ZX_OPEN_READ_ONLY | ZX_MAPPED, size);
+    DONE(zx_file_open(&file, path, ZX_OPEN_ONLY | ZX_DURABLE, 0));
+    DONE(zx_file_shrink(&file));
+    DONE(zx_file_commit(&file));
+    uint64_t least = 0;
+    DONE(zx_size(&file.segment, &least));
+    IS(least < 8192, true);
+    zx_file_discard(&file);
+    has_size(ZX_OPEN_READ_ONLY, least);
+    has_size(ZX_OPEN_ONLY, least);
+    unlink(path);
+}
+
 /* A child commits, with checkpoints, and this process reads: n and m are always equal, and never become smaller. It reads
    until it has seen commits of the child, which may begin late. */
 static void a_reader(const char *folder) {
@@ -215,6 +249,7 @@ static void a_full_disk(const char *small) {
 int main(int count, char **words) {
     if (count < 2) return 2;
     a_fork(words[1]);
+    a_longer_image(words[1]);
     a_reader(words[1]);
     another_file(words[1]);
     a_hard_link(words[1]);

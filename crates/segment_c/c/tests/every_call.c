@@ -934,6 +934,70 @@ static void looked_up_once(void) {
     IS(zx_bool_at(&s, &truths, 0, &truth), ZX_CLOSED);
 }
 
+/* Pushes the number into the one segment by its handle alone, and into the other one by a key and a value. */
+static void push_into_both(zx_segment *s, zx_segment *twin, uint64_t handle, int64_t number) {
+    const zx_key key = zx_handle(handle);
+    const zx_value value = zx_i64(number);
+    const uint64_t changes = s->changes;
+    IS(zx_push_i64(s, handle, number), zx_push(twin, &key, &value));
+    IS(s->changes - changes, 1);
+    IS(s->shared, false);
+}
+
+/* Asks where the elements of an object are, by its handle alone and by a key. */
+static void view_both(zx_segment *s, uint64_t handle) {
+    const zx_key key = zx_handle(handle);
+    zx_elements own, other;
+    memset(&own, 7, sizeof own);
+    memset(&other, 7, sizeof other);
+    IS(zx_view_of(s, handle, &own), zx_view(s, &key, &other));
+    IS(memcmp(&own, &other, sizeof own), 0);
+}
+
+/* Any number can be the handle of a push and of a view, and they do what the calls by a key do. */
+static void by_handle_alone(void) {
+    static uint8_t image[4096], own[4096], other[4096];
+    const int64_t numbers[] = { 5, 300, -1, INT64_MIN, INT64_MAX };
+    const zx_key vector = zx_name("vector");
+    zx_segment s = ZX_CLOSED_HANDLE, twin = ZX_CLOSED_HANDLE;
+    zx_elements there;
+    IS(zx_push_i64(&s, 48, 5), ZX_CLOSED);
+    IS(zx_view_of(&s, 48, &there), ZX_CLOSED);
+    IS(s.changes, 0);
+    DONE(zx_create(&s, sizeof image));
+    const int64_t of_i64 = made_vector(&s, vector, zx_i64s(numbers, 3));
+    IS(made_vector(&s, zx_name("bytes"), zx_u8s(bytes("ab"), 2)) > 0, true);
+    IS(made_string(&s, zx_name("text"), "red") > 0, true);
+    IS(made_map(&s, zx_name("map"), ZX_I64, ZX_I64) > 0, true);
+    IS(made(&s, zx_name("one"), 1, zx_i64(1)) > 0, true);
+    DONE(zx_save(&s, image, sizeof image));
+    for (uint32_t mode = ZX_WRITE; mode <= ZX_COPY_ON_WRITE; mode++) {
+        DONE(zx_open(&s, image, sizeof image, sizeof image, mode));
+        DONE(zx_open(&twin, image, sizeof image, sizeof image, mode));
+        for (uint64_t handle = 0; handle <= sizeof image; handle++) {
+            view_both(&s, handle);
+            for (int i = 0; i < 10; i++) push_into_both(&s, &twin, handle, numbers[i % 5]);
+            view_both(&s, handle);
+        }
+        push_into_both(&s, &twin, UINT64_MAX, 5);
+        view_both(&s, UINT64_MAX);
+        push_into_both(&s, &twin, (uint64_t)of_i64 + ((uint64_t)1 << 32), 5);
+        if (mode != ZX_READ) {
+            DONE(zx_view_mut(&s, &vector, &there));
+            IS(s.shared, true);
+            push_into_both(&s, &twin, (uint64_t)of_i64, 6);
+            IS(number_at(&s, vector, 13, ZX_I64), 6);
+            for (int i = 0; i < 600; i++) push_into_both(&s, &twin, (uint64_t)of_i64, i);
+            IS(zx_push_i64(&s, (uint64_t)of_i64, 1), ZX_NO_SPACE);
+        }
+        DONE(zx_save(&s, own, sizeof own));
+        DONE(zx_save(&twin, other, sizeof other));
+        IS(memcmp(own, other, sizeof own), 0);
+        zx_close(&twin);
+    }
+    zx_close(&s);
+}
+
 /* What was looked up is found again after each kind of change, or the read says why not. */
 static void looked_up_again(void) {
     static uint8_t image[1024];
@@ -1445,15 +1509,19 @@ static void bytes_of_logs(void) {
     DONE(zx_log_body(payload, 60, log + 4096, sizeof log - 4096));
     IS(log[4096], 60);
     uint8_t found[64] = { 0 };
-    uint64_t len = 0, end = 0, mark = 0;
-    DONE(zx_log_recover(base, 32, log, sizeof log, found, 64, &len, &end, &mark));
+    uint64_t len = 0, end = 0, mark = 0, after = 0;
+    memcpy(found, base, 32);
+    IS(zx_log_most(32, log, sizeof log) == 32 && zx_log_most(40, log, sizeof log) == 40, true);
+    DONE(zx_log_recover(base, 32, log, sizeof log, found, 64, &len, &end, &mark, &after));
     IS(len == 32 && end == 4096 + 8 + 60 && mark == zx_log_fingerprint(base, 32), true);
-    IS(memcmp(found, image, 32), 0);
-    IS(zx_log_recover(base, 32, log, sizeof log, found, 31, &len, &end, &mark), ZX_SHORT_BUFFER);
+    IS(after == zx_log_fingerprint(image, 32) && memcmp(found, image, 32) == 0, true);
+    IS(zx_log_recover(base, 32, log, sizeof log, found, 31, &len, &end, &mark, &after), ZX_SHORT_BUFFER);
     base[1] = 1;
-    IS(zx_log_recover(base, 32, log, sizeof log, found, 64, &len, &end, &mark), ZX_FILE_LOG_FOREIGN);
+    memcpy(found, base, 32);
+    IS(zx_log_recover(base, 32, log, sizeof log, found, 64, &len, &end, &mark, &after), ZX_FILE_LOG_FOREIGN);
+    IS(memcmp(found, base, 32), 0);
     log[0] = 0;
-    DONE(zx_log_recover(base, 32, log, sizeof log, found, 64, &len, &end, &mark));
+    DONE(zx_log_recover(base, 32, log, sizeof log, found, 64, &len, &end, &mark, &after));
     IS(end == 0 && memcmp(found, base, 32) == 0, true);
 }
 
@@ -1606,6 +1674,7 @@ int main(int count, char **arguments) {
     in_lent_memory();
     views();
     looked_up_once();
+    by_handle_alone();
     looked_up_again();
     transactions();
     names_from();

@@ -36,6 +36,8 @@ WRONG = [
      "    memset(commits->written, 0, pages);\n    commits->is_untold = !find_written(held, pages, commits->written);"),
     ("what an opening found is taken for synced", "durable.h",
      "    if (held->commits->is_synced) return ZX_DONE;", "    if (held->commits) return ZX_DONE;"),
+    ("the pages that a log changed are not kept", "recovered.h",
+     "made->end > 0 && !keep_own(held)) code = ZX_NO_MEMORY;", "len == 0) code = ZX_NO_MEMORY;"),
     ("the folder of a new log is not synced", "durable.h",
      "        zx_code code = sync_name(file, held);\n        if (code == ZX_DONE) return code;\n    }\n    zx_code code = fault(file);\n"
      "    held->state = state;",

@@ -133,6 +133,7 @@ edited_by_overwrites n zero text = none_overwrites (HasLen n)
 edited_by_overwrites n (suc m) text =
     edit_on_overwrites n (λ rest. edited_by m rest) (λ t. edited_by_overwrites n m t) (next_edit text)
 
+-- edits keep the length
 pub length-edited : (text x : List ℕ) → length (edited text x) ≡ length x
 unfolding edited
 length-edited text x = length-edited_by (length text) text x

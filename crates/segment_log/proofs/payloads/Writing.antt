@@ -5,11 +5,10 @@ use Rattle.std.proofs.Common.{arith, append_assoc, length-append, length-drop, t
 use Rattle.std.proofs.Common.{Bool, Option, Some, None, cond, nat_lt, nat_le, ◌&&◌, ◌==◌, true, false}
 use Rattle.std.proofs.lemmas.List.{append-nil, take_at, drop_at, take_all, drop_all, take-take, drop-drop, drop-take}
 use Rattle.std.proofs.lemmas.List.{take-append-le, length-take, length-take-le}
-use Rattle.std.proofs.lemmas.List.{replicate-append-replicate}
 use Rattle.std.proofs.lemmas.Bool.{cases_lt, le-ltb, lt-ltb, le-leb, eq-eqb}
 use Rattle.segment_log.specs.Records.{number_of, number_bytes, zeros}
 use Rattle.segment_log.specs.Edits.{put, resized, next_edit, edit_text, edited, applied, WritesTo}
-use Rattle.segment_log.proofs.records.Pieces.{length-zeros}
+use Rattle.segment_log.proofs.records.Pieces.{length-zeros, zeros_split}
 use Rattle.segment_log.proofs.records.Reading.{length-number, number_back}
 use Rattle.segment_log.proofs.edits.Reading.{edited_some, edited_none}
 use Rattle.segment_log.specs.Tags.{tag_text, tag_in, tag_of, base_of, after_of, names_base, names_image}
@@ -56,10 +55,6 @@ edit_back at bytes tail small few =
     ((λ i. drop (number i) (sixteen i)) ∙ drop_at bytes tail (length bytes) refl)
 
 -- ---- zeros behind the edits
-
-zeros_split : (n m : ℕ) → zeros (n + m) ≡ zeros n ++ zeros m
-unfolding zeros
-zeros_split n m = sym (replicate-append-replicate n m 0)
 
 eight_zeros : number_bytes 0 ≡ zeros 8
 unfolding number_bytes zeros

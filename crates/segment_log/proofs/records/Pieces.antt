@@ -2,7 +2,7 @@
 use Rattle.std.proofs.Common.{◌≡◌, ℕ, zero, suc, ◌+◌, ◌<◌, ◌≤◌, List, ◌++◌, length, take, drop, get_or, refl, sym, ◌∙◌}
 use Rattle.std.proofs.Common.{ap, arith, append_assoc, length-append}
 use Rattle.std.proofs.lemmas.List.{take_at, drop_at, length-take-le, length-replicate, take-take, get_or-take}
-use Rattle.std.proofs.lemmas.List.{get_or-drop}
+use Rattle.std.proofs.lemmas.List.{get_or-drop, replicate-append-replicate}
 use Rattle.segment_log.specs.Crashes.{WritesAt}
 use Rattle.segment_log.specs.Records.{zeros}
 
@@ -59,6 +59,11 @@ get_dropped n l = let z : n + 0 ≡ n = omega arith in get_or-drop n l 0 0 ∙ a
 pub length-zeros : (n : ℕ) → length (zeros n) ≡ n
 unfolding zeros
 length-zeros n = length-replicate n 0
+
+-- zeros are zeros, and others behind them
+pub zeros_split : (n m : ℕ) → zeros (n + m) ≡ zeros n ++ zeros m
+unfolding zeros
+zeros_split n m = sym (replicate-append-replicate n m 0)
 
 -- the first of some zeros is 0
 pub zero_first : (n : ℕ) (rest : List ℕ) → 0 < n → get_or (zeros n ++ rest) 0 0 ≡ 0

@@ -117,6 +117,7 @@ fits_some id log payload rest is =
     let split = recovered_some 4096 log payload rest is in
     ap (fits id) split ∙ ap (λ ps. names_after id ps) (sym split)
 
+-- an image that fits a log with a record is named by it
 pub named_of_fits : (id : ℕ) (ps : List (List ℕ)) → fits id ps ≡ true → ps ≢ [] → names_after id ps ≡ true
 named_of_fits id [] is some = absurd (some refl)
 named_of_fits id (p ∷ ps) is some = is
@@ -124,3 +125,11 @@ named_of_fits id (p ∷ ps) is some = is
 pub fits_of_named : (id : ℕ) (ps : List (List ℕ)) → (ps ≢ [] → names_after id ps ≡ true) → fits id ps ≡ true
 fits_of_named id [] named = refl
 fits_of_named id (p ∷ ps) named = named (λ is. cc is)
+
+-- an image that does not fit is none that the log makes
+pub no_fit : (id after : ℕ) (ps : List (List ℕ)) → after ≡ id → fits after ps ≡ false
+    → (ps ≢ [] → names_after id ps ≡ true) → ⊥
+no_fit id after ps is not named =
+    let yes : fits id ps ≡ true = fits_of_named id ps named in
+    let no : fits id ps ≡ false = ap (λ n. fits n ps) (sym is) ∙ not in
+    absurd (cc (yes, no))

@@ -6,13 +6,16 @@ use Rattle.segment_manager.proofs.Common.{Map, same_kind, AnswersWith, AnswersQu
 use Rattle.segment_manager.proofs.Common.{SegmentState}
 use Rattle.segment_manager.proofs.Common.{IsLocated, Located, Object, NumberPair, kind_of, told_of, answer_of_map}
 use Rattle.segment_manager.proofs.Common.{if◌then◌else◌, pairs_of, UnchangedWhere, object_at, is_changing, Refused}
-use Rattle.segment_manager.proofs.Common.{refl}
+use Rattle.segment_manager.proofs.Common.{exit-is, refusal_in, refusal_of}
+use Rattle.segment_manager.proofs.Common.{refl, true, ℕ, OnErr, IsNotToChange, LeadsOnOfKind, answer_of}
+use Rattle.std.specs.Prelude.{IsErrAnd}
 use Rattle.segment_manager.proofs.Common.{false, Directory, DenotesCurrent, int_lt, pair_at, pairs_at}
 use Rattle.segment_manager.proofs.containers.Refilled.{finds-no_container}
-use Rattle.segment_manager.proofs.containers.StorageSteps.{step_of_kind-reply}
+use Rattle.segment_manager.proofs.containers.{StorageSteps.step_of_kind-reply, ToChange.not-changed}
 use Rattle.segment_manager.proofs.directory.CommandSteps.{open-reading}
-use Rattle.segment_manager.proofs.objects.Locating.{reply_of_kind-by_key, same-object, step_of_kind-by_key, told-by_key}
-use Rattle.segment_manager.specs.Keeping.{ChangesValue, LacksPair}
+use Rattle.segment_manager.proofs.objects.Locating.{leads_on-by_key, reply_of_kind-by_key, same-object}
+use Rattle.segment_manager.proofs.objects.Locating.{step_of_kind-by_key, told-by_key}
+use Rattle.segment_manager.specs.Keeping.{ChangesValue, LacksFirst, LacksPair}
 use Rattle.segment_manager.specs.Laws.{at_key}
 use Rattle.segment_manager.specs.objects.BoundObjects.{LacksKind, key_of}
 
@@ -31,6 +34,12 @@ module _ {s t : SegmentState} (same : t ≡ s) {key : Key} {o : Located} (l : Is
     | None ↦ Err NotFound
     | Some p ↦ if same_kind (Map k v) (kind_of p.value) then told_of say p.value else Err WrongKind
   ]) r (subst (λ u. AnswersWith u (λ d. answer_of_map d (key_of o) k v say) r) same a)
+
+  -- a function of the object
+  pub says : {A : Type 0} (say : Directory → Option Object → A) {r : A}
+      → AnswersWith t (λ d. say d (object_at d (key_of o))) r → AnswersWith s (λ d. say d (object_at d key)) r
+  says say {r} a = told-by_key s key o l say r
+      (subst (λ (u : SegmentState). AnswersWith u (λ d. say d (object_at d (key_of o))) r) same a)
 
   pairs-same : (d : Directory) → DenotesCurrent s.cut.bytes d → (x : ℤ)
       → pair_at int_lt (pairs_at d key) x ≡ pair_at int_lt (pairs_at d (key_of o)) x
@@ -54,6 +63,62 @@ module _ {s t : SegmentState} (same : t ≡ s) {key : Key} {o : Located} (l : Is
     pub keeps : (x : ℤ) → UnchangedWhere t new (LacksPair (key_of o) x) → UnchangedWhere s new (LacksPair key x)
     keeps x m = λ d h e. subst (λ u. UnchangedWhere u new (LacksPair (key_of o) x)) same m d h
         (sym (pairs-same d h x) ∙ e)
+
+  module _ {new last : SegmentState} (ends : new ≡ last) where
+    -- a property of the segment before and after the call
+    pub from-to : (R : SegmentState → SegmentState → Type 0) → R t new → R s last
+    from-to R r = subst (λ u. R u last) same (subst (R t) ends r)
+
+    -- a step of a call that answers nothing
+    pub steps : (kind : Kind) {answer : Answer} (c : Command)
+        → TakesStepOfKind t new (key_of o) kind (at_key (key_of o) c) answer
+        → TakesStepOfKind s last key kind (at_key key c) answer
+    steps kind {answer} c m =
+        subst (λ u. TakesStepOfKind s u key kind (at_key key c) answer) ends (takes new kind c m)
+
+    -- a step of a call that answers less
+    pub leads : (kind : Kind) {why : Option Refusal} (c : Command)
+        → LeadsOnOfKind t new (key_of o) kind (at_key (key_of o) c) why
+        → LeadsOnOfKind s last key kind (at_key key c) why
+    leads kind {why} c m = leads_on-by_key s key o l last kind c why
+        (from-to (λ u v. LeadsOnOfKind u v (key_of o) kind (at_key (key_of o) c) why) m)
+
+    -- that nothing changes without a fit for the first block
+    pub first-kept : (bytes : List ℕ) → UnchangedWhere t new (LacksFirst (key_of o) bytes)
+        → UnchangedWhere s last (LacksFirst key bytes)
+    first-kept bytes m = λ d h e. from-to (λ u v. UnchangedWhere u v (LacksFirst (key_of o) bytes)) m d h (record {
+      object = e.object;
+      is = sym (same-object s key o l d h) ∙ e.is;
+      texts = e.texts;
+      table = e.table;
+      value = e.value;
+      none = e.none;
+    })
+
+-- a refused look-up leaves the segment
+pub rests : {V : Type 0} {s last : SegmentState} {why : Refusal} {r : Result V Refusal} → r ≡ Err why
+    → OnErr r (last ≡ s) → last ≡ s
+rests {s = s} {last} was rest = subst (λ r. OnErr r (last ≡ s)) was rest
+
+-- and then the call is refused
+pub not-bound : {V R : Type 0} {s last : SegmentState} {key : Key} {kind : Kind} {why : Refusal} {r : Result V Refusal}
+    (says : R → Answer) (c : Command) (q : Result R Refusal) → is_changing c ≡ true
+    → IsErrAnd q (λ e. e ≡ why) → IsNotToChange s key kind why → r ≡ Err why
+    → OnErr r (last ≡ s) → TakesStepOfKind s last key kind c (answer_of says q)
+not-bound {s = s} {key = key} {kind} says c q changing is not was rest =
+    subst (λ (u : SegmentState). TakesStepOfKind s u key kind c (answer_of says q)) (sym (rests was rest))
+    (not-changed says c q refl is changing not)
+
+-- the same for a call that answers less
+pub not-led : {V R : Type 0} {s last : SegmentState} {key : Key} {kind : Kind} {why : Refusal} {r : Result V Refusal}
+    (c : Command) (q : Result R Refusal) → is_changing c ≡ true → IsErrAnd q (λ e. e ≡ why)
+    → IsNotToChange s key kind why → r ≡ Err why → OnErr r (last ≡ s) → LeadsOnOfKind s last key kind c (refusal_in q)
+not-led {R = R} {s} {last} {key} {kind} {why} c q changing is not was rest =
+    let m : TakesStepOfKind s last key kind c (Refused why) =
+    subst (λ (u : SegmentState). TakesStepOfKind s u key kind c (Refused why)) (sym (rests was rest))
+    (not.refused c changing) in
+    rw (exit-is q why is)
+    (record { stays = m.stays; answers = λ d l. ap refusal_of (m.answers d l); denotes = m.denotes })
 
 -- without an object of the kind, each call that reads it has this answer
 pub lacks-replies : (s : SegmentState) (key : Key) (kind : Kind) (why : Refusal) (c : Command) → is_changing c ≡ false

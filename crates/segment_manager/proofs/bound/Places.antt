@@ -1,9 +1,13 @@
 -- The place of the container of a bound object, and that the object stays bound.
-use Rattle.segment_manager.proofs.Common.{◌≡◌, sym, ap, true, Bool, Ok, Result, Refusal, Place}
+use Rattle.segment_manager.proofs.Common.{◌≡◌, sym, subst, ap, ◌∙◌, true, false, Bool, Option, Ok, Result, Refusal}
+use Rattle.segment_manager.proofs.Common.{IsSomeText, IsTextsContainer, LeadsOnOfKind, Place, String, StringsKind}
+use Rattle.segment_manager.proofs.Common.{WindowState, is_read_only}
 use Rattle.segment_manager.proofs.Common.{Kind, code_of, same_kind, Key, Command, Answer, container_at, AnswersWith}
 use Rattle.segment_manager.proofs.Common.{SegmentState, IsSegment, TakesStepOfKind, is_elementwise, Located}
 use Rattle.segment_manager.proofs.Common.{Err, WrongKind, if◌then◌else◌, eq-eqb}
-use Rattle.segment_manager.proofs.{containers.Safely.contains, objects.StayingObjects.objects_stay}
+use Rattle.segment_manager.proofs.containers.{Safely.contains, TextAnswers.text-standing, TextListCalls.texts-standing}
+use Rattle.segment_manager.proofs.objects.StayingObjects.{leads_on-stay, objects_stay}
+use Rattle.segment_manager.specs.containers.ToChange.{IsChangeableContainer}
 use Rattle.segment_manager.specs.objects.BoundObjects.{IsBound, container_of, key_of}
 
 module _ {kind : Kind} {o : Located} {s : SegmentState} (b : IsBound kind o s) where
@@ -22,3 +26,53 @@ module _ {kind : Kind} {o : Located} {s : SegmentState} (b : IsBound kind o s) w
       → IsSegment s.cut.bytes → is_elementwise c ≡ true → TakesStepOfKind s new key at c answer → IsBound kind o new
   bound-stays new key at c answer g e m =
       record { there = objects_stay.of_kind s new key at c answer g e m o b.there; of_kind = b.of_kind }
+
+  -- as the call names the place
+  pub container-here : {p : Place} → p ≡ container_of o → AnswersWith s (λ d. container_at d (key_of o) kind) (Ok p)
+  container-here is = subst (λ q. AnswersWith s (λ d. container_at d (key_of o) kind) (Ok q)) (sym is) container-bound
+
+  module _ (writing : is_read_only s.mode ≡ false) where
+    -- it can be changed there
+    pub to-change : {p : Place} → p ≡ container_of o → IsChangeableContainer s (key_of o) kind p
+    to-change is = record { writing = writing; at = container-here is }
+
+    -- after a call on its elements, it is bound in the segment that the call changed
+    module _ {t : SegmentState} (view : t ≡ s) (g : IsSegment t.cut.bytes) where
+      still-writing : is_read_only t.mode ≡ false
+      still-writing = ap (λ (u : SegmentState). is_read_only u.mode) view ∙ writing
+
+      pub still-bound : (new : WindowState) (key : Key) (at : Kind) (c : Command) (answer : Answer)
+          → is_elementwise c ≡ true → TakesStepOfKind s (record t { cut = new }) key at c answer → record {
+            live : IsBound kind o (record t { cut = new });
+            writing : is_read_only t.mode ≡ false;
+          }
+      still-bound new key at c answer e m = record {
+        live = bound-stays (record t { cut = new }) key at c answer
+            (subst (λ (u : SegmentState). IsSegment u.cut.bytes) view g) e m;
+        writing = still-writing;
+      }
+
+      -- the same for a call that answers less
+      pub still-led : (new : WindowState) (key : Key) (at : Kind) (c : Command) (why : Option Refusal)
+          → is_elementwise c ≡ true → LeadsOnOfKind s (record t { cut = new }) key at c why → record {
+            live : IsBound kind o (record t { cut = new });
+            writing : is_read_only t.mode ≡ false;
+          }
+      still-led new key at c why e m = record {
+        live = record {
+          there = leads_on-stay s (record t { cut = new }) key at c why
+              (subst (λ (u : SegmentState). IsSegment u.cut.bytes) view g) e m o b.there;
+          of_kind = b.of_kind;
+        };
+        writing = still-writing;
+      }
+
+module _ {s t : SegmentState} (view : s ≡ t) (g : IsSegment s.cut.bytes) {o : Located} {p : Place}
+    (is : p ≡ container_of o) where
+  -- a bound string is at its place
+  pub text-here : IsBound String o t → IsSomeText s.cut.bytes p
+  text-here b = text-standing view (key_of o) p g (container-here b is)
+
+  -- and a bound vector of strings
+  pub texts-here : IsBound StringsKind o t → IsTextsContainer s.cut.bytes p
+  texts-here b = texts-standing view (key_of o) p g (container-here b is)

@@ -80,12 +80,7 @@ module _ (d : Directory) (key : Key) (o : Object) (k : ScalarKind) (zs : List �
       → effect d (asked.Assign key ls) ≡ Refuse r
   assign-refused ls r g = assign-literals ls ∙ ap (λ r. with r assign_with) g
 
-  -- one element is read, and replaced
-  pub get-plan : (i : ℕ) (r : Option ℤ) → slice_get zs i ≡ r
-      → effect d (asked.Get key i) ≡ with (of_slice r) (λ z. Reply (Element k z) d)
-  get-plan i r g =
-      by-value d key o _ (λ o v. step.get d v i) e f ∙ ap (λ r. with (of_slice r) (λ z. Reply (Element k z) d)) g
-
+  -- one element is replaced
   abbrev pub set_with : ℕ → ℤ → ℤ → Plan
   set_with i z old = Reply Done (changed d o (Elements k (slice_set zs i z) t))
 

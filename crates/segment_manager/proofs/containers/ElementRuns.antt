@@ -202,15 +202,17 @@ module _ (c : WindowState) (d : Directory) (key : Key) (k : Denotes current c.by
 -- ---- the object of a key
 
 -- the object has the run
-record HasRun (d : Directory) (key : Key) (run : ElementRun) : Type 0 where
-  object : Object
-  is : object_at d key ≡ Some object
-  run_is : run_of object ≡ Ok run
+pub record HasRun (d : Directory) (key : Key) (run : ElementRun) : Type 0 where
+  pub object : Object
+  pub is : object_at d key ≡ Some object
+  pub run_is : run_of object ≡ Ok run
 
 abbrev run_if : Option Object → Result ElementRun Refusal
 run_if r = elim r as (λ _. Result ElementRun Refusal) [ None ↦ Err NotFound | Some o ↦ run_of o ]
 
-has-if : {d : Directory} {key : Key} {run : ElementRun} (r : Option Object) → object_at d key ≡ r → Ok run ≡ run_if r
+-- the object whose run was told
+pub has-if : {d : Directory} {key : Key} {run : ElementRun} (r : Option Object) → object_at d key ≡ r
+    → Ok run ≡ run_if r
     → HasRun d key run
 has-if None e f = absurd (cc)
 has-if (Some o) e f = record { object = o; is = e; run_is = sym f }
@@ -266,7 +268,9 @@ pub record IsElementAt (m : Memory) (at : ℕ) (k : ScalarKind) (z : ℤ) : Type
   pub value : is_value k z ≡ true
   pub spelled_there : read m at (size_of k) ≡ spelling k z
 
-element-in : (m : Memory) (at : ℕ) (k : ScalarKind) (zs : List ℤ) (i : ℕ) {z : ℤ} → IsTrue (list_all (is_value k) zs)
+-- an element is in its place
+pub element-in : (m : Memory) (at : ℕ) (k : ScalarKind) (zs : List ℤ) (i : ℕ) {z : ℤ}
+    → IsTrue (list_all (is_value k) zs)
     → HasBytesAt m at (spelled k zs) → slice_get zs i ≡ Some z → IsElementAt m (at + size_of k * i) k z
 element-in m at k zs i {z} good h e = record {
   value = all-at (is_value k) zs i good e;

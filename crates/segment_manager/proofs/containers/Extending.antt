@@ -15,7 +15,7 @@ use Rattle.segment_manager.proofs.containers.Refilled.{by-kind, not-Err, placed,
 
 -- ---- the plan
 
-abbrev of_object : Directory → ScalarKind → List ℤ → Object → Plan
+abbrev pub of_object : Directory → ScalarKind → List ℤ → Object → Plan
 of_object d k more o = if same_kind (Vector k) (kind_of o.value) then extend d o o.value more else Refuse WrongKind
 
 module _ (mode : Mode) (d : Directory) (key : Key) (k : ScalarKind) (more : List ℤ) where

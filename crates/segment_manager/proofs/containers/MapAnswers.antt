@@ -13,7 +13,10 @@ use Rattle.segment_manager.proofs.containers.PairNumbers.{finds-item, finds-last
 use Rattle.segment_manager.proofs.containers.Safely.{answered, Answered}
 use Rattle.best_fit.specs.declared.places.Place.{Place}
 use Rattle.seg_map.specs.{Changing.CountsPairs, Places.last_pair}
-use Rattle.std.proofs.Common.{ℕ, length}
+use Rattle.std.proofs.Common.{ℕ, length, map}
+use Rattle.segment_manager.specs.containers.Maps.{count_read, number_item, pairs_read}
+use Rattle.seg_map.specs.Listing.{ReadsPairs}
+use Rattle.segment_manager.proofs.containers.PairNumbers.{counts-past, reads-past}
 use Rattle.segment_manager.specs.{containers.Maps.IsPairs, containers.Walks.pair_past}
 
 -- a key that is a value is a number of its kind
@@ -56,6 +59,24 @@ module _ {K V : Type 0} {k v : ScalarKind} {kp : Plain K} {vp : Plain V} {kw : K
   past-there above said is x r each =
       subst (λ (b : Bool). AnswersWith t (λ d. answer_of_map d key k v (pair_past b (kw x))) (Ok (numbers_in kw vw r)))
       (sym is) (told-there (pair_past above (kw x)) r (finds-item kl vl s.cut.bytes q.handle q.at above x r each))
+
+  module _ (past : Bool) (x : K) (places : ℕ) (list list' : List (K × V)) (n : ℕ)
+      (each : ReadsPairs kp vp s.cut.bytes q past x places list list' n) where
+    -- the number of pairs that are read is the directory's
+    pub count-there : AnswersWith t (λ d. answer_of_map d key k v (count_read past (kw x) places)) (Ok n)
+    count-there = subst (λ (u : SegmentState).
+        AnswersWith u (λ d. answer_of_map d key k v (count_read past (kw x) places)) (Ok n)) view
+        (map-told s key k v q b found-there (count_read past (kw x) places) n
+        (counts-past kl vl s.cut.bytes q.handle q.at past x places list list' n each))
+
+    -- the pairs that are read are the directory's
+    pub list-there : AnswersWith t (λ d. answer_of_map d key k v (pairs_read past (kw x) places
+        (map (number_item kw vw) list))) (Ok (map (number_item kw vw) list'))
+    list-there = subst (λ (u : SegmentState). AnswersWith u (λ d. answer_of_map d key k v (pairs_read past (kw x) places
+        (map (number_item kw vw) list))) (Ok (map (number_item kw vw) list'))) view
+        (map-told s key k v q b found-there (pairs_read past (kw x) places (map (number_item kw vw) list))
+        (map (number_item kw vw) list')
+        (reads-past kl vl s.cut.bytes q.handle q.at past x places list list' n each))
 
   -- the pair before a key is the directory's
   pub back-there : (reached : Bool) (x : K) (r : Option (K × V)) → FindsItemBefore kp vp s.cut.bytes q.handle q.at

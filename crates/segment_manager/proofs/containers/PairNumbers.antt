@@ -11,6 +11,12 @@ use common.{LiveSet, live_of, size_of, pair_at, HoldsMap, IsPairIn, item_of, if�
 use common.{IsNumberPairAt, is_number_pair, FindsItemBefore, nodes_of_pairs, length}
 use Rattle.raw_region.proofs.Facts.{first, second}
 use mathlib.Core.List.{reverse}
+use Rattle.std.proofs.Common.{zero, suc, ◌++◌, take, drop, min, arith, inl, inr}
+use Rattle.std.proofs.lemmas.Bool.{cases_lt}
+use Rattle.std.proofs.lemmas.List.{map-append, take_all}
+use Rattle.std.specs.List.{filter}
+use Rattle.segment_manager.specs.containers.Maps.{count_read, number_item, pairs_read}
+use Rattle.seg_map.specs.Listing.{ReadsPairs, pairs_past, with_pairs}
 use Rattle.seg_map.specs.Places.{final_pair, is_passed, last_pair}
 use Rattle.seg_map.specs.{Changing.CountsPairs, Changing.FreesAllPairs, Map.IsPairAt, Map.Pair, Map.is_pair}
 use Rattle.seg_map.proofs.Laws.{last_mapped, map_reversed}
@@ -48,6 +54,37 @@ find-made {A} {B} f s t same (x ∷ xs) = (λ i. if same x i then Some (f x) els
     chosen true = refl
     chosen false = refl
 
+-- the images that pass are the images of the elements that pass
+filter-made : {A B : Type 0} (f : A → B) (s : A → Bool) (t : B → Bool) → ((a : A) → t (f a) ≡ s a) → (xs : List A)
+    → filter t (map f xs) ≡ map f (filter s xs)
+filter-made f s t same [] = refl
+filter-made {A} {B} f s t same (x ∷ xs) =
+    (λ i. if same x i then f x ∷ filter-made f s t same xs i else filter-made f s t same xs i) ∙ chosen (s x)
+  where
+    chosen : (b : Bool) → (if b then f x ∷ map f (filter s xs) else map f (filter s xs))
+        ≡ map f (if b then x ∷ filter s xs else filter s xs)
+    chosen true = refl
+    chosen false = refl
+
+take-made : {A B : Type 0} (f : A → B) (n : ℕ) (xs : List A) → take n (map f xs) ≡ map f (take n xs)
+take-made f zero xs = refl
+take-made f (suc n) [] = refl
+take-made f (suc n) (x ∷ xs) = ap (λ ys. f x ∷ ys) (take-made f n xs)
+
+drop-made : {A B : Type 0} (f : A → B) (n : ℕ) (xs : List A) → drop n (map f xs) ≡ map f (drop n xs)
+drop-made f zero xs = refl
+drop-made f (suc n) [] = refl
+drop-made f (suc n) (x ∷ xs) = drop-made f n xs
+
+-- as many as there are and no more than there are places
+take-places : {A : Type 0} (n : ℕ) (xs : List A) → take (min n (length xs)) xs ≡ take n xs
+take-places n xs =
+    elim (cases_lt n (length xs)) [
+      | inl less ↦ let e : min n (length xs) ≡ n = omega arith in ap (λ m. take m xs) e
+      | inr ge ↦ let e : min n (length xs) ≡ length xs = omega arith in ap (λ m. take m xs) e
+          ∙ take_all (length xs) xs (omega arith) ∙ sym (take_all n xs ge)
+    ]
+
 module _ {K V : Type 0} {k v : ScalarKind} {kp : Plain K} {vp : Plain V} {kw : K → ℤ} {vw : V → ℤ}
     (kl : IsScalarOf k kp kw) (vl : IsScalarOf v vp vw) where
   -- a pair of values as one of numbers
@@ -76,6 +113,25 @@ module _ {K V : Type 0} {k v : ScalarKind} {kp : Plain K} {vp : Plain V} {kw : K
   numbers-first : (past : Bool) (x : K) (ps : List (Pair K V))
       → first_pair int_lt past (kw x) (number_pairs ps) ≡ option_map number_pair (first_pair kp.order past x ps)
   numbers-first past x ps = find-made number_pair (λ p. not (is_passed kp.order past x p)) (λ p. not (is_passed int_lt
+      past (kw x) p)) (λ p i. not (if past then not (sym (kl.ordered x p.key) i) else sym (kl.ordered p.key x) i)) ps
+
+  -- a list with pairs, as numbers
+  with-numbers : (ps : List (Pair K V)) (list : List (K × V))
+      → map (number_item kw vw) (with_pairs ps list) ≡ with_pairs (number_pairs ps) (map (number_item kw vw) list)
+  with-numbers ps list = map-append (number_item kw vw) (map item_of ps) (drop (length ps) list)
+      ∙ ap (λ xs. xs ++ map (number_item kw vw) (drop (length ps) list)) (items ps)
+      ∙ ap (λ xs. map item_of (number_pairs ps) ++ xs) (sym (drop-made (number_item kw vw) (length ps) list))
+      ∙ ap (λ m. map item_of (number_pairs ps) ++ drop m (map (number_item kw vw) list))
+      (sym (length-map ps number_pair))
+    where
+      items : (qs : List (Pair K V)) → map (number_item kw vw) (map item_of qs) ≡ map item_of (number_pairs qs)
+      items [] = refl
+      items (q ∷ qs) = ap (λ xs. (kw q.key, vw q.value) ∷ xs) (items qs)
+
+  -- the pairs from a key on, as numbers
+  numbers-past : (past : Bool) (x : K) (ps : List (Pair K V))
+      → pairs_past int_lt past (kw x) (number_pairs ps) ≡ number_pairs (pairs_past kp.order past x ps)
+  numbers-past past x ps = filter-made number_pair (λ p. not (is_passed kp.order past x p)) (λ p. not (is_passed int_lt
       past (kw x) p)) (λ p i. not (if past then not (sym (kl.ordered x p.key) i) else sym (kl.ordered p.key x) i)) ps
 
   numbers-last : (past : Bool) (x : K) (ps : List (Pair K V))
@@ -255,6 +311,30 @@ module _ {K V : Type 0} {k v : ScalarKind} {kp : Plain K} {vp : Plain V} {kw : K
     pub finds-last : (r : Option (K × V)) → FindsLastItem kp vp b h at r
         → FindsLastItem (numbers_of k) (numbers_of v) b h at (numbers_in kw vw r)
     finds-last = finds final_pair final_pair (λ ps. last_mapped number_pair None ps)
+
+    -- how many pairs are read into a list
+    pub counts-past : (past : Bool) (x : K) (places : ℕ) (list list' : List (K × V)) (n : ℕ)
+        → ReadsPairs kp vp b (record { handle = h; at = at }) past x places list list' n → (qs : List NumberPair)
+        → HoldsNumbers b h at qs → n ≡ count_read past (kw x) places qs
+    counts-past past x places list list' n each = of-values (λ qs. n ≡ count_read past (kw x) places qs)
+        (λ ps s. (each ps s).0 ∙ ap (min places) (sym (ap length (numbers-past past x ps)
+        ∙ length-map (pairs_past kp.order past x ps) number_pair)))
+
+    -- the pairs that are read into a list, as numbers
+    pub reads-past : (past : Bool) (x : K) (places : ℕ) (list list' : List (K × V)) (n : ℕ)
+        → ReadsPairs kp vp b (record { handle = h; at = at }) past x places list list' n → (qs : List NumberPair)
+        → HoldsNumbers b h at qs
+        → map (number_item kw vw) list' ≡ pairs_read past (kw x) places (map (number_item kw vw) list) qs
+    reads-past past x places list list' n each =
+        of-values (λ qs. map (number_item kw vw) list'
+        ≡ pairs_read past (kw x) places (map (number_item kw vw) list) qs)
+        (λ ps s.
+        let them = pairs_past kp.order past x ps in
+        let first : take n them ≡ take places them = ap (λ m. take m them) (each ps s).0 ∙ take-places places them in
+        ap (map (number_item kw vw)) ((each ps s).1 ∙ ap (λ ts. with_pairs ts list) first)
+        ∙ with-numbers (take places them) list
+        ∙ sym (ap (λ ts. with_pairs ts (map (number_item kw vw) list)) (ap (take places) (numbers-past past x ps)
+        ∙ take-made number_pair places them)))
 
     -- the number of pairs is the number of pairs of numbers
     pub counts-numbers : (n : ℕ) → CountsPairs kp vp b h at n → CountsPairs (numbers_of k) (numbers_of v) b h at n

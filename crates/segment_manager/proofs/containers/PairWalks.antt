@@ -1,17 +1,17 @@
 -- A walk over the pairs of a key's object, of any kinds: the result of each call, and that it omits no pair.
 use Rattle.segment_manager.proofs.Common as common
 use common.{◌≡◌, refl, sym, ap, subst, ◌∙◌, ℕ, zero, suc, ◌+◌, ℤ, Bool, true, ◌&&◌, Option, Some, None, Result, Ok}
-use common.{List, [], ◌∷◌, ◌++◌, slice_get, arith, IsTrue, int_lt, option_map, list_all, eq-eqb, current, Node}
-use common.{ObjectRole, serves, Map, ScalarKind, Refusal, ScalarValue, code_of, is_kind_of, is_value, lowest, same_kind}
-use common.{size_of, Key, kind_of_scalar, value_of_scalar, is_rising, node_len, NumberPair, is_number_pair, item_of}
+use common.{Err, List, [], ◌∷◌, ◌++◌, slice_get, arith, IsTrue, int_lt, option_map, list_all, eq-eqb, current, Node}
+use common.{ObjectRole, serves, Map, ScalarKind, Refusal, code_of, is_kind_of, is_value, lowest, same_kind}
+use common.{size_of, Key, is_rising, node_len, NumberPair, is_number_pair, item_of}
 use common.{Denotes, Value, Pairs, Object, Directory, has_good_name, is_good_value, is_object, kind_of, object_at}
 use common.{object_len, pair_above, pair_from, told_of, answer_of_map, AnswersWith, SegmentState, DenotesCurrent, IsMap}
-use common.{first_of, item_of_kinds, item_seen, pairs_at, pairs_of}
+use common.{first_of, item_of_kinds, pairs_at, pairs_of}
 use Rattle.segment_manager.proofs.containers.AnyStorage.{IsOfKindAt, kind-told}
 use Rattle.segment_manager.proofs.containers.MapWalks.{walk-goes_on, walk-starts}
 use Rattle.segment_manager.proofs.{objects.Here.standing, containers.MapSteps.map-only, containers.Refilled.told-some}
 use Rattle.raw_region.proofs.Facts.{first, second}
-use Rattle.segment_manager.specs.containers.Walks.{AreOfKinds, numbers_read}
+use Rattle.segment_manager.specs.containers.Walks.{KindedPair, items_read}
 
 -- ---- the pairs of a good value
 
@@ -76,44 +76,32 @@ module _ (d : Directory) (key : Key) (k v : ScalarKind) (e : IsOfKindAt d key (M
 
 -- ---- the results of the calls
 
-seen-if : (k v : ScalarKind) (o : Option (ScalarValue × ScalarValue)) (q : Option (ℤ × ℤ)) → AreOfKinds k v (Ok o)
-    → numbers_read value_of_scalar value_of_scalar (Ok o) ≡ Ok q
-    → option_map item_seen o ≡ option_map (item_of_kinds k v) q
-seen-if k v None q h e = let is : None ≡ q = cc in ap (option_map (item_of_kinds k v)) is
-seen-if k v (Some (x, y)) q h e =
-    let is : Some (value_of_scalar x, value_of_scalar y) ≡ q = cc in
-    (λ i. Some ((h.0 i, value_of_scalar x), (h.1 i, value_of_scalar y))) ∙ ap (option_map (item_of_kinds k v)) is
+walked-if : (k v : ScalarKind) (r : Result (Option (ℤ × ℤ)) Refusal) (q : Option (ℤ × ℤ)) → r ≡ Ok q
+    → items_read k v r ≡ option_map (item_of_kinds k v) q
+walked-if k v (Ok o) q e = let is : o ≡ q = cc in ap (option_map (item_of_kinds k v)) is
+walked-if k v (Err why) q e = absurd (cc)
 
 module _ (s : SegmentState) (key : Key) (k v : ScalarKind) (is : IsMap s key k v) where
   map-known : (d : Directory) → DenotesCurrent s.cut.bytes d → IsOfKindAt d key (Map k v)
   map-known d l = kind-told d key (Map k v) (is.answers d l)
 
-  -- the first pair is the one from the least key on
-  pub first-seen : (o : Option (ScalarValue × ScalarValue)) → AreOfKinds k v (Ok o)
-      → AnswersWith s (λ d. answer_of_map d key
-      k v (pair_from (lowest k))) (numbers_read value_of_scalar value_of_scalar (Ok o))
-      → AnswersWith s (λ d. option_map (item_of_kinds k v) (option_map item_of (first_of (pairs_at d key))))
-      (option_map item_seen o)
-  first-seen o h a = record {
-    answers = λ d l. seen-if k v o (pair_from (lowest k) (pairs_at d key)) h
-        (a.answers d l ∙ told-of-them d key k v (map-known d l) (pair_from (lowest k)))
-        ∙ ap (option_map (item_of_kinds k v)) (starts d key k v (map-known d l) s.cut.bytes l.denotes);
+  -- what a call reads of the map it reads of the pairs
+  pub pair-walked : (say : List NumberPair → Option (ℤ × ℤ)) (r : Result (Option (ℤ × ℤ)) Refusal)
+      → AnswersWith s (λ d. answer_of_map d key k v say) r
+      → AnswersWith s (λ d. option_map (item_of_kinds k v) (say (pairs_at d key))) (items_read k v r)
+  pair-walked say r a = record {
+    answers = λ d l.
+        walked-if k v r (say (pairs_at d key)) (a.answers d l ∙ told-of-them d key k v (map-known d l) say);
   }
 
--- the same by the least value, whose kind is the kind of the map keys
-module _ (x : ScalarValue) (k : ScalarKind) (e : kind_of_scalar x ≡ k) where
-  -- pairs of the least key's kind are pairs of the map's kinds
-  pub least-kinds : (v : ScalarKind) (o : Option (ScalarValue × ScalarValue)) → AreOfKinds (kind_of_scalar x) v (Ok o)
-      → AreOfKinds k v (Ok o)
-  least-kinds v o h = subst (λ j. AreOfKinds j v (Ok o)) e h
-
-  -- the pairs from the least key on are all pairs
-  pub least-told : value_of_scalar x ≡ lowest k
-      → (s : SegmentState) (key : Key) (v : ScalarKind) (r : Result (Option (ℤ × ℤ))
-      Refusal) → AnswersWith s (λ d. answer_of_map d key (kind_of_scalar x) v (pair_from (value_of_scalar x))) r
-      → AnswersWith s (λ d. answer_of_map d key k v (pair_from (lowest k))) r
-  least-told f s key v r a = subst (λ z. AnswersWith s (λ d. answer_of_map d key k v (pair_from z)) r) f
-      (subst (λ j. AnswersWith s (λ d. answer_of_map d key j v (pair_from (value_of_scalar x))) r) e a)
+  -- the first pair is the one from the least key on
+  pub first-walked : (o : Option KindedPair)
+      → AnswersWith s (λ d. option_map (item_of_kinds k v) (pair_from (lowest k) (pairs_at d key))) o
+      → AnswersWith s (λ d. option_map (item_of_kinds k v) (option_map item_of (first_of (pairs_at d key)))) o
+  first-walked o a = record {
+    answers = λ d l. a.answers d l
+        ∙ ap (option_map (item_of_kinds k v)) (starts d key k v (map-known d l) s.cut.bytes l.denotes);
+  }
 
 -- ---- the places of the pairs
 

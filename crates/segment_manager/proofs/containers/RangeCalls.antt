@@ -240,12 +240,13 @@ module _ (old new : WindowState) (d : Directory) (key : Key) (o : Object) (k : S
 
 -- ---- an array that was located
 
-record HasNumbers (d : Directory) (o : Located) (k : ScalarKind) : Type 0 where
-  object : Object
-  is : object_at d (ByHandle o.handle) ≡ Some object
-  said : o ≡ located object
-  numbers : List ℤ
-  value : object.value ≡ Numbers k numbers
+-- a located array has these numbers
+pub record HasNumbers (d : Directory) (o : Located) (k : ScalarKind) : Type 0 where
+  pub object : Object
+  pub is : object_at d (ByHandle o.handle) ≡ Some object
+  pub said : o ≡ located object
+  pub numbers : List ℤ
+  pub value : object.value ≡ Numbers k numbers
 
 module _ (s : SegmentState) (o : Located) (l : IsLocated s (ByHandle o.handle) o) (k : ScalarKind) (first : ℕ)
     (zs : List ℤ) where
@@ -260,7 +261,8 @@ module _ (s : SegmentState) (o : Located) (l : IsLocated s (ByHandle o.handle) o
       ∙ other)))
 
   module _ (is : o.kind ≡ Scalar k) where
-    numbers-of : (d : Directory) → DenotesCurrent s.cut.bytes d → HasNumbers d o k
+    -- the numbers of the array
+    pub numbers-of : (d : Directory) → DenotesCurrent s.cut.bytes d → HasNumbers d o k
     numbers-of d st =
         let p = said-at s (ByHandle o.handle) o l d st in
         let kind : o.kind ≡ kind_of p.object.value = ap (λ (q : Located). q.kind) p.said in
@@ -268,7 +270,8 @@ module _ (s : SegmentState) (o : Located) (l : IsLocated s (ByHandle o.handle) o
         (eq-eqb (code_of (Scalar k)) (code_of (kind_of p.object.value)) (ap code_of (sym is ∙ kind))) in
         record { object = p.object; is = p.is; said = p.said; numbers = n.0; value = n.1 }
 
-    many : {d : Directory} (h : HasNumbers d o k) → o.count ≡ length h.numbers
+    -- as many as the head counts
+    pub many : {d : Directory} (h : HasNumbers d o k) → o.count ≡ length h.numbers
     many h = ap (λ (q : Located). q.count) h.said ∙ ap count_of h.value
 
     series-of : {d : Directory} (h : HasNumbers d o k) → numbers_if k h.object.value ≡ Ok h.numbers
@@ -343,7 +346,8 @@ module _ (s t : SegmentState) (o : Located) (l : IsLocated s (ByHandle o.handle)
       ∙ ap kind_of x.value in
       absurd (cc)) (place_at d (ByHandle o.handle) k first) refl
 
-abbrev index_at : Option Object → ScalarKind → ℕ → Result Place Refusal
+-- the place of an element of an object
+abbrev pub index_at : Option Object → ScalarKind → ℕ → Result Place Refusal
 index_at r k i = elim r as (λ _. Result Place Refusal) [
   | None ↦ Err NotFound
   | Some o ↦ elim (offset_in o k i) as (λ _. Result Place Refusal)

@@ -4,7 +4,7 @@ use common.{NoSpace, OutOfRange, ◌⊎◌, inl, inr, TakesStep, is_read_only, �
 use common.{Some, None, Result, Ok, Err, OnErr, WindowState, Kind, Refusal, NotFound, Key, Command, Place, Answer}
 use common.{done_answer, Mode, SameSurroundings, Transitions, Directory, DenotesCurrent, Done, Refused, container_at}
 use common.{place_of_kind, Object, object_at, option_map, AnswersWith, IsSegment, TakesStepOfKind, SegmentState}
-use common.{AnswersSafely, StepsSafely, MatchResult, live_of, Located}
+use common.{AnswersSafely, StepsSafely, IfErr, MatchResult, live_of, Located}
 use Rattle.best_fit.proofs.Laws.{gaps-refl}
 use Rattle.best_fit.specs.Heap.{KeepsGaps}
 use Rattle.segment_manager.proofs.directory.CommandSteps.{IsMove, by_moves, by_same, step-segment, step_of_kind-segment}
@@ -146,6 +146,18 @@ kept-gaps {s = s} view {new} (Err e) m f g = subst (λ (u : SegmentState). Keeps
 pub same-live : {s t : SegmentState} (view : s ≡ t) (new : WindowState) → live_of new.bytes ≡ live_of t.cut.bytes
     → live_of new.bytes ≡ live_of s.cut.bytes
 same-live view new e = e ∙ sym (ap (λ (u : SegmentState). live_of u.cut.bytes) view)
+
+-- each error of a call has the property
+pub of-error : {R : Type 0} (P : R → Type 0) {F Q : Refusal → Type 0} (r : Result R Refusal) → MatchResult r P F
+    → ((e : Refusal) → F e → Q e) → IfErr r Q
+of-error P (Ok x) m each = tt
+of-error P (Err e) m each = each e m
+
+-- an error of two kinds is one of the two
+pub refuses-either : {X Y : Type 0} {e : Refusal} → (X → e ≡ OutOfRange) → (Y → e ≡ NoSpace) → X ⊎ Y
+    → (e ≡ OutOfRange) ⊎ (e ≡ NoSpace)
+refuses-either f g (inl x) = inl (f x)
+refuses-either f g (inr y) = inr (g y)
 
 -- ---- the search
 

@@ -10,7 +10,9 @@ use common.{lt-ltb, Refused, Reserve, perform, AnswersWith, append-nil, option_m
 use common.{with_array, command_of, refusal_in, done_answer, slice_set, list_all, same_Some, shrunk_backing}
 use common.{UndoesRequests, requested_texts, OwnedText, RefusesIndex, are_bytes, Directory, current, LiveSet, live_of}
 use common.{Refusal, NoSpace, Command, requested_text, IsSegment, DenotesCurrent, answer_of, texts_of, StringsKind}
+use common.{IfErr, NotFound, WrongKind, Value, first_size, if◌then◌else◌, kind_of, length_at_kind, same_kind, sizes_of}
 use common.{placed_text, grown_backing, TextElement, container_at, TakesStepOfKind, is_read_only, StepsSafely}
+use common.{sizes_of_kind}
 use Rattle.segment_manager.proofs.containers.TextMoves.{TextsMove, all-other, moved, one-block, texts-stay, texts-steps}
 use Rattle.segment_manager.proofs.containers.TextMoves.{in-array, left-out, Kept, kept, led, texts_in, Led}
 use Rattle.segment_manager.proofs.containers.TextMoves.{StepsKeeping, step-leads-on, texts-lead-on, texts-restored}
@@ -19,7 +21,8 @@ use Rattle.segment_manager.proofs.containers.TextPlans.{beside_array, clear-text
 use Rattle.segment_manager.proofs.containers.TextPlans.{insert_in, insert_plan, one-more-met, one-more-unmet, pop-text}
 use Rattle.segment_manager.proofs.containers.TextPlans.{push-text, reserve-texts, set-text, set_in, shrink-texts}
 use Rattle.segment_manager.proofs.containers.TextPlans.{text-placed, assign_in, text_in, texts_after, then_text}
-use Rattle.segment_manager.proofs.containers.Safely.{pick-outside, pick-space, Answered, answered, done-so, stays}
+use Rattle.segment_manager.proofs.containers.Safely.{Answered, answered, done-so, of-error, pick-outside, pick-space}
+use Rattle.segment_manager.proofs.{containers.Safely.stays}
 use Rattle.segment_manager.proofs.containers.PlacedTexts.{text-bytes, texts-bytes}
 use Rattle.segment_manager.proofs.containers.TextsHeld.{some-texts, HoldsTexts}
 use Rattle.segment_manager.proofs.{directory.CommandSteps.open-reading, directory.CommandSteps.open-writing}
@@ -31,6 +34,7 @@ use Rattle.std.proofs.Common.{Fits, w8}
 use Rattle.segment_manager.specs.{containers.Stored.ChangesTexts, Directory.Object, Directory.Texts, Directory.live}
 use Rattle.segment_manager.specs.containers.ToChange.{IsChangeableContainer}
 use Rattle.best_fit.specs.Exchange.{KeepsLiveSet}
+use Rattle.seg_vector.specs.TextsCalls.{ReadsTextsLen}
 use Rattle.seg_vector.specs.TextsCalls.{ClearsTexts, ErasesText, GetsText, InsertsText, ErasesTextOk, InsertsTextOk}
 use Rattle.seg_vector.specs.TextsCalls.{RefusesFirstBlock, SetsTextOk, LacksFit, PopsText, PushesText, SetsText}
 use Rattle.seg_vector.specs.{TextsCalls.UnchangedIfFirstRefused, TextsCalls.new_array, Vector.capacity_for_one}
@@ -72,6 +76,19 @@ module _ {s t : SegmentState} (view : s ≡ t) (key : Key) (p : Place) (b : IsSe
       (sym (a h.texts h.table h.stand).refusal) (texts-stay s key p b there-too _ (Refused OutOfRange) (open-reading
       s.mode (asked.Get key i) refl) (λ d h. ap (perform d (live_of s.cut.bytes)) (got-text h i None (slice_get_past
       h.texts i (a h.texts h.table h.stand).outside))))
+
+  -- the number of texts is the directory's
+  pub texts-counted : (n : ℕ) → ReadsTextsLen s.cut.bytes p n
+      → AnswersWith t (λ d. length_at_kind d key StringsKind) (Ok n)
+  texts-counted n a = subst (λ (u : SegmentState). AnswersWith u (λ d. length_at_kind d key StringsKind) (Ok n)) view
+      (record {
+        answers = λ d l.
+            let h : HoldsTexts s.cut.bytes d key p = texts_in s key p b there-too d l in
+            ap Ok (a h.texts h.table h.stand) ∙ sym (ap (λ (r : Option Object). first_size (elim r as
+            (λ _. Result (ℕ × ℕ) Refusal) [ None ↦ Err NotFound | Some o ↦ sizes_of_kind o StringsKind ])) h.is
+            ∙ ap (λ (v : Value). first_size (if same_kind StringsKind (kind_of v) then sizes_of v else Err WrongKind))
+            h.value);
+      })
 
 -- for a segment that is open for writing
 module _ {s t : SegmentState} (view : s ≡ t) (b : IsSegment s.cut.bytes) {key : Key} {p : Place}
@@ -320,6 +337,12 @@ module _ {s t : SegmentState} (view : s ≡ t) (b : IsSegment s.cut.bytes) {key 
       let o : UndoesRequests s.cut new (requested_texts heap (bs ∷ bss)) e = a some.texts some.table some.stand in
       seen-kept (given-up o.refusal o.restored (λ d h. ap (perform d heap) (assign-plan h bs bss)
       ∙ all-unmet d heap (bs ∷ bss) (assign_in h) (a h.texts h.table h.stand).none))
+
+  -- strings are not assigned only for want of space
+  pub assign-error : (bss : List (List ℕ)) (r : Result (Unit {0}) Refusal) → AssignsTexts s.cut new p bss r
+      → IfErr r (λ why. why ≡ NoSpace)
+  assign-error [] r a = subst (λ q. IfErr q (λ why. why ≡ NoSpace)) (sym a.0) tt
+  assign-error (bs ∷ bss) r a = of-error _ r (a some.texts some.table some.stand) (λ e m. m.refusal)
 
   -- ---- places
 

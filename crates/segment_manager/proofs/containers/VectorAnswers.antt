@@ -10,7 +10,11 @@ use common.{List, None, Some, arith, false, refl, subst, take, BackingArray, Pla
 use common.{Answer, Ok, slice_get-get_or, slice_get-map, slice_get_past, value_of_literal, capacity_for_one, LacksSpace}
 use common.{ℕ, IsSomeVector, GrowsVectorOk, container_at, is_good_value, with_capacity, TakesStepOfKind, AnswersSafely}
 use common.{ℤ, list_all, flat_map, size_of, Refusal, NoSpace, Assigns, Element, Refused, Elements, kind_of, perform}
-use common.{grown_backing, current, Denotes, Option, Plan, DenotesCurrent}
+use common.{grown_backing, current, Denotes, Option, Plan, DenotesCurrent, MatchResult, IfErr, ◌⊎◌, NotFound}
+use common.{Located, Object, object_at, sizes_at, sizes_of, is_elementwise}
+use Rattle.segment_manager.proofs.bound.{Changes.Changed, Changes.leaves-bound, Places.container-bound}
+use Rattle.segment_manager.specs.objects.BoundObjects.{IsBound, container_of, key_of}
+use Rattle.segment_manager.specs.Keeping.{KeepsUnused}
 use Rattle.segment_manager.proofs.containers.RangeCalls.{RangeWritten, range-done, range-elements, range-moves}
 use Rattle.segment_manager.proofs.containers.RangeCalls.{range-short, series-elements, whole-replaced}
 use Rattle.segment_manager.proofs.containers.Extending.{VectorExtended, extended-found, extended-room}
@@ -19,12 +23,17 @@ use Rattle.segment_manager.proofs.{containers.ToChange.seen-found, directory.Com
 use Rattle.segment_manager.proofs.{directory.CommandSteps.open-writing}
 use Rattle.segment_manager.specs.containers.Ranges.{extended, numbers_if, replaced, written}
 use Rattle.seg_vector.specs.{Vector.capacity_for_more, VectorCalls.Sets}
-use Rattle.seg_vector.specs.VectorCalls.{ExtendsBy, SetsAll, ErasesFrom, Gets, InsertsInto, IsVector, Pops, Pushes}
-use Rattle.segment_manager.proofs.containers.Safely.{performed, pick-outside, pick-space, Answered, answered, done-so}
+use Rattle.seg_vector.specs.VectorCalls.{CountsCapacity, ExtendsBy, SetsAll, ErasesFrom, Gets, InsertsInto, IsVector}
+use Rattle.seg_vector.specs.VectorCalls.{Pops}
+use Rattle.seg_vector.specs.VectorCalls.{Pushes, ReadsVectorLen}
+use Rattle.segment_manager.specs.objects.ElementLists.{element_of, numbers_at, whole_of}
+use Rattle.segment_manager.proofs.objects.ElementLists.{numbers-listed}
+use Rattle.std.specs.Option.{ok_or}
+use Rattle.segment_manager.proofs.containers.Safely.{performed, pick-outside, pick-space, answered, done-so}
 use Rattle.segment_manager.proofs.containers.Safely.{kept-gaps, refuses-so, same-live}
 use Rattle.best_fit.specs.Heap.{KeepsGaps}
 use Rattle.seg_vector.proofs.Laws.{same-extents}
-use Rattle.segment_manager.proofs.containers.ContentPlans.{assign-plan, erase-plan, get-plan, insert-plan, pop-plan}
+use Rattle.segment_manager.proofs.containers.ContentPlans.{assign-plan, erase-plan, insert-plan, pop-plan}
 use Rattle.segment_manager.proofs.containers.ContentPlans.{push-plan, set-plan}
 use Rattle.segment_manager.proofs.containers.ItemSteps.{HoldsItems, ListedGrown, ListedNow, Listing, changes-safely}
 use Rattle.segment_manager.proofs.containers.ItemSteps.{found-items, items-denote, grows-safely, items-full}
@@ -74,14 +83,15 @@ module _ {T : Type 0} {k : ScalarKind} {w : T → ℤ} {size : ℕ} {test : T �
       → GrowsVectorOk size test sp old new p t n ys → ListedGrown typed old new p t n ys
   grown-so r = record { table = r.table; grown = r.grown; now = now-so r.now }
 
-  -- the place that was found, as the view before the call, the type and the vector name it
-  module _ {s t : SegmentState} (view : s ≡ t) (key : Key) {l : ScalarKind} {q p : Place} (kinds : l
-      ≡ k) (places : p ≡ q)
-      (b : IsSegment s.cut.bytes) (there : AnswersWith t (λ d. container_at d key (Vector l)) (Ok q)) where
+  -- the place of a bound vector, as the view before the call and the vector name it
+  module _ {s t : SegmentState} (view : s ≡ t) {o : Located} (bound : IsBound (Vector k) o t) {p : Place} (places : p
+      ≡ container_of o) (b : IsSegment s.cut.bytes) where
+    abbrev key : Key
+    key = key_of o
+
     found : AnswersWith s (λ d. container_at d key (Vector k)) (Ok p)
     found = subst (λ (r : Place). AnswersWith s (λ d. container_at d key (Vector k)) (Ok r)) (sym places)
-        (subst (λ (m : ScalarKind). AnswersWith s (λ d. container_at d key (Vector m)) (Ok q)) kinds
-        (seen-found s t view key (Vector l) q there))
+        (seen-found s t view key (Vector k) (container_of o) (container-bound bound))
 
     abbrev Holds : Directory → Type 0
     Holds d = HoldsItems typed s.cut.bytes d key p
@@ -112,7 +122,7 @@ module _ {T : Type 0} {k : ScalarKind} {w : T → ℤ} {size : ℕ} {test : T �
         some.stands.own g.now.change e)
 
     -- setting an element leaves the gaps
-    pub set-gaps : {new : WindowState} (i : ℕ) (x : T) (r : Result (Unit {0}) Refusal)
+    set-gaps : {new : WindowState} (i : ℕ) (x : T) (r : Result (Unit {0}) Refusal)
         → Sets size test sp s.cut new p i x r → KeepsGaps t.cut new
     set-gaps i x r a = kept-gaps view r (a some.items some.table (vector b.0 some)) (λ u m. m.1.gaps refl)
         (λ e m. m.same)
@@ -124,23 +134,23 @@ module _ {T : Type 0} {k : ScalarKind} {w : T → ℤ} {size : ℕ} {test : T �
         (λ e m. m.same)
 
     -- erasing an element leaves the gaps
-    pub erase-gaps : {new : WindowState} (i : ℕ) (r : Result (Unit {0}) Refusal)
+    erase-gaps : {new : WindowState} (i : ℕ) (r : Result (Unit {0}) Refusal)
         → ErasesFrom size test sp s.cut new p i r → KeepsGaps t.cut new
     erase-gaps i r a = kept-gaps view r (a some.items some.table (vector b.0 some)) (λ u m. m.1.gaps refl)
         (λ e m. m.same)
 
     -- popping an element leaves the gaps
-    pub pop-gaps : {new : WindowState} (r : Result T Refusal) → Pops size test sp s.cut new p r → KeepsGaps t.cut new
+    pop-gaps : {new : WindowState} (r : Result T Refusal) → Pops size test sp s.cut new p r → KeepsGaps t.cut new
     pop-gaps r a = kept-gaps view r (a some.items some.table (vector b.0 some)) (λ u m. m.1.gaps refl) (λ e m. m.same)
 
     -- pushing an element in place leaves the gaps
-    pub push-gaps : {new : WindowState} (x : T) (r : Result (Unit {0}) Refusal) → Pushes size test sp s.cut new p x r
+    push-gaps : {new : WindowState} (x : T) (r : Result (Unit {0}) Refusal) → Pushes size test sp s.cut new p x r
         → live_of new.bytes ≡ live_of t.cut.bytes → KeepsGaps t.cut new
     push-gaps {new} x r a e = kept-gaps view r (a some.items some.table (vector b.0 some))
         (λ u g. grown-gaps g (same-live view new e)) (λ e m. m.same)
 
     -- inserting an element in place leaves the gaps
-    pub insert-gaps : {new : WindowState} (i : ℕ) (x : T) (r : Result (Unit {0}) Refusal)
+    insert-gaps : {new : WindowState} (i : ℕ) (x : T) (r : Result (Unit {0}) Refusal)
         → InsertsInto size test sp s.cut new p i x r → live_of new.bytes ≡ live_of t.cut.bytes → KeepsGaps t.cut new
     insert-gaps {new} i x r a e = kept-gaps view r (a some.items some.table (vector b.0 some))
         (λ u g. grown-gaps g.1 (same-live view new e)) (λ e m. elim m [ inl o ↦ o.same | inr o ↦ o.1.same ])
@@ -152,40 +162,110 @@ module _ {T : Type 0} {k : ScalarKind} {w : T → ℤ} {size : ℕ} {test : T �
         (λ u g. grown-gaps g (same-live view new e)) (λ e m. m.same)
 
     -- assigning elements in place leaves the gaps
-    pub assign-gaps : {new : WindowState} (ys : List T) (r : Result (Unit {0}) Refusal)
+    assign-gaps : {new : WindowState} (ys : List T) (r : Result (Unit {0}) Refusal)
         → Assigns size test sp s.cut new p ys r → live_of new.bytes ≡ live_of t.cut.bytes → KeepsGaps t.cut new
     assign-gaps {new} ys r a e = kept-gaps view r (a some.items some.table (vector b.0 some))
         (λ u g. grown-gaps g (same-live view new e)) (λ e m. m.same)
 
     -- ---- one value
 
+    -- the vector's numbers are the directory's
+    listed : {d : Directory} (h : Holds d) → numbers_at d key (Vector k) ≡ map w h.items
+    listed {d} h = numbers-listed d key (Vector k) h.object h.is (Elements k (map w h.items) h.table) h.value refl
+
     -- an element that was read is the directory's
-    pub vector-got : (i : ℕ) (r : Result T Refusal) → Gets size test sp s.cut p i r
-        → TakesStepOfKind s s key (Vector k) (asked.Get key i) (answer_of (λ x. Element k (w x)) r)
-    vector-got i (Ok x) a = items-stay typed s key p b found (asked.Get key i) (Element k (w x)) (open-reading s.mode
-        (asked.Get key i) refl) (λ d den h. ap (perform d (live d)) (get-plan d key h.object k (map w h.items) h.table
-        h.is h.value i (Some (w x)) (slice_get-map w h.items i ∙ ap (option_map w) (a h.items h.table (vector d h)))))
-    vector-got i (Err e) a = subst (λ (q : Refusal). TakesStepOfKind s s key (Vector k) (asked.Get key i) (Refused q))
-        (sym (a some.items some.table (vector b.0 some)).refusal) (items-stay typed s key p b found (asked.Get key i)
-        (Refused OutOfRange) (open-reading s.mode (asked.Get key i) refl) (λ d den h. ap (perform d (live d))
-        (get-plan d key h.object k (map w h.items) h.table h.is h.value i None (behind h.items i (a h.items h.table
-        (vector d h)).outside))))
+    pub vector-read : (i : ℕ) (r : Result T Refusal) → Gets size test sp s.cut p i r
+        → AnswersWith t (λ d. element_of (numbers_at d key (Vector k)) i) (whole_of w r)
+    vector-read i r a = subst (λ (u : SegmentState). AnswersWith u (λ d. element_of (numbers_at d key (Vector k)) i)
+        (whole_of w r)) view (record {
+          answers = λ d l.
+              let h = found-items typed s key p b found d l in
+              read-in h r (a h.items h.table (vector d h)) ∙ sym (ap (λ zs. element_of zs i) (listed h));
+        })
+      where
+        read-in : {d : Directory} (h : Holds d) (r : Result T Refusal) → MatchResult r
+            (λ x. slice_get h.items i ≡ Some x)
+            (RefusesIndex s.cut s.cut (length h.items) i) → whole_of w r ≡ element_of (map w h.items) i
+        read-in h (Ok x) m = sym (ap (λ q. ok_or q OutOfRange) (slice_get-map w h.items i ∙ ap (option_map w) m))
+        read-in h (Err e) m = ap Err m.refusal ∙ sym (ap (λ q. ok_or q OutOfRange) (behind h.items i m.outside))
+
+    -- the length of the vector is the directory's
+    pub vector-counted : (n : ℕ) → ReadsVectorLen size test sp s.cut.bytes p n
+        → AnswersWith t (λ d. length (numbers_at d key (Vector k))) n
+    vector-counted n a = subst (λ (u : SegmentState). AnswersWith u (λ d. length (numbers_at d key (Vector k))) n) view
+        (record {
+          answers = λ d l.
+              let h = found-items typed s key p b found d l in
+              a h.items h.table (vector d h) ∙ sym (length-map h.items w) ∙ sym (ap length (listed h));
+        })
+
+    -- and so is its capacity
+    pub vector-measured : (n c : ℕ) → ReadsVectorLen size test sp s.cut.bytes p n
+        → CountsCapacity size test sp s.cut.bytes p c → AnswersWith t (λ d. sizes_at d key) (Ok (n, c))
+    vector-measured n c a e = subst (λ (u : SegmentState). AnswersWith u (λ d. sizes_at d key) (Ok (n, c))) view
+        (record {
+          answers = λ d l.
+              let h = found-items typed s key p b found d l in
+              (λ i. Ok (
+                (a h.items h.table (vector d h) ∙ sym (length-map h.items w)) i,
+                e h.items h.table (vector d h) i,
+              ))
+              ∙ sym (ap (λ (r : Option Object). elim r as (λ _. Result (ℕ × ℕ) Refusal)
+              [ None ↦ Err NotFound | Some o ↦ sizes_of o.value ]) h.is ∙ ap sizes_of h.value);
+        })
 
     module _ (new : WindowState) (may : is_read_only t.mode ≡ false) where
       writing : is_read_only s.mode ≡ false
       writing = subst (λ (u : SegmentState). is_read_only u.mode ≡ false) (sym view) may
 
       -- a call, as that view has it
-      seen : {R : Type 0} {says : Result R Refusal → Answer} {c : Command} {r : Result R Refusal}
-          → AnswersSafely says s new key (Vector k) c r → Answered says s t new key (Vector k) c r
-      seen done = answered s t view b new key (Vector k) _ _ done
+      seen : {R : Type 0} {says : Result R Refusal → Answer} (c : Key → Command) {reasons : Refusal → Type 0}
+          {Gaps : Type 0} {r : Result R Refusal} → is_elementwise (c key) ≡ true → IfErr r reasons → Gaps
+          → AnswersSafely says s new key (Vector k) (c key) r → Changed (Vector k) o s t new c says reasons Gaps r
+      seen c e f g done =
+          leaves-bound view bound may b new c e f g (answered s t view b new key (Vector k) (c key) _ done)
+
+      -- the reasons of refusals
+      set-error : (i : ℕ) (x : T) (r : Result (Unit {0}) Refusal) → Sets size test sp s.cut new p i x r
+          → IfErr r (λ why. why ≡ OutOfRange)
+      set-error i x (Ok u) a = tt
+      set-error i x (Err e) a = (a some.items some.table (vector b.0 some)).refusal
+
+      erase-error : (i : ℕ) (r : Result (Unit {0}) Refusal) → ErasesFrom size test sp s.cut new p i r
+          → IfErr r (λ why. why ≡ OutOfRange)
+      erase-error i (Ok u) a = tt
+      erase-error i (Err e) a = (a some.items some.table (vector b.0 some)).refusal
+
+      push-error : (x : T) (r : Result (Unit {0}) Refusal) → Pushes size test sp s.cut new p x r
+          → IfErr r (λ why. why ≡ NoSpace)
+      push-error x (Ok u) a = tt
+      push-error x (Err e) a = (a some.items some.table (vector b.0 some)).refusal
+
+      insert-error : (i : ℕ) (x : T) (r : Result (Unit {0}) Refusal) → InsertsInto size test sp s.cut new p i x r
+          → IfErr r (λ why. (why ≡ OutOfRange) ⊎ (why ≡ NoSpace))
+      insert-error i x (Ok u) a = tt
+      insert-error i x (Err e) a = elim (a some.items some.table (vector b.0 some))
+          [ inl o ↦ inl o.refusal | inr o ↦ inr o.1.refusal ]
+
+      -- appended values lack space
+      pub extend-error : (ys : List T) (r : Result (Unit {0}) Refusal) → ExtendsBy size test sp s.cut new p ys r
+          → IfErr r (λ why. why ≡ NoSpace)
+      extend-error ys (Ok u) a = tt
+      extend-error ys (Err e) a = (a some.items some.table (vector b.0 some)).refusal
+
+      assign-error : (ys : List T) (r : Result (Unit {0}) Refusal) → Assigns size test sp s.cut new p ys r
+          → IfErr r (λ why. why ≡ NoSpace)
+      assign-error ys (Ok u) a = tt
+      assign-error ys (Err e) a = (a some.items some.table (vector b.0 some)).refusal
 
       as-literal : (x : T) → test x ≡ true → value_of_literal k (literal_of k (w x)) ≡ Ok (w x)
       as-literal x v = literal-read k (w x) (sym (law.values x) ∙ v)
 
       pub vector-set : (i : ℕ) (x : T) (r : Result (Unit {0}) Refusal) → test x ≡ true → Sets size test sp s.cut new p i
-          x r → Answered done_answer s t new key (Vector k) (asked.Set key i (literal_of k (w x))) r
-      vector-set i x r v a = seen (changes-safely typed s key p b found new writing (asked.Set key i (literal_of k
+          x r → Changed (Vector k) o s t new (λ key. asked.Set key i (literal_of k (w x))) done_answer
+          (λ why. why ≡ OutOfRange) (KeepsGaps t.cut new) r
+      vector-set i x r v a = seen (λ key. asked.Set key i (literal_of k (w x))) refl (set-error i x r a)
+          (set-gaps i x r a) (changes-safely typed s key p b found new writing (asked.Set key i (literal_of k
           (w x))) i (λ xs. slice_set xs i x) r (λ d h in_range. set-plan d key h.object k (map w h.items) h.table h.is
           h.value i (literal_of k (w x)) (w x) (Some (get_or (map w h.items) i (pos 0))) (as-literal x v)
           (within h.items i in_range) ∙ ap (λ zs. Reply Done (changed d h.object (Elements k zs h.table)))
@@ -194,9 +274,11 @@ module _ {T : Type 0} {k : ScalarKind} {w : T → ℤ} {size : ℕ} {test : T �
           (a h.items h.table (vector d h)) (λ q. (q.0, now-so q.1))))
 
       pub vector-erased : (i : ℕ) (r : Result (Unit {0}) Refusal) → ErasesFrom size test sp s.cut new p i r
-          → Answered done_answer s t new key (Vector k) (asked.Erase key i) r
-      vector-erased i r a = seen (changes-safely typed s key p b found new writing (asked.Erase key i) i (λ xs. remove
-          xs i) r (λ d h in_range. erase-plan d key h.object k (map w h.items) h.table h.is h.value i
+          → Changed (Vector k) o s t new (λ key. asked.Erase key i) done_answer (λ why. why ≡ OutOfRange)
+          (KeepsGaps t.cut new) r
+      vector-erased i r a = seen (λ key. asked.Erase key i) refl (erase-error i r a) (erase-gaps i r a)
+          (changes-safely typed s key p b found new writing (asked.Erase key i) i (λ xs. remove xs i) r
+          (λ d h in_range. erase-plan d key h.object k (map w h.items) h.table h.is h.value i
           (Some (get_or (map w h.items) i (pos 0))) (within h.items i in_range)
           ∙ ap (λ zs. Reply Done (changed d h.object (Elements k zs h.table))) (sym (whole-remove w h.items i)))
           (λ d h past. erase-plan d key h.object k (map w h.items) h.table h.is h.value i None (behind h.items i past))
@@ -213,8 +295,10 @@ module _ {T : Type 0} {k : ScalarKind} {w : T → ℤ} {size : ℕ} {test : T �
           h.table.capacity) h.table (λ u. Reply Done (changed d h.object (Elements k (sym e i) u)))
 
       pub vector-pushed : (x : T) (r : Result (Unit {0}) Refusal) → test x ≡ true → Pushes size test sp s.cut new p x r
-          → Answered done_answer s t new key (Vector k) (asked.Push key (literal_of k (w x))) r
-      vector-pushed x r v a = seen (grows-safely typed s key p b found new writing (asked.Push key (literal_of k (w x)))
+          → Changed (Vector k) o s t new (λ key. asked.Push key (literal_of k (w x))) done_answer
+          (λ why. why ≡ NoSpace) (KeepsUnused t (record s { cut = new })) r
+      vector-pushed x r v a = seen (λ key. asked.Push key (literal_of k (w x))) refl (push-error x r a)
+          (push-gaps x r a) (grows-safely typed s key p b found new writing (asked.Push key (literal_of k (w x)))
           (λ xs t. capacity_for_one (length xs) t.capacity) (λ xs. xs ++ x ∷ []) r (λ d h. push-plan d key h.object k
           (map w h.items) h.table h.is h.value (literal_of k (w x)) (Ok (w x)) (as-literal x v)
           ∙ one-more d h (map w h.items ++ w x ∷ []) (h.items ++ x ∷ []) (map-append w h.items (x ∷ []))) (λ d h. so-too
@@ -229,27 +313,30 @@ module _ {T : Type 0} {k : ScalarKind} {w : T → ℤ} {size : ℕ} {test : T �
           ∙ one-more d h (insert (map w h.items) i (w x)) (insert h.items i x) (whole-insert w h.items i x)
 
       pub vector-inserted : (i : ℕ) (x : T) (r : Result (Unit {0}) Refusal) → test x ≡ true → InsertsInto size test sp
-          s.cut new p i x r → Answered done_answer s t new key (Vector k) (asked.Insert key i (literal_of k (w x))) r
-      vector-inserted i x (Ok u) v a = seen (done-so (items-steps typed s key p b found new (asked.Insert key i
+          s.cut new p i x r → Changed (Vector k) o s t new (λ key. asked.Insert key i (literal_of k (w x))) done_answer
+          (λ why. (why ≡ OutOfRange) ⊎ (why ≡ NoSpace)) (KeepsUnused t (record s { cut = new })) r
+      vector-inserted i x (Ok u) v a = seen (λ key. asked.Insert key i (literal_of k (w x))) refl tt
+          (insert-gaps i x (Ok u) a) (done-so (items-steps typed s key p b found new (asked.Insert key i
           (literal_of k (w x))) Done writing (λ d den h.
           let r = a h.items h.table (vector d h) in
           items-grown s.cut new den h (insert h.items i x) (capacity_for_one (length h.items) h.table.capacity)
           (asked.Insert key i (literal_of k (w x))) Done (insert-so i x v d h r.0) (grown-so r.1))))
-      vector-inserted i x (Err e) v a = seen (elim (a some.items some.table (vector b.0 some)) [
-        | inl o ↦ items-refused typed s key p b found new writing _ e OutOfRange o.refusal o.same (λ d den h.
-            let out : RefusesIndex s.cut new (length h.items + 1) i e =
-            pick-outside e (λ w. w.1.refusal) o.refusal (a h.items h.table (vector d h)) in
-            let past : length h.items < i = let f = out.outside in omega arith in
-            ap (perform d (live d)) (insert-plan d key h.object k (map w h.items) h.table h.is h.value i
-            (literal_of k (w x)) (Ok (w x)) true (as-literal x v) (lt-ltb (length (map w h.items)) i
-            (subst (λ (n : ℕ). n < i) (sym (length-map h.items w)) past))))
-        | inr o ↦ items-refused typed s key p b found new writing _ e NoSpace o.1.refusal o.1.same (λ d den h.
-            let n : ℕ = capacity_for_one (length h.items) h.table.capacity in
-            let q : (i ≤ length h.items) × LacksSpace s.cut new size n h.table e =
-            pick-space e (λ w. w.refusal) o.1.refusal (a h.items h.table (vector d h)) in
-            items-full typed s key p b found new writing (asked.Insert key i (literal_of k (w x))) n
-            (insert h.items i x) d den h (insert-so i x v d h q.0) q.1.none)
-      ])
+      vector-inserted i x (Err e) v a = seen (λ key. asked.Insert key i (literal_of k (w x))) refl
+          (insert-error i x (Err e) a) (insert-gaps i x (Err e) a) (elim (a some.items some.table (vector b.0 some)) [
+            | inl o ↦ items-refused typed s key p b found new writing _ e OutOfRange o.refusal o.same (λ d den h.
+                let out : RefusesIndex s.cut new (length h.items + 1) i e =
+                pick-outside e (λ w. w.1.refusal) o.refusal (a h.items h.table (vector d h)) in
+                let past : length h.items < i = let f = out.outside in omega arith in
+                ap (perform d (live d)) (insert-plan d key h.object k (map w h.items) h.table h.is h.value i
+                (literal_of k (w x)) (Ok (w x)) true (as-literal x v) (lt-ltb (length (map w h.items)) i
+                (subst (λ (n : ℕ). n < i) (sym (length-map h.items w)) past))))
+            | inr o ↦ items-refused typed s key p b found new writing _ e NoSpace o.1.refusal o.1.same (λ d den h.
+                let n : ℕ = capacity_for_one (length h.items) h.table.capacity in
+                let q : (i ≤ length h.items) × LacksSpace s.cut new size n h.table e =
+                pick-space e (λ w. w.refusal) o.1.refusal (a h.items h.table (vector d h)) in
+                items-full typed s key p b found new writing (asked.Insert key i (literal_of k (w x))) n
+                (insert h.items i x) d den h (insert-so i x v d h q.0) q.1.none)
+          ])
 
       -- ---- one less
 
@@ -258,8 +345,9 @@ module _ {T : Type 0} {k : ScalarKind} {w : T → ℤ} {size : ℕ} {test : T �
       last-at d h = ap (λ (n : ℕ). n - 1) (length-map h.items w)
 
       pub vector-popped : (r : Result T Refusal) → Pops size test sp s.cut new p r
-          → Answered (answer_of (λ x. Element k (w x))) s t new key (Vector k) (asked.Pop key) r
-      vector-popped (Ok x) a = seen (record {
+          → Changed (Vector k) o s t new (λ key. asked.Pop key) (answer_of (λ x. Element k (w x)))
+          (λ why. why ≡ OutOfRange) (KeepsGaps t.cut new) r
+      vector-popped (Ok x) a = seen (λ key. asked.Pop key) refl tt (pop-gaps (Ok x) a) (record {
         step = items-steps typed s key p b found new (asked.Pop key) (Element k (w x)) writing (λ d den h.
             let r = a h.items h.table (vector d h) in
             items-now s.cut new den h (take (length h.items - 1) h.items) h.table (asked.Pop key) (Element k (w x))
@@ -279,7 +367,7 @@ module _ {T : Type 0} {k : ScalarKind} {w : T → ℤ} {size : ℕ} {test : T �
           ap (perform d (live d)) (pop-plan d key h.object k (map w h.items) h.table h.is h.value None
           (ap (λ (m : ℕ). slice_get (map w h.items) m) (last-at d h)
           ∙ behind h.items (length h.items - 1) (omega arith)))) in
-          seen (record {
+          seen (λ key. asked.Pop key) refl r.refusal (pop-gaps (Err e) a) (record {
             step = subst (λ (q : Refusal). TakesStepOfKind s (record s { cut = new }) key (Vector k) (asked.Pop key)
                 (Refused q)) (sym r.refusal) (subst (λ (c : WindowState).
                 TakesStepOfKind s (record s { cut = c }) key (Vector k)
@@ -291,8 +379,10 @@ module _ {T : Type 0} {k : ScalarKind} {w : T → ℤ} {size : ℕ} {test : T �
 
       pub vector-assigned : (ys : List T) (r : Result (Unit {0}) Refusal) → IsTrue (list_all test ys)
           → Assigns size test sp s.cut new p ys r
-          → Answered done_answer s t new key (Vector k) (asked.Assign key (map (literal_of k) (map w ys))) r
-      vector-assigned ys r v a = seen (grows-safely typed s key p b found new writing (asked.Assign key
+          → Changed (Vector k) o s t new (λ key. asked.Assign key (map (literal_of k) (map w ys))) done_answer
+          (λ why. why ≡ NoSpace) (KeepsUnused t (record s { cut = new })) r
+      vector-assigned ys r v a = seen (λ key. asked.Assign key (map (literal_of k) (map w ys))) refl
+          (assign-error ys r a) (assign-gaps ys r a) (grows-safely typed s key p b found new writing (asked.Assign key
           (map (literal_of k) (map w ys))) (λ xs t. length ys) (λ xs. ys) r (λ d h. assign-plan d key h.object k
           (map w h.items) h.table h.is h.value (map (literal_of k) (map w ys)) (map w ys) (literals-read k (map w ys)
           (sym (whole-values k w size test sp law ys) ∙ v)) ∙ (λ i. with_capacity (sym law.long i) (length-map ys w i)

@@ -1,5 +1,6 @@
 -- The elements of a key's object, one after another: the result of reading one, and their number.
 use Rattle.segment_manager.proofs.Common as common
+use common.{code_of, eq-eqb}
 use common.{◌≡◌, refl, sym, ap, ◌∙◌, ℕ, zero, suc, ℤ, Bool, true, false, Option, Some, None, Result, Ok, Err, List, []}
 use common.{◌∷◌, length, map, if◌then◌else◌, option_map, slice_get, Kind, ScalarOf, StringsKind, ScalarKind, Refusal}
 use common.{NotFound, OutOfRange, WrongKind, same_kind, Key, OwnedText, Mode, Answer, Element, Refused, TextElement}
@@ -12,8 +13,7 @@ use Rattle.segment_manager.proofs.{containers.ContentPlans.of_slice}
 use Rattle.segment_manager.proofs.{objects.KindCodes.numbers-only, containers.TextsHeld.texts-only}
 use Rattle.segment_manager.proofs.{containers.TextPlans.text_in}
 use Rattle.seg_types.specs.declared.kinds.Kind.TheVariants.{Vector as VectorOf}
-use Rattle.segment_manager.specs.objects.ElementLists.{array_at, array_length_at, list_at, numbers_in, texts_at}
-use Rattle.segment_manager.specs.objects.ElementLists.{texts_in, vector_at}
+use Rattle.segment_manager.specs.objects.ElementLists.{list_at, numbers_at, numbers_in, texts_at, texts_in}
 use Rattle.seg_types.specs.Commands as asked
 
 -- the element that was read, if it was
@@ -40,7 +40,7 @@ list-of {A} items d key kind o b e f = ap (λ (r : Option Object).
 -- ---- one element
 
 -- the answer for an element, or if there is none
-abbrev told : {A : Type 0} → (A → Answer) → Option A → Answer
+abbrev pub told : {A : Type 0} → (A → Answer) → Option A → Answer
 told says p = elim p as (λ _. Answer) [ None ↦ Refused OutOfRange | Some a ↦ says a ]
 
 -- elements of an object of the kind are read this way, if an answer is no error and determines its element
@@ -77,44 +77,33 @@ module _ {A : Type 0} (says : A → Answer) (one : (a b : A) → says a ≡ says
     item-at (Some o) e f = item-of (same_kind kind (kind_of o.value)) e refl f
 
 -- numbers
-number-one : (k : ScalarKind) (a b : ℤ) → Element k a ≡ Element k b → a ≡ b
-number-one k a b e = cc
 
-number-some : (k : ScalarKind) (a : ℤ) (why : Refusal) → Element k a ≡ Refused why → ⊥
-number-some k a why e = absurd (cc)
+-- the numbers of an object of the kind
+pub numbers-listed : (d : Directory) (key : Key) (kind : Kind) (o : Object) → object_at d key ≡ Some o → (v : Value)
+    → o.value ≡ v → kind_of v ≡ kind → numbers_at d key kind ≡ numbers_in v
+numbers-listed d key kind o e v f g = list-of numbers_in d key kind o true e (eq-eqb (code_of kind)
+    (code_of (kind_of o.value)) (ap code_of (sym (ap kind_of f ∙ g)))) ∙ ap numbers_in f
 
 number-told : (d : Directory) (k : ScalarKind) (p : Option ℤ)
     → (perform d (live d) (with (of_slice p) (λ z. Reply (Element k z) d))).0 ≡ told (Element k) p
 number-told d k None = refl
 number-told d k (Some z) = refl
 
-vector-gets : (d : Directory) (k : ScalarKind) (i : ℕ) (v : Value) → same_kind (VectorOf k) (kind_of v) ≡ true
+-- the answer for an element of a vector
+pub vector-gets : (d : Directory) (k : ScalarKind) (i : ℕ) (v : Value) → same_kind (VectorOf k) (kind_of v) ≡ true
     → (perform d (live d) (get d v i)).0 ≡ told (Element k) (slice_get (numbers_in v) i)
 vector-gets d k i v e =
     let is = vector-only k v e in
     ap (λ w. (perform d (live d) (get d w i)).0) is.1.1 ∙ number-told d k (slice_get is.0 i)
     ∙ sym (ap (λ w. told (Element k) (slice_get (numbers_in w) i)) is.1.1)
 
-array-gets : (d : Directory) (k : ScalarKind) (i : ℕ) (v : Value) → same_kind (ScalarOf k) (kind_of v) ≡ true
+-- the answer for an element of an array
+pub array-gets : (d : Directory) (k : ScalarKind) (i : ℕ) (v : Value) → same_kind (ScalarOf k) (kind_of v) ≡ true
     → (perform d (live d) (get d v i)).0 ≡ told (Element k) (slice_get (numbers_in v) i)
 array-gets d k i v e =
     let is = numbers-only k v e in
     ap (λ w. (perform d (live d) (get d w i)).0) is.1 ∙ number-told d k (slice_get is.0 i)
     ∙ sym (ap (λ w. told (Element k) (slice_get (numbers_in w) i)) is.1)
-
--- an element that was read is the vector's
-pub vector-read : (mode : Mode) (d : Directory) (key : Key) (k : ScalarKind) (i : ℕ) (r : Result ℤ Refusal)
-    → answer_of (Element k) r ≡ (step_of_kind mode d key (VectorOf k) (asked.Get key i)).0
-    → got r ≡ slice_get (vector_at d key k) i
-vector-read mode d key k i r f = item-at (Element k) (number-one k) (number-some k) numbers_in mode d key (VectorOf k) i
-    (vector-gets d k i) r (object_at d key) refl f
-
--- an element that was read is the array's
-pub array-read : (mode : Mode) (d : Directory) (key : Key) (k : ScalarKind) (i : ℕ) (r : Result ℤ Refusal)
-    → answer_of (Element k) r ≡ (step_of_kind mode d key (ScalarOf k) (asked.Get key i)).0
-    → got r ≡ slice_get (array_at d key k) i
-array-read mode d key k i r f = item-at (Element k) (number-one k) (number-some k) numbers_in mode d key (ScalarOf k) i
-    (array-gets d k i) r (object_at d key) refl f
 
 -- texts
 got-map : (ps : List OwnedText) (i : ℕ)
@@ -176,7 +165,8 @@ sizes-first : (b : Bool) (v : Value)
 sizes-first true v = refl
 sizes-first false v = refl
 
-length-first : (kind : Kind) (p : Option Object) → first_size (elim p as (λ _. Result (ℕ
+-- the length of a container as a function of its value
+pub length-first : (kind : Kind) (p : Option Object) → first_size (elim p as (λ _. Result (ℕ
     × ℕ) Refusal) [ None ↦ Err NotFound | Some o ↦ sizes_of_kind o kind ]) ≡ elim p as (λ _. Result ℕ Refusal) [
       | None ↦ Err NotFound
       | Some o ↦ if same_kind kind (kind_of o.value) then first_size (sizes_of o.value) else Err WrongKind
@@ -184,7 +174,8 @@ length-first : (kind : Kind) (p : Option Object) → first_size (elim p as (λ _
 length-first kind None = refl
 length-first kind (Some o) = sizes-first (same_kind kind (kind_of o.value)) o.value
 
-vector-many : (k : ScalarKind) (v : Value) → same_kind (VectorOf k) (kind_of v) ≡ true
+-- the length of a vector is the number of its elements
+pub vector-many : (k : ScalarKind) (v : Value) → same_kind (VectorOf k) (kind_of v) ≡ true
     → first_size (sizes_of v) ≡ Ok (length (numbers_in v))
 vector-many k v e =
     let is = vector-only k v e in
@@ -193,7 +184,8 @@ vector-many k v e =
 abbrev array_size : Value → Result ℕ Refusal
 array_size v = Ok (count_of v)
 
-array-many : (k : ScalarKind) (v : Value) → same_kind (ScalarOf k) (kind_of v) ≡ true
+-- and that of an array
+pub array-many : (k : ScalarKind) (v : Value) → same_kind (ScalarOf k) (kind_of v) ≡ true
     → array_size v ≡ Ok (length (numbers_in v))
 array-many k v e =
     let is = numbers-only k v e in ap array_size is.1 ∙ sym (ap (λ (w : Value). Ok (length (numbers_in w))) is.1)
@@ -204,13 +196,3 @@ pub listed-length : {A : Type 0} (items : Value → List A) (d : Directory) (key
     → (r : Result ℕ Refusal) → r ≡ length_at_kind d key kind → number_or_none r ≡ length (list_at items d key kind)
 listed-length items d key kind only r e = ap number_or_none (e ∙ length-first kind (object_at d key))
     ∙ many-at items (λ v. first_size (sizes_of v)) d key kind only
-
--- the length in the result is the vector's
-pub vector-length : (d : Directory) (key : Key) (k : ScalarKind) (r : Result ℕ Refusal)
-    → r ≡ length_at_kind d key (VectorOf k) → number_or_none r ≡ length (vector_at d key k)
-vector-length d key k r e = listed-length numbers_in d key (VectorOf k) (vector-many k) r e
-
--- the length in the result is the array's
-pub array-length : (d : Directory) (key : Key) (k : ScalarKind) (r : Result ℕ Refusal) → r ≡ array_length_at d key k
-    → number_or_none r ≡ length (array_at d key k)
-array-length d key k r e = ap number_or_none e ∙ many-at numbers_in array_size d key (ScalarOf k) (array-many k)

@@ -7,6 +7,7 @@ use common.{sizes_of, sizes_of_kind, Object, Directory, kind_of, live, object_at
 use common.{UnchangedWhere}
 use common.{IsLocated, IsSegment, Plan, Refuse, perform, with, IsObjectInBlock, AnswersWith, AnswersQueryOfKind}
 use common.{TakesStep, TakesStepOfKind}
+use common.{LeadsOnOfKind, refusal_of}
 use common.{SegmentState, DenotesCurrent, effect, is_read_only, step, step_of_kind, HasEnough, command_of}
 use Rattle.segment_manager.proofs.containers.AnyStorage.{measures-kind, of_kind-steps}
 use Rattle.segment_manager.proofs.{indexes.Bridge.by-handle, objects.Here.here, objects.Here.seen-handle}
@@ -173,6 +174,14 @@ module _ (old : SegmentState) (key : Key) (o : Located) (l : IsLocated old key o
   step_of_kind-by_key new kind c answer m = moves-same old new answer (λ d. step_of_kind old.mode d (ByHandle o.handle)
       kind (at_key (ByHandle o.handle) c)) (λ d. step_of_kind old.mode d key kind (at_key key c))
       (λ d k. keys_of_kind-same old.mode d (ByHandle o.handle) key kind c (same d k)) m
+
+  -- the same for a call that answers less
+  pub leads_on-by_key : (new : SegmentState) (kind : Kind) (c : Command) (why : Option Refusal)
+      → LeadsOnOfKind old new (ByHandle o.handle) kind (at_key (ByHandle o.handle) c) why
+      → LeadsOnOfKind old new key kind (at_key key c) why
+  leads_on-by_key new kind c why m = moves-same old new why _ _ (λ d k.
+      ap (λ (n : Answer × Directory). (refusal_of n.0, n.1))
+      (keys_of_kind-same old.mode d (ByHandle o.handle) key kind c (same d k))) m
 
   -- an answer of a kind for the handle is an answer for the key
   pub reply_of_kind-by_key : (kind : Kind) (c : Command) (answer : Answer)

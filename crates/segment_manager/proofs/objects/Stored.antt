@@ -22,6 +22,9 @@ use Rattle.raw_region.proofs.Facts.{first, second}
 use Rattle.best_fit.specs.declared.places.Place.{Place}
 use Rattle.segment_manager.specs.objects.Located.{element_in, located, located_at}
 use Rattle.segment_manager.specs.objects.Standing.{element_at, place_at, offset_in}
+use Rattle.segment_manager.specs.objects.BoundObjects.{IsBound, key_of}
+use Rattle.segment_manager.specs.objects.ElementLists.{element_of, numbers_at, whole_of}
+use Rattle.segment_manager.proofs.objects.ElementLists.{numbers-listed}
 use Rattle.std.specs.Option.{ok_or}
 use Rattle.byteorder.specs.Endian.{little_number}
 use Rattle.seg_types.specs.Kinds.{is_spelling, value_of}
@@ -179,8 +182,11 @@ module _ (b : List ℕ) (d : Directory) (key : Key) (k : ScalarKind) (i : ℕ) (
 
 -- ---- the search
 
-abbrev element_of : ScalarKind → ℕ → Option Located → Result Place Refusal
-element_of k i r = elim r as (λ _. Result Place Refusal) [ None ↦ Err NotFound | Some o ↦ element_in o k i ]
+abbrev place_in : ScalarKind → ℕ → Option Located → Result Place Refusal
+place_in k i r = elim r as (λ _. Result Place Refusal) [
+  | None ↦ Err NotFound
+  | Some o ↦ if same_kind (Scalar k) o.kind then element_in o k i else Err WrongKind
+]
 
 abbrev spot : ℕ → ℕ → Place
 spot h at = record { handle = h; at = at }
@@ -191,26 +197,27 @@ same-spot h at true true = refl
 same-spot h at true false = refl
 same-spot h at false t = refl
 
-same-place : (k : ScalarKind) (i : ℕ) (r : Option Object) → element_of k i (option_map located r) ≡ in_any k i r
+same-place : (k : ScalarKind) (i : ℕ) (r : Option Object) → place_in k i (option_map located r) ≡ in_any k i r
 same-place k i None = refl
 same-place k i (Some o) = same-spot (handle o.extent) (element_at k o.name i) (same_kind (Scalar k) (kind_of o.value))
     (nat_lt i (count_of o.value))
 
 -- the place in the object that is found is the key's place, and its error is the key's error
 pub places : {s : SegmentState} (key : Key) (k : ScalarKind) (i : ℕ) {r : Option Located} {q : Result Place Refusal}
-    → AnswersWith s (λ d. located_at d key) r → q ≡ element_of k i r → AnswersWith s (λ d. place_at d key k i) q
+    → AnswersWith s (λ d. located_at d key) r → q ≡ place_in k i r → AnswersWith s (λ d. place_at d key k i) q
 places key k i a e = record {
-  answers = λ d l. e ∙ ap (element_of k i) (a.answers d l) ∙ same-place k i (object_at d key);
+  answers = λ d l. e ∙ ap (place_in k i) (a.answers d l) ∙ same-place k i (object_at d key);
 }
 
--- ---- the plans
+-- the place in a bound array
+pub places-bound : {s : SegmentState} {k : ScalarKind} {o : Located} → IsBound (Scalar k) o s → (i : ℕ) {l : ScalarKind}
+    → l ≡ k → {q : Result Place Refusal} → q ≡ element_in o l i → AnswersWith s (λ d. place_at d (key_of o) k i) q
+places-bound {k = k} {o} bound i kinds e = places (key_of o) k i bound.there (e ∙ ap (λ m. element_in o m i) kinds
+    ∙ sym (ap (λ (b : Bool). if b then element_in o k i else Err WrongKind) (eq-eqb (code_of (Scalar k))
+    (code_of o.kind)
+    (ap code_of (sym bound.of_kind)))))
 
--- reading in an object of numbers, and writing
-get-effect : (d : Directory) (key : Key) {o : Object} (k : ScalarKind) (zs : List ℤ) (i : ℕ) (r : Option ℤ)
-    → object_at d key ≡ Some o → o.value ≡ Numbers k zs → slice_get zs i ≡ r
-    → effect d (asked.Get key i) ≡ with (of_slice r) (λ z. Reply (Element k z) d)
-get-effect d key {o} k zs i r e f g = with-found d key o (λ o. get d o.value i) e ∙ ap (λ v. get d v i) f
-    ∙ ap (λ (r : Option ℤ). with (of_slice r) (λ z. Reply (Element k z) d)) g
+-- ---- the plans
 
 -- the plan of `set` for an array
 pub set-effect : (d : Directory) (key : Key) {o : Object} (k : ScalarKind) (zs : List ℤ) (i : ℕ) (l : Literal) {z : ℤ}
@@ -229,14 +236,7 @@ pub element-kind : {b : List ℕ} {d : Directory} {key : Key} {k : ScalarKind} {
 element-kind {k} e =
     ap (λ v. same_kind (Scalar k) (kind_of v)) e.value ∙ eq-eqb (code_of (Scalar k)) (code_of (Scalar k)) refl
 
--- an element is answered
-got : (mode : Mode) (b : List ℕ) (d : Directory) (key : Key) (k : ScalarKind) (i : ℕ) (p : Place)
-    → (e : ElementAt b d key k i p) → step_of_kind mode d key (Scalar k) (asked.Get key i) ≡ (Element k e.number, d)
-got mode b d key k i p e =
-    step_of_kind-found mode d key (Scalar k) (asked.Get key i) e.object (open-reading mode (asked.Get key i) refl) e.is
-    (element-kind e) ∙ ap (perform d (live d)) (get-effect d key k e.numbers i (Some e.number) e.is e.value e.there)
-
--- or the step fails with the same error
+-- the step fails with the same error
 lacking : (mode : Mode) (d : Directory) (key : Key) (k : ScalarKind) (i : ℕ) (r : Refusal) (c : Command) {o : Object}
     → IsOpenFor mode c → ((zs : List ℤ) → o.value ≡ Numbers k zs → slice_get zs i ≡ None → effect d c ≡ Refuse
     OutOfRange) → object_at d key ≡ Some o → Lacks o k i r → step_of_kind mode d key (Scalar k) c ≡ (Refused r, d)
@@ -260,50 +260,41 @@ missing-steps mode {d} {key} {k} {i} {r} c may past (Within o e l) =
 
 -- ---- the call
 
-module _ {t : SegmentState} (key : Key) {l k : ScalarKind} (kinds : l ≡ k) (i : ℕ) where
-  -- if no element is found, the step has the same error
-  pub replies-missing : {r : Refusal} → AnswersWith t (λ d. place_at d key l i) (Err r)
-      → AnswersQueryOfKind t key (Scalar k) (asked.Get key i) (Refused r)
-  replies-missing {r} a = record {
-    answers = λ d l. sym (ap (λ (n : Answer × Directory). n.0) (missing-steps t.mode (asked.Get key i) (open-reading
-        t.mode (asked.Get key i) refl) (λ o zs e f. get-effect d key k zs i None e f) (element-missing
-        ((subst (λ (m : ScalarKind). AnswersWith t (λ d. place_at d key m i) (Err r)) kinds a).answers d l))));
-  }
+-- an element is found, for the view before the call
+module _ {s t : SegmentState} (key : Key) (k : ScalarKind) (i : ℕ) (view : s ≡ t) {p : Place} {n : ℕ} (long : n
+    ≡ size_of k) (there : AnswersWith t (λ d. place_at d key k i) (Ok p)) where
+  seen-place : AnswersWith s (λ d. place_at d key k i) (Ok p)
+  seen-place = subst (λ (u : SegmentState). AnswersWith u (λ d. place_at d key k i) (Ok p)) (sym view) there
 
-  -- an element is found, for the view before the call
-  module _ {s : SegmentState} (view : s ≡ t) {p : Place} {n : ℕ} (long : n ≡ size_of k)
-      (there : AnswersWith t (λ d. place_at d key l i) (Ok p)) where
-    pub seen-place : AnswersWith s (λ d. place_at d key k i) (Ok p)
-    seen-place = subst (λ (m : ScalarKind). AnswersWith s (λ d. place_at d key m i) (Ok p)) kinds
-        (subst (λ (u : SegmentState). AnswersWith u (λ d. place_at d key l i) (Ok p)) (sym view) there)
+  -- the block has the room of the element
+  pub place-room : IsSegment s.cut.bytes → IsTrue (has_room (live_of s.cut.bytes) p.handle (p.at + n))
+  place-room b = subst (λ m. IsTrue (has_room (live_of s.cut.bytes) p.handle (p.at + m))) (sym long)
+      (element-room s.cut.bytes b.0 key k i p (element-found b.1.denotes (seen-place.answers b.0 b.1)))
 
-    -- the block has the room of the element
-    pub place-room : IsSegment s.cut.bytes → IsTrue (has_room (live_of s.cut.bytes) p.handle (p.at + n))
-    place-room b = subst (λ m. IsTrue (has_room (live_of s.cut.bytes) p.handle (p.at + m))) (sym long)
-        (element-room s.cut.bytes b.0 key k i p (element-found b.1.denotes (seen-place.answers b.0 b.1)))
-
-    -- the value of the bytes is the step's answer
-    pub replies-found : {answer : Answer} {bytes : List ℕ} → bytes ≡ read (bytes_of s.cut.bytes) (p.handle + p.at) n
-        → ((z : ℤ) → IsTrue (is_value k z) → bytes ≡ spelling k z → answer ≡ Element k z)
-        → AnswersQueryOfKind t key (Scalar k) (asked.Get key i) answer
-    replies-found {answer} are reads =
-        subst (λ (u : SegmentState). AnswersQueryOfKind u key (Scalar k) (asked.Get key i) answer) view (record {
-          answers = λ d l.
-              let e = element-found l.denotes (seen-place.answers d l) in
-              reads e.number e.in_range
-              (are ∙ ap (read (bytes_of s.cut.bytes) (p.handle + p.at)) long ∙ element-read s.cut.bytes d key k i p e)
-              ∙ sym (ap (λ (n : Answer × Directory). n.0) (got s.mode s.cut.bytes d key k i p e));
-        })
+  -- the value of the bytes is the element
+  pub found-there : {r : Result ℤ Refusal} {bytes : List ℕ} → bytes ≡ read (bytes_of s.cut.bytes) (p.handle + p.at) n
+      → ((z : ℤ) → IsTrue (is_value k z) → bytes ≡ spelling k z → r ≡ Ok z)
+      → AnswersWith t (λ d. element_of (numbers_at d key (Scalar k)) i) r
+  found-there {r} are reads =
+      subst (λ (u : SegmentState). AnswersWith u (λ d. element_of (numbers_at d key (Scalar k)) i) r) view (record {
+        answers = λ d l.
+            let e = element-found l.denotes (seen-place.answers d l) in
+            reads e.number e.in_range
+            (are ∙ ap (read (bytes_of s.cut.bytes) (p.handle + p.at)) long ∙ element-read s.cut.bytes d key k i p e)
+            ∙ sym (ap (λ zs. element_of zs i) (numbers-listed d key (Scalar k) e.object e.is
+            (Numbers k e.numbers) e.value refl)
+            ∙ ap (λ q. ok_or q OutOfRange) e.there);
+      })
 
 -- ---- the value that is read
 
 -- a value of a type with the number that the bytes encode
-pub number-answer : {T : Type 0} (k : ScalarKind) (z : ℤ) (whole : T
+pub number-read : {T : Type 0} (k : ScalarKind) (z : ℤ) (whole : T
     → ℤ) {bytes : List ℕ} (q : Option T) {r : Result T Refusal} → r ≡ ok_or q WrongKind → IsTrue (is_value k z)
     → bytes ≡ spelling k z → MatchOption q (is_spelling k bytes ≡ false) (λ x. (is_spelling k bytes ≡ true)
-    × (whole x ≡ value_of k (little_number (size_of k) bytes))) → answer_of (λ x. Element k (whole x)) r ≡ Element k z
-number-answer k z whole None f v e h = absurd (false≢true (sym h ∙ ap (is_spelling k) e ∙ (all_spell_one k z v).is_one))
-number-answer k z whole (Some x) f v e h = ap (answer_of (λ x. Element k (whole x))) f ∙ ap (Element k) (h.1
+    × (whole x ≡ value_of k (little_number (size_of k) bytes))) → whole_of whole r ≡ Ok z
+number-read k z whole None f v e h = absurd (false≢true (sym h ∙ ap (is_spelling k) e ∙ (all_spell_one k z v).is_one))
+number-read k z whole (Some x) f v e h = ap (whole_of whole) f ∙ ap Ok (h.1
     ∙ ap (λ (bs : List ℕ). value_of k (little_number (size_of k) bs)) e ∙ (all_spell_one k z v).reads)
 
 -- ---- the literal of a value

@@ -1,7 +1,7 @@
 -- Maps of numbers as values of objects: their places, reads and changes.
 use Rattle.seg_map.specs.Changing as maps
 use Rattle.std.specs.Prelude.{ℕ, ℤ, int_lt, true, false, Option, Some, None, Result, Ok, Err, List, option_map}
-use Rattle.std.specs.Prelude.{if◌then◌else◌}
+use Rattle.std.specs.Prelude.{Bool, if◌then◌else◌, length, min, take}
 use Rattle.raw_region.specs.Memory.{WindowState}
 use Rattle.byteorder.specs.Endian.{little_number}
 use Rattle.seg_types.specs.{Names.Key, declared.refusals.Refusal.Refusal, declared.kinds.Kind.TheVariants.Map}
@@ -11,6 +11,7 @@ use Rattle.seg_types.specs.declared.refusals.Refusal.TheVariants.{NotFound, Wron
 use Rattle.seg_types.specs.Kinds.{is_value, same_kind, scalar_code, size_of, spelling, value_of}
 use Rattle.best_fit.specs.declared.places.Place.{Place}
 use Rattle.seg_map.specs.Numbers.{NumberPair}
+use Rattle.seg_map.specs.Listing.{pairs_past, with_pairs}
 use Rattle.seg_map.specs.Places.{HoldsMap, final_pair, first_pair, item_of, last_pair}
 use Rattle.segment_manager.specs.{Answers.Answer, Answers.Absent, Answers.Element, Directory.object_at, State.answer_of}
 use Rattle.segment_manager.specs.Directory.{Value, Numbers, Elements, Bytes, Pairs, Texts, Directory, kind_of}
@@ -77,6 +78,18 @@ pair_below key ps = option_map item_of (last_pair int_lt false key ps)
 -- the last pair
 abbrev pub pair_at_end : List NumberPair → Option (ℤ × ℤ)
 pair_at_end ps = option_map item_of (final_pair ps)
+
+-- how many of the pairs from a number on, or above it, are read into this many places
+abbrev pub count_read : Bool → ℤ → ℕ → List NumberPair → ℕ
+count_read past from places ps = min places (length (pairs_past int_lt past from ps))
+
+-- the list with these pairs in its first places, as many as `places`
+abbrev pub pairs_read : Bool → ℤ → ℕ → List (ℤ × ℤ) → List NumberPair → List (ℤ × ℤ)
+pairs_read past from places list ps = with_pairs (take places (pairs_past int_lt past from ps)) list
+
+-- a key and a value as numbers
+abbrev pub number_item : {K V : Type 0} → (K → ℤ) → (V → ℤ) → K × V → ℤ × ℤ
+number_item k v (x, y) = (k x, v y)
 
 -- a key and a value, or none, as numbers
 abbrev pub numbers_in : {K V : Type 0} → (K → ℤ) → (V → ℤ) → Option (K × V) → Option (ℤ × ℤ)

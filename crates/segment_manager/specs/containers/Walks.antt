@@ -1,5 +1,5 @@
 -- The pairs of a map, one after another by rising map keys.
-use Rattle.std.specs.Prelude.{◌≡◌, ℤ, Bool, Option, Some, None, Result, Ok, Err, List, [], ◌∷◌, ⊤, int_lt, option_map}
+use Rattle.std.specs.Prelude.{ℤ, Bool, Option, Some, None, Result, Ok, Err, List, [], ◌∷◌, ⊤, int_lt, option_map}
 use Rattle.seg_types.specs.{declared.kinds.Kind.TheVariants.Map, declared.kinds.ScalarKind.ScalarKind}
 use Rattle.seg_types.specs.{declared.refusals.Refusal.Refusal, Names.Key, Values.kind_of_scalar, Values.value_of_scalar}
 use Rattle.seg_types.specs.declared.values.ScalarValue.{ScalarValue}
@@ -52,23 +52,7 @@ item_of_kinds k v (x, y) = ((k, x), (v, y))
 abbrev pub item_seen : ScalarValue × ScalarValue → KindedPair
 item_seen (x, y) = ((kind_of_scalar x, value_of_scalar x), (kind_of_scalar y, value_of_scalar y))
 
--- ---- reads of an object that may be no map
-
--- a key and a value, or none, as numbers
-abbrev pub numbers_read : {K V : Type 0} → (K → ℤ) → (V → ℤ) → Result (Option (K × V)) Refusal
-    → Result (Option (ℤ × ℤ)) Refusal
-numbers_read k v (Ok None) = Ok None
-numbers_read k v (Ok (Some (x, y))) = Ok (Some (k x, v y))
-numbers_read k v (Err why) = Err why
-
--- the value of the pair has the kind
-abbrev pub HasValueOf : {K : Type 0} → ScalarKind → Result (Option (K × ScalarValue)) Refusal → Type 0
-HasValueOf v (Ok None) = ⊤
-HasValueOf v (Ok (Some (x, y))) = kind_of_scalar y ≡ v
-HasValueOf v (Err why) = ⊤
-
--- key and value have the kinds
-abbrev pub AreOfKinds : ScalarKind → ScalarKind → Result (Option (ScalarValue × ScalarValue)) Refusal → Type 0
-AreOfKinds k v (Ok None) = ⊤
-AreOfKinds k v (Ok (Some (x, y))) = (kind_of_scalar x ≡ k) × (kind_of_scalar y ≡ v)
-AreOfKinds k v (Err why) = ⊤
+-- the pair that a call read from a map of the kinds, with its kinds; none after an error
+abbrev pub items_read : ScalarKind → ScalarKind → Result (Option (ℤ × ℤ)) Refusal → Option KindedPair
+items_read k v (Ok pair) = option_map (item_of_kinds k v) pair
+items_read k v (Err why) = None

@@ -1,10 +1,11 @@
 -- The elements of a key's object, one after another: all of them if it has the kind, and otherwise none.
-use Rattle.std.specs.Prelude.{ℕ, ℤ, Some, None, Result, Ok, Err, List, [], map, if◌then◌else◌}
+use Rattle.std.specs.Prelude.{ℕ, ℤ, Some, None, Result, Ok, Err, List, [], map, slice_get, if◌then◌else◌}
+use Rattle.std.specs.Option.{ok_or}
 use Rattle.seg_types.specs.{declared.kinds.Kind.Kind, declared.refusals.Refusal.Refusal, Kinds.same_kind, Names.Key}
 use Rattle.seg_types.specs.declared.kinds.Kind.TheVariants.{Scalar as ScalarOf, Vector as VectorOf}
 use Rattle.seg_types.specs.declared.kinds.Kind.TheVariants.{Strings as StringsKind}
 use Rattle.seg_types.specs.declared.kinds.ScalarKind.{ScalarKind}
-use Rattle.seg_types.specs.declared.refusals.Refusal.TheVariants.{NotFound, WrongKind}
+use Rattle.seg_types.specs.declared.refusals.Refusal.TheVariants.{NotFound, OutOfRange, WrongKind}
 use Rattle.seg_vector.specs.Vector.{OwnedText}
 use Rattle.segment_manager.specs.{containers.Contents.sizes_at_kind, Directory.object_at}
 use Rattle.segment_manager.specs.Directory.{Value, Numbers, Elements, Bytes, Pairs, Texts, Directory, count_of, kind_of}
@@ -30,13 +31,18 @@ abbrev pub list_at : {A : Type 0} → (Value → List A) → Directory → Key �
 list_at items d key kind = elim
     (object_at d key) [ None ↦ [] | Some o ↦ if same_kind kind (kind_of o.value) then items o.value else [] ]
 
--- the scalars of a key's array of a kind
-abbrev pub array_at : Directory → Key → ScalarKind → List ℤ
-array_at d key k = list_at numbers_in d key (ScalarOf k)
+-- the scalars of a key's array or vector, by the object's kind
+abbrev pub numbers_at : Directory → Key → Kind → List ℤ
+numbers_at d key kind = list_at numbers_in d key kind
 
--- the scalars of a key's vector
-abbrev pub vector_at : Directory → Key → ScalarKind → List ℤ
-vector_at d key k = list_at numbers_in d key (VectorOf k)
+-- the element of a list at an index, if it has one
+abbrev pub element_of : List ℤ → ℕ → Result ℤ Refusal
+element_of zs i = ok_or (slice_get zs i) OutOfRange
+
+-- the value that a call returned, as a whole number
+abbrev pub whole_of : {A : Type 0} → (A → ℤ) → Result A Refusal → Result ℤ Refusal
+whole_of whole (Ok a) = Ok (whole a)
+whole_of whole (Err why) = Err why
 
 -- the texts of a key's vector of strings
 abbrev pub texts_at : Directory → Key → List (List ℕ)

@@ -3,7 +3,6 @@ use Rattle.std.specs.Prelude.{ℕ, ◌+◌, ◌*◌, Option, Some, Result, Ok, E
 use Rattle.best_fit.specs.{Extents.handle, declared.places.Place.Place}
 use Rattle.seg_types.specs.{Names.ByHandle, Names.Key, declared.kinds.Kind.Kind, Kinds.same_kind, Kinds.size_of}
 use Rattle.seg_types.specs.{declared.refusals.Refusal.Refusal, declared.kinds.ScalarKind.ScalarKind}
-use Rattle.seg_types.specs.declared.kinds.Kind.TheVariants.{Scalar}
 use Rattle.seg_types.specs.declared.refusals.Refusal.TheVariants.{OutOfRange, WrongKind}
 use Rattle.segment_manager.specs.declared.objects.object_ref.Object.{Object as Located}
 use Rattle.segment_manager.specs.Directory.{Object, Directory, count_of, kind_of, object_at, padded}
@@ -40,10 +39,7 @@ abbrev pub container_in : Located → Kind → Result Place Refusal
 container_in o kind =
     if same_kind kind o.kind then Ok (record { handle = o.handle; at = value_offset o }) else Err WrongKind
 
--- the place of an element of a located object, if it is an array of scalars of the kind
+-- the place of an element of a located array of scalars of the kind
 abbrev pub element_in : Located → ScalarKind → ℕ → Result Place Refusal
 element_in o k i =
-    if same_kind (Scalar k) o.kind then
-    (if nat_lt i o.count then Ok (record { handle = o.handle; at = value_offset o + size_of k * i }) else Err
-    OutOfRange)
-    else Err WrongKind
+    if nat_lt i o.count then Ok (record { handle = o.handle; at = value_offset o + size_of k * i }) else Err OutOfRange

@@ -1,5 +1,6 @@
 //! Maps that were looked up once.
-ghost use Rattle.std.specs.Prelude.{◌≡◌, IfErr, Ok, OnErr, length};
+ghost use Rattle.std.specs.Prelude.{◌≡◌, IfErr, Ok, OnErr, length, map, min};
+ghost use Rattle.segment_manager.specs.containers.Maps.{count_read, number_item, pairs_read};
 ghost use Rattle.seg_types.specs.Commands.{Lookup, Put, Remove, literal_of};
 ghost use Rattle.seg_types.specs.declared.kinds.Kind.TheVariants.{Map as MapOf};
 ghost use Rattle.seg_types.specs.declared.refusals.Refusal.TheVariants.{NoSpace as NoSpaceLeft};
@@ -92,6 +93,25 @@ impl<'a, K: Scalar, V: Scalar> Bound<'a, Pairs<K, V>> {
             after,
             &mut Steps::new(),
         )
+    }
+
+    /// Reads the pairs whose map keys are not below `from`, or above it if `past` is set, by rising map keys, into the
+    /// first places of the list: as many as it has places for, and at most 32. Returns how many they are; the other
+    /// places keep what they have.
+    ///
+    /// Example: `let count = years.read_from(2, false, &mut list)`.
+    pub fn read_from(&self, from: K, past: bool, list: &mut [(K, V)]) -> usize
+        ensures count { AnswersWith self.now.segment.now (λ d.
+            answer_of_map d (key_of self.now.object) K.kind V.kind
+            (count_read past (K.whole from) (min (length list.old) 32))) (Ok result) }
+        ensures list { AnswersWith self.now.segment.now (λ d.
+            answer_of_map d (key_of self.now.object) K.kind V.kind
+            (pairs_read past (K.whole from) (min (length list.old) 32) (map (number_item K.whole V.whole) list.old)))
+            (Ok (map (number_item K.whole V.whole) list.new)) }
+    {
+        let segment = self.segment;
+        let map = SegMap::<K, V>::at(self.object.own_container());
+        map.read_from(&segment.heap, from, past, list, &mut Steps::new())
     }
 
     /// Returns the last pair, or `None` if the map is empty.

@@ -1,7 +1,5 @@
 //! The places of containers in the blocks of their objects.
-ghost use Rattle.std.specs.Prelude.{MatchResult};
 ghost use Rattle.segment_manager.specs.{containers.Contents.container_at, State.AnswersWith};
-ghost use Rattle.segment_manager.specs.containers.ToChange.{IsNotToChange, IsChangeableContainer};
 
 use crate::objects::object_ref::ObjectRef;
 use crate::segment::Segment;
@@ -23,22 +21,5 @@ impl Segment {
             None => Err(Refusal::NotFound),
             Some(object) => object.container(kind),
         }
-    }
-
-    /// Returns the place of the object's container, for a change.
-    ///
-    /// # Errors
-    ///
-    /// `ReadOnly` if the segment is open for reading. Otherwise as `find_container`.
-    #[inline(always)]
-    pub(crate) fn find_to_change<O: ObjectRef>(&self, key: &O, kind: Kind) -> Result<Place, Refusal>
-        requires { O.stands key.now self.now }
-        ensures { MatchResult result (IsChangeableContainer self.now (O.key key.now) kind)
-            (IsNotToChange self.now (O.key key.now) kind) }
-    {
-        if self.is_read_only() {
-            return Err(Refusal::ReadOnly);
-        }
-        self.find_container(key, kind)
     }
 }

@@ -2,11 +2,9 @@
 ghost use Rattle.std.specs.Prelude.{◌≡◌, OnErr};
 ghost use Rattle.seg_types.specs.Commands.{Lookup, Put, Remove, literal_of};
 ghost use Rattle.seg_types.specs.declared.kinds.Kind.TheVariants.{Map as MapOf};
-ghost use Rattle.segment_manager.specs.containers.Maps.{pair_above, pair_at_end, pair_below, pair_from};
-ghost use Rattle.segment_manager.specs.containers.Maps.{pair_result};
+ghost use Rattle.segment_manager.specs.containers.Maps.{answer_of_map, pair_above, pair_from, pair_result};
+ghost use Rattle.segment_manager.specs.containers.Maps.{value_answer};
 ghost use Rattle.segment_manager.specs.State.{AnswersWith, AnswersQueryOfKind, TakesStepOfKind, truth_answer};
-ghost use Rattle.segment_manager.specs.{containers.Maps.pair_up_to, containers.Maps.answer_of_map};
-ghost use Rattle.segment_manager.specs.{containers.Maps.value_answer, containers.Walks.pair_past};
 ghost use Rattle.segment_manager.specs.Keeping.{ChangesValue, UnchangedWhere, LacksPair};
 
 use crate::bound::maps::{Map, MapMut};
@@ -51,7 +49,7 @@ impl Segment {
         ensures { AnswersWith self.now (λ d. answer_of_map d (O.key key.now) K.kind V.kind (pair_from (K.whole from)))
             (pair_result K.whole V.whole result) }
     {
-        self.pair_past(key, from, false)
+        Ok(Map::<K, V>::of(self, key)?.first_from(from))
     }
 
     /// Returns the map's next pair after the map key `after`, or `None` if there is none. The map's types must match.
@@ -70,89 +68,7 @@ impl Segment {
         ensures { AnswersWith self.now (λ d. answer_of_map d (O.key key.now) K.kind V.kind (pair_above (K.whole after)))
             (pair_result K.whole V.whole result) }
     {
-        self.pair_past(key, after, true)
-    }
-
-    /// Returns the map's first pair whose map key is above a bound, or not below it. It is inlined, so the choice
-    /// between the two costs no test.
-    #[inline(always)]
-    pub(crate) fn pair_past<K: Scalar, V: Scalar, O: ObjectRef>(
-        &self,
-        key: &O,
-        bound: K,
-        above: bool,
-    ) -> Result<Option<(K, V)>, Refusal>
-        requires { O.stands key.now self.now }
-        ensures { AnswersWith self.now (λ d.
-            answer_of_map d (O.key key.now) K.kind V.kind (pair_past above (K.whole bound)))
-            (pair_result K.whole V.whole result) }
-    {
-        let map = Map::<K, V>::of(self, key)?;
-        if above {
-            Ok(map.next_after(bound))
-        } else {
-            Ok(map.first_from(bound))
-        }
-    }
-
-    /// Returns the map's last pair, or `None` if the map is empty. The map's types must match.
-    ///
-    /// Example: `let last: Option<(i32, i64)> = segment.map_last(&name)?`.
-    ///
-    /// # Errors
-    ///
-    /// `NotFound` if no object has the key, `WrongKind` if the object has another kind.
-    pub fn map_last<K: Scalar, V: Scalar, O: ObjectRef>(
-        &self,
-        key: &O,
-    ) -> Result<Option<(K, V)>, Refusal>
-        requires { O.stands key.now self.now }
-        ensures { AnswersWith self.now (λ d. answer_of_map d (O.key key.now) K.kind V.kind pair_at_end)
-            (pair_result K.whole V.whole result) }
-    {
-        Ok(Map::<K, V>::of(self, key)?.last())
-    }
-
-    /// Returns the map's last pair whose map key is not above `to`, or `None` if there is none. The map's types must
-    /// match.
-    ///
-    /// Example: `let last: Option<(i32, i64)> = segment.map_last_up_to(&name, 2)?`.
-    ///
-    /// # Errors
-    ///
-    /// `NotFound` if no object has the key, `WrongKind` if the object has another kind.
-    pub fn map_last_up_to<K: Scalar, V: Scalar, O: ObjectRef>(
-        &self,
-        key: &O,
-        to: K,
-    ) -> Result<Option<(K, V)>, Refusal>
-        requires { O.stands key.now self.now }
-        ensures { AnswersWith self.now (λ d. answer_of_map d (O.key key.now) K.kind V.kind (pair_up_to (K.whole to)))
-            (pair_result K.whole V.whole result) }
-    {
-        Ok(Map::<K, V>::of(self, key)?.last_up_to(to))
-    }
-
-    /// Returns the map's previous pair before the map key `before`, or `None` if there is none. The map's types must
-    /// match. A loop from `map_last` on reads all pairs by falling map keys; each call searches from the root of the
-    /// tree.
-    ///
-    /// Example: `let previous: Option<(i32, i64)> = segment.map_previous_before(&name, 2)?`.
-    ///
-    /// # Errors
-    ///
-    /// `NotFound` if no object has the key, `WrongKind` if the object has another kind.
-    pub fn map_previous_before<K: Scalar, V: Scalar, O: ObjectRef>(
-        &self,
-        key: &O,
-        before: K,
-    ) -> Result<Option<(K, V)>, Refusal>
-        requires { O.stands key.now self.now }
-        ensures { AnswersWith self.now (λ d.
-            answer_of_map d (O.key key.now) K.kind V.kind (pair_below (K.whole before)))
-            (pair_result K.whole V.whole result) }
-    {
-        Ok(Map::<K, V>::of(self, key)?.previous_before(before))
+        Ok(Map::<K, V>::of(self, key)?.next_after(after))
     }
 
     /// Sets the value of the map key `at`, and returns true if `at` is new. The map's types must match. All other pairs

@@ -7,6 +7,7 @@ ghost use Rattle.segment_manager.specs.{Step.is_read_only, objects.Located.IsLoc
 ghost use Rattle.segment_manager.specs.{Keeping.KeepsUnused, containers.Ranges.ChangesRange};
 ghost use Rattle.segment_manager.specs.containers.Ranges.{ExtendsVector, WritesRange};
 
+use crate::bound::slices::VectorMut;
 use crate::objects::object_ref::{Object, ObjectRef, locate};
 use crate::segment::Segment;
 use seg_types::{Kind, Refusal, Scalar};
@@ -69,7 +70,7 @@ impl Segment {
 
     /// Replaces elements of a located array of scalars of the type, and fails for any other object but a vector. The
     /// segment is open for writing. No other byte changes.
-    fn write_in_array<T: Scalar>(
+    pub(crate) fn write_in_array<T: Scalar>(
         &mut self,
         object: &Object,
         first: u64,
@@ -121,11 +122,7 @@ impl Segment {
         ensures refused { OnErr result (self.new ≡ self.old) }
         ensures gaps { KeepsUnused self.old self.new }
     {
-        if self.is_read_only() {
-            return Err(Refusal::ReadOnly);
-        }
-        let place = self.find_container(key, Kind::Vector(T::kind()))?;
-        SegVec::<T>::at(place).extend(&mut self.heap, values)
+        VectorMut::<T>::of(self, key)?.extend(values)
     }
 }
 

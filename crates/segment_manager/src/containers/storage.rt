@@ -8,6 +8,8 @@ ghost use Rattle.segment_manager.specs.{Keeping.HasCapacity, containers.Stored.H
 ghost use Rattle.segment_manager.specs.{Keeping.UnchangedWhere, State.AnswersWith, State.TakesStep, State.done_answer};
 ghost use Rattle.segment_manager.specs.objects.ElementLists.{array_length_at, length_at_kind};
 
+use crate::bound::slices::{Array, Vector};
+use crate::bound::texts::Strings;
 use crate::containers::storages::{Change, change_elements, change_texts, element_len};
 use crate::objects::object_ref::{ObjectRef, locate};
 use crate::segment::Segment;
@@ -141,11 +143,7 @@ impl Segment {
         requires { O.stands key.now self.now }
         ensures { AnswersWith self.now (λ d. array_length_at d (O.key key.now) T.kind) result }
     {
-        let object = locate(self, key)?;
-        if Kind::Scalar(T::kind()).code() != object.kind.code() {
-            return Err(Refusal::WrongKind);
-        }
-        Ok(u64::from(object.count))
+        Ok(Array::<T>::of(self, key)?.len())
     }
 
     /// Returns the number of elements of the vector. The vector's type must match.
@@ -159,7 +157,7 @@ impl Segment {
         requires { O.stands key.now self.now }
         ensures { AnswersWith self.now (λ d. length_at_kind d (O.key key.now) (VectorOf T.kind)) result }
     {
-        Ok(self.measure_kind(key, Kind::Vector(T::kind()))?.0)
+        Ok(Vector::<T>::of(self, key)?.len())
     }
 
     /// Returns the number of texts of the vector of strings.
@@ -173,7 +171,7 @@ impl Segment {
         requires { O.stands key.now self.now }
         ensures { AnswersWith self.now (λ d. length_at_kind d (O.key key.now) StringsKind) result }
     {
-        Ok(self.measure_kind(key, Kind::Strings)?.0)
+        Ok(Strings::of(self, key)?.len())
     }
 
     /// Returns the number of pairs of the map. The map's types must match.

@@ -3,18 +3,16 @@ ghost use Rattle.std.specs.{Prelude.◌≡◌, Prelude.IsTrue, Prelude.OnErr, Pr
 ghost use Rattle.seg_types.specs.declared.kinds.Kind.TheVariants.{Strings as StringsKind};
 ghost use Rattle.seg_types.specs.Commands.{Assign, Erase, Get, Insert, Pop, Push, Quoted, Set};
 ghost use Rattle.raw_region.specs.Memory.{are_bytes};
-ghost use Rattle.segment_manager.specs.Answers.{TextElement};
-ghost use Rattle.segment_manager.specs.{containers.TextLists.LeadsOnOfKind};
+ghost use Rattle.segment_manager.specs.{Answers.TextElement, containers.TextLists.LeadsOnOfKind};
 ghost use Rattle.segment_manager.specs.Keeping.{UnchangedWhere, LacksArray, LacksFirst};
 ghost use Rattle.segment_manager.specs.State.{AnswersQueryOfKind, TakesStepOfKind, UnchangedIfRefused, answer_of};
-ghost use Rattle.segment_manager.specs.State.{done_answer};
-ghost use Rattle.segment_manager.specs.State.{refusal_in};
+ghost use Rattle.segment_manager.specs.State.{done_answer, refusal_in};
 
+use crate::bound::texts::{Strings, StringsMut};
 use crate::objects::object_ref::ObjectRef;
 use crate::segment::Segment;
 use raw_region::bytes_are_octets;
-use seg_types::{Kind, Refusal};
-use seg_vector::SegTexts;
+use seg_types::Refusal;
 
 impl Segment {
     /// Returns the bytes of the text at `index` of the vector of strings, borrowed from the segment.
@@ -23,30 +21,22 @@ impl Segment {
     ///
     /// # Errors
     ///
-    /// `NotFound` if no object has the key, `WrongKind` if the object has another kind, `OutOfRange` if `index` is not
-    /// below the length.
+    /// `NotFound` and `WrongKind` as `Strings::of`, `OutOfRange` as its `get`.
     pub fn texts_get<O: ObjectRef>(&self, key: &O, index: u64) -> Result<&[u8], Refusal>
         requires { O.stands key.now self.now }
         ensures { AnswersQueryOfKind self.now (O.key key.now) StringsKind
             (Get (O.key key.now) index) (answer_of (λ text. TextElement text.now) result) }
     {
-        let place = self.find_container(key, Kind::Strings)?;
-        SegTexts { place }.get(&self.heap, index)
+        Strings::of(self, key)?.get(index)
     }
 
-    /// Replaces the text at `index` of the vector of strings. It allocates the new text's block before it frees the old
-    /// one.
+    /// Replaces the text at `index` of the vector of strings, as `StringsMut::set`.
     ///
     /// Example: `segment.texts_set(&name, 0, b"plums")?`.
     ///
     /// # Errors
     ///
-    /// The first that applies; nothing changes:
-    /// - `ReadOnly` if the segment is open for reading;
-    /// - `NotFound` if no object has the key;
-    /// - `WrongKind` if the object has another kind;
-    /// - `OutOfRange` if `index` is not below the length;
-    /// - `NoSpace` if no gap is long enough for the text.
+    /// `ReadOnly`, `NotFound`, `WrongKind` as `StringsMut::of`, `OutOfRange`, `NoSpace` as its `set`. Nothing changes.
     pub fn texts_set<O: ObjectRef>(
         &mut self,
         key: &O,
@@ -58,22 +48,16 @@ impl Segment {
             (Set (O.key key.now) index (Quoted text.now)) (done_answer result) }
         ensures refused { OnErr result (self.new ≡ self.old) }
     {
-        let place = self.find_to_change(key, Kind::Strings)?;
-        SegTexts { place }.set(&mut self.heap, index, text)
+        StringsMut::of(self, key)?.set(index, text)
     }
 
-    /// Appends a text to the vector of strings. A full vector first doubles its capacity, to at least 4.
+    /// Appends a text to the vector of strings, as `StringsMut::push`.
     ///
     /// Example: `segment.texts_push(&name, b"plums")?`.
     ///
     /// # Errors
     ///
-    /// The first that applies; nothing changes, except after `NoSpace`:
-    /// - `ReadOnly` if the segment is open for reading;
-    /// - `NotFound` if no object has the key;
-    /// - `WrongKind` if the object has another kind;
-    /// - `NoSpace` if the vector is full and its array cannot be regrown, or if no gap is long enough for the text. All
-    ///   objects and blocks are then unchanged; bytes of gaps can change if an array was allocated.
+    /// `ReadOnly`, `NotFound` and `WrongKind` as `StringsMut::of`: nothing changes. `NoSpace` as its `push`.
     pub fn texts_push<O: ObjectRef>(&mut self, key: &O, text: &[u8]) -> Result<(), Refusal>
         requires { O.stands key.now self.old }
         ensures step { TakesStepOfKind self.old self.new (O.key key.now) StringsKind
@@ -81,23 +65,16 @@ impl Segment {
         ensures refused { UnchangedIfRefused self.old self.new result }
         ensures first { UnchangedWhere self.old self.new (LacksFirst (O.key key.now) text.now) }
     {
-        let place = self.find_to_change(key, Kind::Strings)?;
-        SegTexts { place }.push(&mut self.heap, text)
+        StringsMut::of(self, key)?.push(text)
     }
 
-    /// Replaces all texts of the vector of strings. For one or more texts it allocates a new array with a capacity of
-    /// exactly their number, and then their blocks, before it frees the old blocks. Without texts the array stays.
+    /// Replaces all texts of the vector of strings, as `StringsMut::assign`.
     ///
     /// Example: `segment.texts_assign(&name, &[b"apples", b"pears"])?`.
     ///
     /// # Errors
     ///
-    /// The first that applies; nothing changes, except after `NoSpace`:
-    /// - `ReadOnly` if the segment is open for reading;
-    /// - `NotFound` if no object has the key;
-    /// - `WrongKind` if the object has another kind;
-    /// - `NoSpace` if no gap is long enough for the array or a text. All objects and blocks are then unchanged; bytes
-    ///   of gaps can change if an array was allocated.
+    /// `ReadOnly`, `NotFound` and `WrongKind` as `StringsMut::of`: nothing changes. `NoSpace` as its `assign`.
     pub fn texts_assign<O: ObjectRef>(&mut self, key: &O, texts: &[&[u8]]) -> Result<(), Refusal>
         requires { O.stands key.now self.old }
         ensures step { TakesStepOfKind self.old self.new (O.key key.now) StringsKind
@@ -105,9 +82,7 @@ impl Segment {
         ensures refused { UnchangedIfRefused self.old self.new result }
         ensures first { UnchangedWhere self.old self.new (LacksArray (length texts.now)) }
     {
-        judge_all(texts);
-        let place = self.find_to_change(key, Kind::Strings)?;
-        SegTexts { place }.assign(&mut self.heap, texts)
+        StringsMut::of(self, key)?.assign(texts)
     }
 
     /// Removes the last text of the vector of strings, and frees its block. The capacity stays.
@@ -116,32 +91,23 @@ impl Segment {
     ///
     /// # Errors
     ///
-    /// `ReadOnly` if the segment is open for reading. Otherwise `NotFound` if no object has the key, `WrongKind` if the
-    /// object has another kind, `OutOfRange` if it is empty. Nothing changes.
+    /// `ReadOnly`, `NotFound` and `WrongKind` as `StringsMut::of`, `OutOfRange` if it is empty. Nothing changes.
     pub fn texts_pop<O: ObjectRef>(&mut self, key: &O) -> Result<(), Refusal>
         requires { O.stands key.now self.old }
         ensures step { LeadsOnOfKind self.old self.new (O.key key.now) StringsKind (Pop (O.key key.now))
             (refusal_in result) }
         ensures refused { OnErr result (self.new ≡ self.old) }
     {
-        let place = self.find_to_change(key, Kind::Strings)?;
-        SegTexts { place }.pop(&mut self.heap)
+        StringsMut::of(self, key)?.pop()
     }
 
-    /// Inserts a text before the one at `index` of the vector of strings. The texts from there on move up. A full
-    /// vector first doubles its capacity, to at least 4.
+    /// Inserts a text before the one at `index` of the vector of strings, as `StringsMut::insert`.
     ///
     /// Example: `segment.texts_insert(&name, 0, b"plums")?`.
     ///
     /// # Errors
     ///
-    /// The first that applies; nothing changes, except after `NoSpace`:
-    /// - `ReadOnly` if the segment is open for reading;
-    /// - `NotFound` if no object has the key;
-    /// - `WrongKind` if the object has another kind;
-    /// - `OutOfRange` if `index` is above the length;
-    /// - `NoSpace` if the vector is full and its array cannot be regrown, or if no gap is long enough for the text. All
-    ///   objects and blocks are then unchanged; bytes of gaps can change if an array was allocated.
+    /// `ReadOnly`, `NotFound`, `WrongKind` as `StringsMut::of`: nothing changes. `OutOfRange`, `NoSpace` as `insert`.
     pub fn texts_insert<O: ObjectRef>(
         &mut self,
         key: &O,
@@ -154,27 +120,23 @@ impl Segment {
         ensures refused { UnchangedIfRefused self.old self.new result }
         ensures first { UnchangedWhere self.old self.new (LacksFirst (O.key key.now) text.now) }
     {
-        let place = self.find_to_change(key, Kind::Strings)?;
-        SegTexts { place }.insert(&mut self.heap, index, text)
+        StringsMut::of(self, key)?.insert(index, text)
     }
 
-    /// Removes the text at `index` of the vector of strings, and frees its block. The texts after it move down; the
-    /// capacity stays.
+    /// Removes the text at `index` of the vector of strings, as `StringsMut::erase`.
     ///
     /// Example: `segment.texts_erase(&name, 0)?`.
     ///
     /// # Errors
     ///
-    /// `ReadOnly` if the segment is open for reading. Otherwise `NotFound` if no object has the key, `WrongKind` if the
-    /// object has another kind, `OutOfRange` if `index` is not below the length. Nothing changes.
+    /// `ReadOnly`, `NotFound` and `WrongKind` as `StringsMut::of`, `OutOfRange` as its `erase`. Nothing changes.
     pub fn texts_erase<O: ObjectRef>(&mut self, key: &O, index: u64) -> Result<(), Refusal>
         requires { O.stands key.now self.old }
         ensures step { TakesStepOfKind self.old self.new (O.key key.now) StringsKind
             (Erase (O.key key.now) index) (done_answer result) }
         ensures refused { OnErr result (self.new ≡ self.old) }
     {
-        let place = self.find_to_change(key, Kind::Strings)?;
-        SegTexts { place }.erase(&mut self.heap, index)
+        StringsMut::of(self, key)?.erase(index)
     }
 }
 

@@ -6,11 +6,11 @@ ghost use Rattle.best_fit.specs.Heap.{KeepsGaps};
 ghost use Rattle.segment_manager.specs.{Answers.Element, Keeping.KeepsUnused};
 ghost use Rattle.segment_manager.specs.State.{AnswersQueryOfKind, TakesStepOfKind, answer_of, done_answer};
 
+use crate::bound::slices::{Vector, VectorMut};
 use crate::objects::object_ref::ObjectRef;
 use crate::segment::Segment;
 use seg_types::theorems::holds_value;
-use seg_types::{Kind, Refusal, Scalar};
-use seg_vector::SegVec;
+use seg_types::{Refusal, Scalar};
 
 impl Segment {
     /// Returns the element at `index` of the vector. The vector's type must match.
@@ -26,8 +26,7 @@ impl Segment {
         ensures { AnswersQueryOfKind self.now (O.key key.now) (VectorOf T.kind)
             (Get (O.key key.now) index) (answer_of (λ x. Element T.kind (T.whole x)) result) }
     {
-        let place = self.find_container(key, Kind::Vector(T::kind()))?;
-        SegVec::<T>::at(place).get(&self.heap, index)
+        Vector::<T>::of(self, key)?.get(index)
     }
 
     /// Sets the element at `index` of the vector. The vector's type must match.
@@ -50,9 +49,7 @@ impl Segment {
         ensures refused { OnErr result (self.new ≡ self.old) }
         ensures gaps { KeepsGaps self.old.cut self.new.cut }
     {
-        holds_value(value);
-        let place = self.find_to_change(key, Kind::Vector(T::kind()))?;
-        SegVec::<T>::at(place).set(&mut self.heap, index, value)
+        VectorMut::<T>::of(self, key)?.set(index, value)
     }
 
     /// Appends a value to the vector. The vector's type must match. A full vector first doubles its capacity, to at
@@ -71,9 +68,7 @@ impl Segment {
         ensures refused { OnErr result (self.new ≡ self.old) }
         ensures gaps { KeepsUnused self.old self.new }
     {
-        holds_value(value);
-        let place = self.find_to_change(key, Kind::Vector(T::kind()))?;
-        SegVec::<T>::at(place).push(&mut self.heap, value)
+        VectorMut::<T>::of(self, key)?.push(value)
     }
 
     /// Replaces the elements of the vector. The vector's type must match. If the values do not fit, the capacity
@@ -96,9 +91,7 @@ impl Segment {
         ensures refused { OnErr result (self.new ≡ self.old) }
         ensures gaps { KeepsUnused self.old self.new }
     {
-        judge_all(values);
-        let place = self.find_to_change(key, Kind::Vector(T::kind()))?;
-        SegVec::<T>::at(place).assign(&mut self.heap, values)
+        VectorMut::<T>::of(self, key)?.assign(values)
     }
 
     /// Removes the last element of the vector and returns it. The vector's type must match. The capacity stays.
@@ -116,8 +109,7 @@ impl Segment {
         ensures refused { OnErr result (self.new ≡ self.old) }
         ensures gaps { KeepsGaps self.old.cut self.new.cut }
     {
-        let place = self.find_to_change(key, Kind::Vector(T::kind()))?;
-        SegVec::<T>::at(place).pop(&mut self.heap)
+        VectorMut::<T>::of(self, key)?.pop()
     }
 
     /// Inserts a value before the element at `index` of the vector. The vector's type must match. The elements from
@@ -145,9 +137,7 @@ impl Segment {
         ensures refused { OnErr result (self.new ≡ self.old) }
         ensures gaps { KeepsUnused self.old self.new }
     {
-        holds_value(value);
-        let place = self.find_to_change(key, Kind::Vector(T::kind()))?;
-        SegVec::<T>::at(place).insert(&mut self.heap, index, value)
+        VectorMut::<T>::of(self, key)?.insert(index, value)
     }
 
     /// Removes the element at `index` of the vector. The vector's type must match. The elements after it move down; the
@@ -166,13 +156,12 @@ impl Segment {
         ensures refused { OnErr result (self.new ≡ self.old) }
         ensures gaps { KeepsGaps self.old.cut self.new.cut }
     {
-        let place = self.find_to_change(key, Kind::Vector(T::kind()))?;
-        SegVec::<T>::at(place).erase(&mut self.heap, index)
+        VectorMut::<T>::of(self, key)?.erase(index)
     }
 }
 
 /// States that each of the values satisfies `is_value`.
-fn judge_all<T: Scalar>(values: &[T])
+pub(crate) fn judge_all<T: Scalar>(values: &[T])
     ensures { IsTrue (list_all T.is_value values.now) }
 {
     for value in values {

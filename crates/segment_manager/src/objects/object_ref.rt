@@ -62,18 +62,15 @@ impl Object {
         }
     }
 
-    /// Returns the place of its element at an index.
+    /// Returns the place of an element of an array of scalars of the kind.
     ///
     /// # Errors
     ///
-    /// `WrongKind` if it is no array of scalars of the kind, `OutOfRange` if the index is not below the length.
+    /// `OutOfRange` if the index is not below the length.
     #[inline(always)]
     pub(crate) fn element(self, kind: ScalarKind, index: u64) -> Result<Place, Refusal>
         ensures { result ≡ element_in self kind index }
     {
-        if self.kind != Kind::Scalar(kind) {
-            return Err(Refusal::WrongKind);
-        }
         if index >= u64::from(self.count) {
             return Err(Refusal::OutOfRange);
         }
@@ -89,7 +86,7 @@ impl Object {
 /// # Conditions
 ///
 /// A key and a name have none. A located object must be an object of the segment and still exist: no call on elements
-/// removes it, but `destroy` and `destroy_ptr` do. The views of `segment_views` ensure this for their caller.
+/// removes it, but `destroy` and `destroy_ptr` do. `Bound` and `BoundMut` ensure this.
 pub trait ObjectRef {
     // The key by which commands name the object.
     ghost key: { Self → AnyKey };

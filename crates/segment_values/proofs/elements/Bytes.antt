@@ -1,13 +1,13 @@
 -- The bytes of elements of an array that are written: no other byte changes.
-use Rattle.std.proofs.Common.{◌≡◌, refl, sym, ap, subst, ◌∙◌, ℕ, ◌+◌, false, Some, None, Option}
+use Rattle.std.proofs.Common.{◌≡◌, sym, ap, subst, ◌∙◌, ℕ, ◌+◌, false, Some, None, Option}
 use Rattle.std.proofs.Common.{inl, inr, Result, Ok, Err, if◌then◌else◌}
 use Rattle.std.specs.Prelude.{IfOk, OnOk, nat_lt}
 use Rattle.std.proofs.lemmas.Bool.{cases_Bool}
 use Rattle.raw_region.specs.Memory.{SameBytesExcept, bytes_of}
 use Rattle.best_fit.specs.Extents.{handle}
-use Rattle.seg_types.specs.declared.kinds.Kind.TheVariants.{Scalar, Strings}
+use Rattle.seg_types.specs.declared.kinds.Kind.{Kind}
+use Rattle.seg_types.specs.declared.kinds.Kind.TheVariants.{Scalar}
 use Rattle.seg_types.specs.declared.kinds.ScalarKind.{ScalarKind}
-use Rattle.seg_types.specs.declared.kinds.ScalarKind.TheVariants.{Bool as BoolKind, U8, I32, I64, U64}
 use Rattle.seg_types.specs.declared.refusals.Refusal.{Refusal}
 use Rattle.seg_types.specs.declared.refusals.Refusal.TheVariants.{NotFound, OutOfRange, WrongKind}
 use Rattle.seg_types.specs.Kinds.{same_kind, size_of}
@@ -48,7 +48,7 @@ But old new n r =
     IfOk r (λ (p : Place). SameBytesExcept (bytes_of old.cut.bytes) (bytes_of new.cut.bytes) (p.handle + p.at) n)
 
 -- a property of a success implies another
-pub on_ok-map : {P Q : Type 0} (r : Result (Unit {0}) Refusal) → (P → Q) → OnOk r P → OnOk r Q
+on_ok-map : {P Q : Type 0} (r : Result (Unit {0}) Refusal) → (P → Q) → OnOk r P → OnOk r Q
 on_ok-map (Ok a) f p = f p
 on_ok-map (Err why) f p = tt
 
@@ -70,7 +70,7 @@ each-if P (Some o) j k i e m =
     ]
 
 -- an object has elements of one kind alone, and none of another is written
-pub element-each : (old new : SegmentState) (key : Key) (j : ScalarKind) (i : ℕ)
+element-each : (old new : SegmentState) (key : Key) (j : ScalarKind) (i : ℕ)
     → AnswersWith old (λ d. elements_at d key) (Ok j)
     → ChangesElement old new key j i → (k : ScalarKind) → ChangesElement old new key k i
 element-each old new key j i a m k = λ d st. each-if (λ (l : ScalarKind) (p : Place).
@@ -79,25 +79,32 @@ element-each old new key j i a m k = λ d st. each-if (λ (l : ScalarKind) (p : 
     (a.answers d st) (m d st)
 
 -- an element changed under the handle is changed under the key
-pub element-by_key : (s t : SegmentState) (key : Key) (o : Located) → IsLocated s key o → (k : ScalarKind) (i : ℕ)
+element-by_key : (s t : SegmentState) (key : Key) (o : Located) → IsLocated s key o → (k : ScalarKind) (i : ℕ)
     → ChangesElement s t (ByHandle o.handle) k i → ChangesElement s t key k i
 element-by_key s t key o l k i m = λ d st.
     subst (λ (r : Option Object). But s t (size_of k) (place_of r k i)) (sym (same-object s key o l d st)) (m d st)
 
--- a vector of strings has no such element
-no_array : (k : ScalarKind) → same_kind (Scalar k) Strings ≡ false
-no_array BoolKind = refl
-no_array U8 = refl
-no_array I32 = refl
-no_array I64 = refl
-no_array U64 = refl
+-- an object that is no array has no such element
+no_array : (k : ScalarKind) (n : Kind) → ((j : ScalarKind) → n ≡ Scalar j → ⊥) → same_kind (Scalar k) n ≡ false
+no_array k n other = elim (cases_Bool (same_kind (Scalar k) n)) [
+  | inl own ↦ absurd (other k (sym (one-kind (Scalar k) n own)))
+  | inr none ↦ none
+]
 
--- a string changed under the handle is changed under the key
-pub element-text : (s t : SegmentState) (key : Key) (o : Located) → IsLocated s key o → o.kind ≡ Strings → (i : ℕ)
-    → (r : Result (Unit {0}) Refusal) → OnOk r ((k : ScalarKind) → ChangesElement s t key k i)
-element-text s t key o l is i (Ok u) = λ k d st.
+-- an element of such an object is changed
+pub element-elsewhere : (s t : SegmentState) (key : Key) (o : Located) → IsLocated s key o → {n : Kind} → o.kind ≡ n
+    → ((j : ScalarKind) → n ≡ Scalar j → ⊥) → (i : ℕ) (r : Result (Unit {0}) Refusal)
+    → OnOk r ((k : ScalarKind) → ChangesElement s t key k i)
+element-elsewhere s t key o l {n} is other i (Ok u) = λ k d st.
     let p = said-at s key o l d st in
-    let own : kind_of p.object.value ≡ Strings = ap (λ (q : Located). q.kind) (sym p.said) ∙ is in
-    let none = place-other k p.object i (ap (same_kind (Scalar k)) own ∙ no_array k) in
+    let own : kind_of p.object.value ≡ n = ap (λ (q : Located). q.kind) (sym p.said) ∙ is in
+    let none = place-other k p.object i (ap (same_kind (Scalar k)) own ∙ no_array k n other) in
     subst (But s t (size_of k)) (sym (ap (λ (r : Option Object). place_of r k i) p.is ∙ none)) tt
-element-text s t key o l is i (Err why) = tt
+element-elsewhere s t key o l is other i (Err why) = tt
+
+-- an element of an array is changed, and an element of another kind fails
+pub element-told : (s t : SegmentState) (key : Key) (o : Located) → IsLocated s key o → (j : ScalarKind) (i : ℕ)
+    (r : Result (Unit {0}) Refusal) → AnswersWith s (λ d. elements_at d (ByHandle o.handle)) (Ok j)
+    → OnOk r (ChangesElement s t (ByHandle o.handle) j i) → OnOk r ((k : ScalarKind) → ChangesElement s t key k i)
+element-told s t key o l j i r a m =
+    on_ok-map r (λ e k. element-by_key s t key o l k i (element-each s t (ByHandle o.handle) j i a e k)) m

@@ -20,7 +20,7 @@ use Rattle.seg_types.specs.declared.kinds.ScalarKind.TheVariants.{Bool as BoolKi
 use Rattle.seg_types.specs.declared.refusals.Refusal.{Refusal}
 use Rattle.seg_types.specs.declared.refusals.Refusal.TheVariants.{NotFound}
 use Rattle.seg_types.specs.Kinds.{is_value, size_of, spelling}
-use Rattle.seg_types.specs.Names.{ByHandle}
+use Rattle.seg_types.specs.Names.{ByHandle, Key}
 use Rattle.seg_types.proofs.Laws.{all_spell_one}
 use Rattle.seg_vector.specs.Vector.{spelled}
 use Rattle.seg_vector.proofs.storage.TypedVectors.{all-at, flat-element, flat-take, has-element}
@@ -154,6 +154,14 @@ reads-all whole k bytes series i many last before zs a =
     ap (map whole) (sym (take_all i series last)) ∙ before zs a ∙ take_all i zs (omega (arith, same, last))
 
 -- ---- the object
+
+-- an element of a run lies in the image
+pub element-inside : (s : SegmentState) (key : Key) (run : ElementRun) (i : ℕ) → IsRunOf s key run → i < run.count
+    → run.offset + size_of run.kind * i + size_of run.kind ≤ length s.cut.bytes
+element-inside s key run i lies within =
+    let all : size_of run.kind * (i + 1) ≤ size_of run.kind * run.count = mul-le-mul_left (size_of run.kind) (omega
+    (arith, within))
+    in let inside = lies.inside in omega (arith, all, inside)
 
 -- a segment is not too long
 segment-short : (b : List ℕ) → IsSegment b → length b ≤ 1073741824

@@ -1,4 +1,4 @@
--- The tree of the root is one, so what is asked of it holds for each.
+-- The root has one tree, so the conditions of the call hold for each tree of the root.
 use Rattle.std.proofs.Common.{◌≡◌, ℕ, Bool, Option, Some, None, false, arith, subst, sym, ◌∙◌}
 use Rattle.link_tree.specs.Tree.{Cell, Tree, IsSearchTree}
 use Rattle.link_tree.specs.Ways.{EndsPath, insert_point_of}

@@ -1,15 +1,17 @@
-use Rattle.std.proofs.Common.{◌≡◌, ℕ, Bool, true, not, ◌∷◌, Option, Some, arith, refl, subst, rules}
+use Rattle.std.proofs.Common.{◌≡◌, ℕ, Bool, true, not, ◌∷◌, Option, Some, arith, refl, sym, ap, ◌∙◌, subst, rules}
 use Rattle.std.specs.Prelude.{IfSome, IsTrue}
 use Rattle.link_tree.specs.Tree.{Cell, Tree, IsTree, IsSearchTree, nodes_of, is_sorted}
-use Rattle.link_tree.specs.Nodes.{is_ordered_with, insert_in_order}
+use Rattle.link_tree.specs.Nodes.{is_ordered_with, insert_in_order, leads}
+use Rattle.link_tree.specs.Sides.{child_of, side_of, with_child}
+use Rattle.link_tree.specs.declared.cursor.Side.{Side}
 use Rattle.link_tree.specs.Turning.{BecomesTree, blackened}
 use Rattle.link_tree.specs.Growing.{CanInsert, after_insert}
 use Rattle.link_tree.specs.Ways.{insert_point_of}
 use Rattle.link_tree.proofs.trees.Linked.{IsChanged, one_tree, root_in}
 use Rattle.link_tree.proofs.trees.Heights.{height_bits}
 use Rattle.link_tree.proofs.trees.NodeLaws.{low_tree, node_of, strict}
-use Rattle.link_tree.proofs.inserting.Insertion.{frame_beside, inserted}
-use Rattle.link_tree.proofs.inserting.EntryPoint.{IsBegun, begun_whole, entered, grows_begun}
+use Rattle.link_tree.proofs.inserting.Insertion.{frame_beside, grow_step, GrowsBelow, grows_below, inserted, laid}
+use Rattle.link_tree.proofs.inserting.EntryPoint.{IsBegun, begun_whole, entered, grows_begun, steady}
 use Rattle.link_tree.proofs.insertion.insert_at.Goals as goal
 use Rattle.link_tree.proofs.insertion.insert_at.Given.{Over}
 
@@ -39,72 +41,150 @@ module _ (g : Over) (s : g.row.N.Denot) (root entry : Option ℕ) (x : ℕ) (ask
       subst (λ v. IsBegun (g.N.Nodes.order s) (g.N.Nodes.cells s) x v p) e
       (begun_whole (strict g.met.N.Nodes s) (g.N.Nodes.cells s) x root asked.0 p asked.1 asked.2 at)
 
-pub insert_below-requires-clause-link : goal.insert_below-requires-clause-link
-insert_below-requires-clause-link g c =
-    let t = c.requires.tree in
-    let s = c.args.nodes.now in
-    let b = begins g s c.args.root c.args.entry c.args.node t t.0 t.1 _ c.in-Some.is in
-    rw c.new-visits.ensures.nodes (node_of g.met.N.Nodes s t.1.tree c.requires.root c.in-Some.start
-    (b.begins.inside c.in-Some.start (root_in (g.N.Nodes.cells s) c.in-Some.start b.begins.below b.begins.is_tree)))
+  -- the tree below that node, where the new node goes
+  further : (p : ℕ) (is : entry ≡ Some p) → GrowsBelow (g.N.Nodes.order s) (g.N.Nodes.cells s)
+      (side_of (g.N.Nodes.order s x p)) p x (begins p is).begins.below
+  further p is =
+      let all = strict g.met.N.Nodes s in
+      grows_below all (side_of (g.N.Nodes.order s x p)) (g.N.Nodes.cells s) x p (begins p is).begins.below
+      (grows_begun all (g.N.Nodes.cells s) x u p grows.placed (begins p is))
 
-pub insert_below-requires-clause-tree : goal.insert_below-requires-clause-tree
-insert_below-requires-clause-tree g c =
+  -- that node is one of the nodes
+  entry_node : (p : ℕ) → entry ≡ Some p → IsTrue (leads (g.N.Nodes.is_node s) root) → g.N.Nodes.is_node s p ≡ true
+  entry_node p is r =
+      let b = begins p is in
+      node_of g.met.N.Nodes s k.tree r p
+      (b.begins.inside p (root_in (g.N.Nodes.cells s) p b.begins.below b.begins.is_tree))
+
+pub toward-way-requires-clause-position : goal.toward-way-requires-clause-position
+toward-way-requires-clause-position g c =
+    let t = c.requires.tree in
+    rw c.new-visits.ensures.nodes
+    (entry_node g c.args.nodes.now c.args.root c.args.entry c.args.node t t.0 t.1 _ c.in-Some.is c.requires.root)
+
+pub set_child-requires-clause-node : goal.set_child-requires-clause-node
+set_child-requires-clause-node g c =
+    let t = c.requires.tree in
+    rw (c.insert_behind-child.ensures.keeper.nodes, c.toward-way.ensures.nodes, c.new-visits.ensures.nodes)
+    (entry_node g c.args.nodes.now c.args.root c.args.entry c.args.node t t.0 t.1 _ c.in-Some.is c.requires.root)
+
+pub insert_behind-child-requires-clause-tree : goal.insert_behind-child-requires-clause-tree
+insert_behind-child-requires-clause-tree g c =
     let t = c.requires.tree in
     let s = c.args.nodes.now in
+    let way = c.toward-way.ensures in
     let low = low_tree g.met.N.Nodes s t.1 c.requires.root in
     let zero = c.new-visits.ensures.steps in
     let b = begins g s c.args.root c.args.entry c.args.node t t.0 t.1 _ c.in-Some.is in
-    let lower = b.begins.lower in (
-      b.begins.below,
-      rw c.new-visits.ensures.nodes (grows_begun (strict g.met.N.Nodes s) (g.N.Nodes.cells s) c.args.node
-          t.0 c.in-Some.start t.2 b),
+    let f = further g s c.args.root c.args.entry c.args.node t t.0 t.1 _ c.in-Some.is in
+    let few = way.steps_upper in
+    let lower = b.begins.lower in
+    let lower' = f.lower in (
+      f.tree,
+      rw (way.nodes, way.link, c.new-visits.ensures.nodes) f.grows,
       omega arith,
     )
 
+pub set_child-requires-clause-no_overflow : goal.set_child-requires-clause-no_overflow
+set_child-requires-clause-no_overflow g c =
+    let t = c.requires.tree in
+    let s = c.args.nodes.now in
+    let way = c.toward-way.ensures in
+    let low = low_tree g.met.N.Nodes s t.1 c.requires.root in
+    let zero = c.new-visits.ensures.steps in
+    let b = begins g s c.args.root c.args.entry c.args.node t t.0 t.1 _ c.in-Some.is in
+    let f = further g s c.args.root c.args.entry c.args.node t t.0 t.1 _ c.in-Some.is in
+    let few = way.steps_upper in
+    let lower = b.begins.lower in
+    let lower' = f.lower in
+    let steps = rw (way.nodes, way.link, c.new-visits.ensures.nodes) at c.insert_behind-child.ensures.steps in
+    omega (arith, steps f.tree f.grows)
+
 -- the result of an insertion below a node of the tree
-entered_at : (g : Over) (s s' : g.row.N.Denot) (root entry : Option ℕ) (x p top : ℕ) → Asked g s root entry x
-    → entry ≡ Some p → ((v : Tree) → CanInsert (g.N.Nodes.order s) (g.N.Nodes.cells s) (Some p) x v
-    → BecomesTree (g.N.Nodes.cells s) (g.N.Nodes.cells s') (x ∷ nodes_of v) (Some top)
+entered_at : (g : Over) (s s1 s2 : g.row.N.Denot) (root entry : Option ℕ) (x p child : ℕ) → Asked g s root entry x
+    → entry ≡ Some p → ((v : Tree)
+    → CanInsert (g.N.Nodes.order s) (g.N.Nodes.cells s)
+    (child_of (side_of (g.N.Nodes.order s x p)) (g.N.Nodes.cells s p)) x v
+    → BecomesTree (g.N.Nodes.cells s) (g.N.Nodes.cells s1) (x ∷ nodes_of v) (Some child)
     (after_insert (g.N.Nodes.order s) x v))
-    → (lt' : ℕ → ℕ → Bool) (h' : ℕ → Cell) → h' ≡ g.N.Nodes.cells s' → lt' ≡ g.N.Nodes.order s → (u : Tree)
+    → g.N.Nodes.cells s2 ≡ with_child (side_of (g.N.Nodes.order s x p)) (g.N.Nodes.cells s1) p (Some child)
+    → (lt' : ℕ → ℕ → Bool) (h' : ℕ → Cell) → h' ≡ g.N.Nodes.cells s2 → lt' ≡ g.N.Nodes.order s → (u : Tree)
     → IsSearchTree (g.N.Nodes.order s) (g.N.Nodes.cells s) root u
     → IsChanged lt' (g.N.Nodes.cells s) h' root (x ∷ nodes_of u) (insert_in_order (g.N.Nodes.order s) x (nodes_of u))
-entered_at g s s' root entry x p top asked is grow lt' h' eh el u k =
+entered_at g s s1 s2 root entry x p child asked is grow set lt' h' eh el u k =
+    let h = g.N.Nodes.cells s in
+    let h2 = g.N.Nodes.cells s2 in
+    let side = side_of (g.N.Nodes.order s x p) in
+    let all = strict g.met.N.Nodes s in
     let b = begins g s root entry x asked u k p is in
     let place = (grows g s root entry x asked u k).placed in
-    entered (strict g.met.N.Nodes s) (g.N.Nodes.cells s) x lt' (g.N.Nodes.cells s') h' root top u p k place b
-    (grow b.begins.below (grows_begun (strict g.met.N.Nodes s) (g.N.Nodes.cells s) x u p place b)) eh el
+    let new = grow_step all side h (g.N.Nodes.cells s1) h2 h2 x p child p b.begins.below refl
+    (grows_begun all h x u p place b) grow set (steady all h x side h2 p (λ v w. b.next v w.tree)) in
+    entered all h x lt' h2 h' root p u p k place b new eh el
+
+-- the result of this call, where it begins at a node
+from_entry : (g : Over) (s s0 s1 s2 s3 : g.row.N.Denot) (root entry : Option ℕ) (x p child : ℕ) (side : Side)
+    (link : Option ℕ) → Asked g s root entry x → entry ≡ Some p → s0 ≡ s → s1 ≡ s0
+    → side ≡ side_of (g.N.Nodes.order s0 x p)
+    → link ≡ child_of (side_of (g.N.Nodes.order s0 x p)) (g.N.Nodes.cells s0 p)
+    → ((v : Tree) → CanInsert (g.N.Nodes.order s1) (g.N.Nodes.cells s1) link x v
+    → BecomesTree (g.N.Nodes.cells s1) (g.N.Nodes.cells s2) (x ∷ nodes_of v) (Some child)
+    (after_insert (g.N.Nodes.order s1) x v))
+    → g.N.Nodes.cells s3 ≡ with_child side (g.N.Nodes.cells s2) p (Some child)
+    → g.N.Nodes.order s2 ≡ g.N.Nodes.order s1 → g.N.Nodes.order s3 ≡ g.N.Nodes.order s2
+    → (lt' : ℕ → ℕ → Bool) (h' : ℕ → Cell) → h' ≡ g.N.Nodes.cells s3 → lt' ≡ g.N.Nodes.order s3 → (u : Tree)
+    → IsSearchTree (g.N.Nodes.order s) (g.N.Nodes.cells s) root u
+    → IsChanged lt' (g.N.Nodes.cells s) h' root (x ∷ nodes_of u) (insert_in_order (g.N.Nodes.order s) x (nodes_of u))
+from_entry g s s0 s1 s2 s3 root entry x p child side link asked is e0 e1 es ek grow set o2 o3 lt' h' eh el u k =
+    let grow' = rw (e1, ek, e0) at grow in
+    let es' = rw e0 at es in
+    let set' = set ∙ ap (λ (o : Side). with_child o (g.N.Nodes.cells s2) p (Some child)) es' in
+    let o1 = ap (λ (z : g.row.N.Denot). g.N.Nodes.order z) (e1 ∙ e0) in
+    entered_at g s s2 s3 root entry x p child asked is grow' set' lt' h' eh (el ∙ o3 ∙ o2 ∙ o1) u k
 
 pub returns-in-Some-clause-tree : goal.returns-in-Some-clause-tree
 returns-in-Some-clause-tree g c = λ u k.
-    let after_insert = rw c.new-visits.ensures.nodes at c.insert_below.ensures.growth in
-    (entered_at g c.args.nodes.now c.insert_below.new.visits.nodes.now c.args.root c.args.entry c.args.node
-    c.in-Some.start
-    c.insert_below.result c.requires.tree c.in-Some.is after_insert _ _ (search rules) (search rules) u k).tree
+    let way = c.toward-way.ensures in
+    (from_entry g c.args.nodes.now _ _ _ _ c.args.root c.args.entry c.args.node c.in-Some.start
+    c.insert_behind-child.result _ _ c.requires.tree c.in-Some.is c.new-visits.ensures.nodes way.nodes way.side way.link
+    c.insert_behind-child.ensures.growth c.set_child.ensures.cells c.insert_behind-child.ensures.keeper.order
+    c.set_child.ensures.keeper.order _ _ (search rules) (search rules) u k).tree
 
 pub returns-in-Some-clause-frame : goal.returns-in-Some-clause-frame
 returns-in-Some-clause-frame g c = λ u k.
-    let after_insert = rw c.new-visits.ensures.nodes at c.insert_below.ensures.growth in
-    frame_beside (entered_at g c.args.nodes.now c.insert_below.new.visits.nodes.now c.args.root c.args.entry c.args.node
-    c.in-Some.start c.insert_below.result c.requires.tree c.in-Some.is after_insert _ _ (search rules) refl u k)
+    let way = c.toward-way.ensures in
+    frame_beside (from_entry g c.args.nodes.now _ _ _ _ c.args.root c.args.entry c.args.node c.in-Some.start
+    c.insert_behind-child.result _ _ c.requires.tree c.in-Some.is c.new-visits.ensures.nodes way.nodes way.side way.link
+    c.insert_behind-child.ensures.growth c.set_child.ensures.cells c.insert_behind-child.ensures.keeper.order
+    c.set_child.ensures.keeper.order _ _ (search rules) refl u k)
 
 pub returns-in-Some-clause-steps : goal.returns-in-Some-clause-steps
 returns-in-Some-clause-steps g c = λ u k.
     let s = c.args.nodes.now in
+    let way = c.toward-way.ensures in
     let b = begins g s c.args.root c.args.entry c.args.node c.requires.tree u k _ c.in-Some.is in
-    let steps = rw c.new-visits.ensures.nodes at c.insert_below.ensures.steps in
-    let place = (grows g s c.args.root c.args.entry c.args.node c.requires.tree u k).placed in
-    let below = grows_begun (strict g.met.N.Nodes s) (g.N.Nodes.cells s) c.args.node u c.in-Some.start place b in
+    let f = further g s c.args.root c.args.entry c.args.node c.requires.tree u k _ c.in-Some.is in
+    let steps = rw (way.nodes, way.link, c.new-visits.ensures.nodes) at c.insert_behind-child.ensures.steps in
+    let few = way.steps_upper in
+    let last = c.set_child.ensures.steps_upper in
     let lower = b.begins.lower in
-    omega (arith, c.steps.ensures, steps b.begins.below below, c.new-visits.ensures.steps, height_bits u k.red_black)
+    let lower' = f.lower in
+    omega (arith, c.steps.ensures, steps f.tree f.grows, c.new-visits.ensures.steps, height_bits u k.red_black)
 
-pub insert_below-top-requires-clause-tree : goal.insert_below-top-requires-clause-tree
-insert_below-top-requires-clause-tree g c =
+pub returns-in_default-root-clause-tree : goal.returns-in_default-root-clause-tree
+returns-in_default-root-clause-tree g c = λ u k.
+    let layout = rw c.new-visits.ensures.nodes at c.make_leaf.ensures.layout in
+    (laid _ (g.N.Nodes.cells c.args.nodes.now) (g.N.Nodes.cells c.make_leaf.new.visits.nodes.now) _ c.args.root
+    c.args.node u c.in_default-root.is k layout (search rules)).tree
+
+pub insert_below-risen-requires-clause-tree : goal.insert_below-risen-requires-clause-tree
+insert_below-risen-requires-clause-tree g c =
     let t = c.requires.tree in
     let s = c.args.nodes.now in
     let low = low_tree g.met.N.Nodes s t.1 c.requires.root in
     let zero = c.new-visits.ensures.steps in
-    (t.0, rw c.new-visits.ensures.nodes (grows g s c.args.root c.args.entry c.args.node t t.0 t.1), omega arith)
+    let there = grows g s c.args.root c.args.entry c.args.node t t.0 t.1 in
+    (t.0, rw (c.new-visits.ensures.nodes, sym c.in-Some-root.is) there, omega arith)
 
 pub paint-requires-clause-no_overflow : goal.paint-requires-clause-no_overflow
 paint-requires-clause-no_overflow g c =
@@ -112,7 +192,7 @@ paint-requires-clause-no_overflow g c =
     let s = c.args.nodes.now in
     let low = low_tree g.met.N.Nodes s t.1 c.requires.root in
     let zero = c.new-visits.ensures.steps in
-    let steps = rw c.new-visits.ensures.nodes at c.insert_below-top.ensures.steps in
+    let steps = rw (c.new-visits.ensures.nodes, sym c.in-Some-root.is) at c.insert_below-risen.ensures.steps in
     omega (arith, steps t.0 (grows g s c.args.root c.args.entry c.args.node t t.0 t.1))
 
 -- the result of an insertion below the root
@@ -135,23 +215,23 @@ inserted_at g s s' s'' root entry x top asked grow eo blacken lt' h' eh el u k =
 
 pub returns-clause-tree : goal.returns-clause-tree
 returns-clause-tree g c = λ u k.
-    let after_insert = rw c.new-visits.ensures.nodes at c.insert_below-top.ensures.growth in
-    (inserted_at g c.args.nodes.now c.insert_below-top.new.visits.nodes.now c.paint.new.visits.nodes.now c.args.root
-    c.args.entry c.args.node c.insert_below-top.result c.requires.tree after_insert (cc) c.paint.ensures.colour _ _
+    let after_insert = rw (c.new-visits.ensures.nodes, sym c.in-Some-root.is) at c.insert_below-risen.ensures.growth in
+    (inserted_at g c.args.nodes.now c.insert_below-risen.new.visits.nodes.now c.paint.new.visits.nodes.now c.args.root
+    c.args.entry c.args.node c.insert_below-risen.result c.requires.tree after_insert (cc) c.paint.ensures.colour _ _
     (search rules) (search rules) u k).tree
 
 pub returns-clause-frame : goal.returns-clause-frame
 returns-clause-frame g c = λ u k.
-    let after_insert = rw c.new-visits.ensures.nodes at c.insert_below-top.ensures.growth in
-    frame_beside (inserted_at g c.args.nodes.now c.insert_below-top.new.visits.nodes.now c.paint.new.visits.nodes.now
-    c.args.root c.args.entry c.args.node c.insert_below-top.result c.requires.tree after_insert (cc)
+    let after_insert = rw (c.new-visits.ensures.nodes, sym c.in-Some-root.is) at c.insert_below-risen.ensures.growth in
+    frame_beside (inserted_at g c.args.nodes.now c.insert_below-risen.new.visits.nodes.now c.paint.new.visits.nodes.now
+    c.args.root c.args.entry c.args.node c.insert_below-risen.result c.requires.tree after_insert (cc)
     c.paint.ensures.colour _ _
     (search rules) refl u k)
 
 pub returns-clause-steps : goal.returns-clause-steps
 returns-clause-steps g c = λ u k.
     let s = c.args.nodes.now in
-    let steps = rw c.new-visits.ensures.nodes at c.insert_below-top.ensures.steps in
+    let steps = rw (c.new-visits.ensures.nodes, sym c.in-Some-root.is) at c.insert_below-risen.ensures.steps in
     omega (
       arith,
       c.steps-2.ensures,

@@ -1,4 +1,4 @@
--- What is not refused by its kind is done.
+-- What is pushed within the capacity is done.
 use Rattle.segment_c.proofs.elements.number_pushed.Goals as goal
 use Rattle.std.proofs.Common.{◌≡◌, Option, Some, ℕ, ℤ, subst, sym, w64}
 use Rattle.std.proofs.lemmas.Int.{to_z-of_z}
@@ -22,13 +22,8 @@ held-after_push old lent t new h its number a out not d e o f m =
     (subst (λ (s : SegmentState). TakesStepOfKind s t (ByHandle h) (Vector I64) (Push (ByHandle h) (Integer number)) a)
     d (subst (λ (z : ℤ). TakesStepOfKind lent t (ByHandle h) (Vector I64) (Push (ByHandle h) (Integer z)) a) e m))))
 
-pub returns-in-Ok-clause-step : goal.returns-in-Ok-clause-step
-returns-in-Ok-clause-step c = held-after_push c.args.segment.value _ c.vec_push.new.self _ c.args.handle _
-    c.args.number Done _ (λ e. cc) c.deref_mut.ensures.value (to_z-of_z w64 c.args.number c.ranges.number)
-    c.done.ensures.outcome c.done.ensures.effect c.in-Ok.ensures.step
-
-pub returns-in_default-clause-step : goal.returns-in_default-clause-step
-returns-in_default-clause-step c = held-after_push c.args.segment.value _ c.vec_push.new.self _ c.args.handle _
-    c.args.number (Refused c.in-Err.refusal) _ (λ e. c.in_default.not-WrongKind (cc)) c.deref_mut.ensures.value
-    (to_z-of_z w64 c.args.number c.ranges.number) c.done-in_default.ensures.outcome c.done-in_default.ensures.effect
-    c.in-Err.ensures.step
+pub returns-then-push_within-clause-step : goal.returns-then-push_within-clause-step
+returns-then-push_within-clause-step c = held-after_push c.args.segment.value _ c.push_within.new.segment _
+    c.args.handle _ c.args.number Done _ (λ e. cc) c.deref_mut.ensures.value
+    (to_z-of_z w64 c.args.number c.ranges.number) c.done.ensures.outcome c.done.ensures.effect
+    (c.push_within.ensures.step c.if-push_within.true)

@@ -19,8 +19,8 @@ returns-in-Some c =
     let key = key_seen c.args.key.now in
     let get = Get key c.args.index in
     first s (λ d. raw_of (scalar_reply s.mode d key get)) (λ d. raw_of (step_of_kind s.mode d key Strings get).0) _
-    (said s (λ d. scalar_reply s.mode d key get) (scalar_answer c.get_any.result) (Some (raw_text c.in-Some.value))
-    c.get_any.ensures c.in-Some.ensures)
+    (said s (λ d. scalar_reply s.mode d key get) (scalar_answer c.get.result) (Some (raw_text c.in-Some.value))
+    c.get.ensures c.in-Some.ensures)
 
 pub returns-in-None : goal.returns-in-None
 returns-in-None c =
@@ -28,7 +28,7 @@ returns-in-None c =
     let key = key_seen c.args.key.now in
     let get = Get key c.args.index in
     second s (λ d. raw_of (scalar_reply s.mode d key get)) (λ d. raw_of (step_of_kind s.mode d key Strings get).0) _
-    (said s (λ d. scalar_reply s.mode d key get) (scalar_answer c.get_any.result) None c.get_any.ensures
+    (said s (λ d. scalar_reply s.mode d key get) (scalar_answer c.get.result) None c.get.ensures
     c.in-None.ensures)
     (said s (λ d. (step_of_kind s.mode d key Strings get).0)
     (answer_of (λ text. TextElement text.now) c.texts_get.result) (option_map raw_text c.as_text.result)

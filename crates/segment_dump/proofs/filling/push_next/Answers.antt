@@ -9,12 +9,12 @@ returns-in_err-value-clause-visits c =
 
 pub returns-clause-visits : goal.returns-clause-visits
 returns-clause-visits c = λ index room.
-    push-adds c.args.segment.now c.vec_push_value.new.self c.args.object.handle index room c.args.kind
-    c.args.lines.now c.next_value.new.lines c.in_ok-value.value c.vec_push_value.result c.ended.result
-    c.in_ok-value.ensures c.vec_push_value.ensures.step c.ended.ensures
+    push-adds c.args.segment.now c.add_scalar.new.segment c.args.object.handle index room c.args.kind
+    c.args.lines.now c.next_value.new.lines c.in_ok-value.value c.add_scalar.result c.ended.result
+    c.in_ok-value.ensures c.add_scalar.ensures.step c.ended.ensures
 
-pub vec_push_value-requires : goal.vec_push_value-requires
-vec_push_value-requires c = c.requires.object
+pub add_scalar-requires : goal.add_scalar-requires
+add_scalar-requires c = c.requires.object
 
 pub returns-clause-in_place : goal.returns-clause-in_place
-returns-clause-in_place c = still_of_kind-here c.requires _ _ _ _ c.vec_push_value.ensures.step refl
+returns-clause-in_place c = still_of_kind-here c.requires _ _ _ _ c.add_scalar.ensures.step refl

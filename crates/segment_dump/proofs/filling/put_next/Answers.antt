@@ -9,21 +9,21 @@ returns-in_err-key-clause-visits c =
 
 pub returns-in-Ok-clause-visits : goal.returns-in-Ok-clause-visits
 returns-in-Ok-clause-visits c =
-    λ index room. put-adds c.args.segment.now c.map_put_any.new.self c.args.object.handle index room c.args.keys
-    c.args.values c.args.lines.now c.next_pair.new.lines c.in_ok-key.key c.in_ok-key.value c.map_put_any.result _
-    c.in_ok-key.ensures c.map_put_any.ensures.step (λ e. refl)
+    λ index room. put-adds c.args.segment.now c.put_scalars.new.segment c.args.object.handle index room c.args.keys
+    c.args.values c.args.lines.now c.next_pair.new.lines c.in_ok-key.key c.in_ok-key.value c.put_scalars.result _
+    c.in_ok-key.ensures c.put_scalars.ensures.step (λ e. refl)
 
 pub returns-in-Err-clause-visits : goal.returns-in-Err-clause-visits
 returns-in-Err-clause-visits c =
-    λ index room. put-adds c.args.segment.now c.map_put_any.new.self c.args.object.handle index room c.args.keys
-    c.args.values c.args.lines.now c.next_pair.new.lines c.in_ok-key.key c.in_ok-key.value c.map_put_any.result _
-    c.in_ok-key.ensures c.map_put_any.ensures.step (λ e. absurd (never-ok _ true (sym c.in-Err.is ∙ e)))
+    λ index room. put-adds c.args.segment.now c.put_scalars.new.segment c.args.object.handle index room c.args.keys
+    c.args.values c.args.lines.now c.next_pair.new.lines c.in_ok-key.key c.in_ok-key.value c.put_scalars.result _
+    c.in_ok-key.ensures c.put_scalars.ensures.step (λ e. absurd (never-ok _ true (sym c.in-Err.is ∙ e)))
 
-pub map_put_any-requires : goal.map_put_any-requires
-map_put_any-requires c = c.requires.object
+pub put_scalars-requires : goal.put_scalars-requires
+put_scalars-requires c = c.requires.object
 
 pub returns-in-Ok-clause-in_place : goal.returns-in-Ok-clause-in_place
-returns-in-Ok-clause-in_place c = still_of_kind-here c.requires _ _ _ _ c.map_put_any.ensures.step refl
+returns-in-Ok-clause-in_place c = still_of_kind-here c.requires _ _ _ _ c.put_scalars.ensures.step refl
 
 pub returns-in-Err-clause-in_place : goal.returns-in-Err-clause-in_place
-returns-in-Err-clause-in_place c = still_of_kind-here c.requires _ _ _ _ c.map_put_any.ensures.step refl
+returns-in-Err-clause-in_place c = still_of_kind-here c.requires _ _ _ _ c.put_scalars.ensures.step refl

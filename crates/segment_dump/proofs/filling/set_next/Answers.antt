@@ -9,12 +9,12 @@ returns-in_err-value-clause-visits c =
 
 pub returns-clause-visits : goal.returns-clause-visits
 returns-clause-visits c = λ room.
-    set-adds c.args.segment.now c.set_value.new.self c.args.object.handle c.args.index room c.args.kind
-    c.args.lines.now c.next_value.new.lines c.in_ok-value.value c.set_value.result c.ended.result
-    c.in_ok-value.ensures c.set_value.ensures.step c.ended.ensures
+    set-adds c.args.segment.now c.set_in_array.new.segment c.args.object.handle c.args.index room c.args.kind
+    c.args.lines.now c.next_value.new.lines c.in_ok-value.value c.set_in_array.result c.ended.result
+    c.in_ok-value.ensures c.set_in_array.ensures.step c.ended.ensures
 
-pub set_value-requires : goal.set_value-requires
-set_value-requires c = c.requires.object
+pub set_in_array-requires : goal.set_in_array-requires
+set_in_array-requires c = c.requires.object
 
 pub returns-clause-in_place : goal.returns-clause-in_place
-returns-clause-in_place c = still_of_kind-here c.requires _ _ _ _ c.set_value.ensures.step refl
+returns-clause-in_place c = still_of_kind-here c.requires _ _ _ _ c.set_in_array.ensures.step refl

@@ -29,9 +29,9 @@ returns-in_default g c =
     let o = c.in-Ok.object in
     let handle = ByHandle o.handle in
     let l = c.in-Ok.ensures in
-    let r = scalars-replies s handle c.args.index (scalar_answer c.get_any.result)
+    let r = scalars-replies s handle c.args.index (scalar_answer c.get.result)
     (kind-no_texts s handle o.kind (kind-by_key s handle o (located-here s key o l)) c.in_default.not-Strings)
-    c.get_any.ensures in
+    c.get.ensures in
     answers-same c.put_answer.ensures
     (λ d k. c.element.ensures d ∙ r.answers d k ∙ ap (λ n. n.0) (step-same s key o l (Get key c.args.index) d k))
 

@@ -32,19 +32,19 @@ returns-in-Err-texts_get g c =
     (λ d k. sym (ap (element_text sp c.args.index) (c.in-Err-texts_get.ensures.answers d k)
     ∙ text-part c.args.segment.now c.args.object c.requires.object sp c.args.index c.in-Strings.is d k))
 
-pub returns-in-Ok-get_any : goal.returns-in-Ok-get_any
-returns-in-Ok-get_any g c =
+pub returns-in-Ok-get : goal.returns-in-Ok-get
+returns-in-Ok-get g c =
     let sp = g.L.Layout.spelling c.args.layout.now in
-    let v = c.in-Ok-get_any.value in
+    let v = c.in-Ok-get.value in
     of-one {text = sp.scalar c.args.index (kind_of_scalar v) (value_of_scalar v)} c.put_scalar.ensures
-    (λ d k. ap (element_text sp c.args.index) (c.in-Ok-get_any.ensures.answers d k)
+    (λ d k. ap (element_text sp c.args.index) (c.in-Ok-get.ensures.answers d k)
     ∙ scalar-part c.args.segment.now c.args.object c.requires.object sp c.args.index c.in_default.not-String
     c.in_default.not-Strings c.requires.kind d k)
 
-pub returns-in-Err-get_any : goal.returns-in-Err-get_any
-returns-in-Err-get_any g c =
+pub returns-in-Err-get : goal.returns-in-Err-get
+returns-in-Err-get g c =
     let sp = g.L.Layout.spelling c.args.layout.now in
     of-none
-    (λ d k. sym (ap (element_text sp c.args.index) (c.in-Err-get_any.ensures.answers d k)
+    (λ d k. sym (ap (element_text sp c.args.index) (c.in-Err-get.ensures.answers d k)
     ∙ scalar-part c.args.segment.now c.args.object c.requires.object sp c.args.index c.in_default.not-String
     c.in_default.not-Strings c.requires.kind d k))

@@ -13,7 +13,7 @@ returns-in_err-wanted-in-Map g c = rw (exit-is c.from_residual-in_err-wanted-in-
 pub returns-in_ok-wanted-in-Map : goal.returns-in_ok-wanted-in-Map
 returns-in_ok-wanted-in-Map g c =
     looks-up-key c.in_ok-object.ensures c.in-Map.is _ c.in_ok-wanted-in-Map.wanted c.in_ok-wanted-in-Map.ensures
-    c.map_get_any.ensures
+    c.look_up_scalar.ensures
 
 pub returns-in_default : goal.returns-in_default
 returns-in_default g c = lookup-no_map c.in_ok-object.ensures c.in_default.not-Map _

@@ -1,19 +1,23 @@
--- The bytes replace the bytes of the object's string.
+-- The bytes replace the bytes of the string that is found. The segment ends as the bound object leaves it.
+use Rattle.segment_manager.proofs.Common.{◌≡◌, refl, rules, subst, sym, Assign, Quoted, String, [], ◌∷◌}
+use Rattle.segment_manager.proofs.bound.ByKey.{from-to, not-bound, rests, steps}
 use Rattle.segment_manager.proofs.segment.Segment.string_assign.Goals as goal
-use Rattle.segment_manager.proofs.{containers.Safely.told-gaps, Common.refl, containers.ToChange.not-changed}
-use Rattle.segment_manager.proofs.containers.TextAnswers.{text-assigned, text-standing, assign_text-gaps}
+use Rattle.best_fit.proofs.Laws.{gaps-refl}
+use Rattle.segment_manager.specs.Keeping.{KeepsUnused}
 
-pub assign-requires : goal.assign-requires
-assign-requires g c = text-standing c.self.view_is _ _ c.self.invariant c.in_ok-place.ensures.at
+pub returns-in_err-self-clause-step : goal.returns-in_err-self-clause-step
+returns-in_err-self-clause-step g c = not-bound _ _ _ refl c.from_residual.ensures.1 c.in_err-self.ensures.location
+    c.in_err-self.was c.of.follows.holds-at-none
 
-pub invariant_of-self : goal.invariant_of-self
-invariant_of-self g c = (text-assigned c.self.view_is c.self.invariant c.in_ok-place.ensures _ _ _ c.type_inv.bytes
-    c.assign.ensures).segment
+pub returns-in_err-self-clause-gaps : goal.returns-in_err-self-clause-gaps
+returns-in_err-self-clause-gaps g c = let e = rests c.in_err-self.was c.of.follows.holds-at-none in subst (KeepsUnused
+    c.args.self.now) (sym e) (λ f. gaps-refl _)
 
-pub returns-in_err-place-clause-step : goal.returns-in_err-place-clause-step
-returns-in_err-place-clause-step g c = not-changed _ _ _ refl c.from_residual.ensures.1 refl c.in_err-place.ensures
+pub returns-clause-step : goal.returns-clause-step
+returns-clause-step g c = let e : c.assign.new.self.segment.now ≡ c.self-2-1.given.0 = search rules in
+    steps c.in_ok-self.ensures.segment c.in_ok-self.ensures.location e String (Assign (g.O.ObjectRef.key c.args.key.now)
+    (Quoted c.args.bytes.now ∷ [])) c.assign.ensures.step
 
-pub returns : goal.returns
-returns g c = told-gaps (text-assigned c.self.view_is c.self.invariant c.in_ok-place.ensures _ _ _ c.type_inv.bytes
-    c.assign.ensures)
-    (assign_text-gaps c.self.view_is c.self.invariant c.in_ok-place.ensures _ _ _ c.assign.ensures)
+pub returns-clause-gaps : goal.returns-clause-gaps
+returns-clause-gaps g c = let e : c.assign.new.self.segment.now ≡ c.self-2-1.given.0 = search rules in
+    from-to c.in_ok-self.ensures.segment c.in_ok-self.ensures.location e KeepsUnused c.assign.ensures.gaps

@@ -1,13 +1,10 @@
--- The bytes are the bytes of the object's string.
-use Rattle.segment_manager.proofs.Common.{subst, Ok, String, bytes_at, AnswersWith, SegmentState}
-use Rattle.segment_manager.proofs.containers.TextAnswers.{reads-bytes, text-standing}
-use Rattle.segment_manager.proofs.containers.ToChange.{seen-found}
+-- The string that is found has these bytes.
+use Rattle.segment_manager.proofs.Common.{Err, List, None, NotFound, Refusal, Result, Some, ℕ}
+use Rattle.segment_manager.proofs.bound.ByKey.{says}
 use Rattle.segment_manager.proofs.segment.Segment.string_bytes.Goals as goal
-
-pub as_bytes-requires : goal.as_bytes-requires
-as_bytes-requires g c = text-standing c.self.view_is _ _ c.self.invariant c.in_ok-place.ensures
+use Rattle.segment_manager.specs.containers.Contents.{text_bytes}
 
 pub returns : goal.returns
-returns g c = subst (λ (t : SegmentState). AnswersWith t (λ d. bytes_at d (g.O.ObjectRef.key c.args.key.now))
-    (Ok c.as_bytes.result.now)) c.self.view_is
-    (reads-bytes _ _ _ _ (seen-found _ _ c.self.view_is _ String _ c.in_ok-place.ensures) c.as_bytes.ensures)
+returns g c = says c.in_ok-of.ensures.segment c.in_ok-of.ensures.location
+    (λ d r. elim r as (λ _. Result (List ℕ) Refusal) [ None ↦ Err NotFound | Some o ↦ text_bytes o.value ])
+    c.as_bytes.ensures

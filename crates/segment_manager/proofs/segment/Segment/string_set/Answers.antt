@@ -1,20 +1,24 @@
--- The byte is written in the string that is found.
-use Rattle.segment_manager.proofs.containers.Safely.{told-gaps}
+-- The byte is written in the string that is found. The segment ends as the bound object leaves it.
+use Rattle.segment_manager.proofs.Common.{◌≡◌, refl, rules, literal_of, pos, subst, sym, Set, String, U8}
+use Rattle.segment_manager.proofs.bound.ByKey.{from-to, not-bound, rests, steps}
 use Rattle.segment_manager.proofs.segment.Segment.string_set.Goals as goal
-use Rattle.segment_manager.proofs.containers.TextAnswers.{byte-value, text-set, text-standing, set_byte-gaps}
-use Rattle.segment_manager.proofs.{Common.lt-ltb, Common.refl, containers.ToChange.not-changed}
+use Rattle.best_fit.proofs.Laws.{gaps-refl}
+use Rattle.best_fit.specs.Heap.{KeepsGaps}
 
-pub set-requires : goal.set-requires
-set-requires g c = text-standing c.self.view_is _ _ c.self.invariant c.in_ok-place.ensures.at
+pub returns-in_err-self-clause-step : goal.returns-in_err-self-clause-step
+returns-in_err-self-clause-step g c = not-bound _ _ _ refl c.from_residual.ensures.1 c.in_err-self.ensures.location
+    c.in_err-self.was c.of.follows.holds-at-none
 
-pub invariant_of-self : goal.invariant_of-self
-invariant_of-self g c = (text-set c.self.view_is c.self.invariant c.in_ok-place.ensures _ _ _ _
-    (lt-ltb _ _ c.ranges.byte.fits) (byte-value _ c.ranges.byte.fits) c.set.ensures).segment
+pub returns-in_err-self-clause-gaps : goal.returns-in_err-self-clause-gaps
+returns-in_err-self-clause-gaps g c = let e = rests c.in_err-self.was c.of.follows.holds-at-none in subst (λ u.
+    KeepsGaps c.args.self.now.cut u.cut) (sym e) (gaps-refl _)
 
-pub returns-in_err-place-clause-step : goal.returns-in_err-place-clause-step
-returns-in_err-place-clause-step g c = not-changed _ _ _ refl c.from_residual.ensures.1 refl c.in_err-place.ensures
+pub returns-clause-step : goal.returns-clause-step
+returns-clause-step g c = let e : c.set.new.self.segment.now ≡ c.self-2-1.given.0 = search rules in
+    steps c.in_ok-self.ensures.segment c.in_ok-self.ensures.location e String (Set (g.O.ObjectRef.key c.args.key.now)
+    c.args.index (literal_of U8 (pos c.args.byte))) c.set.ensures.step
 
-pub returns : goal.returns
-returns g c = told-gaps (text-set c.self.view_is c.self.invariant c.in_ok-place.ensures _ _ _ _ (lt-ltb _ _
-    c.ranges.byte.fits) (byte-value _ c.ranges.byte.fits) c.set.ensures)
-    (set_byte-gaps c.self.view_is c.self.invariant c.in_ok-place.ensures _ _ _ _ c.set.ensures)
+pub returns-clause-gaps : goal.returns-clause-gaps
+returns-clause-gaps g c = let e : c.set.new.self.segment.now ≡ c.self-2-1.given.0 = search rules in
+    from-to c.in_ok-self.ensures.segment c.in_ok-self.ensures.location e (λ u v. KeepsGaps u.cut v.cut)
+    c.set.ensures.gaps

@@ -1,16 +1,13 @@
 -- The text is that of the vector of strings that is found.
-use Rattle.segment_manager.proofs.{Common.exit-is, Common.refl, containers.StorageSteps.no_container-reply}
-use Rattle.segment_manager.proofs.{containers.StorageSteps.seen-reply, containers.TextListCalls.text-got}
-use Rattle.segment_manager.proofs.{containers.TextListCalls.texts-standing}
+use Rattle.segment_manager.proofs.Common.{exit-is, refl, Get, StringsKind}
+use Rattle.segment_manager.proofs.bound.ByKey.{lacks-replies, replies}
 use Rattle.segment_manager.proofs.segment.Segment.texts_get.Goals as goal
 
-pub get-requires : goal.get-requires
-get-requires g c = texts-standing c.self.view_is _ _ c.self.invariant c.in_ok-place.ensures
-
-pub returns-in_err-place : goal.returns-in_err-place
-returns-in_err-place g c =
-    rw (exit-is _ _ c.from_residual.ensures.1) (no_container-reply _ _ _ _ _ refl c.in_err-place.ensures)
+pub returns-in_err-of : goal.returns-in_err-of
+returns-in_err-of g c = rw (exit-is c.from_residual.result _ c.from_residual.ensures.1) (lacks-replies c.args.self.now
+    (g.O.ObjectRef.key c.args.key.now) StringsKind _ (Get (g.O.ObjectRef.key c.args.key.now) c.args.index) refl
+    c.in_err-of.ensures.location)
 
 pub returns : goal.returns
-returns g c = seen-reply _ _ c.self.view_is _ _ _ _ (text-got c.self.view_is _ _ c.self.invariant
-    c.in_ok-place.ensures c.args.index c.get.result c.get.ensures)
+returns g c = replies c.in_ok-of.ensures.segment c.in_ok-of.ensures.location StringsKind
+    (Get (g.O.ObjectRef.key c.args.key.now) c.args.index) c.get.ensures.reply

@@ -1,19 +1,13 @@
--- The last text is removed from the object's vector of strings.
-use Rattle.segment_manager.proofs.containers.TextListCalls.{text-popped, texts-standing}
-use Rattle.segment_manager.proofs.{Common.Pop, Common.exit-is, Common.refl, containers.TextMoves.step-leads-on}
+-- The last text is removed from the vector of strings that is found. The segment ends as the bound object leaves it.
+use Rattle.segment_manager.proofs.Common.{◌≡◌, refl, rules, Pop, StringsKind}
+use Rattle.segment_manager.proofs.bound.ByKey.{leads, not-led}
 use Rattle.segment_manager.proofs.segment.Segment.texts_pop.Goals as goal
 
-pub pop-requires : goal.pop-requires
-pop-requires g c = texts-standing c.self.view_is _ _ c.self.invariant c.in_ok-place.ensures.at
+pub returns-in_err-self-clause-step : goal.returns-in_err-self-clause-step
+returns-in_err-self-clause-step g c = not-led _ _ refl c.from_residual.ensures.1 c.in_err-self.ensures.location
+    c.in_err-self.was c.of.follows.holds-at-none
 
-pub invariant_of-self : goal.invariant_of-self
-invariant_of-self g c = (text-popped c.self.view_is c.self.invariant c.in_ok-place.ensures _ _ c.pop.ensures).segment
-
-pub returns-in_err-place-clause-step : goal.returns-in_err-place-clause-step
-returns-in_err-place-clause-step g c = rw (exit-is c.from_residual.result _ c.from_residual.ensures.1)
-    (step-leads-on _ _ _ _ _ (c.in_err-place.ensures.refused (Pop (g.O.ObjectRef.key c.args.key.now)) refl))
-
-pub returns : goal.returns
-returns g c =
-    let d = text-popped c.self.view_is c.self.invariant c.in_ok-place.ensures _ _ c.pop.ensures in
-    record { step = d.step; refused = d.refused }
+pub returns-clause-step : goal.returns-clause-step
+returns-clause-step g c = let e : c.pop.new.self.segment.now ≡ c.self-2-1.given.0 = search rules in
+    leads c.in_ok-self.ensures.segment c.in_ok-self.ensures.location e StringsKind (Pop (g.O.ObjectRef.key
+    c.args.key.now)) c.pop.ensures.step

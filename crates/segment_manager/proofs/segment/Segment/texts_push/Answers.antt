@@ -1,24 +1,17 @@
--- The text is appended to the object's vector of strings.
-use Rattle.segment_manager.proofs.containers.TextListCalls.{text-first, text-pushed, texts-standing}
-use Rattle.segment_manager.proofs.{Common.refl, containers.ToChange.not-changed}
+-- The text is appended to the vector of strings that is found. The segment ends as the bound object leaves it.
+use Rattle.segment_manager.proofs.Common.{◌≡◌, refl, rules, Push, Quoted, StringsKind}
+use Rattle.segment_manager.proofs.bound.ByKey.{first-kept, not-bound, steps}
 use Rattle.segment_manager.proofs.segment.Segment.texts_push.Goals as goal
 
-pub push-requires : goal.push-requires
-push-requires g c = texts-standing c.self.view_is _ _ c.self.invariant c.in_ok-place.ensures.at
+pub returns-in_err-self-clause-step : goal.returns-in_err-self-clause-step
+returns-in_err-self-clause-step g c = not-bound _ _ _ refl c.from_residual.ensures.1 c.in_err-self.ensures.location
+    c.in_err-self.was c.of.follows.holds-at-none
 
-pub invariant_of-self : goal.invariant_of-self
-invariant_of-self g c = (text-pushed c.self.view_is c.self.invariant c.in_ok-place.ensures _ _ _ c.type_inv.text
-    c.push.ensures.changes).segment
+pub returns-clause-step : goal.returns-clause-step
+returns-clause-step g c = let e : c.push.new.self.segment.now ≡ c.self-2-1.given.0 = search rules in
+    steps c.in_ok-self.ensures.segment c.in_ok-self.ensures.location e StringsKind (Push (g.O.ObjectRef.key
+    c.args.key.now) (Quoted c.args.text.now)) c.push.ensures.step
 
-pub returns-in_err-place-clause-step : goal.returns-in_err-place-clause-step
-returns-in_err-place-clause-step g c = not-changed _ _ _ refl c.from_residual.ensures.1 refl c.in_err-place.ensures
-
-pub returns : goal.returns
-returns g c =
-    let k = text-pushed c.self.view_is c.self.invariant c.in_ok-place.ensures _ _ _ c.type_inv.text
-    c.push.ensures.changes in
-    record {
-      step = k.step;
-      refused = k.refused;
-      first = text-first c.self.view_is c.self.invariant c.in_ok-place.ensures _ _ c.push.ensures.first;
-    }
+pub returns-clause-first : goal.returns-clause-first
+returns-clause-first g c = let e : c.push.new.self.segment.now ≡ c.self-2-1.given.0 = search rules in
+    first-kept c.in_ok-self.ensures.segment c.in_ok-self.ensures.location e c.args.text.now c.push.ensures.first

@@ -1,25 +1,31 @@
--- The value is appended to the object's vector.
+-- A value is appended to the vector that is found. The segment ends as the bound object leaves it.
+use Rattle.segment_manager.proofs.Common.{◌≡◌, refl, rules, OnErr, SegmentState, Vector, Push, literal_of}
+use Rattle.segment_manager.proofs.{bound.ByKey.from-to, bound.ByKey.not-bound, bound.ByKey.steps}
+use Rattle.segment_manager.proofs.bound.{ByKey.rests, SliceCalls.same-gaps}
+use Rattle.segment_manager.specs.Keeping.{KeepsUnused}
 use Rattle.segment_manager.proofs.segment.Segment.vec_push.Goals as goal
-use Rattle.segment_manager.proofs.{containers.Safely.told-gaps, Common.Vector, Common.ap, Common.refl}
-use Rattle.segment_manager.proofs.{containers.ToChange.told-unchanged, containers.ScalarTypes.of-vector}
-use Rattle.best_fit.proofs.Laws.{gaps-refl}
-use Rattle.segment_manager.proofs.containers.VectorAnswers.{some-vector, vector-pushed, push-gaps}
 
-pub push-requires : goal.push-requires
-push-requires g c = some-vector (of-vector g.met.T.Scalar) c.self.view_is _ c.kind.ensures c.at.ensures c.self.invariant
-    c.in_ok-place.ensures.at
+pub returns-in_err-self-clause-step : goal.returns-in_err-self-clause-step
+returns-in_err-self-clause-step g c = not-bound _ (Push (g.O.ObjectRef.key c.args.key.now) (literal_of g.T.Scalar.kind
+    (g.T.Scalar.whole c.args.value))) _ refl
+    c.from_residual.ensures.1 c.in_err-self.ensures.location c.in_err-self.was c.of.follows.holds-at-none
 
-pub invariant_of-self : goal.invariant_of-self
-invariant_of-self g c =
-    (vector-pushed (of-vector g.met.T.Scalar) c.self.view_is _ c.kind.ensures c.at.ensures c.self.invariant
-    c.in_ok-place.ensures.at _ c.in_ok-place.ensures.writing _ _ c.holds_value.ensures c.push.ensures).segment
+pub returns-clause-step : goal.returns-clause-step
+returns-clause-step g c = let e : c.push.new.self.segment.now ≡ c.self-2-1.given.0 = search rules in
+    steps c.in_ok-self.ensures.segment c.in_ok-self.ensures.location e (Vector g.T.Scalar.kind)
+    (Push (g.O.ObjectRef.key c.args.key.now) (literal_of g.T.Scalar.kind
+    (g.T.Scalar.whole c.args.value))) c.push.ensures.step.step
 
-pub returns-in_err-place : goal.returns-in_err-place
-returns-in_err-place g c = told-unchanged _ _ _ (ap Vector c.kind.ensures) c.from_residual.ensures.1 refl
-    c.in_err-place.ensures (λ u. gaps-refl _)
+pub returns-clause-refused : goal.returns-clause-refused
+returns-clause-refused g c = let e : c.push.new.self.segment.now ≡ c.self-2-1.given.0 = search rules in
+    from-to c.in_ok-self.ensures.segment c.in_ok-self.ensures.location e (λ (u v : SegmentState). OnErr c.push.result
+    (v ≡ u))
+    c.push.ensures.step.refused
 
-pub returns : goal.returns
-returns g c = told-gaps (vector-pushed (of-vector g.met.T.Scalar) c.self.view_is _ c.kind.ensures c.at.ensures
-    c.self.invariant c.in_ok-place.ensures.at _ c.in_ok-place.ensures.writing _ _ c.holds_value.ensures c.push.ensures)
-    (push-gaps (of-vector g.met.T.Scalar) c.self.view_is _ c.kind.ensures c.at.ensures c.self.invariant
-    c.in_ok-place.ensures.at _ _ c.push.ensures)
+pub returns-in_err-self-clause-gaps : goal.returns-in_err-self-clause-gaps
+returns-in_err-self-clause-gaps g c = λ e. same-gaps (rests c.in_err-self.was c.of.follows.holds-at-none)
+
+pub returns-clause-gaps : goal.returns-clause-gaps
+returns-clause-gaps g c = let e : c.push.new.self.segment.now ≡ c.self-2-1.given.0 = search rules in
+    from-to c.in_ok-self.ensures.segment c.in_ok-self.ensures.location e (λ
+    (u v : SegmentState). KeepsUnused u v) c.push.ensures.gaps

@@ -1,8 +1,0 @@
-use Rattle.link_tree.proofs.inserting.Insertion.{lay_step}
-use Rattle.link_tree.proofs.insertion.make_red_leaf.Goals as goal
-
-pub returns-clause-layout : goal.returns-clause-layout
-returns-clause-layout g c =
-    lay_step (g.N.Nodes.cells c.args.visits.now.nodes.now) (g.N.Nodes.cells c.set_child.new.self.nodes.now)
-    (g.N.Nodes.cells c.set_child-2.new.self.nodes.now) (g.N.Nodes.cells c.set_red.new.self.nodes.now) c.args.node (cc)
-    (cc) (cc)

@@ -1,0 +1,4 @@
+use Rattle.link_tree.proofs.listing.+list_below.Given as goal
+
+abbrev pub decreases-list_below : goal.decreases-list_below
+decreases-list_below g l = l.levels

@@ -1,0 +1,120 @@
+//! Lists the nodes of a tree in order, from a probe on.
+
+ghost use Rattle.std.specs.Prelude.{◌≡◌, ℕ, ◌+◌, ◌*◌, ◌<◌, ◌≤◌, ◌^◌, Bool, true, Option, Some, List, length, min};
+ghost use Rattle.link_tree.specs.Tree.{Tree, IsSearchTree, nodes_of, bits, height};
+ghost use Rattle.link_tree.specs.Nodes.{leads};
+ghost use Rattle.link_tree.specs.Listing.{IsLowTree, IsLowSearchTree, Lists, ListsFrom, filled, nodes_from};
+
+use crate::checking::MAX_HEIGHT;
+use crate::cursor::NodeCursor;
+use crate::nodes::Nodes;
+
+/// The result of a listing: how many nodes the list has, and the number of steps.
+#[derive(Clone, Copy)]
+pub struct Listing {
+    /// The number of nodes in the list.
+    pub count: usize,
+    /// The number of steps.
+    pub steps: u64,
+}
+
+/// Appends the nodes behind the link, down to `levels` levels, to a list that has `count` nodes so far. Returns its new
+/// count.
+fn list_below<N: Nodes>(
+    visits: &mut NodeCursor<N>,
+    link: Option<u64>,
+    list: &mut [u64],
+    count: usize,
+    levels: u64,
+) -> usize
+    requires link { leads (N.is_node visits.old.nodes.now) link ≡ true }
+    requires count { count ≤ length list.old }
+    requires tree { (t : Tree) × IsLowTree (N.cells visits.old.nodes.now) link levels t
+        × (visits.old.steps + length (nodes_of t) + 1 < 2 ^ 64) }
+    ensures listing { (t : Tree) → IsLowTree (N.cells visits.old.nodes.now) link levels t
+        → Lists t list.old count list.new result visits.old.steps visits.new.steps }
+    ensures in_bounds { result ≤ length list.new }
+    ensures nodes { visits.new.nodes.now ≡ visits.old.nodes.now }
+{
+    let Some(node) = link else {
+        return count;
+    };
+    if count == list.len() {
+        return count;
+    }
+    let left = visits.left(node);
+    let right = visits.right(node);
+    let listed = list_below(visits, left, list, count, levels - 1);
+    if listed == list.len() {
+        return listed;
+    }
+    list[listed] = node;
+    list_below(visits, right, list, listed + 1, levels - 1)
+}
+
+/// Appends the nodes behind the link that do not precede the probe, as `list_below` does. It compares only nodes of the
+/// path to the first of them.
+fn list_from<N: Nodes>(
+    visits: &mut NodeCursor<N>,
+    link: Option<u64>,
+    probe: &N::Probe,
+    list: &mut [u64],
+    count: usize,
+    levels: u64,
+) -> usize
+    requires link { leads (N.is_node visits.old.nodes.now) link ≡ true }
+    requires count { count ≤ length list.old }
+    requires tree { (t : Tree)
+        × IsLowSearchTree (N.order visits.old.nodes.now) (N.cells visits.old.nodes.now) link levels t
+        × (visits.old.steps + length (nodes_of t) + 1 < 2 ^ 64) }
+    ensures listing { (t : Tree)
+        → IsLowSearchTree (N.order visits.old.nodes.now) (N.cells visits.old.nodes.now) link levels t
+        → ListsFrom (N.before visits.old.nodes.now probe.now) t list.old count list.new result visits.old.steps
+        visits.new.steps }
+    ensures in_bounds { result ≤ length list.new }
+    ensures nodes { visits.new.nodes.now ≡ visits.old.nodes.now }
+{
+    let Some(node) = link else {
+        return count;
+    };
+    let before = visits.before_probe(node, probe);
+    let right = visits.right(node);
+    if before {
+        return list_from(visits, right, probe, list, count, levels - 1);
+    }
+    let left = visits.left(node);
+    let listed = list_from(visits, left, probe, list, count, levels - 1);
+    if listed == list.len() {
+        return listed;
+    }
+    list[listed] = node;
+    list_below(visits, right, list, listed + 1, levels - 1)
+}
+
+/// Writes the nodes that do not precede the probe to the list, in order from the first one on, as many as the list has
+/// places for. The places behind them keep what they have.
+///
+/// A step is a visit of a node, with all reads of its fields until the listing goes to another node. The listing
+/// visits the nodes that it lists, and at most two paths from the root.
+pub fn list_nodes_from<N: Nodes>(
+    nodes: &N,
+    root: Option<u64>,
+    probe: &N::Probe,
+    list: &mut [u64],
+) -> Listing
+    requires root { leads (N.is_node nodes.now) root ≡ true }
+    requires tree { (t : Tree) × IsSearchTree (N.order nodes.now) (N.cells nodes.now) root t }
+    ensures list { (t : Tree) → IsSearchTree (N.order nodes.now) (N.cells nodes.now) root t
+        → list.new ≡ filled list.old (nodes_from (N.before nodes.now probe.now) (nodes_of t)) }
+    ensures count { (t : Tree) → IsSearchTree (N.order nodes.now) (N.cells nodes.now) root t
+        → result.count ≡ min (length list.old) (length (nodes_from (N.before nodes.now probe.now) (nodes_of t))) }
+    ensures steps { (t : Tree) → IsSearchTree (N.order nodes.now) (N.cells nodes.now) root t
+        → result.steps ≤ result.count + 4 * bits (length (nodes_of t) + 1) }
+{
+    let mut visits = NodeCursor::new(nodes);
+    let count = list_from(&mut visits, root, probe, list, 0, MAX_HEIGHT);
+    Listing {
+        count,
+        steps: visits.steps(),
+    }
+}

@@ -1,0 +1,164 @@
+-- The pairs of a map that are read one after another.
+use Rattle.seg_map.proofs.Common.{◌≡◌, refl, sym, ap, ◌∙◌, ℕ, suc, ◌+◌, ◌*◌, ◌<◌, ◌≤◌, Bool, List, [], ◌∷◌, length}
+use Rattle.seg_map.proofs.Common.{map}
+use Rattle.seg_map.proofs.Common.{arith, not, inl, inr, cases_Bool, Option, AllByRecursion, WindowState}
+use Rattle.seg_map.proofs.Common.{IsSearchTree, Tree, bits, nodes_of, keys_in, Pair, comes_before, pair_cells}
+use Rattle.seg_map.proofs.Common.{stands, stands_before, HoldsMap, is_passed, pair_node, Plain, nodes_of_pairs}
+use Rattle.seg_map.proofs.Common.{length-map}
+use Rattle.seg_map.proofs.pairs.Lists.{each}
+use Rattle.std.proofs.Common.{zero, ◌++◌, take, drop, set, get_or, min, append_assoc, length-take, take_all}
+use Rattle.std.specs.List.{filter}
+use Rattle.std.proofs.lemmas.List.{map-append, set_at}
+use Rattle.seg_map.specs.Searches.{OpensPairTree, IsRead}
+use Rattle.seg_map.specs.Listing.{ListingSteps, ListsNodes, pairs_past, with_pairs}
+use Rattle.link_tree.specs.Listing.{filled, nodes_from}
+use Rattle.best_fit.specs.declared.places.Place.{Place}
+use Rattle.seg_map.specs.Places.{item_of}
+
+-- ---- plain lists
+
+-- if a test of `f x` agrees with a test of `x`, a map and then a filter give the same as a filter and then a map
+filter_mapped : {A B : Type 0} (f : A → B) (test : B → Bool) (test' : A → Bool) (xs : List A)
+    → AllByRecursion (λ x. test (f x) ≡ test' x) xs → filter test (map f xs) ≡ map f (filter test' xs)
+filter_mapped f test test' [] a = refl
+filter_mapped f test test' (x ∷ xs) a =
+    let rest = filter_mapped f test test' xs a.1 in
+    elim (cases_Bool (test' x)) [
+      | inl e ↦ rw (a.0 ∙ e, e) (ap (λ ys. f x ∷ ys) rest)
+      | inr e ↦ rw (a.0 ∙ e, e) rest
+    ]
+
+all_filter : {A : Type 0} (P : A → Type 0) (test : A → Bool) (xs : List A) → AllByRecursion P xs
+    → AllByRecursion P (filter test xs)
+all_filter P test [] a = tt
+all_filter P test (x ∷ xs) a =
+    let rest = all_filter P test xs a.1 in
+    elim (cases_Bool (test x)) [
+      | inl e ↦ rw e (a.0, rest)
+      | inr e ↦ rw e rest
+    ]
+
+all_take : {A : Type 0} (P : A → Type 0) (n : ℕ) (xs : List A) → AllByRecursion P xs → AllByRecursion P (take n xs)
+all_take P zero xs a = tt
+all_take P (suc n) [] a = tt
+all_take P (suc n) (x ∷ xs) a = (a.0, all_take P n xs a.1)
+
+take_mapped : {A B : Type 0} (f : A → B) (n : ℕ) (xs : List A) → take n (map f xs) ≡ map f (take n xs)
+take_mapped f zero xs = refl
+take_mapped f (suc n) [] = refl
+take_mapped f (suc n) (x ∷ xs) = ap (λ ys. f x ∷ ys) (take_mapped f n xs)
+
+-- the first places of a list that is filled
+take_filled : (list ns : List ℕ) (count : ℕ) → count ≤ length list → count ≤ length ns
+    → take count (filled list ns) ≡ take count ns
+take_filled list ns zero a b = refl
+take_filled [] ns (suc count) a b = absurd (omega arith)
+take_filled (x ∷ list) [] (suc count) a b = absurd (omega arith)
+take_filled (x ∷ list) (n ∷ ns) (suc count) a b =
+    ap (λ ms. n ∷ ms) (take_filled list ns count (omega arith) (omega arith))
+
+split_drop : {A : Type 0} (ys : List A) (n : ℕ) → n < length ys → (y : A) × (drop n ys ≡ y ∷ drop (suc n) ys)
+split_drop [] n l = absurd (omega arith)
+split_drop (y ∷ ys) zero l = (y, refl)
+split_drop (y ∷ ys) (suc n) l = split_drop ys n (omega arith)
+
+set_behind : {A : Type 0} (xs ys : List A) (n : ℕ) (x : A) → length xs ≡ n → n < length ys
+    → set (xs ++ drop n ys) n x ≡ (xs ++ x ∷ []) ++ drop (suc n) ys
+set_behind xs ys n x e l =
+    let d = split_drop ys n l in
+    ap (λ zs. set (xs ++ zs) n x) d.1 ∙ set_at xs d.0 (drop (suc n) ys) x n e
+    ∙ sym (append_assoc xs (x ∷ []) (drop (suc n) ys))
+
+-- ---- reading at nodes
+
+module _ {K V : Type 0} (k : Plain K) (v : Plain V) (c : WindowState) (keys : ℕ → Option K) where
+  -- the pair whose node stands at this place of the list
+  pub record AtPlace (qs : List (Pair K V)) (i node : ℕ) : Type 0 where
+    pub pair : Pair K V
+    pub read : IsRead k v c keys pair
+    pub at : node ≡ pair_node pair
+    pub next : take (suc i) qs ≡ take i qs ++ pair ∷ []
+
+  pub at_place : (qs : List (Pair K V)) (i node : ℕ) → AllByRecursion (IsRead k v c keys) qs
+      → i < length (nodes_of_pairs qs) → node ≡ get_or (nodes_of_pairs qs) i 0 → AtPlace qs i node
+  at_place [] i node a less is = absurd (omega arith)
+  at_place (q ∷ qs) zero node a less is = record { pair = q; read = a.0; at = is; next = refl }
+  at_place (q ∷ qs) (suc i) node a less is =
+      let rest = at_place qs i node a.1 (omega arith) is in
+      record { pair = rest.pair; read = rest.read; at = rest.at; next = ap (λ ps. q ∷ ps) rest.next }
+
+-- one pair more is read
+pub pairs_next : {K V : Type 0} (qs : List (Pair K V)) (p : Pair K V) (row0 list : List (K × V)) (i : ℕ) (x : K × V)
+    → i < length qs → i < length row0 → list ≡ with_pairs (take i qs) row0 → take (suc i) qs ≡ take i qs ++ p ∷ []
+    → x ≡ item_of p → set list i x ≡ with_pairs (take (suc i) qs) row0
+pairs_next {K} {V} qs p row0 list i x less less0 is next item =
+    let long : length (take i qs) ≡ i = omega (arith, length-take i qs) in
+    let long2 : length (take (suc i) qs) ≡ suc i = omega (arith, length-take (suc i) qs) in
+    let done : List (K × V) = map item_of (take i qs) in
+    let longer : length done ≡ i = length-map (take i qs) item_of ∙ long in
+    ap (λ zs. set zs i x) (is ∙ ap (λ n. done ++ drop n row0) long)
+    ∙ set_behind done row0 i x longer less0
+    ∙ ap (λ y. (done ++ y ∷ []) ++ drop (suc i) row0) item
+    ∙ ap (λ zs. zs ++ drop (suc i) row0) (sym (ap (map item_of) next ∙ map-append item_of (take i qs) (p ∷ [])))
+    ∙ ap (λ n. map item_of (take (suc i) qs) ++ drop n row0) (sym long2)
+
+-- all pairs are read
+pub pairs_all_read : {K V : Type 0} (qs : List (Pair K V)) (nodes : List ℕ) (row0 list : List (K × V)) (i : ℕ)
+    → nodes ≡ nodes_of_pairs qs → length nodes ≤ i → list ≡ with_pairs (take i qs) row0 → list ≡ with_pairs qs row0
+pairs_all_read qs nodes row0 list i are all is =
+    let size : length nodes ≡ length qs = ap length are ∙ length-map qs pair_node in
+    is ∙ ap (λ ps. with_pairs ps row0) (take_all i qs (omega arith))
+
+-- ---- the nodes of a map from a key on
+
+module _ {K V : Type 0} {k : Plain K} {v : Plain V} {now c : WindowState} {at : Place} {own : List ℕ}
+    {root : Option ℕ} (o : OpensPairTree k v now c at own root) (past : Bool) (key : K) where
+  abbrev Asked : (Tree → Type 0) → Type 0
+  Asked P = (t : Tree) → IsSearchTree (comes_before k.order (keys_in k own now))
+      (pair_cells (16 + k.SIZE) own now) root t → P t
+
+  abbrev ahead : ℕ → Bool
+  ahead = stands_before k.order (keys_in k own now) past key
+
+  -- the nodes from a key on hold the pairs from that key on
+  nodes_past : (ps : List (Pair K V)) (s : HoldsMap k v c.bytes at.handle at.at ps)
+      → nodes_from ahead (nodes_of s.map.tree.tree) ≡ nodes_of_pairs (pairs_past k.order past key ps)
+  nodes_past ps s = ap (nodes_from ahead) s.map.tree.lists
+      ∙ filter_mapped pair_node (λ n. not (ahead n)) (λ p. not (is_passed k.order past key p)) ps
+      (each ps (o.pairs ps s) (λ p r. ap (λ x. not (stands k.order past key x)) r.key))
+
+  -- the nodes that are listed
+  pub lists_nodes : (list list' : List ℕ) (count : ℕ) → Asked (λ t. list' ≡ filled list (nodes_from ahead (nodes_of t)))
+      → Asked (λ t. count ≡ min (length list) (length (nodes_from ahead (nodes_of t))))
+      → ListsNodes k v c at past key list list' count
+  lists_nodes list list' count filled_by many ps s =
+      let t = s.map.tree.tree in
+      let w = (o.tree ps s).tree in
+      let qs = pairs_past k.order past key ps in
+      let same = nodes_past ps s in
+      let size : length (nodes_from ahead (nodes_of t)) ≡ length qs = ap length same ∙ length-map qs pair_node in
+      let counted = many t w in
+      let first : count ≡ min (length list) (length qs) = counted ∙ ap (min (length list)) size in
+      let within : count ≤ length list = omega arith in
+      let there : count ≤ length (nodes_of_pairs qs) = omega (arith, length-map qs pair_node) in (
+        first,
+        (
+          keys_in k own now,
+          ap (take count) (filled_by t w ∙ ap (filled list) same)
+              ∙ take_filled list (nodes_of_pairs qs) count within there ∙ take_mapped pair_node count qs,
+          all_take (IsRead k v c (keys_in k own now)) count qs
+              (all_filter (IsRead k v c (keys_in k own now)) (λ p. not (is_passed k.order past key p)) ps
+              (o.pairs ps s)),
+        ),
+      )
+
+-- the steps of a listing, by the number of pairs
+pub listing_steps : {K V : Type 0} {k : Plain K} {v : Plain V} {now c : WindowState} {at : Place} {own : List ℕ}
+    {root : Option ℕ} (o : OpensPairTree k v now c at own root) (count taken before after : ℕ)
+    → ((t : Tree) → IsSearchTree (comes_before k.order (keys_in k own now)) (pair_cells (16 + k.SIZE) own now) root t
+    → taken ≤ count + 4 * bits (length (nodes_of t) + 1)) → after ≡ before + taken
+    → ListingSteps k v c.bytes at count before after
+listing_steps o count taken before after most e = λ ps s.
+    let m = most s.map.tree.tree (o.tree ps s).tree in
+    let n = ap (λ n. bits (n + 1)) (ap length s.map.tree.lists ∙ length-map ps pair_node) in
+    omega arith

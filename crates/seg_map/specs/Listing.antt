@@ -1,0 +1,45 @@
+-- The pairs of a map that are read one after another.
+use Rattle.std.specs.Prelude.{◌≡◌, ℕ, ◌+◌, ◌*◌, ◌≤◌, Bool, not, Option, List, ◌++◌, length, take, drop, filter, map}
+use Rattle.std.specs.Prelude.{min}
+use Rattle.std.specs.List.{AllByRecursion}
+use Rattle.raw_region.specs.Memory.{WindowState}
+use Rattle.link_tree.specs.Tree.{bits}
+use Rattle.best_fit.specs.declared.places.Place.{Place}
+use Rattle.seg_types.specs.declared.plain.Plain.{Ghosts as Plain}
+use Rattle.seg_map.specs.Map.{Pair}
+use Rattle.seg_map.specs.Places.{HoldsMap, is_passed, item_of, nodes_of_pairs}
+use Rattle.seg_map.specs.Searches.{IsRead}
+
+-- the pairs whose keys are not below the key, or above it if `past` is true
+abbrev pub pairs_past : {K V : Type 0} → (K → K → Bool) → Bool → K → List (Pair K V) → List (Pair K V)
+pairs_past less past key ps = filter (λ p. not (is_passed less past key p)) ps
+
+-- the list with these pairs in its first places
+abbrev pub with_pairs : {K V : Type 0} → List (Pair K V) → List (K × V) → List (K × V)
+with_pairs qs list = map item_of qs ++ drop (length qs) list
+
+-- the list has the first pairs from a key on, or above it if `past` is true, as many as `places` and the map have
+abbrev pub ReadsPairs : {K V : Type 0} → Plain K → Plain V → List ℕ → Place → Bool → K → ℕ → List (K × V)
+    → List (K × V) → ℕ → Type 0
+ReadsPairs {K} {V} k v b at past key places list list' count =
+    (ps : List (Pair K V)) → HoldsMap k v b at.handle at.at ps
+    → (count ≡ min places (length (pairs_past k.order past key ps)))
+    × (list' ≡ with_pairs (take count (pairs_past k.order past key ps)) list)
+
+-- the nodes of these pairs, which can be read there
+abbrev pub AreNodesOf : {K V : Type 0} → Plain K → Plain V → WindowState → List ℕ → List (Pair K V) → Type 0
+AreNodesOf {K} k v c nodes qs = (keys : ℕ → Option K) × (nodes ≡ nodes_of_pairs qs) × AllByRecursion (IsRead k v c keys)
+    qs
+
+-- the list has the nodes of the first pairs from a key on, or above it if `past` is true, as many as it has places for
+abbrev pub ListsNodes : {K V : Type 0} → Plain K → Plain V → WindowState → Place → Bool → K → List ℕ → List ℕ → ℕ
+    → Type 0
+ListsNodes {K} {V} k v c at past key list list' count =
+    (ps : List (Pair K V)) → HoldsMap k v c.bytes at.handle at.at ps
+    → (count ≡ min (length list) (length (pairs_past k.order past key ps)))
+    × AreNodesOf k v c (take count list') (take count (pairs_past k.order past key ps))
+
+-- a step for each node that is listed, and for each node of two paths from the root
+abbrev pub ListingSteps : {K V : Type 0} → Plain K → Plain V → List ℕ → Place → ℕ → ℕ → ℕ → Type 0
+ListingSteps {K} {V} k v b at count before after = (ps : List (Pair K V)) → HoldsMap k v b at.handle at.at ps
+    → after ≤ before + count + 4 * bits (length ps + 1)

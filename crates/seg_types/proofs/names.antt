@@ -1,0 +1,2 @@
+-- Names (`Texts`): printable bytes and bare names are texts.
+pub mod Texts

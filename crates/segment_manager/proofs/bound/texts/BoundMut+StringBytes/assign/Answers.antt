@@ -1,0 +1,32 @@
+-- The bytes replace the bytes of the string.
+use Rattle.segment_manager.proofs.Common.{refl}
+use Rattle.segment_manager.proofs.bound.Places.{still-bound, text-here, to-change}
+use Rattle.segment_manager.proofs.containers.TextAnswers.{assign_text-gaps, text-assigned}
+use Rattle.segment_manager.proofs.containers.Safely.{of-error}
+use Rattle.segment_manager.proofs.bound.texts.BoundMut+StringBytes.assign.Goals as goal
+
+pub assign-requires : goal.assign-requires
+assign-requires c = text-here c.segment.view_is c.segment.invariant c.own_container-place.ensures c.args.self.now.live
+
+pub invariant_of-segment : goal.invariant_of-segment
+invariant_of-segment c = (text-assigned c.segment.view_is c.segment.invariant (to-change c.args.self.now.live
+    c.args.self.now.writing c.own_container-place.ensures) _ _ _ c.type_inv.bytes c.assign.ensures).segment
+
+pub invariant_of-self : goal.invariant_of-self
+invariant_of-self c = still-bound c.args.self.now.live c.args.self.now.writing c.segment.view_is c.segment.invariant _ _
+    _ _ _ refl (text-assigned c.segment.view_is c.segment.invariant (to-change c.args.self.now.live
+    c.args.self.now.writing c.own_container-place.ensures) _ _ _ c.type_inv.bytes c.assign.ensures).step
+
+pub returns : goal.returns
+returns c =
+    let there = text-here c.segment.view_is c.segment.invariant c.own_container-place.ensures c.args.self.now.live in
+    let done = text-assigned c.segment.view_is c.segment.invariant (to-change c.args.self.now.live
+    c.args.self.now.writing c.own_container-place.ensures) _ _ _ c.type_inv.bytes c.assign.ensures in
+    record {
+      unchanged = record { loan = refl; object = refl };
+      step = done.step;
+      refused = done.refused;
+      error = of-error _ c.assign.result (c.assign.ensures there.0 there.1.0 there.1.1) (λ e m. m.refusal);
+      gaps = assign_text-gaps c.segment.view_is c.segment.invariant (to-change c.args.self.now.live
+          c.args.self.now.writing c.own_container-place.ensures) _ _ _ c.assign.ensures;
+    }

@@ -1,0 +1,31 @@
+-- The text replaces another in the vector of strings.
+use Rattle.segment_manager.proofs.Common.{refl}
+use Rattle.segment_manager.proofs.bound.Places.{still-bound, texts-here, to-change}
+use Rattle.segment_manager.proofs.containers.TextListCalls.{text-set}
+use Rattle.segment_manager.proofs.containers.Safely.{of-error, refuses-either}
+use Rattle.segment_manager.proofs.bound.texts.BoundMut+Texts.set.Goals as goal
+
+pub set-requires : goal.set-requires
+set-requires c = texts-here c.segment.view_is c.segment.invariant c.own_container-place.ensures c.args.self.now.live
+
+pub invariant_of-segment : goal.invariant_of-segment
+invariant_of-segment c = (text-set c.segment.view_is c.segment.invariant (to-change c.args.self.now.live
+    c.args.self.now.writing c.own_container-place.ensures) _ _ _ _ c.type_inv.text c.set.ensures).segment
+
+pub invariant_of-self : goal.invariant_of-self
+invariant_of-self c = still-bound c.args.self.now.live c.args.self.now.writing c.segment.view_is c.segment.invariant _ _
+    _ _ _ refl (text-set c.segment.view_is c.segment.invariant (to-change c.args.self.now.live c.args.self.now.writing
+    c.own_container-place.ensures) _ _ _ _ c.type_inv.text c.set.ensures).step
+
+pub returns : goal.returns
+returns c =
+    let there = texts-here c.segment.view_is c.segment.invariant c.own_container-place.ensures c.args.self.now.live in
+    let done = text-set c.segment.view_is c.segment.invariant (to-change c.args.self.now.live c.args.self.now.writing
+    c.own_container-place.ensures) _ _ _ _ c.type_inv.text c.set.ensures in
+    record {
+      unchanged = record { loan = refl; object = refl };
+      step = done.step;
+      refused = done.refused;
+      error = of-error _ c.set.result (c.set.ensures there.0 there.1.0 there.1.1) (λ e m. refuses-either (λ n.
+          n.refusal) (λ n. n.1.refusal) m);
+    }

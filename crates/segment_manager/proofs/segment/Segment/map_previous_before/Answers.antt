@@ -1,8 +1,0 @@
--- The pair is searched for in the map that is found.
-use Rattle.segment_manager.proofs.bound.ByKey.{tells}
-use Rattle.segment_manager.proofs.segment.Segment.map_previous_before.Goals as goal
-use Rattle.segment_manager.specs.containers.Maps.{pair_below}
-
-pub returns : goal.returns
-returns g c = tells c.in_ok-of.ensures.segment c.in_ok-of.ensures.location g.K.Scalar.kind g.V.Scalar.kind
-    (pair_below (g.K.Scalar.whole c.args.before)) c.previous_before.ensures

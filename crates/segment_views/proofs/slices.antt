@@ -1,0 +1,2 @@
+-- Steps of an iterator over an array or a vector (`SliceSteps`).
+pub mod SliceSteps

@@ -1,0 +1,69 @@
+-- What a reading of one text of a vector of strings, or of their number, says of the list of all.
+use Rattle.std.proofs.Common.{◌≡◌, refl, sym, ◌∙◌, ap, ℕ, Bool, true, false, Option, None, Some, Result, Ok, Err, List}
+use Rattle.std.proofs.Common.{[], length, if◌then◌else◌}
+use Rattle.std.proofs.lemmas.{Bool.eqb-true, List.length-map, Option.same_Some}
+use Rattle.std.specs.Prelude.{slice_get}
+use Rattle.seg_types.specs.{Commands.Get, Kinds.code_of, Kinds.kind_of_code, Kinds.same_kind, Names.Key}
+use Rattle.seg_types.specs.declared.kinds.Kind.TheVariants.{Strings as StringsKind}
+use Rattle.seg_types.specs.declared.refusals.Refusal.{Refusal}
+use Rattle.seg_types.specs.declared.refusals.Refusal.TheVariants.{NotFound, WrongKind}
+use Rattle.segment_manager.proofs.Laws.{code-read, got, text-read}
+use Rattle.segment_manager.specs.{Answers.Answer, Answers.TextElement, State.AnswersQueryOfKind, State.AnswersWith}
+use Rattle.segment_manager.specs.{State.SegmentState, State.answer_of}
+use Rattle.segment_manager.specs.Directory.{Directory, Object, Texts, Value, kind_of, object_at}
+use Rattle.segment_manager.specs.containers.Contents.{sizes_of, sizes_of_kind}
+use Rattle.segment_manager.specs.objects.ElementLists.{first_size, length_at_kind, number_or_none, texts_at, texts_in}
+use Rattle.segment_views.specs.Walked.{element_of}
+
+-- ---- one text
+
+abbrev mapped : {A B : Type 0} → (A → B) → Result A Refusal → Result B Refusal
+mapped f (Ok a) = Ok (f a)
+mapped f (Err why) = Err why
+
+answer-mapped : {A B : Type 0} (say : B → Answer) (f : A → B) (r : Result A Refusal)
+    → answer_of say (mapped f r) ≡ answer_of (λ a. say (f a)) r
+answer-mapped say f (Ok a) = refl
+answer-mapped say f (Err why) = refl
+
+got-mapped : {A B : Type 0} (f : A → B) (r : Result A Refusal) → got (mapped f r) ≡ element_of f r
+got-mapped f (Ok a) = refl
+got-mapped f (Err why) = refl
+
+module _ (s : SegmentState) (key : Key) where
+  -- a text that is read is the list's
+  pub text-item : (at : ℕ) {A : Type 0} (bytes : A → List ℕ) (r : Result A Refusal)
+      → AnswersQueryOfKind s key StringsKind (Get key at) (answer_of (λ x. TextElement (bytes x)) r)
+      → AnswersWith s (λ d. slice_get (texts_at d key) at) (element_of bytes r)
+  text-item at bytes r a = record {
+    answers = λ d h. sym (got-mapped bytes r)
+        ∙ text-read s.mode d key at (mapped bytes r) (answer-mapped TextElement bytes r ∙ a.answers d h);
+  }
+
+-- ---- how many
+
+texts-of : (v : Value) → StringsKind ≡ kind_of v → number_or_none (first_size (sizes_of v)) ≡ length (texts_in v)
+texts-of (Texts ps t) e = sym (length-map ps _)
+texts-of v e = absurd (cc)
+
+texts-sized : (v : Value) (b : Bool) → same_kind StringsKind (kind_of v) ≡ b
+    → number_or_none (first_size (if b then sizes_of v else Err WrongKind)) ≡ length (if b then texts_in v else [])
+texts-sized v false e = refl
+texts-sized v true e = texts-of v (same_Some StringsKind (kind_of v) (sym (code-read StringsKind)
+    ∙ ap kind_of_code (eqb-true (code_of StringsKind) (code_of (kind_of v)) e) ∙ code-read (kind_of v)))
+
+texts-length : (o : Option Object) → number_or_none (first_size (elim o as (λ _. Result (ℕ × ℕ) Refusal) [
+  | None ↦ Err NotFound
+  | Some o ↦ sizes_of_kind o StringsKind
+])) ≡ length (elim o as (λ _. List (List ℕ)) [
+  | None ↦ []
+  | Some o ↦ if same_kind StringsKind (kind_of o.value) then texts_in o.value else []
+])
+texts-length None = refl
+texts-length (Some o) = texts-sized o.value (same_kind StringsKind (kind_of o.value)) refl
+
+-- the number of texts is the list's
+pub texts-many : (s : SegmentState) (key : Key) (n : ℕ) → AnswersWith s (λ d. length_at_kind d key StringsKind) (Ok n)
+    → AnswersWith s (λ d. length (texts_at d key)) n
+texts-many s key n a =
+    record { answers = λ d h. ap number_or_none (a.answers d h) ∙ texts-length (object_at d key) }

@@ -20,6 +20,8 @@
 #include <cstdlib>
 #include <ctime>
 #include <map>
+#include <numeric>
+#include <random>
 #include <string>
 #include <vector>
 
@@ -175,7 +177,9 @@ class Times {
 /// A number below `of` that jumps about: each comes once, since 7919 is a prime that divides none of the counts.
 std::int64_t jumping(int i, int of) { return static_cast<std::int64_t>(i) * 7919 % of; }
 
-template <class S> void round(S &side, Times &times, const std::vector<std::string> &names) {
+/// The calls of one round. `mixed` has the numbers below PAIRS in a random order.
+template <class S>
+void round(S &side, Times &times, const std::vector<std::string> &names, const std::vector<int> &mixed) {
     times.of("names made", NAMES, [&](int i) { return side.make(names[jumping(i, NAMES)], i), true; });
     times.of("names found", NAMES, [&](int i) { return side.has(names[i]); });
     times.of("numbers read by name", NAMES, [&](int i) { return side.read(names[jumping(i, NAMES)]) == i; });
@@ -183,7 +187,9 @@ template <class S> void round(S &side, Times &times, const std::vector<std::stri
     times.of("pushes into a vector", ELEMENTS, [&](int i) { return side.push(3 * i), true; });
     times.of("reads of a vector", ELEMENTS, [&](int i) { return side.get(jumping(i, ELEMENTS)) == 3 * jumping(i, ELEMENTS); });
     times.of("puts into a map", PAIRS, [&](int i) { return side.put(jumping(i, PAIRS), i); });
-    times.of("look-ups in a map", PAIRS, [&](int i) { return side.look_up(jumping(i, PAIRS)) == i; });
+    times.of("look-ups in a map, by keys that jump", PAIRS, [&](int i) { return side.look_up(jumping(i, PAIRS)) == i; });
+    times.of("look-ups in a map, by random keys", PAIRS, [&](int i) { return side.look_up(jumping(mixed[i], PAIRS)) == mixed[i]; });
+    times.of("look-ups in a map, by rising keys", PAIRS, [&](int i) { return jumping(side.look_up(i), PAIRS) == i; });
     const std::int64_t all = std::int64_t{PAIRS} * (PAIRS - 1);
     times.note("steps of a walk over a map", PAIRS, [&] { return side.sum() == all; });
     times.of("keys taken out of a map", PAIRS, [&](int i) { return side.erase(jumping(i, PAIRS)); });
@@ -196,10 +202,13 @@ template <class S> void run(const char *name, const char *file) {
         std::snprintf(text, sizeof text, "name%06d", i);
         names.push_back(text);
     }
+    std::vector<int> mixed(PAIRS);
+    std::iota(mixed.begin(), mixed.end(), 0);
+    std::shuffle(mixed.begin(), mixed.end(), std::mt19937(1));
     Times times;
     for (int i = 0; i < ROUNDS; i++) {
         S side(file);
-        round(side, times, names);
+        round(side, times, names, mixed);
     }
     const Closed closed(file, names);
     for (int i = 0; i < ROUNDS; i++) times.of("segments with 20,000 names opened", OPENINGS, [&](int) { return closed.open(); });

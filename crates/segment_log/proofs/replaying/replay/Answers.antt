@@ -1,4 +1,4 @@
-use Rattle.std.proofs.Common.{◌≡◌, ℕ, ◌-◌, ◌≤◌, List, ◌++◌, length, take, replicate, ap, sym, ◌∙◌, refl, arith}
+use Rattle.std.proofs.Common.{◌≡◌, ℕ, ◌-◌, ◌≤◌, List, ◌++◌, length, take, replicate, ap, sym, ◌∙◌, arith}
 use Rattle.std.proofs.lemmas.List.{take_all, take_at}
 use Rattle.segment_log.specs.Records.{recovered, zeros}
 use Rattle.segment_log.specs.Edits.{applied_all, lens_after, Holds}
@@ -23,7 +23,8 @@ returns-clause-image c =
     let room : length image ≤ most =
     omega (arith, most_first payloads c.len-len.result, c.most_len-most.ensures, c.len-len.ensures) in
     let more : ℕ = most - c.reserve_exact.new.self.len in
-    let filled : c.as_mut_slice.result.now ≡ take most image ++ replicate more 0 = c.as_mut_slice.ensures.value ∙ c.in_ok-resize.ensures.items
+    let filled : c.as_mut_slice.result.now ≡ take most image ++ replicate more 0 =
+    c.as_mut_slice.ensures.value ∙ c.in_ok-resize.ensures.items
     ∙ ap (λ (l : List ℕ). take most l ++ replicate more 0) c.in_ok-reserve_exact.ensures.items in
     let len : length image ≡ c.len-len.result = omega (arith, c.len-len.ensures) in
     let made = c.replay_within-made.ensures.image image len

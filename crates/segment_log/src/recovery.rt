@@ -45,8 +45,8 @@ pub struct RecoveredImage {
     pub base: u64,
 }
 
-/// Returns the image of a file with its log. Asks once for memory, and only if a record makes the image longer than the
-/// file.
+/// Returns the image of a file with its log. Asks for memory at most once, and only if a record makes the image longer
+/// than the file.
 ///
 /// # Errors
 ///

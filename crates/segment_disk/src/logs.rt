@@ -114,15 +114,11 @@ pub(crate) fn read_log<R: Files<File = File> + AllocGlobal>(
 }
 
 /// Returns what the bytes of a file stand for with those of its log. The log of another file is refused.
-pub(crate) fn recovered(
-    alloc: Global,
-    base: Vec<u8>,
-    log: &[u8],
-) -> Result<RecoveredImage, LogTrouble>
+pub(crate) fn recovered(base: Vec<u8>, log: &[u8]) -> Result<RecoveredImage, LogTrouble>
     ensures image { IfOk result (λ made. Recovers base.items log.now made) }
     ensures refused { IfErr result (λ why. RefusesLog base.items log.now why) }
 {
-    match recover(alloc, base, log) {
+    match recover(base, log) {
         Ok(made) => Ok(made),
         Err(RecoverError::ForeignLog) => Err(Some(FileProblem::ForeignLog)),
         Err(RecoverError::OutOfMemory) => Err(None),
@@ -149,7 +145,7 @@ pub(crate) fn committed(
 ) -> Result<(CommittedImage, Vec<u8>), LogTrouble>
     ensures { IfOk result (λ made. IsCommitted (with_log base.items made.1.items) made.0) }
 {
-    let made = recovered(alloc, base, log)?;
+    let made = recovered(base, log)?;
     let Ok(gated) = shut_at(alloc, log, made.end) else {
         return Err(None);
     };
@@ -177,7 +173,7 @@ fn read_once<R: Files<File = File> + AllocGlobal>(
 ) -> Result<RecoveredImage, LogTrouble> {
     let (_, log) = log_paths(rt, path).map_err(trouble_of)?;
     let bytes = read_log(rt, log.as_str())?;
-    recovered(rt.alloc(), read_file(rt.alloc(), file)?, &bytes)
+    recovered(read_file(rt.alloc(), file)?, &bytes)
 }
 
 /// Returns what the file of a path, which was opened, stands for with its log. Both are read again if another file took

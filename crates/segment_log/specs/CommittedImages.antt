@@ -1,5 +1,5 @@
 -- The image of the last commit, which is kept in memory, and the file and the log that stand for it.
-use Rattle.std.specs.Prelude.{◌≡◌, ◌⊎◌, ℕ, List, [], length, Result, Err, IfErr, MatchResult, OnOk}
+use Rattle.std.specs.Prelude.{◌≡◌, ◌⊎◌, ℕ, List, [], Result, Err, IfErr, OnOk}
 use Rattle.segment_log.specs.Crashes.{LoggedFile, Only}
 use Rattle.segment_log.specs.Committing.{AsksFor, CrashLeaves}
 use Rattle.segment_log.specs.Events.{LogEvent, seen_in_the_end, leaves_after}

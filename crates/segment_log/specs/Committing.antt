@@ -1,7 +1,7 @@
 -- The calls to a disk for a commit, an opening and a checkpoint, and what a crash leaves at each moment.
-use Rattle.std.specs.Prelude.{◌≡◌, ◌≢◌, ◌⊎◌, ◌<◌, ◌≤◌, ◌+◌, ◌&&◌, ◌^◌, ℕ, Bool, true, false, List, [], ◌∷◌, length}
+use Rattle.std.specs.Prelude.{◌≡◌, ◌⊎◌, ◌<◌, ◌≤◌, ◌&&◌, ◌^◌, ℕ, Bool, List, [], ◌∷◌, length}
 use Rattle.std.specs.Prelude.{take}
-use Rattle.std.specs.Prelude.{Result, Ok, Err, MatchResult, IfOk, OnOk, is_ok}
+use Rattle.std.specs.Prelude.{Result, Err, IfOk, OnOk, is_ok}
 use Rattle.segment_log.specs.Crashes.{LoggedFile}
 use Rattle.segment_log.specs.Records.{IsAjar, IsEndOfLog}
 use Rattle.segment_log.specs.Edits.{stands_for}
@@ -10,7 +10,7 @@ use Rattle.segment_log.specs.Laws.{through_events}
 use Rattle.segment_log.specs.Openings.{IsReady, IsPayloadFor, EndsReady}
 use Rattle.segment_log.specs.Tags.{AreTogether, IsMidCommit, KeepsImage}
 use Rattle.segment_log.specs.declared.committing.CommitError.{CommitError}
-use Rattle.segment_log.specs.declared.committing.CommitError.TheVariants.{OutOfMemory, TooLong, WriteFault}
+use Rattle.segment_log.specs.declared.committing.CommitError.TheVariants.{OutOfMemory, TooLong}
 use Rattle.segment_log.specs.declared.log_disk.LogFault.{LogFault}
 
 -- The disk got exactly these calls, in this order, and they led from the old state to the new one, each by a step.

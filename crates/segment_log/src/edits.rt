@@ -1,10 +1,9 @@
 //! What the payload of a record does to an image.
-ghost use Rattle.std.specs.Prelude.{◌≡◌, ◌≤◌, length, take, OnOk, MatchOption, Some, None};
+ghost use Rattle.std.specs.Prelude.{◌≡◌, ◌≤◌, length, take, MatchOption, Some, None};
 ghost use Rattle.segment_log.specs.Records.{number_of, zeros};
 ghost use Rattle.segment_log.specs.Edits.{applied, edited, next_edit, put, resized, TurnsInto, len_after};
 
-use crate::records::{number_of, zeros};
-use std::alloc::{AllocError, Global};
+use crate::records::number_of;
 
 /// Puts bytes at an offset of an image, if they lie within it.
 fn put(image: &mut [u8], at: u64, bytes: &[u8])
@@ -50,19 +49,6 @@ fn edit(image: &mut [u8], text: &[u8])
     }
 }
 
-/// Cuts an image, or makes it longer by bytes that are 0.
-fn resize(alloc: Global, image: &mut Vec<u8>, len: usize) -> Result<(), AllocError>
-    ensures { OnOk result (image.new.items ≡ resized len image.old.items) }
-{
-    let old = image.len();
-    image.truncate(len);
-    if old < len {
-        let more = zeros(alloc, len - old)?;
-        image.extend_from_slice(&more)?;
-    }
-    Ok(())
-}
-
 /// Sets bytes to 0.
 pub(crate) fn clear(bytes: &mut [u8])
     ensures { bytes.new ≡ zeros (length bytes.old) }
@@ -98,16 +84,4 @@ pub(crate) fn apply_within(buffer: &mut [u8], len: usize, payload: &[u8]) -> usi
     resize_within(buffer, len, made);
     edit(&mut buffer[..made], &payload[8..]);
     made
-}
-
-/// Makes of an image what the payload of a record says. After an error the image may be cut or longer.
-pub fn apply(alloc: Global, image: &mut Vec<u8>, payload: &[u8]) -> Result<(), AllocError>
-    ensures { OnOk result (image.new.items ≡ applied payload.now image.old.items) }
-{
-    if payload.len() < 8 {
-        return Ok(());
-    }
-    resize(alloc, image, number_of(payload) as usize)?;
-    edit(image.as_mut_slice(), &payload[8..]);
-    Ok(())
 }

@@ -20,13 +20,12 @@ mod theorems;
 
 pub use committed_image::CommittedImage;
 pub use committing::{CommitError, checkpoint, commit, shut};
-pub use edits::apply;
 pub use fingerprints::{PAGE_LEN, fingerprint, fingerprint_of_a_change, page_mark, with_page};
 pub use log_disk::{LogDisk, LogFault};
 pub use payloads::{begin_payload, changes, edit_head, fill, push_edit};
 pub use records::{GATE_LEN, MAX_LOG_LEN, next_record, open_gate, record_body, shut_gate};
 pub use recovery::{RecoverError, RecoveredImage, RecoveredWithin, recover, recover_within};
-pub use replaying::{is_ajar, most_len, replay};
+pub use replaying::{is_ajar, most_len};
 pub use tags::{belongs, fits};
 pub use theorems::{
     checkpoint_finds_the_same, checkpoint_keeps_own, checkpoint_keeps_the_image,

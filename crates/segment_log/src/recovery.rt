@@ -12,7 +12,7 @@ use crate::edits::clear;
 use crate::fingerprints::fingerprint;
 use crate::replaying::{replay, replay_within};
 use crate::tags::{belongs, fits};
-use std::alloc::{AllocError, Global};
+use std::alloc::AllocError;
 use thiserror::Error;
 
 /// Why a file and its log stand for no image.
@@ -45,12 +45,13 @@ pub struct RecoveredImage {
     pub base: u64,
 }
 
-/// Returns the image of a file with its log.
+/// Returns the image of a file with its log. Asks for memory at most once, and only if a record makes the image longer
+/// than the file.
 ///
 /// # Errors
 ///
 /// `ForeignLog` exactly if the log does not belong to the file: none of it is applied. `OutOfMemory`.
-pub fn recover(alloc: Global, base: Vec<u8>, log: &[u8]) -> Result<RecoveredImage, RecoverError>
+pub fn recover(base: Vec<u8>, log: &[u8]) -> Result<RecoveredImage, RecoverError>
     ensures image { IfOk result (λ r. r.image.items ≡ stands_for (with_log base.items log.now)) }
     ensures end { IfOk result (λ r. IsEndOfLog 4096 log.now r.end) }
     ensures base { IfOk result (λ r. r.base ≡ fingerprint base.items) }
@@ -62,7 +63,7 @@ pub fn recover(alloc: Global, base: Vec<u8>, log: &[u8]) -> Result<RecoveredImag
         return Err(RecoverError::ForeignLog);
     }
     let mut image = base;
-    let end = replay(alloc, &mut image, log)?;
+    let end = replay(&mut image, log)?;
     if !fits(log, fingerprint(&image)) {
         return Err(RecoverError::ForeignLog);
     }

@@ -1,25 +1,11 @@
 //! What a file stands for with its log, and the end of a log.
-ghost use Rattle.std.specs.Prelude.{◌≡◌, ◌≤◌, length, Decides, IfOk, OnOk};
+ghost use Rattle.std.specs.Prelude.{◌≡◌, ◌≤◌, length, Decides, IfOk, MatchResult};
 ghost use Rattle.segment_log.specs.Records.{IsAjar, IsEndOfLog, recovered};
 ghost use Rattle.segment_log.specs.Edits.{applied_all, TurnsInto, len_after, lens_after, most_len};
 
-use crate::edits::{apply, apply_within};
+use crate::edits::apply_within;
 use crate::records::{GATE_LEN, next_record, number_of};
-use std::alloc::{AllocError, Global};
-
-/// Makes of an image what all records of a log say, one after the other, and returns where they end. After an error
-/// the image may have some of the records.
-pub fn replay(alloc: Global, image: &mut Vec<u8>, log: &[u8]) -> Result<usize, AllocError>
-    ensures image { OnOk result (image.new.items ≡ applied_all (recovered log.now) image.old.items) }
-    ensures end { IfOk result (λ end. IsEndOfLog 4096 log.now end) }
-{
-    let mut rest = log;
-    while let Some((payload, behind)) = next_record(rest) {
-        apply(alloc, image, payload)?;
-        rest = behind;
-    }
-    Ok(log.len() - rest.len())
-}
+use std::alloc::AllocError;
 
 /// Returns how many bytes an image of `len` bytes has after a payload.
 fn len_after(payload: &[u8], len: usize) -> usize
@@ -73,6 +59,23 @@ pub(crate) fn replay_within(buffer: &mut [u8], len: usize, log: &[u8]) -> Replay
         len: so_far,
         end: log.len() - rest.len(),
     }
+}
+
+/// Makes of an image what all records of a log say, one after the other, and returns where the records end. First makes
+/// room for the longest image on the way, by one request at most. After an error the image is as before.
+pub(crate) fn replay(image: &mut Vec<u8>, log: &[u8]) -> Result<usize, AllocError>
+    ensures image { MatchResult result
+        (λ _. image.new.items ≡ applied_all (recovered log.now) image.old.items)
+        (λ _. image.new.items ≡ image.old.items) }
+    ensures end { IfOk result (λ end. IsEndOfLog 4096 log.now end) }
+{
+    let len = image.len();
+    let most = most_len(log, len);
+    image.reserve_exact(most - len)?;
+    image.resize(most, 0)?;
+    let made = replay_within(image.as_mut_slice(), len, log);
+    image.truncate(made.len);
+    Ok(made.end)
 }
 
 /// Tells whether the gate at the end of a log is open or not whole. It is to be shut before the next commit.

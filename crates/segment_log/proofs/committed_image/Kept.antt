@@ -1,5 +1,5 @@
 -- What is kept of a file with its log, after a commit and after a checkpoint.
-use Rattle.std.proofs.Common.{◌≡◌, ◌≢◌, ◌⊎◌, ⊎_elim, inl, inr, ℕ, zero, suc, ◌<◌, ◌^◌, true, List, []}
+use Rattle.std.proofs.Common.{◌≡◌, ◌≢◌, ⊎_elim, inl, inr, ℕ, zero, suc, ◌<◌, ◌^◌, true, List, []}
 use Rattle.std.proofs.Common.{length, take, Result, Ok, Err, refl, sym, ◌∙◌, ap, subst}
 use Rattle.segment_log.specs.Crashes.{LoggedFile}
 use Rattle.segment_log.specs.Edits.{applied, applied_all}

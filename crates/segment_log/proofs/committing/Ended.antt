@@ -1,15 +1,15 @@
 -- What a crash leaves, by how a commit, an opening or a checkpoint ended.
-use Rattle.std.proofs.Common.{◌≡◌, ◌≢◌, ◌⊎◌, ⊎_elim, inl, inr, ℕ, zero, suc, ◌+◌, ◌<◌, ◌≤◌, ◌^◌, ◌&&◌, Bool, true}
+use Rattle.std.proofs.Common.{◌≡◌, ◌⊎◌, ⊎_elim, ℕ, zero, suc, ◌+◌, ◌≤◌, ◌^◌, ◌&&◌, Bool, true}
 use Rattle.std.proofs.Common.{false, List, [], ◌∷◌}
-use Rattle.std.proofs.Common.{length, take, Result, Ok, Err, refl, sym, ◌∙◌, ap, subst}
+use Rattle.std.proofs.Common.{length, Ok, Err, refl, subst}
 use Rattle.segment_log.specs.Crashes.{LoggedFile}
-use Rattle.segment_log.specs.Events.{LogEvent, Placed, Synced, Wrote, leaves_after, seen_in_the_end}
+use Rattle.segment_log.specs.Events.{LogEvent, Placed, Synced, Wrote, seen_in_the_end}
 use Rattle.segment_log.specs.Laws.{CommitOutcome, Unwritten, Unsynced, Unmarked, Unsure, Committed, body, open_gate}
 use Rattle.segment_log.specs.Laws.{commit_events, through_events, shut_events, checkpoint_events}
 use Rattle.segment_log.specs.Records.{zeros}
 use Rattle.segment_log.specs.Committing.{AsksFor, CommitsRecord, ShutsGate, MakesCheckpoint, CrashLeaves}
 use Rattle.segment_log.specs.declared.committing.CommitError.{CommitError}
-use Rattle.segment_log.specs.declared.committing.CommitError.TheVariants.{OutOfMemory, TooLong, WriteFault}
+use Rattle.segment_log.specs.declared.committing.CommitError.TheVariants.{TooLong, WriteFault}
 use Rattle.segment_log.proofs.theorems.Found.{commit_finds_one, committed_finds_the_new, repair_finds_the_same}
 use Rattle.segment_log.proofs.theorems.Found.{repaired_is_ready, checkpoint_finds_the_same, checkpointed_is_ready}
 

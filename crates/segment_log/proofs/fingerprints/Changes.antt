@@ -1,9 +1,9 @@
 -- The fingerprint of an image with another page.
 use Rattle.std.proofs.Common.{◌≡◌, ◌≢◌, ℕ, zero, suc, ◌+◌, ◌-◌, ◌*◌, ◌/◌, ◌%◌, ◌<◌, ◌≤◌, min, List, length, refl, sym}
 use Rattle.std.proofs.Common.{◌∙◌, ap, arith, inl, inr}
-use Rattle.std.proofs.lemmas.Bool.{cases_eq, cases_lt}
-use Rattle.segment_log.specs.Fingerprints.{fingerprint, marked_pages, page_at, page_mark, marked_bytes, with_page}
-use Rattle.segment_log.specs.Fingerprints.{SameExceptPage, FingerprintOfAChange}
+use Rattle.std.proofs.lemmas.Bool.{cases_eq}
+use Rattle.segment_log.specs.Fingerprints.{fingerprint, marked_pages, page_at, page_mark, with_page}
+use Rattle.segment_log.specs.Fingerprints.{FingerprintOfAChange}
 
 -- a sum is small
 small : (k : ℕ) (image : List ℕ) → marked_pages k image < 18_446_744_073_709_551_616

@@ -1,5 +1,5 @@
 -- A log belongs to its file at each moment of a commit, of a checkpoint and of a recovery.
-use Rattle.std.proofs.Common.{◌≡◌, ◌≢◌, ⊎_elim, inl, inr, ℕ, List, [], ◌∷◌, ◌++◌, true, refl, sym, ◌∙◌, ap}
+use Rattle.std.proofs.Common.{◌≡◌, ◌≢◌, ⊎_elim, inl, inr, ℕ, List, [], ◌∷◌, ◌++◌, true, refl, ◌∙◌, ap}
 use Rattle.segment_log.specs.Crashes.{LoggedFile}
 use Rattle.segment_log.specs.Records.{recovered, KeepsOrAddsRecord}
 use Rattle.segment_log.specs.Edits.{applied, stands_for, StandsFor, SameRecords, KeepsOrPlaces}

@@ -1,12 +1,12 @@
 -- The laws of what opening finds, from those of the records.
-use Rattle.std.proofs.Common.{◌≡◌, ◌≢◌, ◌⊎◌, inl, inr, ℕ, suc, ◌+◌, ◌-◌, ◌<◌, ◌≤◌, Bool, true, false, List, [], length}
-use Rattle.std.proofs.Common.{get_or, refl, sym, ◌∙◌, ap, arith}
-use Rattle.segment_log.specs.Crashes.{LoggedFile, TornFrom, ReplacedFrom, WritesAt}
-use Rattle.segment_log.specs.Records.{recovered, zeros, EndsShut, IsAjar, IsEndOfLog}
+use Rattle.std.proofs.Common.{◌≡◌, inl, inr, ℕ, ◌-◌, ◌<◌, Bool, true, false, List, [], length}
+use Rattle.std.proofs.Common.{refl, sym, ◌∙◌, ap, arith}
+use Rattle.segment_log.specs.Crashes.{LoggedFile, TornFrom, ReplacedFrom}
+use Rattle.segment_log.specs.Records.{recovered, zeros, IsAjar, IsEndOfLog}
 use Rattle.segment_log.specs.Edits.{stands_for, SameRecords, KeepsOrPlaces}
-use Rattle.segment_log.specs.Events.{seen_in_the_end, leaves_after}
+use Rattle.segment_log.specs.Events.{seen_in_the_end}
 use Rattle.segment_log.specs.Laws.{Committed, commit_events, shut_events, checkpoint_events}
-use Rattle.segment_log.specs.Openings.{IsReady, IsPayloadFor, EndsReady, CommitFindsOne, CommittedFindsTheNew}
+use Rattle.segment_log.specs.Openings.{IsReady, EndsReady, CommitFindsOne, CommittedFindsTheNew}
 use Rattle.segment_log.specs.Openings.{ShutIsReady, RepairFindsTheSame, RepairedIsReady, CheckpointFindsTheSame}
 use Rattle.segment_log.specs.Openings.{CheckpointedIsReady}
 use Rattle.segment_log.specs.Tags.{AreTogether, KeepsImage}

@@ -1,12 +1,11 @@
 -- The laws of whole histories, from those of one call.
-use Rattle.std.proofs.Common.{◌≡◌, ◌⊎◌, ⊎_elim, inl, inr, ℕ, ◌+◌, true, List, [], ◌∷◌, length, refl, sym, ◌∙◌, subst}
+use Rattle.std.proofs.Common.{◌≡◌, ⊎_elim, inl, inr, ℕ, ◌+◌, true, List, [], ◌∷◌, length, refl, sym, ◌∙◌, subst}
 use Rattle.segment_log.specs.Crashes.{LoggedFile}
 use Rattle.segment_log.specs.Edits.{stands_for, StandsForOneOf}
 use Rattle.segment_log.specs.Events.{seen_in_the_end}
 use Rattle.segment_log.specs.Laws.{Committed, commit_events, shut_events, checkpoint_events}
 use Rattle.segment_log.specs.Records.{IsAjar, IsEndOfLog}
-use Rattle.segment_log.specs.Histories.{LogOperation, Commits, Checkpoints, CrashesInCommit, CrashesInCheckpoint}
-use Rattle.segment_log.specs.Histories.{Reopens}
+use Rattle.segment_log.specs.Histories.{Commits, Checkpoints, CrashesInCommit, CrashesInCheckpoint}
 use Rattle.segment_log.specs.Histories.{OpeningFindsOne, HistoriesStayReady}
 use Rattle.segment_log.specs.Openings.{IsReady}
 use Rattle.segment_log.specs.Tags.{IsMidCommit, KeepsImage}

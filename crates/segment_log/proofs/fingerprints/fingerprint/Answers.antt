@@ -1,4 +1,4 @@
-use Rattle.std.proofs.Common.{◌≡◌, ◌≤◌, ℕ, suc, ◌+◌, ◌-◌, ◌*◌, ◌%◌, List, length, take, drop, min, sym, ◌∙◌, ap, arith}
+use Rattle.std.proofs.Common.{◌≡◌, ℕ, suc, ◌+◌, ◌-◌, ◌*◌, ◌%◌, List, length, take, drop, min, sym, ◌∙◌, ap, arith}
 use Rattle.std.proofs.lemmas.List.{length-drop, take_min}
 use Rattle.segment_log.specs.Fingerprints.{fingerprint, marked_pages, page_at, page_mark}
 use Rattle.segment_log.proofs.fingerprints.fingerprint.Goals as goal

@@ -1,33 +1,38 @@
-use Rattle.std.proofs.Common.{◌++◌, ◌∷◌, [], List, ℕ, ap, sym, ◌∙◌, refl}
-use Rattle.segment_log.specs.Edits.{applied, applied_all}
-use Rattle.segment_log.proofs.edits.Reading.{applied_last}
-use Rattle.segment_log.proofs.records.Reading.{shorter}
-use Rattle.segment_log.proofs.replaying.Runs.{run_starts, run_goes_on, run_ends, end_of_run}
+use Rattle.std.proofs.Common.{◌≡◌, ℕ, ◌-◌, ◌≤◌, List, ◌++◌, length, take, replicate, ap, sym, ◌∙◌, arith}
+use Rattle.std.proofs.lemmas.List.{take_all, take_at}
+use Rattle.segment_log.specs.Records.{recovered, zeros}
+use Rattle.segment_log.specs.Edits.{applied_all, lens_after, Holds}
+use Rattle.segment_log.proofs.edits.Within.{held_front, holds_with, length-applied_all, most_first}
 use Rattle.segment_log.proofs.replaying.replay.Goals as goal
 
-pub loop-payload-init : goal.loop-payload-init
-loop-payload-init c = ([], run_starts 4096 c.args.log.now, refl)
+holds_filled : (buffer image : List ℕ) (most n : ℕ) → length image ≤ most → buffer ≡ take most image ++ replicate n 0
+    → Holds buffer image
+unfolding zeros
+holds_filled buffer image most n le is =
+    holds_with buffer image n (is ∙ ap (λ (l : List ℕ). l ++ replicate n 0) (take_all most image le))
 
-pub loop-payload-preserved : goal.loop-payload-preserved
-loop-payload-preserved c =
-    let so_far = c.loop-payload.invariant in (
-      so_far.0 ++ c.in-Some.payload.now ∷ [],
-      run_goes_on 4095 c.args.log.now c.loop-payload.rest.now so_far.0 c.in-Some.payload.now c.in-Some.behind.now
-          so_far.1 c.in-Some.ensures,
-      c.in_ok-apply.ensures ∙ ap (applied c.in-Some.payload.now) so_far.2
-          ∙ sym (applied_last so_far.0 c.in-Some.payload.now c.args.image.now.items),
-    )
+pub overflow_sub-most : goal.overflow_sub-most
+overflow_sub-most c =
+    omega (arith, most_first (recovered c.args.log.now) c.len-len.result, c.most_len-most.ensures)
 
-pub loop-payload-smaller : goal.loop-payload-smaller
-loop-payload-smaller c =
-    shorter 4096 c.loop-payload.rest.now (c.in-Some.payload.now, c.in-Some.behind.now) c.in-Some.ensures
-
-pub returns : goal.returns
-returns c =
-    let so_far = c.loop-payload.invariant in
-    record {
-      image = so_far.2
-          ∙ ap (λ (ps : List (List ℕ)). applied_all ps c.args.image.now.items)
-          (sym (run_ends 4096 c.args.log.now c.loop-payload.rest.now so_far.0 so_far.1 c.in_default.ensures));
-      end = end_of_run 4096 c.args.log.now c.loop-payload.rest.now so_far.0 _ so_far.1 c.in_default.ensures refl;
-    }
+pub returns-clause-image : goal.returns-clause-image
+returns-clause-image c =
+    let image : List ℕ = c.args.image.now.items in
+    let payloads : List (List ℕ) = recovered c.args.log.now in
+    let most : ℕ = c.most_len-most.result in
+    let room : length image ≤ most =
+    omega (arith, most_first payloads c.len-len.result, c.most_len-most.ensures, c.len-len.ensures) in
+    let more : ℕ = most - c.reserve_exact.new.self.len in
+    let filled : c.as_mut_slice.result.now ≡ take most image ++ replicate more 0 =
+    c.as_mut_slice.ensures.value ∙ c.in_ok-resize.ensures.items
+    ∙ ap (λ (l : List ℕ). take most l ++ replicate more 0) c.in_ok-reserve_exact.ensures.items in
+    let len : length image ≡ c.len-len.result = omega (arith, c.len-len.ensures) in
+    let made = c.replay_within-made.ensures.image image len
+    (holds_filled c.as_mut_slice.result.now image most more room filled) in
+    let same : length c.replay_within-made.new.buffer ≡ c.resize.new.self.len =
+    omega (arith, c.replay_within-made.auto.buffer, c.as_mut_slice.ensures.len) in
+    c.truncate.ensures.items
+    ∙ ap (λ (l : List ℕ). take c.replay_within-made.result.len l)
+    (take_at c.replay_within-made.new.buffer _ c.resize.new.self.len same)
+    ∙ held_front c.replay_within-made.new.buffer (applied_all payloads image) made c.replay_within-made.result.len
+    (length-applied_all payloads image ∙ ap (λ n. lens_after payloads n) len ∙ sym c.replay_within-made.ensures.len)

@@ -1,4 +1,4 @@
-use Rattle.std.proofs.Common.{◌≡◌, refl, ap, ◌∙◌, arith}
+use Rattle.std.proofs.Common.{refl, ap, ◌∙◌, arith}
 use Rattle.std.proofs.lemmas.Result.{err_from_is_err_and}
 use Rattle.segment_log.specs.Fingerprints.{fingerprint}
 use Rattle.segment_log.proofs.committed_image.Kept.{nothing_to_place, not_placed, placed}

@@ -63,11 +63,27 @@ impl<'a, C: BoundContent> Bound<'a, C> {
         ensures segment { IfOk result (λ b. b.segment.now ≡ segment.now) }
     {
         let object = locate_of_kind(segment, key, C::kind())?;
-        Ok(Bound {
+        Ok(Bound::at(segment, object))
+    }
+
+    /// Binds an object that was located.
+    ///
+    /// Example: `let years = Map::<i32, i64>::at(&segment, object)`.
+    ///
+    /// # Conditions
+    ///
+    /// The object is there and has the kind. `of` looks an object up and has no condition.
+    #[inline(always)]
+    pub fn at(segment: &'a Segment, object: Object) -> Bound<'a, C>
+        requires { IsBound C.kind object segment.now }
+        ensures object { result.object ≡ object }
+        ensures segment { result.segment.now ≡ segment.now }
+    {
+        Bound {
             segment,
             object,
             of: PhantomData,
-        })
+        }
     }
 
     /// Returns the segment.
@@ -123,11 +139,29 @@ impl<'a, C: BoundContent> BoundMut<'a, C> {
             return Err(Refusal::ReadOnly);
         }
         let object = locate_of_kind(segment, key, C::kind())?;
-        Ok(BoundMut {
+        Ok(BoundMut::at(segment, object))
+    }
+
+    /// Binds an object that was located, to change it.
+    ///
+    /// Example: `let mut years = MapMut::<i32, i64>::at(&mut segment, object)`.
+    ///
+    /// # Conditions
+    ///
+    /// The object is there and has the kind, and the segment is open for writing. `of` has no condition.
+    #[inline(always)]
+    pub fn at(segment: &'a mut Segment, object: Object) -> BoundMut<'a, C>
+        requires object { IsBound C.kind object segment.old }
+        requires writing { is_read_only segment.old.mode ≡ false }
+        ensures loan { result.segment.ghost_name ≡ segment.entry.ghost_name }
+        ensures segment { result.segment.now ≡ segment.old }
+        ensures object { result.object ≡ object }
+    {
+        BoundMut {
             segment,
             object,
             of: PhantomData,
-        })
+        }
     }
 
     /// Returns the object for reading, as long as it does not change.

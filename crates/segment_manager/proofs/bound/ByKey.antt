@@ -17,7 +17,8 @@ use Rattle.segment_manager.proofs.objects.Locating.{leads_on-by_key, reply_of_ki
 use Rattle.segment_manager.proofs.objects.Locating.{step_of_kind-by_key, told-by_key}
 use Rattle.segment_manager.specs.Keeping.{ChangesValue, LacksFirst, LacksPair}
 use Rattle.segment_manager.specs.Laws.{at_key}
-use Rattle.segment_manager.specs.objects.BoundObjects.{LacksKind, key_of}
+use Rattle.segment_manager.specs.objects.BoundObjects.{IsBound, LacksKind, key_of}
+use Rattle.segment_manager.specs.objects.Located.{IsObject}
 
 module _ {s t : SegmentState} (same : t ≡ s) {key : Key} {o : Located} (l : IsLocated s key o) where
   -- an answer
@@ -125,3 +126,20 @@ pub lacks-replies : (s : SegmentState) (key : Key) (kind : Kind) (why : Refusal)
     → LacksKind s key kind why → AnswersQueryOfKind s key kind c (Refused why)
 lacks-replies s key kind why c e a = step_of_kind-reply s key kind c (Refused why)
     (finds-no_container s key kind c why (open-reading s.mode c e) a)
+
+-- ---- an object that was located and then bound
+
+-- it is bound to its kind
+pub binds : {s : SegmentState} {o : Located} {kind : Kind} → IsObject o s → o.kind ≡ kind → IsBound kind o s
+binds there is = record { there = there; of_kind = is }
+
+-- what holds of the bound object holds of the located one
+pub of-bound : {s t : SegmentState} {o p : Located} (R : Located → SegmentState → Type 0) → p ≡ o → t ≡ s → R p t
+    → R o s
+of-bound {s} {t} {o} {p} R is same r = subst (R o) same (subst (λ (q : Located). R q t) is r)
+
+-- the same for a call that changes it
+pub of-change : {s t new last : SegmentState} {o p : Located} (R : Located → SegmentState → SegmentState → Type 0)
+    → p ≡ o → t ≡ s → new ≡ last → R p t new → R o s last
+of-change {s} {t} {new} {last} {o} {p} R is same ends r =
+    of-bound (λ (q : Located) (u : SegmentState). R q u last) is same (subst (R p t) ends r)

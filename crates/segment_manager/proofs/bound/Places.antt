@@ -4,11 +4,12 @@ use Rattle.segment_manager.proofs.Common.{IsSomeText, IsTextsContainer, LeadsOnO
 use Rattle.segment_manager.proofs.Common.{WindowState, is_read_only}
 use Rattle.segment_manager.proofs.Common.{Kind, code_of, same_kind, Key, Command, Answer, container_at, AnswersWith}
 use Rattle.segment_manager.proofs.Common.{SegmentState, IsSegment, TakesStepOfKind, is_elementwise, Located}
-use Rattle.segment_manager.proofs.Common.{Err, WrongKind, if◌then◌else◌, eq-eqb}
+use Rattle.segment_manager.proofs.Common.{Err, WrongKind, if◌then◌else◌, eq-eqb, refl}
 use Rattle.segment_manager.proofs.containers.{Safely.contains, TextAnswers.text-standing, TextListCalls.texts-standing}
 use Rattle.segment_manager.proofs.objects.StayingObjects.{leads_on-stay, objects_stay}
 use Rattle.segment_manager.specs.containers.ToChange.{IsChangeableContainer}
 use Rattle.segment_manager.specs.objects.BoundObjects.{IsBound, container_of, key_of}
+use Rattle.segment_manager.specs.objects.Located.{IsObject}
 
 module _ {kind : Kind} {o : Located} {s : SegmentState} (b : IsBound kind o s) where
   same : same_kind kind o.kind ≡ true
@@ -66,6 +67,11 @@ module _ {kind : Kind} {o : Located} {s : SegmentState} (b : IsBound kind o s) w
         };
         writing = still-writing;
       }
+
+-- the container of a located object, by its own kind
+pub container-there : {o : Located} {s : SegmentState} {p : Place} → IsObject o s → p ≡ container_of o
+    → AnswersWith s (λ d. container_at d (key_of o) o.kind) (Ok p)
+container-there there is = container-here (record { there = there; of_kind = refl }) is
 
 module _ {s t : SegmentState} (view : s ≡ t) (g : IsSegment s.cut.bytes) {o : Located} {p : Place}
     (is : p ≡ container_of o) where

@@ -1,17 +1,19 @@
 //! The capacity of vectors, strings and vectors of strings, and the number of elements of containers.
-ghost use Rattle.std.specs.Prelude.{◌≡◌, OnErr, true};
+ghost use Rattle.std.specs.Prelude.{◌≡◌, Ok, OnErr, true};
 ghost use Rattle.seg_types.specs.declared.kinds.Kind.TheVariants.{Map as MapOf, Vector as VectorOf};
 ghost use Rattle.seg_types.specs.declared.kinds.Kind.TheVariants.{Strings as StringsKind};
 ghost use Rattle.seg_types.specs.Commands.{Clear, Reserve, Shrink};
-ghost use Rattle.segment_manager.specs.containers.Contents.{has_sizes, sizes_at, sizes_at_kind};
+ghost use Rattle.segment_manager.specs.containers.Contents.{has_sizes, sizes_at};
 ghost use Rattle.segment_manager.specs.{Keeping.HasCapacity, containers.Stored.HasEnough, containers.Stored.command_of};
 ghost use Rattle.segment_manager.specs.{Keeping.UnchangedWhere, State.AnswersWith, State.TakesStep, State.done_answer};
 ghost use Rattle.segment_manager.specs.objects.ElementLists.{array_length_at, length_at_kind};
+ghost use Rattle.segment_manager.specs.{objects.BoundObjects.key_of, objects.Located.IsObject};
 
+use crate::bound::maps::Map;
 use crate::bound::slices::{Array, Vector};
 use crate::bound::texts::Strings;
 use crate::containers::storages::{Change, change_elements, change_texts, element_len};
-use crate::objects::object_ref::{ObjectRef, locate};
+use crate::objects::object_ref::{Object, ObjectRef, locate};
 use crate::segment::Segment;
 use seg_types::{Kind, Refusal, Scalar};
 use seg_vector::SegTexts;
@@ -34,24 +36,7 @@ impl Segment {
         ensures { AnswersWith self.now (λ d. sizes_at d (O.key key.now)) result }
     {
         let object = locate(self, key)?;
-        match object.kind {
-            Kind::Scalar(_) => Err(Refusal::WrongKind),
-            kind => self.measure_kind(&object, kind),
-        }
-    }
-
-    /// Returns the length and the capacity of a container of a kind.
-    fn measure_kind<O: ObjectRef>(&self, key: &O, kind: Kind) -> Result<(u64, u64), Refusal>
-        requires target { O.stands key.now self.now }
-        requires container { has_sizes kind ≡ true }
-        ensures { AnswersWith self.now (λ d. sizes_at_kind d (O.key key.now) kind) result }
-    {
-        let place = self.find_container(key, kind)?;
-        let len = self.heap.word(place.handle, place.at + LEN);
-        match kind {
-            Kind::Map(_, _) => Ok((len, 0)),
-            _ => Ok((len, self.heap.word(place.handle, place.at + CAPACITY))),
-        }
+        measure_object(self, object)
     }
 
     /// Grows the capacity of the vector or string to at least `n` elements.
@@ -185,6 +170,41 @@ impl Segment {
         requires { O.stands key.now self.now }
         ensures { AnswersWith self.now (λ d. length_at_kind d (O.key key.now) (MapOf K.kind V.kind)) result }
     {
-        Ok(self.measure_kind(key, Kind::Map(K::kind(), V::kind()))?.0)
+        Ok(Map::<K, V>::of(self, key)?.len())
+    }
+}
+
+/// Returns the length and the capacity of a located vector or string, or the number of a map's pairs and 0.
+///
+/// Example: `let (count, places) = measure_object(&segment, object)?`.
+///
+/// # Errors
+///
+/// `WrongKind` if the object is no container.
+///
+/// # Conditions
+///
+/// The object is there. `Segment::measure` looks it up and has no condition.
+pub fn measure_object(segment: &Segment, object: Object) -> Result<(u64, u64), Refusal>
+    requires { IsObject object segment.now }
+    ensures { AnswersWith segment.now (λ d. sizes_at d (key_of object)) result }
+{
+    match object.kind {
+        Kind::Scalar(_) => Err(Refusal::WrongKind),
+        _ => Ok(measure_container(segment, object)),
+    }
+}
+
+/// Returns the length and the capacity of a located container.
+fn measure_container(segment: &Segment, object: Object) -> (u64, u64)
+    requires object { IsObject object segment.now }
+    requires container { has_sizes object.kind ≡ true }
+    ensures { AnswersWith segment.now (λ d. sizes_at d (key_of object)) (Ok result) }
+{
+    let place = object.own_container();
+    let len = segment.heap.word(place.handle, place.at + LEN);
+    match object.kind {
+        Kind::Map(_, _) => (len, 0),
+        _ => (len, segment.heap.word(place.handle, place.at + CAPACITY)),
     }
 }

@@ -1,6 +1,6 @@
 -- What a call on a bound object says of the object's key.
 use Rattle.segment_manager.proofs.Common.{◌≡◌, sym, ap, ◌∙◌, subst, ℤ, None, Some, Ok, Err, Option, Result, List, []}
-use Rattle.segment_manager.proofs.Common.{Kind, ScalarKind, Key, ByHandle, Command, Answer, Refusal, NotFound}
+use Rattle.segment_manager.proofs.Common.{Kind, ScalarKind, Key, Command, Answer, Refusal, NotFound}
 use Rattle.segment_manager.proofs.Common.{WrongKind}
 use Rattle.segment_manager.proofs.Common.{Map, same_kind, AnswersWith, AnswersQueryOfKind, TakesStepOfKind}
 use Rattle.segment_manager.proofs.Common.{SegmentState}
@@ -10,7 +10,10 @@ use Rattle.segment_manager.proofs.Common.{exit-is, refusal_in, refusal_of}
 use Rattle.segment_manager.proofs.Common.{refl, true, ℕ, OnErr, IsNotToChange, LeadsOnOfKind, answer_of}
 use Rattle.std.specs.Prelude.{IsErrAnd}
 use Rattle.segment_manager.proofs.Common.{false, Directory, DenotesCurrent, int_lt, pair_at, pairs_at}
-use Rattle.segment_manager.proofs.containers.Refilled.{finds-no_container}
+use Rattle.segment_manager.proofs.Common.{MatchResult}
+use Rattle.segment_manager.proofs.containers.RangeCalls.{no-same}
+use Rattle.segment_manager.proofs.containers.Refilled.{finds-no_container, placed, told-some}
+use Rattle.segment_manager.proofs.objects.Locating.{IsSaidAt, said-at}
 use Rattle.segment_manager.proofs.containers.{StorageSteps.step_of_kind-reply, ToChange.not-changed}
 use Rattle.segment_manager.proofs.directory.CommandSteps.{open-reading}
 use Rattle.segment_manager.proofs.objects.Locating.{leads_on-by_key, reply_of_kind-by_key, same-object}
@@ -128,6 +131,18 @@ lacks-replies s key kind why c e a = step_of_kind-reply s key kind c (Refused wh
     (finds-no_container s key kind c why (open-reading s.mode c e) a)
 
 -- ---- an object that was located and then bound
+
+-- it has the kind, or the key has no object of the kind
+pub of-located : {s : SegmentState} {key : Key} {o : Located} → IsLocated s key o → (kind : Kind)
+    (r : Result Located Refusal) → MatchResult r (λ q. (q ≡ o) × (q.kind ≡ kind)) (λ why. (why ≡ WrongKind) × (o.kind
+    ≡ kind → ⊥)) → MatchResult r (IsLocated s key) (LacksKind s key kind)
+of-located {s} {key} l kind (Ok q) m = subst (IsLocated s key) (sym m.0) l
+of-located {s} {key} {o} l kind (Err why) m = subst (LacksKind s key kind) (sym m.0) (record {
+  answers = λ d k.
+      let p : IsSaidAt d key o = said-at s key o l d k in
+      sym (told-some d key kind placed p.object false p.is (no-same kind (kind_of p.object.value)
+      (λ e. m.1 (ap (λ (q : Located). q.kind) p.said ∙ sym e))));
+})
 
 -- it is bound to its kind
 pub binds : {s : SegmentState} {o : Located} {kind : Kind} → IsObject o s → o.kind ≡ kind → IsBound kind o s

@@ -37,7 +37,6 @@ impl Segment {
     /// `NotFound` if no object has the key, `WrongKind` if its elements are not scalars.
     #[inline(always)]
     pub fn element_run<O: ObjectRef>(&self, key: &O) -> Result<ElementRun, Refusal>
-        requires { O.stands key.now self.now }
         ensures run { AnswersWith self.now (λ d. run_at d (O.key key.now)) result }
         ensures bytes { IfOk result (λ run. IsRunOf self.now (O.key key.now) run) }
     {

@@ -1,5 +1,5 @@
 -- What is read of the object that is found holds of the key.
-use Rattle.segment_manager.proofs.Common.{Err, None, NotFound, Option, Refusal, Result, Some, sizes_of, ℕ}
+use Rattle.segment_manager.proofs.Common.{Err, None, NotFound, Refusal, Result, Some, sizes_of, ℕ}
 use Rattle.segment_manager.proofs.objects.Locating.{told-by_key}
 use Rattle.segment_manager.proofs.segment.Segment.measure.Goals as goal
 

@@ -32,6 +32,8 @@ pub use Rattle.segment_manager.proofs.objects.AnyKind.{any-no_value, any-replies
 pub use Rattle.segment_manager.proofs.objects.Locating.{IsSaidAt, kind-by_key, located-here, located-steps, said-at}
 pub use Rattle.segment_manager.proofs.objects.Locating.{same-object, step-by_key, step-same, step_of_kind-by_key}
 pub use Rattle.segment_manager.proofs.objects.Locating.{told-by_key}
+-- a located object is bound to its kind, and a call on it when it is bound is a call on it
+pub use Rattle.segment_manager.proofs.bound.ByKey.{binds, of-bound, of-change}
 -- a command that only reads leaves the directory
 pub use Rattle.segment_manager.proofs.directory.Unchanged.{step-reads}
 -- an index that is less than the number that was answered is below

@@ -1,16 +1,18 @@
 //! An object that was looked up once: it is there and has the kind that its calls are for, so they refuse for no other
 //! reason than their own.
-ghost use Rattle.std.specs.Prelude.{◌≡◌, ⊤, IfOk, MatchResult, false};
+ghost use Rattle.std.specs.Prelude.{◌≡◌, ⊤, IfOk, MatchResult, false, true};
 ghost use Rattle.std.specs.Borrow.{sem, RestsIfErr};
-ghost use Rattle.seg_types.specs.declared.kinds.Kind.{Kind as AnyKind};
+ghost use Rattle.seg_types.specs.{declared.kinds.Kind.Kind as AnyKind, Names.ByHandle};
+ghost use Rattle.seg_types.specs.declared.refusals.Refusal.TheVariants.{WrongKind as OtherKind};
 ghost use Rattle.segment_manager.specs.{Step.is_read_only, containers.ToChange.IsNotToChange};
 ghost use Rattle.segment_manager.specs.{objects.BoundObjects.IsBound, objects.BoundObjects.LacksKind};
+ghost use Rattle.segment_manager.specs.{State.AnswersWith, objects.Found.is_object_at};
 ghost use Rattle.segment_manager.specs.objects.Located.{IsLocated, IsObject};
 ghost use Rattle.segment_manager.specs.contracts.segment.Segment.{the_row};
 
-use crate::objects::object_ref::{Object, ObjectRef, locate};
+use crate::objects::object_ref::{Object, ObjectRef, locate, object_here};
 use crate::segment::Segment;
-use seg_types::{Kind, Refusal};
+use seg_types::{Handle, Kind, Refusal};
 use std::alloc::AllocError;
 use std::marker::PhantomData;
 
@@ -57,17 +59,32 @@ impl<'a, C: BoundContent> Bound<'a, C> {
     /// `NotFound` if no object has the key, `WrongKind` if the object has another kind.
     #[inline(always)]
     pub fn of<O: ObjectRef>(segment: &'a Segment, key: &O) -> Result<Bound<'a, C>, Refusal>
-        requires { O.stands key.now segment.now }
         ensures location { MatchResult result (λ b. IsLocated segment.now (O.key key.now) b.object)
             (LacksKind segment.now (O.key key.now) C.kind) }
         ensures segment { IfOk result (λ b. b.segment.now ≡ segment.now) }
     {
         let object = locate_of_kind(segment, key, C::kind())?;
-        Ok(Bound {
+        Ok(Bound::at(segment, object))
+    }
+
+    /// Binds an object that was located.
+    ///
+    /// Example: `let years = Map::<i32, i64>::at(&segment, object)`.
+    ///
+    /// # Conditions
+    ///
+    /// The object is there and has the kind. `of` looks an object up and has no condition.
+    #[inline(always)]
+    pub fn at(segment: &'a Segment, object: Object) -> Bound<'a, C>
+        requires { IsBound C.kind object segment.now }
+        ensures object { result.object ≡ object }
+        ensures segment { result.segment.now ≡ segment.now }
+    {
+        Bound {
             segment,
             object,
             of: PhantomData,
-        })
+        }
     }
 
     /// Returns the segment.
@@ -111,7 +128,6 @@ impl<'a, C: BoundContent> BoundMut<'a, C> {
     /// object has another kind. Nothing changes.
     #[inline(always)]
     pub fn of<O: ObjectRef>(segment: &'a mut Segment, key: &O) -> Result<BoundMut<'a, C>, Refusal>
-        requires { O.stands key.now segment.old }
         ensures* frame { sem 𝓛 (RestsIfErr the_row segment.entry (λ b. b.segment.ghost_name) result
             (λ last. last ≡ segment.old)) }
         ensures location { MatchResult result (λ b. IsLocated segment.old (O.key key.now) b.object)
@@ -123,11 +139,29 @@ impl<'a, C: BoundContent> BoundMut<'a, C> {
             return Err(Refusal::ReadOnly);
         }
         let object = locate_of_kind(segment, key, C::kind())?;
-        Ok(BoundMut {
+        Ok(BoundMut::at(segment, object))
+    }
+
+    /// Binds an object that was located, to change it.
+    ///
+    /// Example: `let mut years = MapMut::<i32, i64>::at(&mut segment, object)`.
+    ///
+    /// # Conditions
+    ///
+    /// The object is there and has the kind, and the segment is open for writing. `of` has no condition.
+    #[inline(always)]
+    pub fn at(segment: &'a mut Segment, object: Object) -> BoundMut<'a, C>
+        requires object { IsBound C.kind object segment.old }
+        requires writing { is_read_only segment.old.mode ≡ false }
+        ensures loan { result.segment.ghost_name ≡ segment.entry.ghost_name }
+        ensures segment { result.segment.now ≡ segment.old }
+        ensures object { result.object ≡ object }
+    {
+        BoundMut {
             segment,
             object,
             of: PhantomData,
-        })
+        }
     }
 
     /// Returns the object for reading, as long as it does not change.
@@ -149,12 +183,45 @@ impl<'a, C: BoundContent> BoundMut<'a, C> {
 /// Looks the object of a key up, an object of a kind.
 #[inline(always)]
 fn locate_of_kind<O: ObjectRef>(segment: &Segment, key: &O, kind: Kind) -> Result<Object, Refusal>
-    requires { O.stands key.now segment.now }
     ensures location { MatchResult result (IsLocated segment.now (O.key key.now))
         (LacksKind segment.now (O.key key.now) kind) }
     ensures kind { IfOk result (λ o. o.kind ≡ kind) }
 {
     let object = locate(segment, key)?;
+    of_kind(object, kind)
+}
+
+/// Returns the object with a handle, an object of a kind, without a look-up. `Bound::at` and `BoundMut::at` bind it.
+///
+/// Example: `let object = object_of_kind(&segment, handle, Kind::Map(ScalarKind::I32, ScalarKind::I64))?`.
+///
+/// # Errors
+///
+/// `WrongKind` if the object has another kind.
+///
+/// # Conditions
+///
+/// An object of the segment has the handle. `locate` looks it up and has no condition.
+#[inline(always)]
+pub fn object_of_kind(segment: &Segment, handle: Handle, kind: Kind) -> Result<Object, Refusal>
+    requires { AnswersWith segment.now (λ d. is_object_at d handle) true }
+    ensures location { MatchResult result (IsLocated segment.now (ByHandle handle))
+        (LacksKind segment.now (ByHandle handle) kind) }
+    ensures kind { IfOk result (λ o. o.kind ≡ kind) }
+{
+    of_kind(object_here(segment, handle), kind)
+}
+
+/// Returns the object if it has the kind.
+///
+/// # Errors
+///
+/// `WrongKind` if it has another kind.
+#[inline(always)]
+pub(crate) fn of_kind(object: Object, kind: Kind) -> Result<Object, Refusal>
+    ensures { MatchResult result (λ o. (o ≡ object) × (o.kind ≡ kind))
+        (λ why. (why ≡ OtherKind) × (object.kind ≡ kind → ⊥)) }
+{
     let wanted = kind.code();
     let own = object.kind.code();
     if wanted != own {

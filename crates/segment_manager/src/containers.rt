@@ -4,7 +4,6 @@ pub(crate) mod appending;
 pub(crate) mod constructing_containers;
 pub(crate) mod element_runs;
 pub(crate) mod fillings;
-pub(crate) mod finding_containers;
 pub(crate) mod maps;
 pub(crate) mod ranges;
 pub(crate) mod releasing;

@@ -9,8 +9,8 @@
 //! - A key suits the kind of the new object ([`ConstructKey`]).
 //! - An iterator can return its next item, and each item of `construct_values` has the kind.
 //!
-//! The functions of [`unchecked`] have conditions on the segment's contents. So does every call with an [`Object`] from
-//! [`locate`]: the object must still exist ([`ObjectRef`]). No program needs these calls.
+//! The functions of [`unchecked`] have conditions on the segment's contents. So have `at` of [`Bound`] and
+//! [`BoundMut`], and [`push_within`]: the object must still exist. No program needs these calls.
 #![tactic(auto)]
 
 mod blocks;

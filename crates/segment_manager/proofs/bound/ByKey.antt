@@ -1,6 +1,6 @@
 -- What a call on a bound object says of the object's key.
 use Rattle.segment_manager.proofs.Common.{◌≡◌, sym, ap, ◌∙◌, subst, ℤ, None, Some, Ok, Err, Option, Result, List, []}
-use Rattle.segment_manager.proofs.Common.{Kind, ScalarKind, Key, ByHandle, Command, Answer, Refusal, NotFound}
+use Rattle.segment_manager.proofs.Common.{Kind, ScalarKind, Key, Command, Answer, Refusal, NotFound}
 use Rattle.segment_manager.proofs.Common.{WrongKind}
 use Rattle.segment_manager.proofs.Common.{Map, same_kind, AnswersWith, AnswersQueryOfKind, TakesStepOfKind}
 use Rattle.segment_manager.proofs.Common.{SegmentState}
@@ -10,14 +10,18 @@ use Rattle.segment_manager.proofs.Common.{exit-is, refusal_in, refusal_of}
 use Rattle.segment_manager.proofs.Common.{refl, true, ℕ, OnErr, IsNotToChange, LeadsOnOfKind, answer_of}
 use Rattle.std.specs.Prelude.{IsErrAnd}
 use Rattle.segment_manager.proofs.Common.{false, Directory, DenotesCurrent, int_lt, pair_at, pairs_at}
-use Rattle.segment_manager.proofs.containers.Refilled.{finds-no_container}
+use Rattle.segment_manager.proofs.Common.{MatchResult}
+use Rattle.segment_manager.proofs.containers.RangeCalls.{no-same}
+use Rattle.segment_manager.proofs.containers.Refilled.{finds-no_container, placed, told-some}
+use Rattle.segment_manager.proofs.objects.Locating.{IsSaidAt, said-at}
 use Rattle.segment_manager.proofs.containers.{StorageSteps.step_of_kind-reply, ToChange.not-changed}
 use Rattle.segment_manager.proofs.directory.CommandSteps.{open-reading}
 use Rattle.segment_manager.proofs.objects.Locating.{leads_on-by_key, reply_of_kind-by_key, same-object}
 use Rattle.segment_manager.proofs.objects.Locating.{step_of_kind-by_key, told-by_key}
 use Rattle.segment_manager.specs.Keeping.{ChangesValue, LacksFirst, LacksPair}
 use Rattle.segment_manager.specs.Laws.{at_key}
-use Rattle.segment_manager.specs.objects.BoundObjects.{LacksKind, key_of}
+use Rattle.segment_manager.specs.objects.BoundObjects.{IsBound, LacksKind, key_of}
+use Rattle.segment_manager.specs.objects.Located.{IsObject}
 
 module _ {s t : SegmentState} (same : t ≡ s) {key : Key} {o : Located} (l : IsLocated s key o) where
   -- an answer
@@ -125,3 +129,32 @@ pub lacks-replies : (s : SegmentState) (key : Key) (kind : Kind) (why : Refusal)
     → LacksKind s key kind why → AnswersQueryOfKind s key kind c (Refused why)
 lacks-replies s key kind why c e a = step_of_kind-reply s key kind c (Refused why)
     (finds-no_container s key kind c why (open-reading s.mode c e) a)
+
+-- ---- an object that was located and then bound
+
+-- it has the kind, or the key has no object of the kind
+pub of-located : {s : SegmentState} {key : Key} {o : Located} → IsLocated s key o → (kind : Kind)
+    (r : Result Located Refusal) → MatchResult r (λ q. (q ≡ o) × (q.kind ≡ kind)) (λ why. (why ≡ WrongKind) × (o.kind
+    ≡ kind → ⊥)) → MatchResult r (IsLocated s key) (LacksKind s key kind)
+of-located {s} {key} l kind (Ok q) m = subst (IsLocated s key) (sym m.0) l
+of-located {s} {key} {o} l kind (Err why) m = subst (LacksKind s key kind) (sym m.0) (record {
+  answers = λ d k.
+      let p : IsSaidAt d key o = said-at s key o l d k in
+      sym (told-some d key kind placed p.object false p.is (no-same kind (kind_of p.object.value)
+      (λ e. m.1 (ap (λ (q : Located). q.kind) p.said ∙ sym e))));
+})
+
+-- it is bound to its kind
+pub binds : {s : SegmentState} {o : Located} {kind : Kind} → IsObject o s → o.kind ≡ kind → IsBound kind o s
+binds there is = record { there = there; of_kind = is }
+
+-- what holds of the bound object holds of the located one
+pub of-bound : {s t : SegmentState} {o p : Located} (R : Located → SegmentState → Type 0) → p ≡ o → t ≡ s → R p t
+    → R o s
+of-bound {s} {t} {o} {p} R is same r = subst (R o) same (subst (λ (q : Located). R q t) is r)
+
+-- the same for a call that changes it
+pub of-change : {s t new last : SegmentState} {o p : Located} (R : Located → SegmentState → SegmentState → Type 0)
+    → p ≡ o → t ≡ s → new ≡ last → R p t new → R o s last
+of-change {s} {t} {new} {last} {o} {p} R is same ends r =
+    of-bound (λ (q : Located) (u : SegmentState). R q u last) is same (subst (R p t) ends r)

@@ -1,14 +1,17 @@
 -- The place of the container of a bound object, and that the object stays bound.
-use Rattle.segment_manager.proofs.Common.{◌≡◌, sym, subst, ap, ◌∙◌, true, false, Bool, Option, Ok, Result, Refusal}
+use Rattle.segment_manager.proofs.Common.{◌≡◌, sym, subst, ap, ◌∙◌, true, false, Option, Ok, Result, Refusal}
 use Rattle.segment_manager.proofs.Common.{IsSomeText, IsTextsContainer, LeadsOnOfKind, Place, String, StringsKind}
 use Rattle.segment_manager.proofs.Common.{WindowState, is_read_only}
 use Rattle.segment_manager.proofs.Common.{Kind, code_of, same_kind, Key, Command, Answer, container_at, AnswersWith}
 use Rattle.segment_manager.proofs.Common.{SegmentState, IsSegment, TakesStepOfKind, is_elementwise, Located}
-use Rattle.segment_manager.proofs.Common.{Err, WrongKind, if◌then◌else◌, eq-eqb}
-use Rattle.segment_manager.proofs.containers.{Safely.contains, TextAnswers.text-standing, TextListCalls.texts-standing}
+use Rattle.segment_manager.proofs.Common.{eq-eqb, refl}
+use Rattle.segment_manager.proofs.containers.{TextAnswers.text-standing, TextListCalls.texts-standing}
+use Rattle.segment_manager.proofs.containers.Refilled.{placed, told-some}
+use Rattle.segment_manager.proofs.objects.Locating.{IsSaidAt, said-at}
 use Rattle.segment_manager.proofs.objects.StayingObjects.{leads_on-stay, objects_stay}
 use Rattle.segment_manager.specs.containers.ToChange.{IsChangeableContainer}
 use Rattle.segment_manager.specs.objects.BoundObjects.{IsBound, container_of, key_of}
+use Rattle.segment_manager.specs.objects.Located.{IsObject}
 
 module _ {kind : Kind} {o : Located} {s : SegmentState} (b : IsBound kind o s) where
   same : same_kind kind o.kind ≡ true
@@ -16,10 +19,13 @@ module _ {kind : Kind} {o : Located} {s : SegmentState} (b : IsBound kind o s) w
 
   -- the container of the object is where its head says
   pub container-bound : AnswersWith s (λ d. container_at d (key_of o) kind) (Ok (container_of o))
-  container-bound = contains (key_of o) kind b.there (sym (ap (λ t. placed t) same))
-    where
-      placed : Bool → Result Place Refusal
-      placed t = if t then Ok (container_of o) else Err WrongKind
+  container-bound = record {
+    answers = λ d k.
+        let p : IsSaidAt d (key_of o) o = said-at s (key_of o) o (record { at = b.there; here = b.there }) d k in
+        ap (λ (q : Located). let r : Result Place Refusal = Ok (container_of q) in r) p.said
+        ∙ sym (told-some d (key_of o) kind placed p.object true p.is
+        (ap (λ (q : Located). same_kind kind q.kind) (sym p.said) ∙ same));
+  }
 
   -- a call on elements of an object keeps it
   pub bound-stays : (new : SegmentState) (key : Key) (at : Kind) (c : Command) (answer : Answer)
@@ -66,6 +72,11 @@ module _ {kind : Kind} {o : Located} {s : SegmentState} (b : IsBound kind o s) w
         };
         writing = still-writing;
       }
+
+-- the container of a located object, by its own kind
+pub container-there : {o : Located} {s : SegmentState} {p : Place} → IsObject o s → p ≡ container_of o
+    → AnswersWith s (λ d. container_at d (key_of o) o.kind) (Ok p)
+container-there there is = container-here (record { there = there; of_kind = refl }) is
 
 module _ {s t : SegmentState} (view : s ≡ t) (g : IsSegment s.cut.bytes) {o : Located} {p : Place}
     (is : p ≡ container_of o) where

@@ -1,9 +1,9 @@
 -- Calls on bound arrays and vectors: what they leave of the object, and what they say of the object's key.
 use Rattle.segment_manager.proofs.Common as common
 use Rattle.seg_types.specs.Commands as asked
-use common.{◌≡◌, refl, sym, ap, subst, ◌∙◌, ℕ, ◌+◌, ◌*◌, ℤ, Bool, true, false, Option, Some, None, Result, Ok, Err}
+use common.{◌≡◌, refl, sym, ap, subst, ◌∙◌, ℕ, ◌+◌, ℤ, Bool, true, false, Option, Some, None, Result, Ok, Err}
 use common.{List}
-use common.{[], length, slice_get, arith, nat_lt, OnErr, WindowState, Kind, ScalarKind, Scalar, Vector, Key, Command}
+use common.{[], length, slice_get, arith, nat_lt, WindowState, Kind, ScalarKind, Scalar, Vector, Key}
 use common.{Answer}
 use common.{Refusal, NotFound, OutOfRange, WrongKind, ReadOnly, Element, Refused, Done, Directory, Object, Value}
 use common.{Numbers}
@@ -17,16 +17,16 @@ use Rattle.std.specs.Prelude.{IfOk, IsErrAnd, OnOk}
 use Rattle.std.specs.Option.{ok_or}
 use Rattle.best_fit.specs.Heap.{KeepsGaps}
 use Rattle.best_fit.proofs.Laws.{gaps-refl}
-use Rattle.segment_manager.specs.{Keeping.ChangesElement, objects.Located.container_in, objects.Located.element_in}
+use Rattle.segment_manager.specs.{Keeping.ChangesElement, objects.Located.element_in}
 use Rattle.segment_manager.specs.containers.Ranges.{ExtendsVector, extended}
-use Rattle.segment_manager.specs.objects.BoundObjects.{IsBound, LacksKind, container_of, key_of}
+use Rattle.segment_manager.specs.objects.BoundObjects.{IsBound, LacksKind, key_of}
 use Rattle.segment_manager.specs.objects.ElementLists.{element_of, numbers_at, numbers_in, whole_of}
 use Rattle.segment_manager.proofs.bound.ByKey.{from-to}
 use Rattle.segment_manager.proofs.containers.ContentPlans.{clear-plan}
 use Rattle.segment_manager.proofs.containers.Extending.{VectorExtended, extended-missing, extended-reading}
-use Rattle.segment_manager.proofs.containers.Extending.{extended-stays}
-use Rattle.segment_manager.proofs.containers.{Extending.of_object, ItemSteps.one-kind, ItemSteps.vector-only}
-use Rattle.segment_manager.proofs.containers.RangeCalls.{HasNumbers, index_at, many, numbers-of, on_ok-map}
+use Rattle.segment_manager.proofs.containers.{Extending.extended-stays, Extending.of_object, ItemSteps.vector-only}
+use Rattle.segment_manager.proofs.containers.RangeCalls.{HasNumbers, RangeWritten, index_at, many, numbers-of}
+use Rattle.segment_manager.proofs.containers.RangeCalls.{on_ok-map}
 use Rattle.segment_manager.proofs.containers.Refilled.{by-kind, not-Err, placed, same_Err, told-none, told-some}
 use Rattle.segment_manager.proofs.containers.Refilled.{told_if}
 use Rattle.segment_manager.proofs.directory.CommandSteps.{moves-same, open-reading, open-writing}
@@ -34,7 +34,7 @@ use Rattle.segment_manager.proofs.directory.CommandSteps.{refuses_of_kind-read_o
 use Rattle.segment_manager.proofs.directory.CommandSteps.{step_of_kind-not_found, step_of_kind-other, with-found}
 use Rattle.segment_manager.proofs.objects.ElementLists.{length-first, list-of, numbers-listed, told}
 use Rattle.segment_manager.proofs.objects.{Locating.IsSaidAt, Locating.said-at, Locating.same-object}
-use Rattle.segment_manager.proofs.objects.StayingObjects.{extends-stay}
+use Rattle.segment_manager.proofs.objects.StayingObjects.{extends-stay, writes-stay}
 
 -- ---- arrays
 
@@ -75,22 +75,23 @@ module _ {s : SegmentState} {k : ScalarKind} {o : Located} (bound : IsBound (Sca
 
 -- ---- a vector
 
--- a vector at the place of a located object's container, if there is one
-pub in-container : (o : Located) (kind : Kind) {p : Place} → Ok p ≡ container_in o kind → (o.kind ≡ kind) × (p
-    ≡ container_of o)
-in-container o kind e = of (same_kind kind o.kind) refl e
-  where
-    of : (b : Bool) {p : Place} → same_kind kind o.kind ≡ b → Ok p ≡ (if b then Ok (container_of o) else Err WrongKind)
-        → (o.kind ≡ kind) × (p ≡ container_of o)
-    of true f g = (sym (one-kind kind o.kind f), cc)
-    of false f g = absurd (cc)
-
 -- values are appended
 pub lengthened : {s t : SegmentState} (view : s ≡ t) {k : ScalarKind} {o : Located} → IsBound (Vector k) o t
     → IsSegment s.cut.bytes → {new : WindowState} (more : List ℤ) (r : Result (Unit {0}) Refusal)
     → VectorExtended s t new (key_of o) k more r → IsBound (Vector k) o (record s { cut = new })
 lengthened view {k} {o} bound b more r a = record {
   there = extends-stay _ _ (key_of o) k more (done_answer r)
+      (subst (λ (u : SegmentState). IsSegment u.cut.bytes) view b) a.step o bound.there;
+  of_kind = bound.of_kind;
+}
+
+-- values are replaced
+pub overwritten : {s t : SegmentState} (view : s ≡ t) {kind : Kind} {o : Located} → IsBound kind o t
+    → IsSegment s.cut.bytes → {new : WindowState} (k : ScalarKind) (first : ℕ) (zs : List ℤ)
+    (r : Result (Unit {0}) Refusal) → RangeWritten s t new (key_of o) k first zs r
+    → IsBound kind o (record s { cut = new })
+overwritten view {o = o} bound b k first zs r a = record {
+  there = writes-stay _ _ (key_of o) k first zs (done_answer r)
       (subst (λ (u : SegmentState). IsSegment u.cut.bytes) view b) a.step o bound.there;
   of_kind = bound.of_kind;
 }

@@ -1,13 +1,13 @@
 -- A call on any object with storage: the kind of the key's object decides which call it is.
-use Rattle.segment_manager.proofs.Common.{◌≡◌, refl, sym, ap, ◌∙◌, ℕ, true, false, Option, Some, None, Result, Ok, Err}
+use Rattle.segment_manager.proofs.Common.{◌≡◌, refl, sym, ap, ◌∙◌, false, Option, Some, None, Result, Ok, Err}
 use Rattle.segment_manager.proofs.Common.{eq-eqb, Kind, Refusal, NotFound, WrongKind, code_of, Key, Command, Answer}
-use Rattle.segment_manager.proofs.Common.{Refused, kind_at, sizes_at, sizes_at_kind, sizes_of, Directory, Object}
+use Rattle.segment_manager.proofs.Common.{Refused, kind_at, Directory, Object}
 use Rattle.segment_manager.proofs.Common.{kind_of, live, object_at, IsMissing, Refuse, perform, AnswersWith, TakesStep}
 use Rattle.segment_manager.proofs.Common.{TakesStepOfKind, SegmentState, effect, has_storage, is_read_only, step}
 use Rattle.segment_manager.proofs.Common.{step_of_kind}
 use Rattle.segment_manager.proofs.containers.StorageSteps.{change-refused, no-storage}
 use Rattle.segment_manager.proofs.{Common.Mode, Common.Change, Common.command_of, containers.Refilled.refused-steps}
-use Rattle.segment_manager.proofs.{containers.Refilled.told-some, directory.CommandSteps.step_of_kind-step}
+use Rattle.segment_manager.proofs.{directory.CommandSteps.step_of_kind-step}
 use Rattle.segment_manager.proofs.{directory.CommandSteps.moves-same}
 
 -- the object of the key, which is of the kind
@@ -54,23 +54,3 @@ change-other change s key kind writing h a = refused-steps s (command_of change 
     let e : IsOfKindAt d key kind = kind-told d key kind (a.answers d l) in
     ap (perform d (live d))
     (change-refused change d key e.object e.is (no-storage e.object.value (ap has_storage e.kind_is ∙ h))))
-
--- ---- sizes
-
--- the sizes of the object of the key, which is of the kind
-pub sizes-found : (d : Directory) (key : Key) (kind : Kind) (o : Object) → object_at d key ≡ Some o
-    → kind_of o.value ≡ kind → sizes_at_kind d key kind ≡ sizes_of o.value
-sizes-found d key kind o e f = told-some d key kind (λ o. sizes_of o.value) o true e
-    (eq-eqb (code_of kind) (code_of (kind_of o.value)) (ap code_of (sym f)))
-
--- the sizes of the kind are the object's
-pub measures-kind : (s : SegmentState) (key : Key) (kind : Kind) (r : Result (ℕ × ℕ) Refusal)
-    → AnswersWith s (λ d. kind_at d key)
-    (Ok kind) → AnswersWith s (λ d. sizes_at_kind d key kind) r → AnswersWith s (λ d. sizes_at d key) r
-measures-kind s key kind r a m = record {
-  answers = λ d l.
-      let e : IsOfKindAt d key kind = kind-told d key kind (a.answers d l) in
-      m.answers d l ∙ sizes-found d key kind e.object e.is e.kind_is ∙ sym (ap
-      (λ (q : Option Object). elim q as (λ _. Result (ℕ × ℕ) Refusal)
-      [ None ↦ Err NotFound | Some o ↦ sizes_of o.value ]) e.is);
-}

@@ -7,7 +7,8 @@ use common.{ScalarKind, U8, size_of, spelled, Scalar, String, Vector, Refusal, N
 use common.{Numbers, Elements, Bytes, Pairs, Texts, object_at, kind_of, padded, head_len, IsValueAt, IsObjectInBlock}
 use common.{AnswersWith, handle_at, SegmentState, DenotesCurrent, IsSegment, Contents, slice_get, list_all, is_value}
 use common.{is_good_value, spelling, contents_of, Denotes, count_of, eqb-true, has_backing, Storage, IfSome, value_len}
-use common.{WrongKind, option_map}
+use common.{WrongKind, option_map, ByHandle, IsLocated, Located}
+use Rattle.segment_manager.proofs.objects.Locating.{same-object, told-by_key}
 use Rattle.segment_manager.proofs.objects.Here.{here, seen-handle, standing}
 use Rattle.segment_manager.specs.{objects.Located.located, objects.Located.located_at, objects.ElementLists.numbers_in}
 use Rattle.segment_manager.proofs.objects.Standings.{standing-room, standing-short}
@@ -255,6 +256,25 @@ run-bytes {s} {t} view key (Ok run) g a =
           (sym (ap (λ (q : Option Object). elim q as (λ _. List ℕ) [ None ↦ [] | Some p ↦ spelled_in p.value ]) o.is))
           (has-run (bytes_of s.cut.bytes) _ o.object.value said o.run_is);
     })
+
+-- under a key as under the handle of its object
+pub run-by_key : (s : SegmentState) (key : Key) (o : Located) → IsLocated s key o → {r : Result ElementRun Refusal}
+    → AnswersWith s (λ d. run_at d (ByHandle o.handle)) r → IfOk r (λ run. IsRunOf s (ByHandle o.handle) run) → record {
+      run : AnswersWith s (λ d. run_at d key) r;
+      bytes : IfOk r (λ run. IsRunOf s key run);
+    }
+run-by_key s key o l {r} a b = record { run = told-by_key s key o l (λ d q. run_if q) r a; bytes = of r b }
+  where
+    of : (r : Result ElementRun Refusal) → IfOk r (λ run. IsRunOf s (ByHandle o.handle) run)
+        → IfOk r (λ run. IsRunOf s key run)
+    of (Err why) m = tt
+    of (Ok run) m = record {
+      inside = m.inside;
+      aligned = m.aligned;
+      spells = λ d st. subst (λ (q : Option Object). HasBytesAt (bytes_of s.cut.bytes) run.offset
+          (elim q as (λ _. List ℕ) [ None ↦ [] | Some p ↦ spelled_in p.value ])) (sym (same-object s key o l d st))
+          (m.spells d st);
+    }
 
 -- ---- the elements of rows
 

@@ -21,7 +21,7 @@ use Rattle.segment_manager.proofs.directory.CommandSteps.{IsMove, IsOpenFor, by_
 use Rattle.segment_manager.proofs.directory.CommandSteps.{open-reading}
 use Rattle.segment_manager.proofs.directory.CommandSteps.{open-writing, perform-new, perform-no_space}
 use Rattle.segment_manager.proofs.directory.CommandSteps.{step_of_kind-found}
-use Rattle.segment_manager.proofs.containers.Refilled.{HoldsAt, finds-no_container, holds-at, told-some}
+use Rattle.segment_manager.proofs.containers.Refilled.{HoldsAt, holds-at, told-some}
 use Rattle.segment_manager.proofs.containers.PairNumbers.{ErasesBy, PutsBy}
 use Rattle.segment_manager.proofs.containers.MapBlocks.{blocks-in_use, found-key}
 use Rattle.segment_manager.proofs.containers.StorageSteps.{step_of_kind-reply}
@@ -60,11 +60,6 @@ holds-pairs b d key k v p den e =
       at = h.at;
       map = subst (λ (r : Place). IsPairs k v b r w.0) h.at (object-map den known);
     }
-
--- without such a map each call for its kind fails with the same error
-pub finds-no_map : (s : SegmentState) (key : Key) (k v : ScalarKind) (c : Command) (r : Refusal) → IsOpenFor s.mode c
-    → AnswersWith s (λ d. container_at d key (Map k v)) (Err r) → TakesStepOfKind s s key (Map k v) c (Refused r)
-finds-no_map s key k v c r w a = finds-no_container s key (Map k v) c r w a
 
 -- ---- the results of the plans
 

@@ -10,7 +10,7 @@ use common.{command_of, grown_backing, List, LiveSet, MapKind, Refusal, NoSpace,
 use common.{Numbers, kind_of, emptied, None, length, Memory, handle, IsContainer, Change, Shrink, Object, padded}
 use common.{perform, AnswersWith, changed, effect, Result, current, word_at, has_room, live_of, no_backing, place_at}
 use common.{Contents, sizes_of, Elements, IsObjectInBlock, bytes_of, StringsKind, container_at, contents_of}
-use common.{sizes_at_kind, is_read_only, StepsSafely, has_storage}
+use common.{NotFound, sizes_at, is_read_only, StepsSafely, has_storage}
 use Rattle.segment_manager.proofs.containers.Contained.{contents-fit, contents-stand, of-contents, start-place}
 use Rattle.segment_manager.proofs.containers.Refilled.{HoldsAt, holds-at, refill-steps_of_kind, room-asked, then_room}
 use Rattle.segment_manager.proofs.containers.ContentPlans.{clear-plan, reserve-plan, shrink-plan}
@@ -21,7 +21,6 @@ use Rattle.segment_manager.proofs.{directory.Frame.object-roomy, containers.ToCh
 use Rattle.segment_manager.proofs.{objects.Rewritten.value_start}
 use Rattle.segment_manager.proofs.{objects.Here.standing, containers.ItemSteps.one-kind, containers.Safely.done-so}
 use Rattle.segment_manager.proofs.{containers.Safely.stays, directory.HeapCalls.denotes-live}
-use Rattle.segment_manager.proofs.containers.AnyStorage.{sizes-found}
 use Rattle.best_fit.proofs.Laws.{room-less}
 use Rattle.seg_vector.specs.{Elements.ShrinksStorageOk, Elements.RewritesElements, Containers.ReservesStorageOk}
 use Rattle.segment_manager.specs.containers.Stored.{ChangesElements, IsElements, each_of}
@@ -86,17 +85,18 @@ module _ {s t : SegmentState} (view : s ≡ t) (key : Key) (kind : Kind) (p : Pl
   -- the length and the capacity in the words
   pub measured : (m n : ℕ) → m ≡ word_at (bytes_of s.cut.bytes) (p.handle + (p.at + 8))
       → n ≡ places_in (bytes_of s.cut.bytes) (p.handle + p.at) kind
-      → AnswersWith t (λ d. sizes_at_kind d key kind) (Ok (m, n))
+      → AnswersWith t (λ d. sizes_at d key) (Ok (m, n))
   measured m n e f =
       let memory : Memory = bytes_of s.cut.bytes in
-      subst (λ (u : SegmentState). AnswersWith u (λ d. sizes_at_kind d key kind) (Ok (m, n))) view (record {
+      subst (λ (u : SegmentState). AnswersWith u (λ d. sizes_at d key) (Ok (m, n))) view (record {
         answers = λ d l.
             let o : Object = (at-place d l).object in
             let start : p.handle + p.at ≡ value_start o = sym (ap place_at (at-place d l).at) ∙ sym (start-place o) in
             let len : p.handle + (p.at + 8) ≡ value_start o + 8 = omega (arith, start) in
             (λ i. Ok ((e ∙ ap (word_at memory) len) i, (f ∙ (λ j. places_in memory (start j) (of-kind d l j))) i))
             ∙ said-sizes memory (value_start o) o.value (ap has_sizes (sym (of-kind d l)) ∙ sized)
-            (stands d l).said.value ∙ sym (sizes-found d key kind o (at-place d l).is (sym (of-kind d l)));
+            (stands d l).said.value ∙ sym (ap (λ (q : Option Object). elim q as (λ _. Result (ℕ × ℕ) Refusal)
+            [ None ↦ Err NotFound | Some o ↦ sizes_of o.value ]) (at-place d l).is);
       })
 
 -- ---- values of elements of one length

@@ -12,7 +12,6 @@ use common.{value_len, mul-le-mul_left, IsMissing, BackingArray, kind_of_code, l
 use common.{live_of}
 use Rattle.std.proofs.lemmas.List.{nil_from_length, drop-map, length-drop, length-take, take-append-drop}
 use Rattle.segment_manager.proofs.{directory.HeapCalls.denotes-heap, objects.Standings.standing-room}
-use Rattle.segment_manager.proofs.{containers.ItemSteps.one-kind}
 use Rattle.segment_manager.proofs.{objects.WholeNumbers.IsOfKind, objects.WholeNumbers.whole-spelled}
 use Rattle.segment_manager.proofs.{objects.WholeNumbers.whole-values, objects.Locating.said-at}
 use Rattle.segment_manager.proofs.{objects.Locating.same-object, objects.Here.standing, objects.Written.numbers-object}
@@ -22,7 +21,7 @@ use Rattle.segment_manager.proofs.{objects.Exchanged.denotes-rewritten, director
 use Rattle.segment_manager.proofs.{objects.Rewritten.value_start, containers.Safely.Performed}
 use Rattle.segment_manager.proofs.{containers.Safely.performed}
 use Rattle.std.proofs.{lemmas.Bool.leb-false, lemmas.Bool.and_parts, lemmas.List.Folds.list_all-append}
-use Rattle.segment_manager.specs.objects.Located.{container_in, located, value_offset}
+use Rattle.segment_manager.specs.objects.Located.{located, value_offset}
 use Rattle.std.specs.Prelude.{IfOk, OnOk}
 use Rattle.raw_region.proofs.Bytes.{HasBytesAt-patched}
 use Rattle.best_fit.specs.Heap.{KeepsGaps}
@@ -178,7 +177,7 @@ range-by_key s t key o l k first zs answer m =
 -- ---- kinds
 
 -- kinds that differ have other codes
-no-same : (a b : Kind) → (a ≡ b → ⊥) → same_kind a b ≡ false
+pub no-same : (a b : Kind) → (a ≡ b → ⊥) → same_kind a b ≡ false
 no-same a b n = ne_eqb (code_of a) (code_of b)
     (λ e. n (same_Some a b (sym (code-read a) ∙ ap kind_of_code e ∙ code-read b)))
 
@@ -250,15 +249,15 @@ pub record HasNumbers (d : Directory) (o : Located) (k : ScalarKind) : Type 0 wh
 
 module _ (s : SegmentState) (o : Located) (l : IsLocated s (ByHandle o.handle) o) (k : ScalarKind) (first : ℕ)
     (zs : List ℤ) where
-  -- the object has another kind, and is no vector
-  pub array-other : is_read_only s.mode ≡ false → ((j : ScalarKind) → o.kind ≡ Vector j → ⊥)
-      → same_kind (Scalar k) o.kind ≡ false → WritesRange s s (ByHandle o.handle) k first zs (Refused WrongKind)
-  array-other writing never other = range-stays s (ByHandle o.handle) k first zs WrongKind (λ d st.
+  -- the object is neither an array nor a vector of the kind
+  pub other-kind : is_read_only s.mode ≡ false → (o.kind ≡ Vector k → ⊥) → (o.kind ≡ Scalar k → ⊥)
+      → WritesRange s s (ByHandle o.handle) k first zs (Refused WrongKind)
+  other-kind writing vector array = range-stays s (ByHandle o.handle) k first zs WrongKind (λ d st.
       let p = said-at s (ByHandle o.handle) o l d st in
       let kind : o.kind ≡ kind_of p.object.value = ap (λ (q : Located). q.kind) p.said in
       range-other s.mode d (ByHandle o.handle) k first zs writing p.object p.is (series-none k p.object.value
-      (no-same (Vector k) (kind_of p.object.value) (λ e. never k (kind ∙ sym e))) (sym (ap (same_kind (Scalar k)) kind)
-      ∙ other)))
+      (no-same (Vector k) (kind_of p.object.value) (λ e. vector (kind ∙ sym e)))
+      (no-same (Scalar k) (kind_of p.object.value) (λ e. array (kind ∙ sym e)))))
 
   module _ (is : o.kind ≡ Scalar k) where
     -- the numbers of the array
@@ -337,15 +336,6 @@ module _ (s t : SegmentState) (o : Located) (l : IsLocated s (ByHandle o.handle)
       (ap (λ (q : Located). q.handle + (value_offset q + size_of k * first)) same
       ∙ (λ j. sym x.stands.at j + sym x.at j)) but) (place_at d (ByHandle o.handle) k first) refl
 
-  -- an object that is no array has no such element
-  pub vector-but : (j : ScalarKind) → o.kind ≡ Vector j → ChangesRange s t (ByHandle o.handle) k first n
-  vector-but j is d st = but-if d st (λ p x.
-      let q = said-at s (ByHandle o.handle) o l d st in
-      let same = same_Some q.object x.object (sym q.is ∙ x.is) in
-      let kind : Vector j ≡ Scalar k = sym is ∙ ap (λ (u : Located). u.kind) (q.said ∙ ap located same)
-      ∙ ap kind_of x.value in
-      absurd (cc)) (place_at d (ByHandle o.handle) k first) refl
-
 -- the place of an element of an object
 abbrev pub index_at : Option Object → ScalarKind → ℕ → Result Place Refusal
 index_at r k i = elim r as (λ _. Result Place Refusal) [
@@ -354,36 +344,12 @@ index_at r k i = elim r as (λ _. Result Place Refusal) [
       [ Ok at ↦ Ok (record { handle = handle o.extent; at = at }) | Err r ↦ Err r ]
 ]
 
--- a range written under the handle is written under the key
-pub but-by_key : (s t : SegmentState) (key : Key) (o : Located) → IsLocated s key o → (k : ScalarKind) (first n : ℕ)
-    → ChangesRange s t (ByHandle o.handle) k first n → ChangesRange s t key k first n
-but-by_key s t key o l k first n m = λ d st.
-    subst (λ (r : Option Object). But s t (size_of k * n) (index_at r k first)) (sym (same-object s key o l d st))
-    (m d st)
-
 -- a property of a success implies another
 pub on_ok-map : {P Q : Type 0} (r : Result (Unit {0}) Refusal) → (P → Q) → OnOk r P → OnOk r Q
 on_ok-map (Ok a) f p = f p
 on_ok-map (Err why) f p = tt
 
--- a property that always holds holds after a success
-pub on_ok : {P : Type 0} (r : Result (Unit {0}) Refusal) → P → OnOk r P
-on_ok (Ok a) p = p
-on_ok (Err why) p = tt
-
 -- ---- the calls
-
--- the tests of the code: of the kind, and of the number of elements
-pub array-kind : (o : Located) {k l : ScalarKind} {a b : ℕ} → l ≡ k → a ≡ code_of (Scalar l) → b ≡ code_of o.kind
-    → a ≡ b → o.kind ≡ Scalar k
-array-kind o {k} e f g h = sym (one-kind (Scalar k) o.kind (eq-eqb (code_of (Scalar k)) (code_of o.kind)
-    (sym (f ∙ ap (λ (j : ScalarKind). code_of (Scalar j)) e) ∙ h ∙ g)))
-
--- an array of another kind is not of the kind
-pub array-unlike : (o : Located) {k l : ScalarKind} {a b : ℕ} → l ≡ k → a ≡ code_of (Scalar l) → b ≡ code_of o.kind
-    → (a ≡ b → ⊥) → same_kind (Scalar k) o.kind ≡ false
-array-unlike o {k} e f g h = ne_eqb (code_of (Scalar k)) (code_of o.kind)
-    (λ i. h (f ∙ ap (λ (j : ScalarKind). code_of (Scalar j)) e ∙ i ∙ sym g))
 
 -- whether a range is within the elements, as it is tested
 pub series-test : {T : Type 0} (w : T → ℤ) (xs : List T) (first : ℕ) {count n : ℕ} {r b : Bool} → n ≡ count
@@ -415,51 +381,50 @@ array-empty s o l k first zs is writing fits none =
 -- its block has the room
 pub array-room : (s : SegmentState) (b : IsSegment s.cut.bytes) (o : Located) → IsLocated s (ByHandle o.handle) o
     → (k : ScalarKind) (first : ℕ) (zs : List ℤ) → o.kind ≡ Scalar k → nat_le (first + length zs) o.count ≡ true
-    → {at size n : ℕ} → at ≡ value_offset o → size ≡ size_of k → n ≡ size_of k * length zs
-    → IsTrue (has_room (live_of s.cut.bytes) o.handle (at + size * first + n))
-array-room s b o loc k first zs is fits {at} {size} {n} e f g =
+    → {at n : ℕ} → at ≡ value_offset o + size_of k * first → n ≡ size_of k * length zs
+    → IsTrue (has_room (live_of s.cut.bytes) o.handle (at + n))
+array-room s b o loc k first zs is fits {at} {n} e g =
     let h = numbers-of s o loc k first zs is b.0 b.1 in
     let stands = standing s.cut.bytes b.0 (ByHandle o.handle) h.object b.1.denotes h.is in
     let own : o.handle ≡ handle h.object.extent = ap (λ (q : Located). q.handle) h.said in
-    let at_is : at ≡ head_len + padded (length h.object.name) = e ∙ ap value_offset h.said in
+    let at_is : at ≡ head_len + padded (length h.object.name) + size_of k * first =
+    e ∙ ap (λ (q : Located). value_offset q + size_of k * first) h.said in
     let long : value_len h.object.value ≡ size_of k * length h.numbers = ap value_len h.value in
     let few = leb-true (first + length zs) o.count fits in let all = many s o loc k first zs is h in
     let inside = mul-le-mul_left (size_of k) (let j : first + length zs ≤ length h.numbers = omega arith in j) in
     let step : size_of k * (first + length zs) ≡ size_of k * first + size_of k * length zs = omega arith in
-    let each = ap (λ (m : ℕ). m * first) f in
-    subst (λ m. IsTrue (has_room (live_of s.cut.bytes) m (at + size * first + n))) (sym own)
-    (standing-room s.cut.bytes (handle h.object.extent) (at + size * first + n) h.object stands
-    (omega (arith, at_is, long, inside, step, each, g)))
+    subst (λ m. IsTrue (has_room (live_of s.cut.bytes) m (at + n))) (sym own)
+    (standing-room s.cut.bytes (handle h.object.extent) (at + n) h.object stands
+    (omega (arith, at_is, long, inside, step, g)))
 
 -- memory has the encodings of a type's values at the elements' place
 module _ {T : Type 0} {k : ScalarKind} {w : T → ℤ} {size : ℕ} {test : T → Bool} {sp : T → List ℕ}
     (law : IsOfKind k w size test sp) (s t : SegmentState) (view : s ≡ t) (b : IsSegment s.cut.bytes) (o : Located)
     (l : IsLocated t (ByHandle o.handle) o) (first : ℕ) (values : List T) (is : o.kind ≡ Scalar k)
     (writing : is_read_only t.mode ≡ false) (fits : nat_le (first + length (map w values)) o.count ≡ true)
-    {at each : ℕ} (at_is : at ≡ value_offset o) (each_is : each ≡ size) (good : IsTrue (list_all test values))
-    (new : WindowState) (c : ChangesBytes current s.cut new (o.handle + (at + each * first))
-    (size * length values)) where
+    {at : ℕ} (at_is : at ≡ value_offset o + size_of k * first) (good : IsTrue (list_all test values))
+    (new : WindowState) (c : ChangesBytes current s.cut new (o.handle + at) (size * length values)) where
   abbrev wholes : List ℤ
   wholes = map w values
 
-  spot-is : o.handle + (at + each * first) ≡ o.handle + (value_offset o + size_of k * first)
-  spot-is = λ i. o.handle + (at_is i + (each_is ∙ law.long) i * first)
+  spot-is : o.handle + at ≡ o.handle + (value_offset o + size_of k * first)
+  spot-is = λ i. o.handle + at_is i
 
   long-is : size * length values ≡ size_of k * length wholes
   long-is = λ i. law.long i * sym (length-map values w) i
 
   change : ChangesBytes current s.cut new (o.handle + (value_offset o + size_of k * first)) (size_of k * length wholes)
   change = subst (λ m. ChangesBytes current s.cut new m (size_of k * length wholes)) spot-is
-      (subst (λ n. ChangesBytes current s.cut new (o.handle + (at + each * first)) n) long-is c)
+      (subst (λ n. ChangesBytes current s.cut new (o.handle + at) n) long-is c)
 
   -- a range that was spelled in the image is the directory's
-  pub array-spelled : HasBytesAt (bytes_of new.bytes) (o.handle + (at + each * first)) (flat_map sp values)
+  pub array-spelled : HasBytesAt (bytes_of new.bytes) (o.handle + at) (flat_map sp values)
       → RangeWritten s t new (ByHandle o.handle) k first wholes (Ok tt)
   array-spelled h =
       array-written s o (subst (λ (u : SegmentState). IsLocated u (ByHandle o.handle) o) (sym view) l) k first
       wholes is t view b new writing fits (sym (whole-values k w size test sp law values) ∙ good) change
       (subst (λ m. HasBytesAt (bytes_of new.bytes) m (spelled k wholes)) spot-is
-      (subst (HasBytesAt (bytes_of new.bytes) (o.handle + (at + each * first)))
+      (subst (HasBytesAt (bytes_of new.bytes) (o.handle + at))
       (whole-spelled k w size test sp law values) h))
 
   -- no other byte changes
@@ -474,30 +439,7 @@ module _ {T : Type 0} {k : ScalarKind} {w : T → ℤ} {size : ℕ} {test : T �
   pub array-gaps : KeepsGaps t.cut new
   array-gaps =
       let room = array-room s b o (subst (λ (u : SegmentState). IsLocated u (ByHandle o.handle) o) (sym view) l) k first
-      wholes is fits at_is (each_is ∙ law.long) long-is in
+      wholes is fits at_is long-is in
       subst (λ (u : SegmentState). KeepsGaps u.cut new) view
-      (gaps-payload s.cut new o.handle (at + each * first + size * length values) (o.handle + (at + each * first))
-      (size * length values) c room (omega arith) (omega arith))
-
--- a vector of another kind
-pub vector-other : (s : SegmentState) (o : Located) → IsLocated s (ByHandle o.handle) o → (k : ScalarKind) (first : ℕ)
-    (zs : List ℤ) {m : ScalarKind} → m ≡ k → (j : ScalarKind) → o.kind ≡ Vector j → is_read_only s.mode ≡ false
-    → {why : Refusal} → Err why ≡ container_in o (Vector m)
-    → WritesRange s s (ByHandle o.handle) k first zs (Refused why)
-vector-other s o l k first zs {m} same j is writing {why} e =
-    other-if (same_kind (Vector m) o.kind) refl e
-  where
-    other-if : (b : Bool) → same_kind (Vector m) o.kind ≡ b → Err why
-        ≡ (if b then Ok (let p : Place = record { handle = o.handle; at = value_offset o } in p) else Err WrongKind)
-        → WritesRange s s (ByHandle o.handle) k first zs (Refused why)
-    other-if true f g = absurd (cc)
-    other-if false f g =
-        let reason : why ≡ WrongKind = cc in
-        subst (λ (r : Refusal). WritesRange s s (ByHandle o.handle) k first zs (Refused r)) (sym reason)
-        (range-stays s (ByHandle o.handle) k first zs WrongKind (λ d st.
-        let p = said-at s (ByHandle o.handle) o l d st in
-        let kind : o.kind ≡ kind_of p.object.value = ap (λ (q : Located). q.kind) p.said in
-        range-other s.mode d (ByHandle o.handle) k first zs writing p.object p.is (series-none k p.object.value
-        (sym (λ i. same_kind (Vector (same i)) (kind i)) ∙ f)
-        (no-same (Scalar k) (kind_of p.object.value) (λ h. let not : Scalar k ≡ Vector j = h ∙ sym kind ∙ is in
-        absurd (cc))))))
+      (gaps-payload s.cut new o.handle (at + size * length values) (o.handle + at) (size * length values) c room
+      (omega arith) (omega arith))

@@ -1,14 +1,12 @@
 -- A call on the container of an object that answers nothing: its step, and that it changes nothing where it is refused.
 use Rattle.segment_manager.proofs.Common as common
-use common.{NoSpace, OutOfRange, ◌⊎◌, inl, inr, TakesStep, is_read_only, ◌≡◌, refl, sym, ap, subst, ◌∙◌, false, Option}
-use common.{Some, None, Result, Ok, Err, OnErr, WindowState, Kind, Refusal, NotFound, Key, Command, Place, Answer}
-use common.{done_answer, Mode, SameSurroundings, Transitions, Directory, DenotesCurrent, Done, Refused, container_at}
-use common.{place_of_kind, Object, object_at, option_map, AnswersWith, IsSegment, TakesStepOfKind, SegmentState}
-use common.{AnswersSafely, StepsSafely, IfErr, MatchResult, live_of, Located}
+use common.{NoSpace, OutOfRange, ◌⊎◌, inl, inr, TakesStep, is_read_only, ◌≡◌, refl, sym, ap, subst, ◌∙◌, false}
+use common.{Result, Ok, Err, OnErr, WindowState, Kind, Refusal, Key, Command, Answer}
+use common.{done_answer, Mode, SameSurroundings, Transitions, Directory, DenotesCurrent, Done, Refused}
+use common.{IsSegment, TakesStepOfKind, SegmentState, AnswersSafely, StepsSafely, IfErr, MatchResult, live_of}
 use Rattle.best_fit.proofs.Laws.{gaps-refl}
 use Rattle.best_fit.specs.Heap.{KeepsGaps}
 use Rattle.segment_manager.proofs.directory.CommandSteps.{IsMove, by_moves, by_same, step-segment, step_of_kind-segment}
-use Rattle.segment_manager.specs.objects.Located.{container_in, located, located_at}
 
 -- the call fails, and nothing has changed
 pub stays : (s : SegmentState) (new : WindowState) (key : Key) (kind : Kind) (c : Command) (e why : Refusal)
@@ -105,15 +103,6 @@ pub told : {R : Type 0} {says : Result R Refusal
     }
 told a = record { step = a.step; refused = a.refused }
 
--- the same, with its effect on the gaps
-pub told-gaps : {R G : Type 0} {says : Result R Refusal → Answer} {s t : SegmentState} {new : WindowState} {key : Key}
-    {kind : Kind} {c : Command} {r : Result R Refusal} → Answered says s t new key kind c r → G → record {
-      step : TakesStepOfKind t (record s { cut = new }) key kind c (says r);
-      refused : OnErr r ((record s { cut = new }) ≡ t);
-      gaps : G;
-    }
-told-gaps a g = record { step = a.step; refused = a.refused; gaps = g }
-
 -- the same for a call on any object
 pub record Stepped (s t : SegmentState) (new : WindowState) (c : Command) (answer : Answer) : Type 0 where
   pub step : TakesStep t (record s { cut = new }) c answer
@@ -158,20 +147,3 @@ pub refuses-either : {X Y : Type 0} {e : Refusal} → (X → e ≡ OutOfRange) �
     → (e ≡ OutOfRange) ⊎ (e ≡ NoSpace)
 refuses-either f g (inl x) = inl (f x)
 refuses-either f g (inr y) = inr (g y)
-
--- ---- the search
-
-abbrev container_of : Kind → Option Located → Result Place Refusal
-container_of kind r = elim r as (λ _. Result Place Refusal) [ None ↦ Err NotFound | Some o ↦ container_in o kind ]
-
-same-place : (kind : Kind) (r : Option Object) → container_of kind (option_map located r)
-    ≡ elim r as (λ _. Result Place Refusal) [ None ↦ Err NotFound | Some o ↦ place_of_kind o kind ]
-same-place kind None = refl
-same-place kind (Some o) = refl
-
--- the container of the object that was found is the container of the key's object
-pub contains : {s : SegmentState} (key : Key) (kind : Kind) {r : Option Located} {q : Result Place Refusal}
-    → AnswersWith s (λ d. located_at d key) r → q ≡ container_of kind r → AnswersWith s (λ d. container_at d key kind) q
-contains key kind a e = record {
-  answers = λ d k. e ∙ ap (container_of kind) (a.answers d k) ∙ same-place kind (object_at d key);
-}

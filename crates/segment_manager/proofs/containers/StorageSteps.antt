@@ -1,11 +1,10 @@
 -- The calls on any object with storage: failures, reserve, shrink and clear; and calls that read.
 use Rattle.segment_manager.proofs.Common.{Err, None, Some, false, refl, subst, true, ◌≡◌, Command, is_changing, Key}
-use Rattle.segment_manager.proofs.Common.{Kind, Refusal, NotFound, WrongKind, Answer, Refused, container_at, Directory}
-use Rattle.segment_manager.proofs.Common.{Numbers, Object, Pairs, Value, kind_of, object_at, Refuse, AnswersWith}
+use Rattle.segment_manager.proofs.Common.{Kind, NotFound, WrongKind, Answer, Directory}
+use Rattle.segment_manager.proofs.Common.{Numbers, Object, Pairs, Value, kind_of, object_at, Refuse}
 use Rattle.segment_manager.proofs.Common.{AnswersQueryOfKind, TakesStepOfKind, SegmentState, effect, storage_of}
 use Rattle.segment_manager.proofs.Common.{command_of, has_storage, Change, Clear, Reserve, Shrink}
 use Rattle.segment_manager.proofs.containers.ContentPlans.{clear-plan, reserve-plan, shrink-plan}
-use Rattle.segment_manager.proofs.{containers.Refilled.finds-no_container, directory.CommandSteps.open-reading}
 use Rattle.segment_manager.proofs.{directory.CommandSteps.with-not_found}
 
 -- ---- refusals
@@ -48,9 +47,3 @@ pub seen-reply : (s t : SegmentState) (view : s ≡ t) (key : Key) (kind : Kind)
     → TakesStepOfKind s s key kind c answer → AnswersQueryOfKind t key kind c answer
 seen-reply s t view key kind c answer r =
     subst (λ (u : SegmentState). AnswersQueryOfKind u key kind c answer) view (step_of_kind-reply s key kind c answer r)
-
--- there is no such container
-pub no_container-reply : (s : SegmentState) (key : Key) (kind : Kind) (c : Command) (why : Refusal) → is_changing c
-    ≡ false → AnswersWith s (λ d. container_at d key kind) (Err why) → AnswersQueryOfKind s key kind c (Refused why)
-no_container-reply s key kind c why reads a =
-    step_of_kind-reply s key kind c (Refused why) (finds-no_container s key kind c why (open-reading s.mode c reads) a)

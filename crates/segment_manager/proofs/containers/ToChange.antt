@@ -2,7 +2,7 @@
 use Rattle.segment_manager.proofs.Common.{◌≡◌, true, false, sym, subst, Result, Ok, Err, MatchResult, Kind, Refusal}
 use Rattle.segment_manager.proofs.Common.{Key, Command, Place, Refused, container_at, AnswersWith, SegmentState}
 use Rattle.segment_manager.proofs.Common.{TakesStepOfKind, Answer, answer_of, is_changing, is_read_only, IsNotToChange}
-use Rattle.segment_manager.proofs.{Common.exit-is, Common.refl, Common.OnErr, containers.Refilled.finds-no_container}
+use Rattle.segment_manager.proofs.{Common.exit-is, containers.Refilled.finds-no_container}
 use Rattle.segment_manager.proofs.{directory.CommandSteps.open-writing}
 use Rattle.std.specs.Prelude.{IsErrAnd}
 use Rattle.segment_manager.specs.containers.ToChange.{IsChangeableContainer}
@@ -28,17 +28,3 @@ pub not-changed : {R : Type 0} {s : SegmentState} {key : Key} {l k : Kind} {why 
     → is_changing c ≡ true → IsNotToChange s key l why → TakesStepOfKind s s key k c (answer_of says r)
 not-changed {s = s} {key = key} {why = why} says c r same is changing not = rw (exit-is r why is)
     (subst (λ (kind : Kind). TakesStepOfKind s s key kind c (Refused why)) same (not.refused c changing))
-
--- the same, as the clauses of a call with an effect on the gaps
-pub told-unchanged : {R G : Type 0} {s : SegmentState} {key : Key} {l k : Kind} {why : Refusal} (says : R
-    → Answer) (c : Command) (r : Result R Refusal) → l ≡ k → IsErrAnd r (λ e. e ≡ why)
-    → is_changing c ≡ true → IsNotToChange s key l why → G → record {
-      step : TakesStepOfKind s s key k c (answer_of says r);
-      refused : OnErr r (s ≡ s);
-      gaps : G;
-    }
-told-unchanged {why = why} says c r same is changing not gaps = record {
-  step = not-changed says c r same is changing not;
-  refused = rw (exit-is r why is) refl;
-  gaps = gaps;
-}

@@ -11,7 +11,7 @@ use common.{Answer, Ok, slice_get-get_or, slice_get-map, slice_get_past, value_o
 use common.{ℕ, IsSomeVector, GrowsVectorOk, container_at, is_good_value, with_capacity, TakesStepOfKind, AnswersSafely}
 use common.{ℤ, list_all, flat_map, size_of, Refusal, NoSpace, Assigns, Element, Refused, Elements, kind_of, perform}
 use common.{grown_backing, current, Denotes, Option, Plan, DenotesCurrent, MatchResult, IfErr, ◌⊎◌, NotFound}
-use common.{Located, Object, object_at, sizes_at, sizes_of, is_elementwise}
+use common.{Located, Object, sizes_at, sizes_of, is_elementwise}
 use Rattle.segment_manager.proofs.bound.{Changes.Changed, Changes.leaves-bound, Places.container-bound}
 use Rattle.segment_manager.specs.objects.BoundObjects.{IsBound, container_of, key_of}
 use Rattle.segment_manager.specs.Keeping.{KeepsUnused}
@@ -19,7 +19,7 @@ use Rattle.segment_manager.proofs.containers.RangeCalls.{RangeWritten, range-don
 use Rattle.segment_manager.proofs.containers.RangeCalls.{range-short, series-elements, whole-replaced}
 use Rattle.segment_manager.proofs.containers.Extending.{VectorExtended, extended-found, extended-room}
 use Rattle.segment_manager.proofs.{containers.Refilled.then_room, Common.live_of, objects.WholeNumbers.whole-values}
-use Rattle.segment_manager.proofs.{containers.ToChange.seen-found, directory.CommandSteps.open-reading}
+use Rattle.segment_manager.proofs.{containers.ToChange.seen-found}
 use Rattle.segment_manager.proofs.{directory.CommandSteps.open-writing}
 use Rattle.segment_manager.specs.containers.Ranges.{extended, numbers_if, replaced, written}
 use Rattle.seg_vector.specs.{Vector.capacity_for_more, VectorCalls.Sets}

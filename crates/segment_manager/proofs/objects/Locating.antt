@@ -2,14 +2,14 @@
 use Rattle.segment_manager.proofs.Common as common
 use common.{◌≡◌, refl, sym, ap, subst, ◌∙◌, ℕ, ◌&&◌, Option, Some, None, Result, Ok, Err, if◌then◌else◌}
 use common.{option_map, same_Some, Kind, Refusal, NotFound, ReadOnly, WrongKind, same_kind, Key, ByHandle, Command}
-use common.{is_changing, Change, Clear, Reserve, Shrink, Located, Answer, kind_at, sizes_at, sizes_at_kind, handle}
-use common.{sizes_of, sizes_of_kind, Object, Directory, kind_of, live, object_at, handle_at, HasCapacity}
+use common.{is_changing, Change, Clear, Reserve, Shrink, Located, Answer, kind_at, handle}
+use common.{sizes_of, Object, Directory, kind_of, live, object_at, handle_at, HasCapacity}
 use common.{UnchangedWhere}
 use common.{IsLocated, IsSegment, Plan, Refuse, perform, with, IsObjectInBlock, AnswersWith, AnswersQueryOfKind}
 use common.{TakesStep, TakesStepOfKind}
 use common.{LeadsOnOfKind, refusal_of}
 use common.{SegmentState, DenotesCurrent, effect, is_read_only, step, step_of_kind, HasEnough, command_of}
-use Rattle.segment_manager.proofs.containers.AnyStorage.{measures-kind, of_kind-steps}
+use Rattle.segment_manager.proofs.containers.AnyStorage.{of_kind-steps}
 use Rattle.segment_manager.proofs.{indexes.Bridge.by-handle, objects.Here.here, objects.Here.seen-handle}
 use Rattle.segment_manager.proofs.{objects.Standings.alike, directory.CommandSteps.moves-same}
 use Rattle.segment_manager.specs.Laws.{HandlesMeanObjects, KeysMeanObjects, KeysOfKindMeanObjects, at_key}
@@ -202,13 +202,6 @@ module _ (old : SegmentState) (key : Key) (o : Located) (l : IsLocated old key o
       (subst (λ (n : Kind). AnswersWith old (λ d. kind_at d key) (Ok n)) is kind-by_key)
       (step_of_kind-by_key new kind c answer m)
 
-  -- sizes for the handle are the sizes of the located object
-  pub located-measures : (kind : Kind) (r : Result (ℕ × ℕ) Refusal) → o.kind ≡ kind
-      → AnswersWith old (λ d. sizes_at_kind d (ByHandle o.handle) kind) r → AnswersWith old (λ d. sizes_at d key) r
-  located-measures kind r is m = measures-kind old key kind r (subst (λ (n : Kind). AnswersWith old (λ d. kind_at d key)
-      (Ok n)) is kind-by_key) (told-by_key (λ d q. elim q as (λ _. Result (ℕ × ℕ) Refusal)
-      [ None ↦ Err NotFound | Some p ↦ sizes_of_kind p kind ]) r m)
-
   -- nothing changes if the capacity suffices
   places-by_key : {new : SegmentState} (n : ℕ) → UnchangedWhere old new (HasCapacity (ByHandle o.handle) n)
       → UnchangedWhere old new (HasCapacity key n)
@@ -230,6 +223,14 @@ module _ (old : SegmentState) (key : Key) (o : Located) (l : IsLocated old key o
   located-changes (Reserve n) new kind answer is m = located-steps new kind (asked.Reserve key n) answer is m
   located-changes Shrink new kind answer is m = located-steps new kind (asked.Shrink key) answer is m
   located-changes Clear new kind answer is m = located-steps new kind (asked.Clear key) answer is m
+
+  -- a change of storage for the handle is a change for the key
+  pub change-by_key : (change : Change) (new : SegmentState) (answer : Answer)
+      → TakesStep old new (command_of change (ByHandle o.handle)) answer
+      → TakesStep old new (command_of change key) answer
+  change-by_key (Reserve n) new answer m = step-by_key new (asked.Reserve key n) answer m
+  change-by_key Shrink new answer m = step-by_key new (asked.Shrink key) answer m
+  change-by_key Clear new answer m = step-by_key new (asked.Clear key) answer m
 
   -- a capacity that suffices under the handle suffices under the key
   pub enough-by_key : (change : Change) (new : SegmentState)

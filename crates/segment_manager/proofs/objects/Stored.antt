@@ -1,17 +1,17 @@
 -- The elements of a key's object: the place and the number of each, the result of reading one, and writing one.
 use Rattle.segment_manager.proofs.Common as common
 use Rattle.seg_types.specs.Commands as asked
-use common.{◌≡◌, Option, Result, length, IsTrue, nat_lt, handle, Scalar, Object, padded, eq-eqb, Answer, Refuse, effect}
+use common.{◌≡◌, Option, Result, length, IsTrue, nat_lt, handle, Scalar, Object, padded, eq-eqb, Refuse, effect}
 use common.{refl, subst, zero, Bool, true, false, Some, None, List, arith, read, SegmentState, Mode, Done, live, Reply}
-use common.{with, sym, ap, ◌∙◌, suc, ◌+◌, ◌*◌, ◌<◌, ◌≤◌, pos, Ok, Err, [], ◌∷◌, HasBytesAt, Key, get, map, ℕ, list_all}
-use common.{ltb-true, bytes_of, has_room, option_map, Located, slice_set, ltb-false, IsSegment, answer_of, values_of, ℤ}
+use common.{with, sym, ap, ◌∙◌, suc, ◌+◌, ◌*◌, ◌<◌, ◌≤◌, pos, Ok, Err, [], ◌∷◌, HasBytesAt, Key, map, ℕ, list_all}
+use common.{ltb-true, bytes_of, has_room, option_map, Located, slice_set, ltb-false, IsSegment, values_of, ℤ}
 use common.{live_of, Refusal, NotFound, is_value, size_of, spelling, spelled, count_of, IsObjectInBlock, BoolKind}
-use common.{cons_values, get_or, Numbers, kind_of, Denotes, AnswersWith, code_of, Literal, Element, Refused, perform}
+use common.{cons_values, get_or, Numbers, kind_of, Denotes, AnswersWith, code_of, Literal, Refused, perform}
 use common.{changed, Command, if◌then◌else◌, ScalarKind, OutOfRange, is_good_value, MatchOption, false≢true}
-use common.{AnswersQueryOfKind, step_of_kind, slice_get, current, WrongKind, same_kind, Directory, is_object, object_at}
+use common.{step_of_kind, slice_get, current, WrongKind, same_kind, Directory, is_object, object_at}
 use common.{value_len, IsValueAt, literal_of, mul-le-mul_left, slice_get-get_or, slice_get_within, slice_get_past}
 use common.{value_of_literal, set as set_element}
-use Rattle.segment_manager.proofs.directory.CommandSteps.{open-reading, step_of_kind-found, step_of_kind-not_found}
+use Rattle.segment_manager.proofs.directory.CommandSteps.{step_of_kind-found, step_of_kind-not_found}
 use Rattle.segment_manager.proofs.directory.CommandSteps.{step_of_kind-other}
 use Rattle.segment_manager.proofs.{objects.KindCodes.numbers-only, directory.Frame.object-roomy, objects.Here.standing}
 use Rattle.segment_manager.proofs.{directory.CommandSteps.with-found}

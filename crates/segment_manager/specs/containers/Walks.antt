@@ -1,5 +1,5 @@
 -- The pairs of a map, one after another by rising map keys.
-use Rattle.std.specs.Prelude.{ℤ, Bool, Option, Some, None, Result, Ok, Err, List, [], ◌∷◌, ⊤, int_lt, option_map}
+use Rattle.std.specs.Prelude.{ℤ, Bool, Option, Some, None, Result, Ok, Err, List, [], ◌∷◌, int_lt, option_map}
 use Rattle.seg_types.specs.{declared.kinds.Kind.TheVariants.Map, declared.kinds.ScalarKind.ScalarKind}
 use Rattle.seg_types.specs.{declared.refusals.Refusal.Refusal, Names.Key, Values.kind_of_scalar, Values.value_of_scalar}
 use Rattle.seg_types.specs.declared.values.ScalarValue.{ScalarValue}

@@ -1,9 +1,9 @@
 -- Located objects, which calls accept without another look-up.
 use Rattle.std.specs.Prelude.{ℕ, ◌+◌, ◌*◌, Option, Some, Result, Ok, Err, length, nat_lt, option_map, if◌then◌else◌}
 use Rattle.best_fit.specs.{Extents.handle, declared.places.Place.Place}
-use Rattle.seg_types.specs.{Names.ByHandle, Names.Key, declared.kinds.Kind.Kind, Kinds.same_kind, Kinds.size_of}
+use Rattle.seg_types.specs.{Names.ByHandle, Names.Key, Kinds.size_of}
 use Rattle.seg_types.specs.{declared.refusals.Refusal.Refusal, declared.kinds.ScalarKind.ScalarKind}
-use Rattle.seg_types.specs.declared.refusals.Refusal.TheVariants.{OutOfRange, WrongKind}
+use Rattle.seg_types.specs.declared.refusals.Refusal.TheVariants.{OutOfRange}
 use Rattle.segment_manager.specs.declared.objects.object_ref.Object.{Object as Located}
 use Rattle.segment_manager.specs.Directory.{Object, Directory, count_of, kind_of, object_at, padded}
 use Rattle.segment_manager.specs.{Layout.head_len, State.AnswersWith, State.SegmentState}
@@ -33,11 +33,6 @@ pub record IsLocated (s : SegmentState) (key : Key) (o : Located) : Type 0 where
 -- the offset of a located object's value from its handle
 abbrev pub value_offset : Located → ℕ
 value_offset o = head_len + padded o.name_len
-
--- the place of a located object's container, if it has the kind
-abbrev pub container_in : Located → Kind → Result Place Refusal
-container_in o kind =
-    if same_kind kind o.kind then Ok (record { handle = o.handle; at = value_offset o }) else Err WrongKind
 
 -- the place of an element of a located array of scalars of the kind
 abbrev pub element_in : Located → ScalarKind → ℕ → Result Place Refusal

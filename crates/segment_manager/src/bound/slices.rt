@@ -1,5 +1,5 @@
 //! Arrays and vectors of scalars that were looked up once.
-ghost use Rattle.std.specs.Prelude.{◌≡◌, ◌⊎◌, IfErr, Ok, OnErr, OnOk, length, map};
+ghost use Rattle.std.specs.Prelude.{◌≡◌, ◌+◌, ◌⊎◌, IfErr, Ok, OnErr, OnOk, length, map, nat_le};
 ghost use Rattle.best_fit.specs.Heap.{KeepsGaps};
 ghost use Rattle.seg_types.specs.declared.kinds.Kind.{Kind as AnyKind};
 ghost use Rattle.seg_types.specs.declared.kinds.Kind.TheVariants.{Scalar as ScalarOf, Vector as VectorOf};
@@ -22,7 +22,7 @@ use crate::objects::object_ref::Object;
 use crate::segment::Segment;
 use seg_types::theorems::{holds_value, scalar_is_number};
 use seg_types::{Kind, Refusal, Scalar, ScalarKind};
-use seg_vector::SegVec;
+use seg_vector::{SegVec, spell};
 use std::marker::PhantomData;
 
 /// Where an object has its scalars. `Bound` and `BoundMut` call these functions; no other caller needs them.
@@ -171,6 +171,36 @@ impl<'a, T: Scalar> BoundMut<'a, Slice<T, Fixed>> {
         Ok(())
     }
 
+    /// Replaces the elements from `first` on, all of them or none. No other byte changes. Without values nothing
+    /// changes.
+    ///
+    /// Example: `flags.overwrite(1, &[1, 2])?`.
+    ///
+    /// # Errors
+    ///
+    /// `OutOfRange` if there are too few elements from `first` on. Nothing changes.
+    pub fn overwrite(&mut self, first: u64, values: &[T]) -> Result<(), Refusal>
+        ensures unchanged { SameBound self.old self.new }
+        ensures step { WritesRange self.old.segment.now self.new.segment.now (key_of self.old.object) T.kind first
+            (map T.whole values.now) (done_answer result) }
+        ensures refused { OnErr result (self.new.segment.now ≡ self.old.segment.now) }
+        ensures noop { length values.now ≡ 0 → self.new.segment.now ≡ self.old.segment.now }
+        ensures frame { OnOk result (ChangesRange self.old.segment.now self.new.segment.now (key_of self.old.object)
+            T.kind first (length values.now)) }
+        ensures gaps { KeepsGaps self.old.segment.now.cut self.new.segment.now.cut }
+    {
+        if !has_range(u64::from(self.object.count), first, values.len() as u64) {
+            return Err(Refusal::OutOfRange);
+        }
+        if values.is_empty() {
+            return Ok(());
+        }
+        let at = self.object.element_at(T::kind(), first);
+        let segment = &mut *self.segment;
+        spell(&mut segment.heap, self.object.handle, at, values);
+        Ok(())
+    }
+
     /// Sets the first elements, all of them or none. No other byte changes.
     ///
     /// Example: `flags.copy_from(&[1, 2])?`.
@@ -186,8 +216,7 @@ impl<'a, T: Scalar> BoundMut<'a, Slice<T, Fixed>> {
         ensures frame { OnOk result (ChangesRange self.old.segment.now self.new.segment.now (key_of self.old.object)
             T.kind 0 (length values.now)) }
     {
-        let _ = self.segment.as_bytes();
-        self.segment.write_in_array(&self.object, 0, values)
+        self.overwrite(0, values)
     }
 }
 
@@ -330,6 +359,26 @@ impl<'a, T: Scalar> BoundMut<'a, Slice<T, Growable>> {
         vector.assign(&mut segment.heap, values)
     }
 
+    /// Replaces the elements from `first` on, all of them or none. Without values nothing changes.
+    ///
+    /// Example: `queue.overwrite(1, &[6, 7])?`.
+    ///
+    /// # Errors
+    ///
+    /// `OutOfRange` if there are too few elements from `first` on. Nothing changes.
+    pub fn overwrite(&mut self, first: u64, values: &[T]) -> Result<(), Refusal>
+        ensures unchanged { SameBound self.old self.new }
+        ensures step { WritesRange self.old.segment.now self.new.segment.now (key_of self.old.object) T.kind first
+            (map T.whole values.now) (done_answer result) }
+        ensures refused { OnErr result (self.new.segment.now ≡ self.old.segment.now) }
+        ensures noop { length values.now ≡ 0 → self.new.segment.now ≡ self.old.segment.now }
+        ensures gaps { KeepsGaps self.old.segment.now.cut self.new.segment.now.cut }
+    {
+        let vector = SegVec::<T>::at(self.object.own_container());
+        let segment = &mut *self.segment;
+        vector.overwrite(&mut segment.heap, first, values)
+    }
+
     /// Appends values. If the capacity is too small, it doubles, to at least 4 and at least the new length.
     ///
     /// Example: `queue.extend(&[8, 9])?`.
@@ -350,4 +399,11 @@ impl<'a, T: Scalar> BoundMut<'a, Slice<T, Growable>> {
         let segment = &mut *self.segment;
         vector.extend(&mut segment.heap, values)
     }
+}
+
+/// Returns true if `len` elements include `count` elements from `first` on.
+fn has_range(len: u64, first: u64, count: u64) -> bool
+    ensures { result ≡ nat_le (first + count) len }
+{
+    first <= len && count <= len - first
 }

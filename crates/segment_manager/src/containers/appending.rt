@@ -1,15 +1,15 @@
 //! Appends to vectors whose capacity has room, by handles that need no search.
 ghost use Rattle.std.specs.Prelude.{◌≡◌, false, true};
 ghost use Rattle.seg_types.specs.declared.kinds.Kind.TheVariants.{Vector as VectorOf};
-ghost use Rattle.seg_types.specs.Commands.{Push, literal_of};
+ghost use Rattle.seg_types.specs.{Commands.Push, Commands.literal_of, Names.ByHandle};
 ghost use Rattle.segment_manager.specs.{Answers.Done, objects.Found.is_object_at};
 ghost use Rattle.segment_manager.specs.State.{AnswersWith, TakesStepOfKind};
 
+use crate::bound::object_of_kind;
 use crate::bound::slices::VectorMut;
-use crate::objects::object_ref::ObjectRef;
 use crate::segment::Segment;
 use block_tags::Role;
-use seg_types::{Handle, Scalar};
+use seg_types::{Handle, Kind, Scalar};
 
 /// Returns true if the handle, which can be any number, is remembered and an object has it. An object that is not
 /// remembered has another handle: `Segment::remember` finds it.
@@ -25,21 +25,29 @@ pub fn is_remembered(segment: &Segment, handle: Handle) -> bool
     false
 }
 
-/// Appends a value to the vector of a key, and returns true, if the segment may be written, the vector's type matches
-/// and its capacity has room. Otherwise nothing changes, and it returns false; `vec_push` then says why, or lengthens
-/// the storage.
+/// Appends a value to the vector with a handle, and returns true, if the segment may be written, the vector's type
+/// matches and its capacity has room. Otherwise nothing changes, and it returns false; `vec_push` then says why, or
+/// lengthens the storage.
 ///
-/// Example: `let was_pushed = push_within(&mut segment, &name, 4i64)`.
+/// Example: `let was_pushed = push_within(&mut segment, handle, 4i64)`.
+///
+/// # Conditions
+///
+/// An object of the segment has the handle. `vec_push` has no condition.
 #[inline(always)]
-pub fn push_within<T: Scalar, O: ObjectRef>(segment: &mut Segment, key: &O, value: T) -> bool
-    requires { O.stands key.now segment.old }
-    ensures step { result ≡ true → TakesStepOfKind segment.old segment.new (O.key key.now) (VectorOf T.kind)
-        (Push (O.key key.now) (literal_of T.kind (T.whole value))) Done }
+pub fn push_within<T: Scalar>(segment: &mut Segment, handle: Handle, value: T) -> bool
+    requires { AnswersWith segment.old (λ d. is_object_at d handle) true }
+    ensures step { result ≡ true → TakesStepOfKind segment.old segment.new (ByHandle handle) (VectorOf T.kind)
+        (Push (ByHandle handle) (literal_of T.kind (T.whole value))) Done }
     ensures refused { result ≡ false → segment.new ≡ segment.old }
 {
-    let Ok(mut vector) = VectorMut::<T>::of(segment, key) else {
+    if segment.is_read_only() {
+        return false;
+    }
+    let Ok(object) = object_of_kind(segment, handle, Kind::Vector(T::kind())) else {
         return false;
     };
+    let mut vector = VectorMut::<T>::at(segment, object);
     let (len, capacity) = vector.read().measure();
     if len >= capacity {
         return false;

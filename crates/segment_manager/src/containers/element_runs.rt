@@ -6,7 +6,8 @@ ghost use Rattle.offset_link.specs.Link.{link_at};
 ghost use Rattle.best_fit.specs.Heap.{IsHeap, has_room, live_of};
 ghost use Rattle.segment_manager.specs.containers.ElementRuns.{IsRunOf, run_at, run_of};
 ghost use Rattle.segment_manager.specs.{Directory.Object as DirectoryObject, State.AnswersWith};
-ghost use Rattle.segment_manager.specs.{objects.Located.located, objects.Standing.HasObject};
+ghost use Rattle.segment_manager.specs.{objects.Located.IsObject, objects.Located.located};
+ghost use Rattle.segment_manager.specs.{objects.BoundObjects.key_of, objects.Standing.HasObject};
 ghost use Rattle.segment_manager.specs.{objects.Standing.IsObjectInBlock};
 
 use crate::objects::object_ref::{Object, ObjectRef};
@@ -36,15 +37,35 @@ impl Segment {
     /// `NotFound` if no object has the key, `WrongKind` if its elements are not scalars.
     #[inline(always)]
     pub fn element_run<O: ObjectRef>(&self, key: &O) -> Result<ElementRun, Refusal>
-        requires { O.stands key.now self.now }
         ensures run { AnswersWith self.now (λ d. run_at d (O.key key.now)) result }
         ensures bytes { IfOk result (λ run. IsRunOf self.now (O.key key.now) run) }
     {
         match key.find(self) {
             None => Err(Refusal::NotFound),
-            Some(object) => read_run(&self.heap, object),
+            Some(object) => element_run_of(self, object),
         }
     }
+}
+
+/// Returns the place of a located object's elements in the image. The object is an array of scalars, a vector of
+/// scalars or a string. The place is valid until a call moves the elements.
+///
+/// Example: `let run = element_run_of(&segment, object)?`.
+///
+/// # Errors
+///
+/// `WrongKind` if its elements are not scalars.
+///
+/// # Conditions
+///
+/// The object is there. `Segment::element_run` looks it up and has no condition.
+#[inline(always)]
+pub fn element_run_of(segment: &Segment, object: Object) -> Result<ElementRun, Refusal>
+    requires { IsObject object segment.now }
+    ensures run { AnswersWith segment.now (λ d. run_at d (key_of object)) result }
+    ensures bytes { IfOk result (λ run. IsRunOf segment.now (key_of object) run) }
+{
+    read_run(&segment.heap, object)
 }
 
 /// Returns the place of an object's elements.

@@ -25,7 +25,6 @@ impl Segment {
         key: &O,
         at: K,
     ) -> Result<Option<V>, Refusal>
-        requires { O.stands key.now self.now }
         ensures { AnswersQueryOfKind self.now (O.key key.now) (MapOf K.kind V.kind)
             (Lookup (O.key key.now) (literal_of K.kind (K.whole at))) (value_answer V.kind V.whole result) }
     {
@@ -45,7 +44,6 @@ impl Segment {
         key: &O,
         from: K,
     ) -> Result<Option<(K, V)>, Refusal>
-        requires { O.stands key.now self.now }
         ensures { AnswersWith self.now (λ d. answer_of_map d (O.key key.now) K.kind V.kind (pair_from (K.whole from)))
             (pair_result K.whole V.whole result) }
     {
@@ -64,7 +62,6 @@ impl Segment {
         key: &O,
         after: K,
     ) -> Result<Option<(K, V)>, Refusal>
-        requires { O.stands key.now self.now }
         ensures { AnswersWith self.now (λ d. answer_of_map d (O.key key.now) K.kind V.kind (pair_above (K.whole after)))
             (pair_result K.whole V.whole result) }
     {
@@ -89,7 +86,6 @@ impl Segment {
         at: K,
         value: V,
     ) -> Result<bool, Refusal>
-        requires { O.stands key.now self.old }
         ensures step { TakesStepOfKind self.old self.new (O.key key.now) (MapOf K.kind V.kind)
             (Put (O.key key.now) (literal_of K.kind (K.whole at)) (literal_of V.kind (V.whole value)))
             (truth_answer result) }
@@ -113,7 +109,6 @@ impl Segment {
         key: &O,
         at: K,
     ) -> Result<bool, Refusal>
-        requires { O.stands key.now self.old }
         ensures step { TakesStepOfKind self.old self.new (O.key key.now) (MapOf K.kind V.kind)
             (Remove (O.key key.now) (literal_of K.kind (K.whole at))) (truth_answer result) }
         ensures refused { OnErr result (self.new ≡ self.old) }

@@ -1,17 +1,19 @@
 //! The capacity of vectors, strings and vectors of strings, and the number of elements of containers.
-ghost use Rattle.std.specs.Prelude.{◌≡◌, OnErr, true};
+ghost use Rattle.std.specs.Prelude.{◌≡◌, Ok, OnErr, false, true};
 ghost use Rattle.seg_types.specs.declared.kinds.Kind.TheVariants.{Map as MapOf, Vector as VectorOf};
 ghost use Rattle.seg_types.specs.declared.kinds.Kind.TheVariants.{Strings as StringsKind};
 ghost use Rattle.seg_types.specs.Commands.{Clear, Reserve, Shrink};
-ghost use Rattle.segment_manager.specs.containers.Contents.{has_sizes, sizes_at, sizes_at_kind};
+ghost use Rattle.segment_manager.specs.containers.Contents.{has_sizes, sizes_at};
 ghost use Rattle.segment_manager.specs.{Keeping.HasCapacity, containers.Stored.HasEnough, containers.Stored.command_of};
 ghost use Rattle.segment_manager.specs.{Keeping.UnchangedWhere, State.AnswersWith, State.TakesStep, State.done_answer};
 ghost use Rattle.segment_manager.specs.objects.ElementLists.{array_length_at, length_at_kind};
+ghost use Rattle.segment_manager.specs.{Step.is_read_only, objects.BoundObjects.key_of, objects.Located.IsObject};
 
+use crate::bound::maps::Map;
 use crate::bound::slices::{Array, Vector};
 use crate::bound::texts::Strings;
 use crate::containers::storages::{Change, change_elements, change_texts, element_len};
-use crate::objects::object_ref::{ObjectRef, locate};
+use crate::objects::object_ref::{Object, ObjectRef, locate};
 use crate::segment::Segment;
 use seg_types::{Kind, Refusal, Scalar};
 use seg_vector::SegTexts;
@@ -30,28 +32,10 @@ impl Segment {
     ///
     /// `NotFound` if no object has the key, `WrongKind` if the object is no container.
     pub fn measure<O: ObjectRef>(&self, key: &O) -> Result<(u64, u64), Refusal>
-        requires { O.stands key.now self.now }
         ensures { AnswersWith self.now (λ d. sizes_at d (O.key key.now)) result }
     {
         let object = locate(self, key)?;
-        match object.kind {
-            Kind::Scalar(_) => Err(Refusal::WrongKind),
-            kind => self.measure_kind(&object, kind),
-        }
-    }
-
-    /// Returns the length and the capacity of a container of a kind.
-    fn measure_kind<O: ObjectRef>(&self, key: &O, kind: Kind) -> Result<(u64, u64), Refusal>
-        requires target { O.stands key.now self.now }
-        requires container { has_sizes kind ≡ true }
-        ensures { AnswersWith self.now (λ d. sizes_at_kind d (O.key key.now) kind) result }
-    {
-        let place = self.find_container(key, kind)?;
-        let len = self.heap.word(place.handle, place.at + LEN);
-        match kind {
-            Kind::Map(_, _) => Ok((len, 0)),
-            _ => Ok((len, self.heap.word(place.handle, place.at + CAPACITY))),
-        }
+        measure_object(self, object)
     }
 
     /// Grows the capacity of the vector or string to at least `n` elements.
@@ -64,7 +48,6 @@ impl Segment {
     /// object has no storage, `NoSpace` if its storage cannot be regrown. Nothing changes.
     #[inline(never)]
     pub fn reserve<O: ObjectRef>(&mut self, key: &O, n: u64) -> Result<(), Refusal>
-        requires { O.stands key.now self.old }
         ensures step { TakesStep self.old self.new (Reserve (O.key key.now) n) (done_answer result) }
         ensures refused { OnErr result (self.new ≡ self.old) }
         ensures noop { UnchangedWhere self.old self.new (HasCapacity (O.key key.now) n) }
@@ -82,7 +65,6 @@ impl Segment {
     /// object has no storage. Nothing changes.
     #[inline(never)]
     pub fn shrink<O: ObjectRef>(&mut self, key: &O) -> Result<(), Refusal>
-        requires { O.stands key.now self.old }
         ensures step { TakesStep self.old self.new (Shrink (O.key key.now)) (done_answer result) }
         ensures refused { OnErr result (self.new ≡ self.old) }
     {
@@ -99,17 +81,15 @@ impl Segment {
     /// object has no storage. Nothing changes.
     #[inline(never)]
     pub fn clear<O: ObjectRef>(&mut self, key: &O) -> Result<(), Refusal>
-        requires { O.stands key.now self.old }
         ensures step { TakesStep self.old self.new (Clear (O.key key.now)) (done_answer result) }
         ensures refused { OnErr result (self.new ≡ self.old) }
     {
         self.change_storage(key, Change::Clear)
     }
 
-    /// Changes the storage of the vector or string. It is inlined, so the choice of the change costs no test.
+    /// Changes the storage of the vector or string.
     #[inline(always)]
     fn change_storage<O: ObjectRef>(&mut self, key: &O, change: Change) -> Result<(), Refusal>
-        requires { O.stands key.now self.old }
         ensures step { TakesStep self.old self.new (command_of change (O.key key.now)) (done_answer result) }
         ensures refused { OnErr result (self.new ≡ self.old) }
         ensures noop { UnchangedWhere self.old self.new (HasEnough change (O.key key.now)) }
@@ -118,17 +98,7 @@ impl Segment {
             return Err(Refusal::ReadOnly);
         }
         let object = locate(self, key)?;
-        match object.kind {
-            Kind::Scalar(_) | Kind::Map(_, _) => Err(Refusal::WrongKind),
-            Kind::Strings => {
-                let place = self.find_container(&object, Kind::Strings)?;
-                change_texts(&mut self.heap, SegTexts { place }, change)
-            }
-            kind => {
-                let place = self.find_container(&object, kind)?;
-                change_elements(&mut self.heap, place, element_len(kind), change)
-            }
-        }
+        change_object(self, object, change)
     }
 
     /// Returns the number of elements of the array of scalars; a single scalar is an array of 1. The array's type must
@@ -140,7 +110,6 @@ impl Segment {
     ///
     /// `NotFound` if no object has the key, `WrongKind` if the object has another kind.
     pub fn array_len<T: Scalar, O: ObjectRef>(&self, key: &O) -> Result<u64, Refusal>
-        requires { O.stands key.now self.now }
         ensures { AnswersWith self.now (λ d. array_length_at d (O.key key.now) T.kind) result }
     {
         Ok(Array::<T>::of(self, key)?.len())
@@ -154,7 +123,6 @@ impl Segment {
     ///
     /// `NotFound` if no object has the key, `WrongKind` if the object has another kind.
     pub fn vec_len<T: Scalar, O: ObjectRef>(&self, key: &O) -> Result<u64, Refusal>
-        requires { O.stands key.now self.now }
         ensures { AnswersWith self.now (λ d. length_at_kind d (O.key key.now) (VectorOf T.kind)) result }
     {
         Ok(Vector::<T>::of(self, key)?.len())
@@ -168,7 +136,6 @@ impl Segment {
     ///
     /// `NotFound` if no object has the key, `WrongKind` if the object has another kind.
     pub fn texts_len<O: ObjectRef>(&self, key: &O) -> Result<u64, Refusal>
-        requires { O.stands key.now self.now }
         ensures { AnswersWith self.now (λ d. length_at_kind d (O.key key.now) StringsKind) result }
     {
         Ok(Strings::of(self, key)?.len())
@@ -182,9 +149,84 @@ impl Segment {
     ///
     /// `NotFound` if no object has the key, `WrongKind` if the object has another kind.
     pub fn map_len<K: Scalar, V: Scalar, O: ObjectRef>(&self, key: &O) -> Result<u64, Refusal>
-        requires { O.stands key.now self.now }
         ensures { AnswersWith self.now (λ d. length_at_kind d (O.key key.now) (MapOf K.kind V.kind)) result }
     {
-        Ok(self.measure_kind(key, Kind::Map(K::kind(), V::kind()))?.0)
+        Ok(Map::<K, V>::of(self, key)?.len())
+    }
+}
+
+/// Changes the storage of a located vector or string. It is inlined, so the choice of the change costs no test.
+#[inline(always)]
+fn change_object(segment: &mut Segment, object: Object, change: Change) -> Result<(), Refusal>
+    requires object { IsObject object segment.old }
+    requires writing { is_read_only segment.old.mode ≡ false }
+    ensures step { TakesStep segment.old segment.new (command_of change (key_of object)) (done_answer result) }
+    ensures refused { OnErr result (segment.new ≡ segment.old) }
+    ensures noop { UnchangedWhere segment.old segment.new (HasEnough change (key_of object)) }
+{
+    let place = object.own_container();
+    match object.kind {
+        Kind::Scalar(_) | Kind::Map(_, _) => Err(Refusal::WrongKind),
+        Kind::Strings => change_texts(&mut segment.heap, SegTexts { place }, change),
+        kind => change_elements(&mut segment.heap, place, element_len(kind), change),
+    }
+}
+
+/// Grows the capacity of a located vector or string to at least `n` elements.
+///
+/// Example: `reserve_object(&mut segment, object, 1000)?`.
+///
+/// # Errors
+///
+/// As `Segment::reserve`, but for `NotFound`. Nothing changes.
+///
+/// # Conditions
+///
+/// The object is there. `Segment::reserve` looks it up and has no condition.
+#[inline(never)]
+pub fn reserve_object(segment: &mut Segment, object: Object, n: u64) -> Result<(), Refusal>
+    requires { IsObject object segment.old }
+    ensures step { TakesStep segment.old segment.new (Reserve (key_of object) n) (done_answer result) }
+    ensures refused { OnErr result (segment.new ≡ segment.old) }
+    ensures noop { UnchangedWhere segment.old segment.new (HasCapacity (key_of object) n) }
+{
+    if segment.is_read_only() {
+        return Err(Refusal::ReadOnly);
+    }
+    change_object(segment, object, Change::Reserve(n))
+}
+
+/// Returns the length and the capacity of a located vector or string, or the number of a map's pairs and 0.
+///
+/// Example: `let (count, places) = measure_object(&segment, object)?`.
+///
+/// # Errors
+///
+/// `WrongKind` if the object is no container.
+///
+/// # Conditions
+///
+/// The object is there. `Segment::measure` looks it up and has no condition.
+pub fn measure_object(segment: &Segment, object: Object) -> Result<(u64, u64), Refusal>
+    requires { IsObject object segment.now }
+    ensures { AnswersWith segment.now (λ d. sizes_at d (key_of object)) result }
+{
+    match object.kind {
+        Kind::Scalar(_) => Err(Refusal::WrongKind),
+        _ => Ok(measure_container(segment, object)),
+    }
+}
+
+/// Returns the length and the capacity of a located container.
+fn measure_container(segment: &Segment, object: Object) -> (u64, u64)
+    requires object { IsObject object segment.now }
+    requires container { has_sizes object.kind ≡ true }
+    ensures { AnswersWith segment.now (λ d. sizes_at d (key_of object)) (Ok result) }
+{
+    let place = object.own_container();
+    let len = segment.heap.word(place.handle, place.at + LEN);
+    match object.kind {
+        Kind::Map(_, _) => (len, 0),
+        _ => (len, segment.heap.word(place.handle, place.at + CAPACITY)),
     }
 }

@@ -23,7 +23,6 @@ impl Segment {
     ///
     /// `NotFound` and `WrongKind` as `Strings::of`, `OutOfRange` as its `get`.
     pub fn texts_get<O: ObjectRef>(&self, key: &O, index: u64) -> Result<&[u8], Refusal>
-        requires { O.stands key.now self.now }
         ensures { AnswersQueryOfKind self.now (O.key key.now) StringsKind
             (Get (O.key key.now) index) (answer_of (λ text. TextElement text.now) result) }
     {
@@ -43,7 +42,6 @@ impl Segment {
         index: u64,
         text: &[u8],
     ) -> Result<(), Refusal>
-        requires { O.stands key.now self.old }
         ensures step { TakesStepOfKind self.old self.new (O.key key.now) StringsKind
             (Set (O.key key.now) index (Quoted text.now)) (done_answer result) }
         ensures refused { OnErr result (self.new ≡ self.old) }
@@ -59,7 +57,6 @@ impl Segment {
     ///
     /// `ReadOnly`, `NotFound` and `WrongKind` as `StringsMut::of`: nothing changes. `NoSpace` as its `push`.
     pub fn texts_push<O: ObjectRef>(&mut self, key: &O, text: &[u8]) -> Result<(), Refusal>
-        requires { O.stands key.now self.old }
         ensures step { TakesStepOfKind self.old self.new (O.key key.now) StringsKind
             (Push (O.key key.now) (Quoted text.now)) (done_answer result) }
         ensures refused { UnchangedIfRefused self.old self.new result }
@@ -76,7 +73,6 @@ impl Segment {
     ///
     /// `ReadOnly`, `NotFound` and `WrongKind` as `StringsMut::of`: nothing changes. `NoSpace` as its `assign`.
     pub fn texts_assign<O: ObjectRef>(&mut self, key: &O, texts: &[&[u8]]) -> Result<(), Refusal>
-        requires { O.stands key.now self.old }
         ensures step { TakesStepOfKind self.old self.new (O.key key.now) StringsKind
             (Assign (O.key key.now) (map Quoted (map (λ text. text.now) texts.now))) (done_answer result) }
         ensures refused { UnchangedIfRefused self.old self.new result }
@@ -93,7 +89,6 @@ impl Segment {
     ///
     /// `ReadOnly`, `NotFound` and `WrongKind` as `StringsMut::of`, `OutOfRange` if it is empty. Nothing changes.
     pub fn texts_pop<O: ObjectRef>(&mut self, key: &O) -> Result<(), Refusal>
-        requires { O.stands key.now self.old }
         ensures step { LeadsOnOfKind self.old self.new (O.key key.now) StringsKind (Pop (O.key key.now))
             (refusal_in result) }
         ensures refused { OnErr result (self.new ≡ self.old) }
@@ -114,7 +109,6 @@ impl Segment {
         index: u64,
         text: &[u8],
     ) -> Result<(), Refusal>
-        requires { O.stands key.now self.old }
         ensures step { TakesStepOfKind self.old self.new (O.key key.now) StringsKind
             (Insert (O.key key.now) index (Quoted text.now)) (done_answer result) }
         ensures refused { UnchangedIfRefused self.old self.new result }
@@ -131,7 +125,6 @@ impl Segment {
     ///
     /// `ReadOnly`, `NotFound` and `WrongKind` as `StringsMut::of`, `OutOfRange` as its `erase`. Nothing changes.
     pub fn texts_erase<O: ObjectRef>(&mut self, key: &O, index: u64) -> Result<(), Refusal>
-        requires { O.stands key.now self.old }
         ensures step { TakesStepOfKind self.old self.new (O.key key.now) StringsKind
             (Erase (O.key key.now) index) (done_answer result) }
         ensures refused { OnErr result (self.new ≡ self.old) }

@@ -21,7 +21,6 @@ impl Segment {
     ///
     /// `NotFound` if no object has the key, `WrongKind` if the object is no string.
     pub fn string_bytes<O: ObjectRef>(&self, key: &O) -> Result<&[u8], Refusal>
-        requires { O.stands key.now self.now }
         ensures { MatchResult result (λ bytes. AnswersWith self.now (λ d. bytes_at d (O.key key.now)) (Ok bytes.now))
             (λ why. AnswersWith self.now (λ d. bytes_at d (O.key key.now)) (Err why)) }
     {
@@ -36,7 +35,6 @@ impl Segment {
     ///
     /// `ReadOnly`, `NotFound` and `WrongKind` as `StringMut::of`, `OutOfRange` as its `set`. Nothing changes.
     pub fn string_set<O: ObjectRef>(&mut self, key: &O, index: u64, byte: u8) -> Result<(), Refusal>
-        requires { O.stands key.now self.old }
         ensures step { TakesStepOfKind self.old self.new (O.key key.now) StringKind
             (Set (O.key key.now) index (literal_of ByteKind (pos byte))) (done_answer result) }
         ensures refused { OnErr result (self.new ≡ self.old) }
@@ -53,7 +51,6 @@ impl Segment {
     ///
     /// `ReadOnly`, `NotFound` and `WrongKind` as `StringMut::of`, `NoSpace` as its `append`. Nothing changes.
     pub fn string_append<O: ObjectRef>(&mut self, key: &O, bytes: &[u8]) -> Result<(), Refusal>
-        requires { O.stands key.now self.old }
         ensures step { TakesStepOfKind self.old self.new (O.key key.now) StringKind
             (Append (O.key key.now) bytes.now) (done_answer result) }
         ensures refused { OnErr result (self.new ≡ self.old) }
@@ -70,7 +67,6 @@ impl Segment {
     ///
     /// `ReadOnly`, `NotFound` and `WrongKind` as `StringMut::of`, `NoSpace` as its `assign`. Nothing changes.
     pub fn string_assign<O: ObjectRef>(&mut self, key: &O, bytes: &[u8]) -> Result<(), Refusal>
-        requires { O.stands key.now self.old }
         ensures step { TakesStepOfKind self.old self.new (O.key key.now) StringKind
             (Assign (O.key key.now) (Quoted bytes.now ∷ [])) (done_answer result) }
         ensures refused { OnErr result (self.new ≡ self.old) }

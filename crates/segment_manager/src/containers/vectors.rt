@@ -22,7 +22,6 @@ impl Segment {
     /// `NotFound` if no object has the key, `WrongKind` if the object has another kind, `OutOfRange` if `index` is not
     /// below the length.
     pub fn vec_get<T: Scalar, O: ObjectRef>(&self, key: &O, index: u64) -> Result<T, Refusal>
-        requires { O.stands key.now self.now }
         ensures { AnswersQueryOfKind self.now (O.key key.now) (VectorOf T.kind)
             (Get (O.key key.now) index) (answer_of (λ x. Element T.kind (T.whole x)) result) }
     {
@@ -43,7 +42,6 @@ impl Segment {
         index: u64,
         value: T,
     ) -> Result<(), Refusal>
-        requires { O.stands key.now self.old }
         ensures step { TakesStepOfKind self.old self.new (O.key key.now) (VectorOf T.kind)
             (Set (O.key key.now) index (literal_of T.kind (T.whole value))) (done_answer result) }
         ensures refused { OnErr result (self.new ≡ self.old) }
@@ -62,7 +60,6 @@ impl Segment {
     /// `ReadOnly` if the segment is open for reading. Otherwise `NotFound` if no object has the key, `WrongKind` if the
     /// object has another kind, `NoSpace` if it is full and its storage cannot be regrown. Nothing changes.
     pub fn vec_push<T: Scalar, O: ObjectRef>(&mut self, key: &O, value: T) -> Result<(), Refusal>
-        requires { O.stands key.now self.old }
         ensures step { TakesStepOfKind self.old self.new (O.key key.now) (VectorOf T.kind)
             (Push (O.key key.now) (literal_of T.kind (T.whole value))) (done_answer result) }
         ensures refused { OnErr result (self.new ≡ self.old) }
@@ -85,7 +82,6 @@ impl Segment {
         key: &O,
         values: &[T],
     ) -> Result<(), Refusal>
-        requires { O.stands key.now self.old }
         ensures step { TakesStepOfKind self.old self.new (O.key key.now) (VectorOf T.kind)
             (Assign (O.key key.now) (map (literal_of T.kind) (map T.whole values.now))) (done_answer result) }
         ensures refused { OnErr result (self.new ≡ self.old) }
@@ -103,7 +99,6 @@ impl Segment {
     /// `ReadOnly` if the segment is open for reading. Otherwise `NotFound` if no object has the key, `WrongKind` if the
     /// object has another kind, `OutOfRange` if it is empty. Nothing changes.
     pub fn vec_pop<T: Scalar, O: ObjectRef>(&mut self, key: &O) -> Result<T, Refusal>
-        requires { O.stands key.now self.old }
         ensures step { TakesStepOfKind self.old self.new (O.key key.now) (VectorOf T.kind)
             (Pop (O.key key.now)) (answer_of (λ x. Element T.kind (T.whole x)) result) }
         ensures refused { OnErr result (self.new ≡ self.old) }
@@ -131,7 +126,6 @@ impl Segment {
         index: u64,
         value: T,
     ) -> Result<(), Refusal>
-        requires { O.stands key.now self.old }
         ensures step { TakesStepOfKind self.old self.new (O.key key.now) (VectorOf T.kind)
             (Insert (O.key key.now) index (literal_of T.kind (T.whole value))) (done_answer result) }
         ensures refused { OnErr result (self.new ≡ self.old) }
@@ -150,7 +144,6 @@ impl Segment {
     /// `ReadOnly` if the segment is open for reading. Otherwise `NotFound` if no object has the key, `WrongKind` if the
     /// object has another kind, `OutOfRange` if `index` is not below the length. Nothing changes.
     pub fn vec_erase<T: Scalar, O: ObjectRef>(&mut self, key: &O, index: u64) -> Result<(), Refusal>
-        requires { O.stands key.now self.old }
         ensures step { TakesStepOfKind self.old self.new (O.key key.now) (VectorOf T.kind)
             (Erase (O.key key.now) index) (done_answer result) }
         ensures refused { OnErr result (self.new ≡ self.old) }

@@ -20,7 +20,6 @@ impl Segment {
     /// `NotFound` if no object has the key, `WrongKind` if the object has another kind, `OutOfRange` if `index` is not
     /// below the length.
     pub fn get<T: Scalar, O: ObjectRef>(&self, key: &O, index: u64) -> Result<T, Refusal>
-        requires { O.stands key.now self.now }
         ensures { AnswersQueryOfKind self.now (O.key key.now) (ScalarOf T.kind) (Get (O.key key.now) index)
             (answer_of (λ x. Element T.kind (T.whole x)) result) }
     {
@@ -41,7 +40,6 @@ impl Segment {
         index: u64,
         value: T,
     ) -> Result<(), Refusal>
-        requires { O.stands key.now self.old }
         ensures step { TakesStepOfKind self.old self.new (O.key key.now) (ScalarOf T.kind)
             (Set (O.key key.now) index (literal_of T.kind (T.whole value))) (done_answer result) }
         ensures refused { OnErr result (self.new ≡ self.old) }

@@ -42,7 +42,6 @@ impl Segment {
     ///
     /// `NotFound` if no object has the key.
     pub fn instance<O: ObjectRef>(&self, key: &O) -> Result<Instance<'_>, Refusal>
-        requires { O.stands key.now self.now }
         ensures { MatchResult result (λ said. SaysOf self.now (O.key key.now) said)
             (IsMissing self.now (O.key key.now)) }
     {

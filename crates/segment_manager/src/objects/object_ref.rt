@@ -1,11 +1,11 @@
-//! References to the object of a call: a key, which is looked up, or a located object.
-ghost use Rattle.std.specs.Prelude.{◌≡◌, ⊤, MatchResult, true};
+//! The objects of keys.
+ghost use Rattle.std.specs.Prelude.{◌≡◌, ◌+◌, ◌*◌, ◌≤◌, MatchResult, true};
+ghost use Rattle.seg_types.specs.Kinds.{size_of};
 ghost use Rattle.seg_types.specs.{Keys.key_seen, Keys.name_seen, Names.ByHandle, Names.ByName, Names.Key as AnyKey};
 ghost use Rattle.segment_manager.specs.{Directory.Object as DirectoryObject, objects.Found.is_object_at};
 ghost use Rattle.segment_manager.specs.{objects.Instances.IsMissing, objects.Standing.HasObject, State.AnswersWith};
-ghost use Rattle.segment_manager.specs.{objects.Standing.IsObjectInBlock, State.SegmentState};
-ghost use Rattle.segment_manager.specs.objects.Located.{IsLocated, IsObject, container_in, element_in, located};
-ghost use Rattle.segment_manager.specs.objects.Located.{located_at, value_offset};
+ghost use Rattle.segment_manager.specs.objects.Standing.{IsObjectInBlock};
+ghost use Rattle.segment_manager.specs.objects.Located.{IsLocated, element_in, located, located_at, value_offset};
 ghost use Rattle.segment_manager.specs.objects.BoundObjects.{container_of};
 
 use crate::layout::value_at;
@@ -14,7 +14,8 @@ use crate::segment::Segment;
 use best_fit::{Heap, Place};
 use seg_types::{Handle, Key, Kind, Name, Refusal, ScalarKind};
 
-/// A located object of a segment. It refers to the object with its handle until that is destroyed.
+/// A located object of a segment. It refers to the object with its handle until that is destroyed: no call on elements
+/// removes it, but `destroy` and `destroy_ptr` do.
 #[derive(Clone, Copy, Debug, PartialEq, Eq, Hash)]
 pub struct Object {
     /// Its handle.
@@ -35,23 +36,6 @@ impl Object {
         value_at(u64::from(self.name_len))
     }
 
-    /// Returns the place of its container.
-    ///
-    /// # Errors
-    ///
-    /// `WrongKind` if it has another kind.
-    #[inline(always)]
-    pub(crate) fn container(self, kind: Kind) -> Result<Place, Refusal>
-        ensures { result ≡ container_in self kind }
-    {
-        let wanted = kind.code();
-        let own = self.kind.code();
-        if wanted != own {
-            return Err(Refusal::WrongKind);
-        }
-        Ok(self.own_container())
-    }
-
     /// Returns the place of its container, if it has one.
     pub(crate) fn own_container(self) -> Place
         ensures { result ≡ container_of self }
@@ -60,6 +44,15 @@ impl Object {
             handle: self.handle,
             at: self.value_at(),
         }
+    }
+
+    /// Returns the offset of the element at `index` from its handle, for an array of scalars of the kind.
+    #[inline(always)]
+    pub(crate) fn element_at(self, kind: ScalarKind, index: u64) -> u64
+        requires { index ≤ self.count }
+        ensures { result ≡ value_offset self + size_of kind * index }
+    {
+        self.value_at() + kind.size() * index
     }
 
     /// Returns the place of an element of an array of scalars of the kind.
@@ -76,35 +69,23 @@ impl Object {
         }
         Ok(Place {
             handle: self.handle,
-            at: self.value_at() + kind.size() * index,
+            at: self.element_at(kind, index),
         })
     }
 }
 
-/// A reference to the object of a call. A key is looked up at each call; a located object is not.
-///
-/// # Conditions
-///
-/// A key and a name have none. A located object must be an object of the segment and still exist: no call on elements
-/// removes it, but `destroy` and `destroy_ptr` do. `Bound` and `BoundMut` ensure this.
+/// A key of the object of a call, which is looked up at each call. `Bound` and `BoundMut` look it up once.
 pub trait ObjectRef {
     // The key by which commands name the object.
     ghost key: { Self → AnyKey };
 
-    // Whether it can be used in a segment.
-    ghost stands: { Self → SegmentState → Type 0 };
-
     /// Returns the object in a segment, or `None` if there is none.
     fn find(&self, segment: &Segment) -> Option<Object>
-        requires { stands self.now segment.now }
         ensures { AnswersWith segment.now (λ d. located_at d (key self.now)) result };
 }
 
 impl ObjectRef for Key<'_> {
     ghost key = { key_seen };
-
-    // A key can be used in each segment.
-    ghost stands = { λ key s. ⊤ };
 
     fn find(&self, segment: &Segment) -> Option<Object> {
         segment.object_of(self)
@@ -114,22 +95,8 @@ impl ObjectRef for Key<'_> {
 impl ObjectRef for Name<'_> {
     ghost key = { λ name. ByName (name_seen name) };
 
-    // A name can be used in each segment.
-    ghost stands = { λ name s. ⊤ };
-
     fn find(&self, segment: &Segment) -> Option<Object> {
         segment.object_of(&Key::Name(*self))
-    }
-}
-
-impl ObjectRef for Object {
-    ghost key = { λ o. ByHandle o.handle };
-
-    // A located object can be used in the segment that has it.
-    ghost stands = { λ o s. IsObject o s };
-
-    fn find(&self, _segment: &Segment) -> Option<Object> {
-        Some(*self)
     }
 }
 
@@ -161,7 +128,7 @@ fn read_object(heap: &Heap, handle: Handle) -> Object
     }
 }
 
-/// Looks the object of a key up. Calls with the result make no look-up.
+/// Looks the object of a key up. `Bound::at` and `BoundMut::at` make no look-up.
 ///
 /// Example: `let object = locate(&segment, &name)?`.
 ///
@@ -169,7 +136,6 @@ fn read_object(heap: &Heap, handle: Handle) -> Object
 ///
 /// `NotFound` if no object has the key.
 pub fn locate<O: ObjectRef>(segment: &Segment, key: &O) -> Result<Object, Refusal>
-    requires { O.stands key.now segment.now }
     ensures { MatchResult result (IsLocated segment.now (O.key key.now)) (IsMissing segment.now (O.key key.now)) }
 {
     match key.find(segment) {

@@ -1,7 +1,8 @@
--- The kind of the key's object decides which call it is.
-use Rattle.segment_manager.proofs.{Common.refl, objects.Locating.located-measures}
+-- What is read of the object that is found holds of the key.
+use Rattle.segment_manager.proofs.Common.{Err, None, NotFound, Refusal, Result, Some, sizes_of, ℕ}
+use Rattle.segment_manager.proofs.objects.Locating.{told-by_key}
 use Rattle.segment_manager.proofs.segment.Segment.measure.Goals as goal
 
-pub returns-in_default : goal.returns-in_default
-returns-in_default g c = located-measures c.args.self.now (g.O.ObjectRef.key c.args.key.now) c.in_ok-object.object
-    c.in_ok-object.ensures c.in_ok-object.object.kind c.measure_kind.result refl c.measure_kind.ensures
+pub returns : goal.returns
+returns g c = told-by_key _ _ _ c.in_ok-object.ensures (λ d q. elim q as (λ _. Result (ℕ × ℕ) Refusal)
+    [ None ↦ Err NotFound | Some o ↦ sizes_of o.value ]) _ c.measure_object.ensures

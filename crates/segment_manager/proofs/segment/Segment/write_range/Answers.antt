@@ -1,10 +1,14 @@
 -- The object's kind decides which call it is, and a write for its handle is a write for the key.
 use Rattle.segment_manager.proofs.segment.Segment.write_range.Goals as goal
-use Rattle.segment_manager.proofs.Common.{exit-is, sym, ◌∙◌, length, map, done_answer}
+use Rattle.segment_manager.proofs.Common.{exit-is, ◌≡◌, rules, sym, ◌∙◌, ℕ, ℤ, List, map, Answer, Key, ByHandle}
+use Rattle.segment_manager.proofs.Common.{IsLocated, Located, ScalarKind, SegmentState, Refused, WrongKind, Vector}
+use Rattle.segment_manager.proofs.Common.{Scalar, ap, false, is_read_only}
+use Rattle.segment_manager.proofs.bound.ByKey.{of-change}
+use Rattle.segment_manager.specs.containers.Ranges.{WritesRange}
 use Rattle.best_fit.proofs.Laws.{gaps-refl}
 use Rattle.segment_manager.proofs.objects.Locating.{located-here}
-use Rattle.segment_manager.proofs.containers.RangeCalls.{but-by_key, on_ok, on_ok-map, range-by_key, range-reading}
-use Rattle.segment_manager.proofs.containers.RangeCalls.{range-stays, vector-but, why-missing}
+use Rattle.segment_manager.proofs.containers.RangeCalls.{other-kind, range-by_key}
+use Rattle.segment_manager.proofs.containers.RangeCalls.{range-reading, range-stays, why-missing}
 
 pub returns-then-is_read_only-clause-step : goal.returns-then-is_read_only-clause-step
 returns-then-is_read_only-clause-step g c =
@@ -25,36 +29,38 @@ returns-then-is_read_only-clause-gaps g c = gaps-refl _
 pub returns-in_err-object-clause-gaps : goal.returns-in_err-object-clause-gaps
 returns-in_err-object-clause-gaps g c = gaps-refl _
 
-pub write_in_vector-requires : goal.write_in_vector-requires
-write_in_vector-requires g c = record {
-  object = located-here _ _ _ c.in_ok-object.ensures;
-  writing = sym c.is_read_only.ensures ∙ c.if-is_read_only.false;
-  vector = (c.in-Vector.field-0, c.in-Vector.is);
-}
+-- the write to the bound object, under the key
+of-key : {s t new last : SegmentState} {key : Key} {o p q : Located} → IsLocated s key o → q ≡ o → p ≡ q → t ≡ s
+    → new ≡ last → (k : ScalarKind) (first : ℕ) (zs : List ℤ) {answer : Answer}
+    → WritesRange t new (ByHandle p.handle) k first zs answer → WritesRange s last key k first zs answer
+of-key {s} {last = last} {key} {o} l e f same ends k first zs {answer} m = range-by_key s last key o l k first zs answer
+    (of-change (λ (r : Located) (u v : SegmentState). WritesRange u v (ByHandle r.handle) k first zs answer) (f ∙ e)
+    same ends m)
 
-pub write_in_array-requires : goal.write_in_array-requires
-write_in_array-requires g c = record {
-  object = located-here _ _ _ c.in_ok-object.ensures;
-  writing = sym c.is_read_only.ensures ∙ c.if-is_read_only.false;
-  kind = c.in_default.not-Vector;
-}
+-- the object is neither an array nor a vector of the kind
+other-by_key : {s : SegmentState} {key : Key} {o : Located} → IsLocated s key o → (k : ScalarKind) (first : ℕ)
+    (zs : List ℤ) → is_read_only s.mode ≡ false → (o.kind ≡ Vector k → ⊥) → (o.kind ≡ Scalar k → ⊥)
+    → WritesRange s s key k first zs (Refused WrongKind)
+other-by_key {s} {key} {o} l k first zs writing vector array = range-by_key s s key o l k first zs (Refused WrongKind)
+    (other-kind s o (located-here s key o l) k first zs writing vector array)
 
-pub returns-in-Vector-clause-step : goal.returns-in-Vector-clause-step
-returns-in-Vector-clause-step g c = range-by_key _ _ (g.O.ObjectRef.key c.args.key.now) _ c.in_ok-object.ensures
-    g.T.Scalar.kind c.args.first _ (done_answer c.write_in_vector.result) c.write_in_vector.ensures.step
+pub returns-in-Ok-clause-step : goal.returns-in-Ok-clause-step
+returns-in-Ok-clause-step g c = let e : c.overwrite.new.self.segment.now ≡ c.self-1.given.0 = search rules in
+    of-key c.in_ok-object.ensures c.in-Ok.ensures.0 c.at.ensures.object c.at.ensures.segment e g.T.Scalar.kind
+    c.args.first (map g.T.Scalar.whole c.args.values.now) c.overwrite.ensures.step
 
-pub returns-in_default-clause-step : goal.returns-in_default-clause-step
-returns-in_default-clause-step g c = range-by_key _ _ (g.O.ObjectRef.key c.args.key.now) _ c.in_ok-object.ensures
-    g.T.Scalar.kind c.args.first _ (done_answer c.write_in_array.result) c.write_in_array.ensures.step
+pub returns-in_err-array-clause-step : goal.returns-in_err-array-clause-step
+returns-in_err-array-clause-step g c = rw (exit-is c.from_residual-in_err-array.result _
+    c.from_residual-in_err-array.ensures.1) (rw c.in_err-array.ensures.0 (other-by_key c.in_ok-object.ensures
+    g.T.Scalar.kind c.args.first (map g.T.Scalar.whole c.args.values.now)
+    (sym c.is_read_only.ensures ∙ c.if-is_read_only.false)
+    (λ e. c.in_default.ensures.1 (e ∙ ap Vector (sym c.kind.ensures)))
+    (λ e. c.in_err-array.ensures.1 (e ∙ ap Scalar (sym c.kind-2.ensures)))))
 
-pub returns-in-Vector-clause-frame : goal.returns-in-Vector-clause-frame
-returns-in-Vector-clause-frame g c = on_ok c.write_in_vector.result (but-by_key c.args.self.now
-    c.write_in_vector.new.self (g.O.ObjectRef.key c.args.key.now) c.in_ok-object.object c.in_ok-object.ensures
-    g.T.Scalar.kind c.args.first (length c.args.values.now) (vector-but c.args.self.now c.write_in_vector.new.self
-    c.in_ok-object.object (located-here _ _ _ c.in_ok-object.ensures) g.T.Scalar.kind c.args.first
-    (length c.args.values.now) c.in-Vector.field-0 c.in-Vector.is))
+pub returns-in_err-array-clause-gaps : goal.returns-in_err-array-clause-gaps
+returns-in_err-array-clause-gaps g c = gaps-refl _
 
-pub returns-in_default-clause-frame : goal.returns-in_default-clause-frame
-returns-in_default-clause-frame g c = on_ok-map c.write_in_array.result (but-by_key c.args.self.now
-    c.write_in_array.new.self (g.O.ObjectRef.key c.args.key.now) c.in_ok-object.object c.in_ok-object.ensures
-    g.T.Scalar.kind c.args.first (length c.args.values.now)) c.write_in_array.ensures.frame
+pub returns-clause-step : goal.returns-clause-step
+returns-clause-step g c = let e : c.overwrite-2.new.self.segment.now ≡ c.self-2-1.given.0 = search rules in
+    of-key c.in_ok-object.ensures c.in_ok-array.ensures.0 c.at-2.ensures.object c.at-2.ensures.segment e
+    g.T.Scalar.kind c.args.first (map g.T.Scalar.whole c.args.values.now) c.overwrite-2.ensures.step

@@ -1,5 +1,5 @@
 -- The bytes that spell the value are written at the place.
-use Rattle.segment_manager.proofs.Common.{exit-is, refl, sym, ap, ◌∙◌, length, List, ℕ, Key, Ok, Set, literal_of}
+use Rattle.segment_manager.proofs.Common.{exit-is, refl, sym, ap, ◌∙◌, length, List, ℕ, Key, Set, literal_of}
 use Rattle.segment_manager.proofs.{blocks.Blocks.spelling-length, bound.Changes.leaves-bound}
 use Rattle.segment_manager.proofs.objects.Stored.{place-room, places-bound}
 use Rattle.segment_manager.proofs.objects.Written.{changes-element, stores-nothing, stores-number}

@@ -1,6 +1,5 @@
 -- The bytes at the place are read.
 use Rattle.segment_manager.proofs.{Common.exit-is, Common.◌∙◌, Common.current, directory.HeapCalls.denotes-heap}
-use Rattle.segment_manager.proofs.{Common.ap, Common.Err}
 use Rattle.segment_manager.proofs.objects.Stored.{found-there, number-read, place-room, places-bound}
 use Rattle.segment_manager.proofs.bound.SliceCalls.{array-past}
 use Rattle.segment_manager.specs.objects.BoundObjects.{key_of}

@@ -2,5 +2,6 @@ mod ranges
 pub mod Exits
 pub mod Laid
 pub mod LaidElements
+pub mod Located
 pub mod NoTexts
 pub mod Owed

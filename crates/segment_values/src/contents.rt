@@ -14,12 +14,13 @@ ghost use Rattle.segment_values.specs.Asked.{length_in, pair_part};
 ghost use Rattle.segment_values.specs.Layouts.{count_at, laid_at, part_at};
 ghost use Rattle.segment_values.specs.Writing.{WritesFor};
 
-use crate::elements::get;
+use crate::elements::get_element;
 use crate::layouts::Layout;
-use crate::walking::{first_pair, next_pair};
+use crate::walking::{least, pair_of_kinds};
 use raw_region::{DeviceFault, Sink};
 use seg_types::{Kind, ScalarKind, ScalarValue};
-use segment_manager::{Object, Segment};
+use segment_manager::unchecked::measure_object;
+use segment_manager::{Object, Segment, StringRef, Strings};
 
 /// Returns the number of scalars, texts or pairs of an object. A string is one text.
 pub fn count_of(segment: &Segment, object: Object) -> u64
@@ -38,7 +39,7 @@ pub fn length_of(segment: &Segment, object: Object) -> u64
     requires { IsObject object segment.now }
     ensures { AnswersWith segment.now (λ d. length_in (sizes_at d (ByHandle object.handle))) result }
 {
-    match segment.measure(&object) {
+    match measure_object(segment, object) {
         Ok((len, _)) => len,
         Err(_) => 0,
     }
@@ -99,15 +100,12 @@ fn put_element<L: Layout, W: Sink>(
         part_at (L.spelling layout.now) d (ByHandle object.handle) index) }
 {
     match object.kind {
-        Kind::String => match segment.string_bytes(&object) {
-            Ok(bytes) => layout.put_text(index, bytes, out),
-            Err(_) => Ok(()),
-        },
-        Kind::Strings => match segment.texts_get(&object, index) {
+        Kind::String => layout.put_text(index, StringRef::at(segment, object).as_bytes(), out),
+        Kind::Strings => match Strings::at(segment, object).get(index) {
             Ok(text) => layout.put_text(index, text, out),
             Err(_) => Ok(()),
         },
-        _ => match get(segment, &object, index) {
+        _ => match get_element(segment, object, index) {
             Ok(value) => layout.put_scalar(index, value, out),
             Err(_) => Ok(()),
         },
@@ -130,7 +128,7 @@ fn put_pairs<L: Layout, W: Sink>(
     ensures { WritesFor (W.history out.old) (W.history out.new) result (DenotesCurrent segment.now.cut.bytes) (λ d.
         parts_until (pair_part (L.spelling layout.now) keys values d (ByHandle object.handle)) count) }
 {
-    let mut next = first_pair(segment, &object, keys, values);
+    let mut next = pair_of_kinds(segment, object, least(keys), false, values);
     'pairs: for index in 0..count {
         if let Some((key, value)) = next {
             layout.put_pair(index, key, value, out)?;
@@ -155,7 +153,7 @@ fn pair_behind(
         (pair_above (value_of_scalar key) (pairs_at d (ByHandle object.handle)))) (option_map item_seen result) }
 {
     if more {
-        next_pair(segment, &object, key, values)
+        pair_of_kinds(segment, object, key, true, values)
     } else {
         None
     }

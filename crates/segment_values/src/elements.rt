@@ -1,5 +1,5 @@
 //! Reads and sets elements of arrays, vectors and strings, with values as callers write them.
-ghost use Rattle.std.specs.Prelude.{◌≡◌, OnErr, OnOk};
+ghost use Rattle.std.specs.Prelude.{◌≡◌, OnErr, OnOk, false};
 ghost use Rattle.seg_types.specs.declared.kinds.Kind.TheVariants.{Scalar as ScalarOf, Vector as VectorOf};
 ghost use Rattle.seg_types.specs.declared.kinds.ScalarKind.{ScalarKind as AnyScalarKind};
 ghost use Rattle.seg_types.specs.Commands.{Get, Set};
@@ -7,13 +7,16 @@ ghost use Rattle.seg_types.specs.Keys.{key_seen};
 ghost use Rattle.seg_types.specs.Names.{ByHandle};
 ghost use Rattle.seg_types.specs.Values.{kind_of_scalar};
 ghost use Rattle.seg_types.specs.Written.{literal_seen};
-ghost use Rattle.segment_manager.specs.{Calls.scalar_reply, Keeping.ChangesElement};
-ghost use Rattle.segment_manager.specs.objects.Located.{IsObject};
+ghost use Rattle.segment_manager.specs.{Calls.scalar_reply, Keeping.ChangesElement, Step.is_read_only};
+ghost use Rattle.segment_manager.specs.objects.{BoundObjects.IsBound, Located.IsObject};
 ghost use Rattle.segment_manager.specs.State.{AnswersWith, TakesStep, TakesStepOfKind, done_answer, scalar_answer};
 
 use crate::objects::object_to_change;
 use seg_types::{Key, Kind, Refusal, ScalarKind, ScalarValue, WrittenValue, by_value};
-use segment_manager::{Object, ObjectRef, Segment};
+use segment_manager::unchecked::element_run_of;
+use segment_manager::{
+    ArrayMut, Object, ObjectRef, Segment, StringMut, StringsMut, VectorMut, locate,
+};
 
 /// Returns the element at `index`. The object is an array of scalars, a vector of scalars, or a string, whose elements
 /// are bytes.
@@ -27,8 +30,23 @@ pub fn get<O: ObjectRef>(segment: &Segment, key: &O, index: u64) -> Result<Scala
     ensures { AnswersWith segment.now
         (λ d. scalar_reply segment.now.mode d (O.key key.now) (Get (O.key key.now) index)) (scalar_answer result) }
 {
+    let object = locate(segment, key)?;
+    get_element(segment, object, index)
+}
+
+/// Returns the element at `index` of a located object, as `get` does.
+///
+/// # Conditions
+///
+/// The object is there.
+pub fn get_element(segment: &Segment, object: Object, index: u64) -> Result<ScalarValue, Refusal>
+    requires { IsObject object segment.now }
+    ensures { AnswersWith segment.now
+        (λ d. scalar_reply segment.now.mode d (ByHandle object.handle) (Get (ByHandle object.handle) index))
+        (scalar_answer result) }
+{
     let image = segment.as_bytes();
-    let run = segment.element_run(key)?;
+    let run = element_run_of(segment, object)?;
     if index >= run.count {
         return Err(Refusal::OutOfRange);
     }
@@ -67,18 +85,18 @@ pub fn set<L: WrittenValue>(
     match object.kind {
         Kind::Scalar(kind) => {
             let scalar = value.value_of(kind)?;
-            set_in_array(segment, &object, index, scalar)
+            set_array_element(segment, object, index, scalar)
         }
         Kind::Vector(kind) => {
             let scalar = value.value_of(kind)?;
-            set_in_vector(segment, object, index, scalar)
+            set_vector_element(segment, object, index, scalar)
         }
         Kind::String => match value.value_of(ScalarKind::U8)? {
-            ScalarValue::U8(byte) => segment.string_set(&object, index, byte),
+            ScalarValue::U8(byte) => StringMut::at(segment, object).set(index, byte),
             _ => Err(Refusal::WrongKind),
         },
         Kind::Strings => match value.text(scratch) {
-            Some(text) => segment.texts_set(&object, index, text),
+            Some(text) => StringsMut::at(segment, object).set(index, text),
             None => Err(Refusal::WrongKind),
         },
         Kind::Map(_, _) => Err(Refusal::WrongKind),
@@ -107,17 +125,44 @@ pub fn set_in_array<O: ObjectRef>(
     by_value!(value, it => segment.set(key, index, it))
 }
 
-/// Sets the element at `index` of a vector of scalars of the value's kind.
-fn set_in_vector(
+/// Sets the element at `index` of a located array of scalars of the value's kind. No other byte changes.
+///
+/// # Conditions
+///
+/// The object is there and has the kind, and the segment is open for writing.
+///
+/// # Errors
+///
+/// `OutOfRange` if `index` is not below the length. Nothing changes.
+pub fn set_array_element(
     segment: &mut Segment,
     object: Object,
     index: u64,
     value: ScalarValue,
 ) -> Result<(), Refusal>
-    requires { IsObject object segment.old }
+    requires object { IsBound (ScalarOf (kind_of_scalar value)) object segment.old }
+    requires writing { is_read_only segment.old.mode ≡ false }
+    ensures step { TakesStepOfKind segment.old segment.new (ByHandle object.handle) (ScalarOf (kind_of_scalar value))
+        (Set (ByHandle object.handle) index (literal_seen value)) (done_answer result) }
+    ensures refused { OnErr result (segment.new ≡ segment.old) }
+    ensures element { OnOk result
+        (ChangesElement segment.old segment.new (ByHandle object.handle) (kind_of_scalar value) index) }
+{
+    by_value!(value, it => ArrayMut::at(segment, object).set(index, it))
+}
+
+/// Sets the element at `index` of a vector of scalars of the value's kind.
+fn set_vector_element(
+    segment: &mut Segment,
+    object: Object,
+    index: u64,
+    value: ScalarValue,
+) -> Result<(), Refusal>
+    requires object { IsBound (VectorOf (kind_of_scalar value)) object segment.old }
+    requires writing { is_read_only segment.old.mode ≡ false }
     ensures step { TakesStepOfKind segment.old segment.new (ByHandle object.handle) (VectorOf (kind_of_scalar value))
         (Set (ByHandle object.handle) index (literal_seen value)) (done_answer result) }
     ensures refused { OnErr result (segment.new ≡ segment.old) }
 {
-    by_value!(value, it => segment.vec_set(&object, index, it))
+    by_value!(value, it => VectorMut::at(segment, object).set(index, it))
 }

@@ -1,5 +1,5 @@
 //! Puts, looks up and erases pairs of maps, with keys and values as callers write them.
-ghost use Rattle.std.specs.Prelude.{◌≡◌, OnErr};
+ghost use Rattle.std.specs.Prelude.{◌≡◌, Ok, OnErr, false};
 ghost use Rattle.seg_types.specs.declared.kinds.Kind.TheVariants.{Map as MapOf};
 ghost use Rattle.seg_types.specs.Commands.{Lookup, Put, Remove, literal_of};
 ghost use Rattle.seg_types.specs.Keys.{key_seen};
@@ -8,7 +8,7 @@ ghost use Rattle.seg_types.specs.Values.{kind_of_scalar, value_of_scalar};
 ghost use Rattle.seg_types.specs.Written.{literal_seen};
 ghost use Rattle.segment_manager.specs.Keeping.{ChangesValue, LacksPair, UnchangedWhere};
 ghost use Rattle.segment_manager.specs.containers.Maps.{any_value_answer};
-ghost use Rattle.segment_manager.specs.objects.Located.{IsObject};
+ghost use Rattle.segment_manager.specs.{Step.is_read_only, objects.BoundObjects.IsBound};
 ghost use Rattle.segment_manager.specs.State.{AnswersQuery, AnswersQueryOfKind, TakesStep, TakesStepOfKind};
 ghost use Rattle.segment_manager.specs.State.{truth_answer};
 ghost use Rattle.segment_values.specs.Absent.{LacksLiteral};
@@ -17,7 +17,7 @@ use crate::objects::object_to_change;
 use seg_types::{
     Key, Kind, Refusal, Scalar, ScalarKind, ScalarValue, WrittenValue, by_kind, by_value, pair_of,
 };
-use segment_manager::{Object, ObjectRef, Segment, locate};
+use segment_manager::{Map, MapMut, Object, ObjectRef, Segment, locate};
 
 /// Sets the value of a map key in a map, and returns true if the map key is new.
 ///
@@ -44,7 +44,7 @@ pub fn put_pair<A: WrittenValue, B: WrittenValue>(
     match object.kind {
         Kind::Map(keys, values) => {
             let (new_key, new_value) = pair_of(keys, values, at, value)?;
-            put_scalars(segment, &object, new_key, new_value)
+            insert_pair(segment, object, new_key, new_value)
         }
         _ => Err(Refusal::WrongKind),
     }
@@ -94,6 +94,53 @@ fn put_by_key<K: Scalar, O: ObjectRef>(
     by_value!(value, value => segment.map_put(key, at, value))
 }
 
+/// Sets the value of the map key `at` in a located map of the kinds of both, and returns true if `at` is new.
+///
+/// # Conditions
+///
+/// The object is there and has the kind, and the segment is open for writing.
+///
+/// # Errors
+///
+/// `NoSpace` if `at` is new and no gap is long enough for its block. Nothing changes.
+pub fn insert_pair(
+    segment: &mut Segment,
+    object: Object,
+    at: ScalarValue,
+    value: ScalarValue,
+) -> Result<bool, Refusal>
+    requires object { IsBound (MapOf (kind_of_scalar at) (kind_of_scalar value)) object segment.old }
+    requires writing { is_read_only segment.old.mode ≡ false }
+    ensures step { TakesStepOfKind segment.old segment.new (ByHandle object.handle)
+        (MapOf (kind_of_scalar at) (kind_of_scalar value))
+        (Put (ByHandle object.handle) (literal_seen at) (literal_seen value)) (truth_answer result) }
+    ensures refused { OnErr result (segment.new ≡ segment.old) }
+    ensures overwrite { ChangesValue segment.old segment.new (ByHandle object.handle) (kind_of_scalar at)
+        (value_of_scalar at) (kind_of_scalar value) }
+{
+    by_value!(at, at => insert_by_key(segment, object, at, value))
+}
+
+/// Sets the value of the map key `at`, for map keys of a type, and returns true if `at` is new.
+#[inline(always)]
+fn insert_by_key<K: Scalar>(
+    segment: &mut Segment,
+    object: Object,
+    at: K,
+    value: ScalarValue,
+) -> Result<bool, Refusal>
+    requires object { IsBound (MapOf K.kind (kind_of_scalar value)) object segment.old }
+    requires writing { is_read_only segment.old.mode ≡ false }
+    ensures step { TakesStepOfKind segment.old segment.new (ByHandle object.handle)
+        (MapOf K.kind (kind_of_scalar value))
+        (Put (ByHandle object.handle) (literal_of K.kind (K.whole at)) (literal_seen value)) (truth_answer result) }
+    ensures refused { OnErr result (segment.new ≡ segment.old) }
+    ensures overwrite { ChangesValue segment.old segment.new (ByHandle object.handle) K.kind (K.whole at)
+        (kind_of_scalar value) }
+{
+    by_value!(value, value => MapMut::at(segment, object).insert(at, value))
+}
+
 /// Returns the value of a map key in a map, or `None` if the map lacks the map key.
 ///
 /// # Errors
@@ -114,7 +161,7 @@ pub fn look_up<L: WrittenValue>(
     match object.kind {
         Kind::Map(keys, values) => {
             let wanted = at.value_of(keys)?;
-            look_up_scalar(segment, object, wanted, values)
+            Ok(look_up_scalar(segment, object, wanted, values))
         }
         _ => Err(Refusal::WrongKind),
     }
@@ -126,10 +173,10 @@ fn look_up_scalar(
     object: Object,
     at: ScalarValue,
     values: ScalarKind,
-) -> Result<Option<ScalarValue>, Refusal>
-    requires { IsObject object segment.now }
+) -> Option<ScalarValue>
+    requires { IsBound (MapOf (kind_of_scalar at) values) object segment.now }
     ensures { AnswersQueryOfKind segment.now (ByHandle object.handle) (MapOf (kind_of_scalar at) values)
-        (Lookup (ByHandle object.handle) (literal_seen at)) (any_value_answer result) }
+        (Lookup (ByHandle object.handle) (literal_seen at)) (any_value_answer (Ok result)) }
 {
     by_value!(at, at => look_up_by_key(segment, object, at, values))
 }
@@ -142,19 +189,19 @@ fn look_up_by_key<K: Scalar>(
     object: Object,
     at: K,
     values: ScalarKind,
-) -> Result<Option<ScalarValue>, Refusal>
-    requires { IsObject object segment.now }
+) -> Option<ScalarValue>
+    requires { IsBound (MapOf K.kind values) object segment.now }
     ensures { AnswersQueryOfKind segment.now (ByHandle object.handle) (MapOf K.kind values)
-        (Lookup (ByHandle object.handle) (literal_of K.kind (K.whole at))) (any_value_answer result) }
+        (Lookup (ByHandle object.handle) (literal_of K.kind (K.whole at))) (any_value_answer (Ok result)) }
 {
     macro_rules! found {
         ($type:ty, $kind:ident) => {
-            segment
-                .map_get::<_, $type, Object>(&object, at)?
+            Map::<K, $type>::at(segment, object)
+                .get(at)
                 .map(ScalarValue::$kind)
         };
     }
-    Ok(by_kind!(values, found))
+    by_kind!(values, found)
 }
 
 /// Erases a map key from a map, and returns true if the map had it. If not, nothing changes.
@@ -181,23 +228,18 @@ pub fn erase_pair<L: WrittenValue>(
     match object.kind {
         Kind::Map(keys, values) => {
             let gone = at.value_of(keys)?;
-            erase_scalar(segment, object, gone, values)
+            Ok(erase_scalar(segment, object, gone, values))
         }
         _ => Err(Refusal::WrongKind),
     }
 }
 
 /// Erases the map key `at` from a map of its kind and the kind `values`, and returns true if the map had it.
-fn erase_scalar(
-    segment: &mut Segment,
-    object: Object,
-    at: ScalarValue,
-    values: ScalarKind,
-) -> Result<bool, Refusal>
-    requires { IsObject object segment.old }
+fn erase_scalar(segment: &mut Segment, object: Object, at: ScalarValue, values: ScalarKind) -> bool
+    requires object { IsBound (MapOf (kind_of_scalar at) values) object segment.old }
+    requires writing { is_read_only segment.old.mode ≡ false }
     ensures step { TakesStepOfKind segment.old segment.new (ByHandle object.handle) (MapOf (kind_of_scalar at) values)
-        (Remove (ByHandle object.handle) (literal_seen at)) (truth_answer result) }
-    ensures refused { OnErr result (segment.new ≡ segment.old) }
+        (Remove (ByHandle object.handle) (literal_seen at)) (truth_answer (Ok result)) }
     ensures absent { UnchangedWhere segment.old segment.new
         (LacksPair (ByHandle object.handle) (value_of_scalar at)) }
 {
@@ -206,21 +248,16 @@ fn erase_scalar(
 
 /// Erases the map key `at`, for map keys of a type, and returns true if the map had it.
 #[inline(always)]
-fn erase_by_key<K: Scalar>(
-    segment: &mut Segment,
-    object: Object,
-    at: K,
-    values: ScalarKind,
-) -> Result<bool, Refusal>
-    requires { IsObject object segment.old }
+fn erase_by_key<K: Scalar>(segment: &mut Segment, object: Object, at: K, values: ScalarKind) -> bool
+    requires object { IsBound (MapOf K.kind values) object segment.old }
+    requires writing { is_read_only segment.old.mode ≡ false }
     ensures step { TakesStepOfKind segment.old segment.new (ByHandle object.handle) (MapOf K.kind values)
-        (Remove (ByHandle object.handle) (literal_of K.kind (K.whole at))) (truth_answer result) }
-    ensures refused { OnErr result (segment.new ≡ segment.old) }
+        (Remove (ByHandle object.handle) (literal_of K.kind (K.whole at))) (truth_answer (Ok result)) }
     ensures absent { UnchangedWhere segment.old segment.new (LacksPair (ByHandle object.handle) (K.whole at)) }
 {
     macro_rules! erased {
         ($type:ty, $kind:ident) => {
-            segment.map_erase::<_, $type, Object>(&object, at)
+            MapMut::<K, $type>::at(segment, object).erase(at)
         };
     }
     by_kind!(values, erased)

@@ -3,12 +3,13 @@ ghost use Rattle.std.specs.Prelude.{◌≡◌, ◌+◌, ◌*◌, ◌≤◌, OnEr
 ghost use Rattle.seg_types.specs.Kinds.{is_value, spelling};
 ghost use Rattle.seg_types.specs.Names.{ByHandle};
 ghost use Rattle.segment_manager.specs.Directory.{Directory};
-ghost use Rattle.segment_manager.specs.objects.Located.{IsLocated};
+ghost use Rattle.segment_manager.specs.objects.Located.{IsObject};
 ghost use Rattle.segment_manager.specs.State.{AnswersWith, DenotesCurrent};
 ghost use Rattle.segment_values.specs.Ranges.{AreSpelled, HasSlice, is_slice, range_at, read_into, slice_of};
 
 use seg_types::theorems::scalar_is_number;
 use seg_types::{Kind, Refusal, Scalar};
+use segment_manager::unchecked::element_run_of;
 use segment_manager::{ElementRun, Object, ObjectRef, Segment, locate};
 
 /// Copies elements of an object into a row: as many as the row has, from `first` on. The object is an array or a vector
@@ -30,20 +31,23 @@ pub fn read_elements<T: Scalar, O: ObjectRef>(
     ensures unchanged { OnErr result (series.new ≡ series.old) }
 {
     let object = locate(segment, key)?;
-    read_object(segment, &object, first, series)
+    read_object(segment, object, first, series)
 }
 
-/// Copies elements of a located object into a row.
-fn read_object<T: Scalar>(
+/// Copies elements of a located object into a row, as `read_elements` does.
+///
+/// # Conditions
+///
+/// The object is there.
+pub fn read_object<T: Scalar>(
     segment: &Segment,
-    object: &Object,
+    object: Object,
     first: u64,
     series: &mut [T],
 ) -> Result<(), Refusal>
-    requires { IsLocated segment.now (ByHandle object.now.handle) object.now }
+    requires { IsObject object segment.now }
     ensures read { AnswersWith segment.now (λ d.
-        range_at d (ByHandle object.now.handle) T.kind first (length series.old)) (read_into T.whole series.new
-        result) }
+        range_at d (ByHandle object.handle) T.kind first (length series.old)) (read_into T.whole series.new result) }
     ensures unchanged { OnErr result (series.new ≡ series.old) }
 {
     if !is_slice::<T>(object.kind) {
@@ -58,13 +62,13 @@ fn read_object<T: Scalar>(
 }
 
 /// Returns the place of the object's elements in the image.
-fn slice_run<T: Scalar>(segment: &Segment, object: &Object) -> ElementRun
-    requires object { IsLocated segment.now (ByHandle object.now.handle) object.now }
-    requires kind { is_slice T.kind object.now.kind ≡ true }
-    ensures { HasSlice segment.now object.now T.kind result }
+fn slice_run<T: Scalar>(segment: &Segment, object: Object) -> ElementRun
+    requires object { IsObject object segment.now }
+    requires kind { is_slice T.kind object.kind ≡ true }
+    ensures { HasSlice segment.now object T.kind result }
 {
     let _ = segment.as_bytes();
-    match segment.element_run(object) {
+    match element_run_of(segment, object) {
         Ok(run) => run,
         Err(_) => unreachable!(),
     }
@@ -80,15 +84,15 @@ fn is_slice<T: Scalar>(kind: Kind) -> bool
 /// Copies elements of an object, which has enough of them, from their place in the image into a row.
 fn copy_slice<T: Scalar>(
     segment: &Segment,
-    _object: &Object,
+    _object: Object,
     run: ElementRun,
     first: u64,
     series: &mut [T],
 )
-    requires series { HasSlice segment.now _object.now T.kind run }
+    requires series { HasSlice segment.now _object T.kind run }
     requires in_bounds { first + length series.old ≤ run.count }
     ensures { (d : Directory) → DenotesCurrent segment.now.cut.bytes d
-        → map T.whole series.new ≡ take (length series.old) (drop first (slice_of _object.now d)) }
+        → map T.whole series.new ≡ take (length series.old) (drop first (slice_of _object d)) }
 {
     let from = (run.offset + T::SIZE * first) as usize;
     let len = T::SIZE as usize * series.len();

@@ -1,18 +1,18 @@
 //! Inserts and erases elements of vectors, with values as callers write them.
-ghost use Rattle.std.specs.Prelude.{◌≡◌, OnErr};
+ghost use Rattle.std.specs.Prelude.{◌≡◌, OnErr, false};
 ghost use Rattle.seg_types.specs.declared.kinds.Kind.TheVariants.{Strings as StringsKind, Vector as VectorOf};
 ghost use Rattle.seg_types.specs.Commands.{Erase, Quoted};
 ghost use Rattle.seg_types.specs.Keys.{key_seen};
 ghost use Rattle.seg_types.specs.Names.{ByHandle};
 ghost use Rattle.seg_types.specs.Values.{kind_of_scalar};
 ghost use Rattle.seg_types.specs.Written.{NoText, literal_seen};
-ghost use Rattle.segment_manager.specs.objects.Located.{IsObject};
+ghost use Rattle.segment_manager.specs.{Step.is_read_only, objects.BoundObjects.IsBound};
 ghost use Rattle.segment_manager.specs.State.{TakesStep, TakesStepOfKind, UnchangedIfRefused, done_answer};
 ghost use Rattle.segment_values.specs.Changes.{command_at};
 
 use crate::objects::object_to_change;
 use seg_types::{Key, Kind, Refusal, ScalarKind, ScalarValue, WrittenValue, by_kind, by_value};
-use segment_manager::{Object, ObjectRef, Segment};
+use segment_manager::{Object, ObjectRef, Segment, StringsMut, VectorMut};
 
 /// The position of a new element in a vector.
 #[derive(Clone, Copy)]
@@ -52,10 +52,10 @@ pub fn add<L: WrittenValue>(
     match object.kind {
         Kind::Vector(kind) => {
             let scalar = value.value_of(kind)?;
-            add_scalar(segment, &object, spot, scalar)
+            insert_scalar(segment, object, spot, scalar)
         }
         Kind::Strings => match value.text(scratch) {
-            Some(text) => add_text(segment, object, spot, text),
+            Some(text) => insert_text(segment, object, spot, text),
             None => Err(Refusal::WrongKind),
         },
         _ => Err(Refusal::WrongKind),
@@ -85,21 +85,52 @@ pub fn add_scalar<O: ObjectRef>(
     }
 }
 
+/// Inserts a scalar into a located vector of the scalar's kind.
+///
+/// # Conditions
+///
+/// The object is there and has the kind, and the segment is open for writing.
+///
+/// # Errors
+///
+/// `OutOfRange` and `NoSpace`, as `add`. Nothing changes.
+#[inline(always)]
+pub fn insert_scalar(
+    segment: &mut Segment,
+    object: Object,
+    spot: InsertSpot,
+    value: ScalarValue,
+) -> Result<(), Refusal>
+    requires object { IsBound (VectorOf (kind_of_scalar value)) object segment.old }
+    requires writing { is_read_only segment.old.mode ≡ false }
+    ensures step { TakesStepOfKind segment.old segment.new (ByHandle object.handle) (VectorOf (kind_of_scalar value))
+        (command_at spot (ByHandle object.handle) (literal_seen value)) (done_answer result) }
+    ensures refused { OnErr result (segment.new ≡ segment.old) }
+{
+    match spot {
+        InsertSpot::End => by_value!(value, it => VectorMut::at(segment, object).push(it)),
+        InsertSpot::Before(index) => {
+            by_value!(value, it => VectorMut::at(segment, object).insert(index, it))
+        }
+    }
+}
+
 /// Inserts a text into a vector of strings.
-fn add_text(
+fn insert_text(
     segment: &mut Segment,
     object: Object,
     spot: InsertSpot,
     text: &[u8],
 ) -> Result<(), Refusal>
-    requires { IsObject object segment.old }
+    requires object { IsBound StringsKind object segment.old }
+    requires writing { is_read_only segment.old.mode ≡ false }
     ensures step { TakesStepOfKind segment.old segment.new (ByHandle object.handle) StringsKind
         (command_at spot (ByHandle object.handle) (Quoted text.now)) (done_answer result) }
     ensures refused { UnchangedIfRefused segment.old segment.new result }
 {
     match spot {
-        InsertSpot::End => segment.texts_push(&object, text),
-        InsertSpot::Before(index) => segment.texts_insert(&object, index, text),
+        InsertSpot::End => StringsMut::at(segment, object).push(text),
+        InsertSpot::Before(index) => StringsMut::at(segment, object).insert(index, text),
     }
 }
 
@@ -117,7 +148,7 @@ pub fn erase(segment: &mut Segment, key: &Key, index: u64) -> Result<(), Refusal
     let object = object_to_change(segment, key)?;
     match object.kind {
         Kind::Vector(element) => erase_element(segment, object, element, index),
-        Kind::Strings => segment.texts_erase(&object, index),
+        Kind::Strings => StringsMut::at(segment, object).erase(index),
         _ => Err(Refusal::WrongKind),
     }
 }
@@ -129,14 +160,15 @@ fn erase_element(
     kind: ScalarKind,
     index: u64,
 ) -> Result<(), Refusal>
-    requires { IsObject object segment.old }
+    requires object { IsBound (VectorOf kind) object segment.old }
+    requires writing { is_read_only segment.old.mode ≡ false }
     ensures step { TakesStepOfKind segment.old segment.new (ByHandle object.handle) (VectorOf kind)
         (Erase (ByHandle object.handle) index) (done_answer result) }
     ensures refused { OnErr result (segment.new ≡ segment.old) }
 {
     macro_rules! erase {
         ($type:ty, $kind:ident) => {
-            segment.vec_erase::<$type, Object>(&object, index)
+            VectorMut::<$type>::at(segment, object).erase(index)
         };
     }
     by_kind!(kind, erase)

@@ -11,6 +11,7 @@ use Rattle.segment_manager.proofs.NextPairs.{none-text, pair-said}
 use Rattle.segment_manager.proofs.PartLaws.{well}
 use Rattle.segment_values.specs.Asked.{pair_part, walked_text}
 use Rattle.segment_values.specs.Writing.{WritesFor}
+use Rattle.segment_values.proofs.pairs.Walk.{first-of-kinds}
 use Rattle.segment_values.proofs.Owed.{of-all, of-cut_in, of-more, of-none, of-one, of-start}
 use Rattle.segment_values.proofs.contents.put_pairs.Goals.{in-Some+in_ok-put_pair, in_default}
 use Rattle.segment_values.proofs.contents.put_pairs.Goals as goal
@@ -48,7 +49,9 @@ pairs-init g c = record {
   told = of-start (λ d. pair_part (g.L.Layout.spelling c.args.layout.now) c.args.keys c.args.values d
       (ByHandle c.args.object.handle));
   next = λ d l less. next-first c.args.segment.now c.args.object.handle c.args.keys c.args.values
-      c.first_pair-next.result c.first_pair-next.ensures d l;
+      c.pair_of_kinds-next.result (first-of-kinds c.args.segment.now (ByHandle c.args.object.handle) c.args.keys
+      c.args.values c.requires.map c.least.result c.least.ensures.kind c.least.ensures.value
+      (option_map item_seen c.pair_of_kinds-next.result) c.pair_of_kinds-next.ensures) d l;
 }
 
 pub pairs-preserved : goal.pairs-preserved

@@ -1,16 +1,17 @@
-use Rattle.std.proofs.Common.{Ok, refl, sym, ap, subst, ◌∙◌}
-use Rattle.seg_types.specs.declared.kinds.Kind.TheVariants.{Scalar, Vector}
+use Rattle.std.proofs.Common.{◌≡◌, Ok, refl, rules, sym, ap, subst, ◌∙◌, pos}
+use Rattle.seg_types.specs.declared.kinds.Kind.TheVariants.{Scalar, String, Strings, Vector}
 use Rattle.seg_types.specs.declared.kinds.ScalarKind.TheVariants.{U8}
 use Rattle.seg_types.specs.declared.values.ScalarValue.{ScalarValue}
 use Rattle.seg_types.specs.declared.values.ScalarValue.TheVariants.{U8 as Byte}
-use Rattle.seg_types.specs.Commands.{Set, value_of_literal}
+use Rattle.seg_types.specs.Commands.{Quoted, Set, literal_of, value_of_literal}
 use Rattle.seg_types.specs.Literals.{IsValueOf}
 use Rattle.seg_types.specs.Keys.{key_seen}
 use Rattle.seg_types.specs.Values.{kind_of_scalar}
-use Rattle.segment_manager.specs.Calls.{elements_of}
+use Rattle.segment_manager.specs.{Calls.elements_of, objects.BoundObjects.key_of}
+use Rattle.segment_manager.specs.State.{TakesStepOfKind, done_answer}
 use Rattle.segment_manager.proofs.CommandLaws.{elements-told, handle-to-change, set-map, set-no_text, set-unchangeable}
 use Rattle.segment_manager.proofs.CommandLaws.{to-change}
-use Rattle.segment_manager.proofs.Laws.{located-steps}
+use Rattle.segment_manager.proofs.Laws.{located-steps, of-change}
 use Rattle.segment_values.proofs.Exits.{exit-is}
 use Rattle.segment_values.proofs.elements.Bytes.{element-elsewhere, element-told}
 use Rattle.segment_values.proofs.elements.Setting.{set-done, set-refused}
@@ -28,14 +29,14 @@ pub returns-in_ok-scalar-in-Scalar-clause-step : goal.returns-in_ok-scalar-in-Sc
 returns-in_ok-scalar-in-Scalar-clause-step g c =
     set-done c.in_ok-object.ensures (ap elements_of c.in-Scalar.is) _ _ c.in_ok-scalar-in-Scalar.scalar
     c.in_ok-scalar-in-Scalar.ensures (c.in-Scalar.is ∙ ap Scalar (sym c.in_ok-scalar-in-Scalar.ensures.0))
-    c.set_in_array.ensures.step
+    c.set_array_element.ensures.step
 
 pub returns-in_ok-scalar-in-Scalar-clause-element : goal.returns-in_ok-scalar-in-Scalar-clause-element
 returns-in_ok-scalar-in-Scalar-clause-element g c =
-    element-told c.args.segment.now c.set_in_array.new.segment (key_seen c.args.key.now) c.in_ok-object.object
-    c.in_ok-object.ensures.located (kind_of_scalar c.in_ok-scalar-in-Scalar.scalar) c.args.index c.set_in_array.result
+    element-told c.args.segment.now c.set_array_element.new.segment (key_seen c.args.key.now) c.in_ok-object.object
+    c.in_ok-object.ensures.located (kind_of_scalar c.in_ok-scalar-in-Scalar.scalar) c.args.index c.set_array_element.result
     (elements-told (handle-to-change c.in_ok-object.ensures
-    (c.in-Scalar.is ∙ ap Scalar (sym c.in_ok-scalar-in-Scalar.ensures.0))) refl) c.set_in_array.ensures.element
+    (c.in-Scalar.is ∙ ap Scalar (sym c.in_ok-scalar-in-Scalar.ensures.0))) refl) c.set_array_element.ensures.element
 
 pub returns-in_err-scalar-in-Vector-clause-step : goal.returns-in_err-scalar-in-Vector-clause-step
 returns-in_err-scalar-in-Vector-clause-step g c = rw (exit-is c.from_residual-in_err-scalar-in-Vector.ensures.1)
@@ -45,22 +46,27 @@ pub returns-in_ok-scalar-in-Vector-clause-step : goal.returns-in_ok-scalar-in-Ve
 returns-in_ok-scalar-in-Vector-clause-step g c =
     set-done c.in_ok-object.ensures (ap elements_of c.in-Vector.is) _ _ c.in_ok-scalar-in-Vector.scalar
     c.in_ok-scalar-in-Vector.ensures (c.in-Vector.is ∙ ap Vector (sym c.in_ok-scalar-in-Vector.ensures.0))
-    c.set_in_vector.ensures.step
+    c.set_vector_element.ensures.step
 
 pub returns-in_ok-scalar-in-Vector-clause-element : goal.returns-in_ok-scalar-in-Vector-clause-element
 returns-in_ok-scalar-in-Vector-clause-element g c =
-    element-elsewhere c.args.segment.now c.set_in_vector.new.segment (key_seen c.args.key.now) c.in_ok-object.object
-    c.in_ok-object.ensures.located c.in-Vector.is (λ j e. absurd (cc)) c.args.index c.set_in_vector.result
+    element-elsewhere c.args.segment.now c.set_vector_element.new.segment (key_seen c.args.key.now) c.in_ok-object.object
+    c.in_ok-object.ensures.located c.in-Vector.is (λ j e. absurd (cc)) c.args.index c.set_vector_element.result
 
 pub returns-in-Some-clause-step : goal.returns-in-Some-clause-step
-returns-in-Some-clause-step g c = rw c.in-Some.ensures
+returns-in-Some-clause-step g c =
+    let e : c.set-in-Some.new.self.segment.now ≡ c.segment-in-Some-1.given.0 = search rules in
+    rw c.in-Some.ensures
     (located-steps c.args.segment.now (key_seen c.args.key.now) c.in_ok-object.object c.in_ok-object.ensures.located
-    _ _ (Set (key_seen c.args.key.now) c.args.index _) _ c.in-Strings.is c.texts_set.ensures.step)
+    _ _ (Set (key_seen c.args.key.now) c.args.index _) _ c.in-Strings.is
+    (of-change (λ o u v. TakesStepOfKind u v (key_of o) Strings (Set (key_of o) c.args.index (Quoted c.in-Some.text.now))
+    (done_answer c.set-in-Some.result)) c.at-in-Some.ensures.object c.at-in-Some.ensures.segment e
+    c.set-in-Some.ensures.step))
 
 pub returns-in-Some-clause-element : goal.returns-in-Some-clause-element
 returns-in-Some-clause-element g c =
-    element-elsewhere c.args.segment.now c.texts_set.new.self (key_seen c.args.key.now) c.in_ok-object.object
-    c.in_ok-object.ensures.located c.in-Strings.is (λ j e. absurd (cc)) c.args.index c.texts_set.result
+    element-elsewhere c.args.segment.now c.segment-in-Some-1.given.0 (key_seen c.args.key.now) c.in_ok-object.object
+    c.in_ok-object.ensures.located c.in-Strings.is (λ j e. absurd (cc)) c.args.index c.set-in-Some.result
 
 pub returns-in-None-clause-step : goal.returns-in-None-clause-step
 returns-in-None-clause-step g c =
@@ -75,6 +81,9 @@ returns-in_err-byte-in-String-clause-step g c = rw (exit-is c.from_residual-in_e
 
 pub returns-in-U8-clause-step : goal.returns-in-U8-clause-step
 returns-in-U8-clause-step g c =
+    let e : c.set.new.self.segment.now ≡ c.segment-1.given.0 = search rules in
     set-done c.in_ok-object.ensures (ap elements_of c.in-String.is) _ _ (Byte c.in-U8.byte)
     (subst (λ (v : ScalarValue). IsValueOf U8 (value_of_literal U8 (g.L.WrittenValue.literal c.args.value.now)) (Ok v))
-    c.in-U8.is c.in_ok-byte-in-String.ensures) c.in-String.is c.string_set.ensures.step
+    c.in-U8.is c.in_ok-byte-in-String.ensures) c.in-String.is
+    (of-change (λ o u v. TakesStepOfKind u v (key_of o) String (Set (key_of o) c.args.index (literal_of U8
+    (pos c.in-U8.byte))) (done_answer c.set.result)) c.at.ensures.object c.at.ensures.segment e c.set.ensures.step)

@@ -16,7 +16,7 @@ returns-in_ok-new_key-in-Map-clause-step g c =
     puts-pair c.in_ok-object.ensures c.in-Map.is _ _ (
       c.in_ok-new_key-in-Map.new_key,
       c.in_ok-new_key-in-Map.new_value,
-    ) c.in_ok-new_key-in-Map.ensures c.put_scalars.ensures.step
+    ) c.in_ok-new_key-in-Map.ensures c.insert_pair.ensures.step
 
 pub returns-in_default-clause-step : goal.returns-in_default-clause-step
 returns-in_default-clause-step g c = put-no_map c.in_ok-object.ensures c.in_default.not-Map _ _

@@ -18,13 +18,13 @@ pub returns-in_ok-scalar-in-Vector-clause-step : goal.returns-in_ok-scalar-in-Ve
 returns-in_ok-scalar-in-Vector-clause-step g c =
     scalar-added c.in_ok-object.ensures.located c.args.spot
     (element-read c.in_ok-object.ensures c.in-Vector.is c.in_ok-scalar-in-Vector.scalar
-    c.in_ok-scalar-in-Vector.ensures) c.add_scalar.ensures.step
+    c.in_ok-scalar-in-Vector.ensures) c.insert_scalar.ensures.step
 
 pub returns-in-Some-clause-step : goal.returns-in-Some-clause-step
 returns-in-Some-clause-step g c =
     text-added c.in_ok-object.ensures.located c.args.spot
     (record { of_kind = to-change c.in_ok-object.ensures c.in-Strings.is; is = c.in-Some.ensures })
-    c.add_text.ensures.step
+    c.insert_text.ensures.step
 
 pub returns-in-Some-clause-scalar : goal.returns-in-Some-clause-scalar
 returns-in-Some-clause-scalar g c none = absurd (none c.in-Some.text.now c.in-Some.ensures)

@@ -26,7 +26,6 @@ use segment_manager::{
 /// `NotFound` if no object has the key, `WrongKind` if its elements are not scalars, `OutOfRange` if `index` is not
 /// below the length.
 pub fn get<O: ObjectRef>(segment: &Segment, key: &O, index: u64) -> Result<ScalarValue, Refusal>
-    requires { O.stands key.now segment.now }
     ensures { AnswersWith segment.now
         (λ d. scalar_reply segment.now.mode d (O.key key.now) (Get (O.key key.now) index)) (scalar_answer result) }
 {
@@ -115,7 +114,6 @@ pub fn set_in_array<O: ObjectRef>(
     index: u64,
     value: ScalarValue,
 ) -> Result<(), Refusal>
-    requires { O.stands key.now segment.old }
     ensures step { TakesStepOfKind segment.old segment.new (O.key key.now) (ScalarOf (kind_of_scalar value))
         (Set (O.key key.now) index (literal_seen value)) (done_answer result) }
     ensures refused { OnErr result (segment.new ≡ segment.old) }

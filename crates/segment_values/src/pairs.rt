@@ -65,7 +65,6 @@ pub fn put_scalars<O: ObjectRef>(
     at: ScalarValue,
     value: ScalarValue,
 ) -> Result<bool, Refusal>
-    requires { O.stands key.now segment.old }
     ensures step { TakesStepOfKind segment.old segment.new (O.key key.now)
         (MapOf (kind_of_scalar at) (kind_of_scalar value))
         (Put (O.key key.now) (literal_seen at) (literal_seen value)) (truth_answer result) }
@@ -84,7 +83,6 @@ fn put_by_key<K: Scalar, O: ObjectRef>(
     at: K,
     value: ScalarValue,
 ) -> Result<bool, Refusal>
-    requires { O.stands key.now segment.old }
     ensures step { TakesStepOfKind segment.old segment.new (O.key key.now) (MapOf K.kind (kind_of_scalar value))
         (Put (O.key key.now) (literal_of K.kind (K.whole at)) (literal_seen value)) (truth_answer result) }
     ensures refused { OnErr result (segment.new ≡ segment.old) }

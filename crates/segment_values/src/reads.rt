@@ -25,7 +25,6 @@ pub fn read_elements<T: Scalar, O: ObjectRef>(
     first: u64,
     series: &mut [T],
 ) -> Result<(), Refusal>
-    requires { O.stands key.now segment.now }
     ensures read { AnswersWith segment.now (λ d. range_at d (O.key key.now) T.kind first (length series.old))
         (read_into T.whole series.new result) }
     ensures unchanged { OnErr result (series.new ≡ series.old) }

@@ -74,7 +74,6 @@ pub fn add_scalar<O: ObjectRef>(
     spot: InsertSpot,
     value: ScalarValue,
 ) -> Result<(), Refusal>
-    requires { O.stands key.now segment.old }
     ensures step { TakesStepOfKind segment.old segment.new (O.key key.now) (VectorOf (kind_of_scalar value))
         (command_at spot (O.key key.now) (literal_seen value)) (done_answer result) }
     ensures refused { OnErr result (segment.new ≡ segment.old) }

@@ -23,7 +23,6 @@ pub fn first_pair<O: ObjectRef>(
     keys: ScalarKind,
     values: ScalarKind,
 ) -> Option<(ScalarValue, ScalarValue)>
-    requires target { O.stands key.now segment.now }
     requires map { IsMap segment.now (O.key key.now) keys values }
     ensures { AnswersWith segment.now (λ d. option_map (item_of_kinds keys values)
         (option_map item_of (first_of (pairs_at d (O.key key.now))))) (option_map item_seen result) }
@@ -43,7 +42,6 @@ pub fn next_pair<O: ObjectRef>(
     after: ScalarValue,
     values: ScalarKind,
 ) -> Option<(ScalarValue, ScalarValue)>
-    requires target { O.stands key.now segment.now }
     requires map { IsMap segment.now (O.key key.now) (kind_of_scalar after) values }
     ensures { AnswersWith segment.now (λ d. option_map (item_of_kinds (kind_of_scalar after) values)
         (pair_above (value_of_scalar after) (pairs_at d (O.key key.now)))) (option_map item_seen result) }
@@ -60,7 +58,6 @@ fn pair_of_key<O: ObjectRef>(
     above: bool,
     values: ScalarKind,
 ) -> Option<(ScalarValue, ScalarValue)>
-    requires target { O.stands key.now segment.now }
     requires map { IsMap segment.now (O.key key.now) (kind_of_scalar bound) values }
     ensures { AnswersWith segment.now (λ d. option_map (item_of_kinds (kind_of_scalar bound) values)
         (pair_past above (value_of_scalar bound) (pairs_at d (O.key key.now)))) (option_map item_seen result) }

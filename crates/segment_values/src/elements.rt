@@ -1,17 +1,18 @@
 //! Reads and sets elements of arrays, vectors and strings, with values as callers write them.
-ghost use Rattle.std.specs.Prelude.{◌≡◌, OnErr, OnOk, false};
+ghost use Rattle.std.specs.Prelude.{◌≡◌, OnErr, OnOk, false, length};
 ghost use Rattle.seg_types.specs.declared.kinds.Kind.TheVariants.{Scalar as ScalarOf, Vector as VectorOf};
 ghost use Rattle.seg_types.specs.declared.kinds.ScalarKind.{ScalarKind as AnyScalarKind};
 ghost use Rattle.seg_types.specs.Commands.{Get, Set};
 ghost use Rattle.seg_types.specs.Keys.{key_seen};
 ghost use Rattle.seg_types.specs.Names.{ByHandle};
-ghost use Rattle.seg_types.specs.Values.{kind_of_scalar};
+ghost use Rattle.seg_types.specs.{Kinds.size_of, Values.SpelledBy, Values.kind_of_scalar};
 ghost use Rattle.seg_types.specs.Written.{literal_seen};
 ghost use Rattle.segment_manager.specs.{Calls.scalar_reply, Keeping.ChangesElement, Step.is_read_only};
 ghost use Rattle.segment_manager.specs.objects.{BoundObjects.IsBound, Located.IsObject};
 ghost use Rattle.segment_manager.specs.State.{AnswersWith, TakesStep, TakesStepOfKind, done_answer, scalar_answer};
 
 use crate::objects::object_to_change;
+use seg_types::theorems::scalar_is_number;
 use seg_types::{Key, Kind, Refusal, ScalarKind, ScalarValue, WrittenValue, by_value};
 use segment_manager::unchecked::element_run_of;
 use segment_manager::{
@@ -38,6 +39,7 @@ pub fn get<O: ObjectRef>(segment: &Segment, key: &O, index: u64) -> Result<Scala
 /// # Conditions
 ///
 /// The object is there.
+#[inline(always)]
 pub fn get_element(segment: &Segment, object: Object, index: u64) -> Result<ScalarValue, Refusal>
     requires { IsObject object segment.now }
     ensures { AnswersWith segment.now
@@ -51,7 +53,20 @@ pub fn get_element(segment: &Segment, object: Object, index: u64) -> Result<Scal
     }
     let size = run.kind.size();
     let from = (run.offset + size * index) as usize;
-    ScalarValue::read(run.kind, &image[from..from + size as usize]).ok_or(Refusal::WrongKind)
+    read_value(run.kind, &image[from..from + size as usize]).ok_or(Refusal::WrongKind)
+}
+
+/// Returns the value of the kind that `bytes` encode, or `None` if they encode none. An `i64`, the kind that is read
+/// most, is read without a call.
+#[inline(always)]
+fn read_value(kind: ScalarKind, bytes: &[u8]) -> Option<ScalarValue>
+    requires { length bytes.now ≡ size_of kind }
+    ensures { SpelledBy kind bytes.now result }
+{
+    if let ScalarKind::I64 = kind {
+        return scalar_is_number::<i64>(bytes).map(ScalarValue::I64);
+    }
+    ScalarValue::read(kind, bytes)
 }
 
 /// Sets the element at `index`. The object is an array of scalars, a vector of scalars or of strings, or a string,
@@ -100,27 +115,6 @@ pub fn set<L: WrittenValue>(
         },
         Kind::Map(_, _) => Err(Refusal::WrongKind),
     }
-}
-
-/// Sets the element at `index` of an array of scalars of the value's kind. No other byte changes.
-///
-/// # Errors
-///
-/// `ReadOnly` if the segment is open for reading. Otherwise `NotFound` if no object has the key, `WrongKind` if the
-/// object has another kind, `OutOfRange` if `index` is not below the length. Nothing changes.
-pub fn set_in_array<O: ObjectRef>(
-    segment: &mut Segment,
-    key: &O,
-    index: u64,
-    value: ScalarValue,
-) -> Result<(), Refusal>
-    ensures step { TakesStepOfKind segment.old segment.new (O.key key.now) (ScalarOf (kind_of_scalar value))
-        (Set (O.key key.now) index (literal_seen value)) (done_answer result) }
-    ensures refused { OnErr result (segment.new ≡ segment.old) }
-    ensures element { OnOk result
-        (ChangesElement segment.old segment.new (O.key key.now) (kind_of_scalar value) index) }
-{
-    by_value!(value, it => segment.set(key, index, it))
 }
 
 /// Sets the element at `index` of a located array of scalars of the value's kind. No other byte changes.

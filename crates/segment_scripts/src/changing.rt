@@ -1,13 +1,12 @@
 //! Vectors, strings and maps that a line changes: the kind of the object says which call it is.
-ghost use Rattle.std.specs.Prelude.{◌≡◌, ◌≤◌, OnErr, length, map};
+ghost use Rattle.std.specs.Prelude.{◌≡◌, ◌≤◌, OnErr, false, length, map};
 ghost use Rattle.seg_types.specs.declared.kinds.Kind.TheVariants.{String as StringKind, Strings as StringsKind};
 ghost use Rattle.seg_types.specs.declared.kinds.Kind.TheVariants.{Vector as VectorOf};
 ghost use Rattle.seg_types.specs.Commands.{Append, Assign, Quoted as AskedQuoted};
 ghost use Rattle.seg_types.specs.Keys.{key_seen};
 ghost use Rattle.seg_types.specs.Names.{ByHandle};
-ghost use Rattle.segment_manager.specs.objects.Located.{IsObject};
+ghost use Rattle.segment_manager.specs.{Step.is_read_only, objects.BoundObjects.IsBound};
 ghost use Rattle.segment_manager.specs.State.{TakesStep, TakesStepOfKind, UnchangedIfRefused, done_answer};
-ghost use Rattle.segment_scripts.specs.Changes.{IsChangeable};
 ghost use Rattle.segment_scripts.specs.Replies.{bytes_taken};
 
 use crate::machine::ParseBuffers;
@@ -15,7 +14,7 @@ use crate::scalars::{ScalarBuffers, ValueBuffer, copy_literals, on_buffer, only_
 use crate::text_buffers::{FEW, TextBuffer, literal_texts};
 use seg_types::{Key, Kind, Refusal, Scalar, ScalarKind};
 use segment_lang::{LineBuffer, Literals, Quoted};
-use segment_manager::{Object, Segment};
+use segment_manager::{Object, Segment, StringMut, StringsMut, VectorMut};
 use segment_values::object_to_change;
 
 /// Replaces the elements of a vector, or the bytes of a string by one text.
@@ -53,8 +52,8 @@ fn assign_vector(
     values: Literals<'_>,
     scalars: &mut ScalarBuffers,
 ) -> Result<(), Refusal>
-    requires object { IsObject object segment.old }
-    requires kind_fit { IsChangeable segment.old (ByHandle object.handle) (VectorOf kind) }
+    requires object { IsBound (VectorOf kind) object segment.old }
+    requires writing { is_read_only segment.old.mode ≡ false }
     requires max_count { bytes_taken values ≤ 4097 }
     ensures step { TakesStep segment.old segment.new (Assign (ByHandle object.handle) values.entry)
         (done_answer result) }
@@ -70,15 +69,15 @@ fn assign_buffer<T: Scalar>(
     values: Literals<'_>,
     buffer: &mut ValueBuffer<T>,
 ) -> Result<(), Refusal>
-    requires object { IsObject object segment.old }
-    requires kind_fit { IsChangeable segment.old (ByHandle object.handle) (VectorOf T.kind) }
+    requires object { IsBound (VectorOf T.kind) object segment.old }
+    requires writing { is_read_only segment.old.mode ≡ false }
     requires max_count { bytes_taken values ≤ 4097 }
     ensures step { TakesStep segment.old segment.new (Assign (ByHandle object.handle) values.entry)
         (done_answer result) }
     ensures refused { OnErr result (segment.new ≡ segment.old) }
 {
     copy_literals(values, buffer)?;
-    segment.vec_assign(&object, buffer.as_slice())
+    VectorMut::<T>::at(segment, object).assign(buffer.as_slice())
 }
 
 /// Makes one text the bytes of a string.
@@ -88,15 +87,15 @@ fn assign_string(
     values: Literals<'_>,
     scratch: &mut LineBuffer,
 ) -> Result<(), Refusal>
-    requires object { IsObject object segment.old }
-    requires kind_fit { IsChangeable segment.old (ByHandle object.handle) StringKind }
+    requires object { IsBound StringKind object segment.old }
+    requires writing { is_read_only segment.old.mode ≡ false }
     requires max_count { bytes_taken values ≤ 4097 }
     ensures step { TakesStep segment.old segment.new (Assign (ByHandle object.handle) values.entry)
         (done_answer result) }
     ensures refused { OnErr result (segment.new ≡ segment.old) }
 {
     let text = only_text(values, scratch)?;
-    segment.string_assign(&object, text)
+    StringMut::at(segment, object).assign(text)
 }
 
 /// Replaces the texts of a vector of strings.
@@ -107,8 +106,8 @@ fn assign_texts(
     values: Literals<'_>,
     buffer: &mut TextBuffer,
 ) -> Result<(), Refusal>
-    requires object { IsObject object segment.old }
-    requires kind_fit { IsChangeable segment.old (ByHandle object.handle) StringsKind }
+    requires object { IsBound StringsKind object segment.old }
+    requires writing { is_read_only segment.old.mode ≡ false }
     requires max_count { bytes_taken values ≤ 4097 }
     ensures step { TakesStep segment.old segment.new (Assign (ByHandle object.handle) values.entry)
         (done_answer result) }
@@ -118,18 +117,19 @@ fn assign_texts(
     if FEW < buffer.len() {
         return assign_many(segment, object, buffer);
     }
-    segment.texts_assign(&object, buffer.few().as_slice())
+    StringsMut::at(segment, object).assign(buffer.few().as_slice())
 }
 
 /// Replaces the texts of a vector of strings by those of a row of any length.
 #[inline(never)]
 fn assign_many(segment: &mut Segment, object: Object, buffer: &TextBuffer) -> Result<(), Refusal>
-    requires { IsObject object segment.old }
+    requires object { IsBound StringsKind object segment.old }
+    requires writing { is_read_only segment.old.mode ≡ false }
     ensures step { TakesStepOfKind segment.old segment.new (ByHandle object.handle) StringsKind
         (Assign (ByHandle object.handle) (map AskedQuoted buffer.now)) (done_answer result) }
     ensures refused { UnchangedIfRefused segment.old segment.new result }
 {
-    segment.texts_assign(&object, buffer.all().as_slice())
+    StringsMut::at(segment, object).assign(buffer.all().as_slice())
 }
 
 /// Appends the bytes of a text to a string.

@@ -1,13 +1,13 @@
 //! The command `pop`: it writes the last element of a vector, and removes it.
-ghost use Rattle.std.specs.Prelude.{◌≡◌, ◌-◌, ◌^◌, ◌<◌, OnErr};
+ghost use Rattle.std.specs.Prelude.{◌≡◌, ◌-◌, ◌^◌, ◌<◌, OnErr, false};
 ghost use Rattle.seg_types.specs.declared.kinds.Kind.TheVariants.{Strings as StringsKind, Vector as VectorOf};
 ghost use Rattle.seg_types.specs.Commands.{Pop};
 ghost use Rattle.seg_types.specs.Keys.{key_seen};
 ghost use Rattle.seg_types.specs.Names.{ByHandle};
-ghost use Rattle.segment_manager.specs.objects.Located.{IsObject};
+ghost use Rattle.segment_manager.specs.objects.BoundObjects.{IsBound};
 ghost use Rattle.segment_manager.specs.State.{TakesStepOfKind, DenotesCurrent, scalar_answer};
-ghost use Rattle.segment_manager.specs.Step.{step};
-ghost use Rattle.segment_scripts.specs.Changes.{Executes, IsChangeable};
+ghost use Rattle.segment_manager.specs.Step.{is_read_only, step};
+ghost use Rattle.segment_scripts.specs.Changes.{Executes};
 ghost use Rattle.segment_scripts.specs.Refusing.{AnswersFor};
 
 use crate::answered::Answered;
@@ -16,7 +16,7 @@ use crate::replies::element;
 use crate::showing::put_text_at;
 use raw_region::{DeviceFault, Sink};
 use seg_types::{Key, Kind, Refusal, ScalarKind, ScalarValue, by_kind};
-use segment_manager::{Object, Segment};
+use segment_manager::{Object, Segment, StringsMut, VectorMut};
 use segment_values::{length_of, object_to_change};
 
 /// Removes the last element of a vector and writes it, or writes the refusal: `ReadOnly` if the segment is open for
@@ -49,9 +49,9 @@ fn pop_text<W: Sink>(
     object: Object,
     out: &mut W,
 ) -> Result<Answered, DeviceFault>
-    requires object { IsObject object segment.old }
+    requires object { IsBound StringsKind object segment.old }
+    requires writing { is_read_only segment.old.mode ≡ false }
     requires writer { (W.history out.old).failures < 2 ^ 64 - 1 }
-    requires kind_fit { IsChangeable segment.old (ByHandle object.handle) StringsKind }
     ensures execution { Executes segment.old segment.new (Pop (ByHandle object.handle)) }
     ensures outcome { AnswersFor (W.history out.old) (W.history out.new) result (DenotesCurrent segment.old.cut.bytes)
         (λ d. (step segment.old.mode d (Pop (ByHandle object.handle))).0) }
@@ -59,7 +59,7 @@ fn pop_text<W: Sink>(
     let last = length_of(segment, object).saturating_sub(1);
     let written = put_text_at(segment, object, last, out);
     // why there is none was written
-    let _ = segment.texts_pop(&object);
+    let _ = StringsMut::at(segment, object).pop();
     written
 }
 
@@ -69,14 +69,17 @@ fn pop_element(
     object: Object,
     kind: ScalarKind,
 ) -> Result<ScalarValue, Refusal>
-    requires { IsObject object segment.old }
+    requires object { IsBound (VectorOf kind) object segment.old }
+    requires writing { is_read_only segment.old.mode ≡ false }
     ensures step { TakesStepOfKind segment.old segment.new (ByHandle object.handle) (VectorOf kind)
         (Pop (ByHandle object.handle)) (scalar_answer result) }
     ensures refused { OnErr result (segment.new ≡ segment.old) }
 {
     macro_rules! pop {
         ($type:ty, $kind:ident) => {
-            segment.vec_pop::<$type, Object>(&object).map(ScalarValue::$kind)
+            VectorMut::<$type>::at(segment, object)
+                .pop()
+                .map(ScalarValue::$kind)
         };
     }
     by_kind!(kind, pop)

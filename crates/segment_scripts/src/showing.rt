@@ -2,9 +2,10 @@
 ghost use Rattle.std.specs.Prelude.{◌-◌, ◌^◌, ◌<◌};
 ghost use Rattle.raw_region.specs.Device.{Writes};
 ghost use Rattle.seg_types.specs.Commands.{Get};
+ghost use Rattle.seg_types.specs.declared.kinds.Kind.TheVariants.{Strings as StringsKind};
 ghost use Rattle.seg_types.specs.Keys.{key_seen};
 ghost use Rattle.seg_types.specs.Names.{ByHandle};
-ghost use Rattle.segment_manager.specs.objects.Located.{IsLocated, IsObject};
+ghost use Rattle.segment_manager.specs.objects.{BoundObjects.IsBound, Located.IsLocated};
 ghost use Rattle.segment_manager.specs.State.{DenotesCurrent};
 ghost use Rattle.segment_manager.specs.Step.{step};
 ghost use Rattle.segment_scripts.specs.Answer.{answer_text};
@@ -19,8 +20,8 @@ use crate::replies::element;
 use raw_region::{DeviceFault, Sink};
 use seg_types::{Key, Kind, ScalarValue};
 use segment_lang::{Piece, put_pieces};
-use segment_manager::{Object, Segment, locate};
-use segment_values::{Layout, count_of, get, put_content};
+use segment_manager::{Object, Segment, Strings, locate};
+use segment_values::{Layout, count_of, get_element, put_content};
 
 /// Writes the kind and the value of the object of a key, or that there is none.
 #[inline(never)]
@@ -137,7 +138,7 @@ pub fn put_get_answer<W: Sink>(
     match locate(segment, key) {
         Ok(object) => match object.kind {
             Kind::Strings => put_text_at(segment, object, index, out),
-            _ => put_answer(segment, element(get(segment, &object, index)), out),
+            _ => put_answer(segment, element(get_element(segment, object, index)), out),
         },
         Err(why) => put_refusal_line(out, why),
     }
@@ -151,11 +152,11 @@ pub fn put_text_at<W: Sink>(
     out: &mut W,
 ) -> Result<Answered, DeviceFault>
     requires writer { (W.history out.old).failures < 2 ^ 64 - 1 }
-    requires object { IsObject object segment.now }
+    requires object { IsBound StringsKind object segment.now }
     ensures { AnswersFor (W.history out.old) (W.history out.new) result (DenotesCurrent segment.now.cut.bytes)
         (λ d. text_at d (ByHandle object.handle) index) }
 {
-    match segment.texts_get(&object, index) {
+    match Strings::at(segment, object).get(index) {
         Ok(text) => {
             Answered::Done.once(put_pieces(out, &[Piece::Text(text), Piece::Bytes(b"\n")]))
         }

@@ -21,7 +21,7 @@ use crate::printing::put_refusal_line;
 use raw_region::{DeviceFault, Sink};
 use seg_types::{Class, Key, Kind};
 use segment_lang::{Piece, put_pieces};
-use segment_manager::unchecked::{named_instance, unique_instance};
+use segment_manager::unchecked::{instance_here, measure_object, named_instance, unique_instance};
 use segment_manager::{Instance, Object, Segment, locate};
 
 /// Writes class, name, kind, count and handle of the object of a key, or that there is none.
@@ -36,31 +36,25 @@ pub fn put_info_answer<W: Sink>(
         (λ d. told_at d (key_seen key.now)) }
 {
     match locate(segment, key) {
-        Ok(object) => put_object(segment, object, out),
+        Ok(object) => Answered::Done.once(put_object(segment, object, out)),
         Err(why) => put_refusal_line(out, why),
     }
 }
 
 /// Writes class, name, kind, count and handle of an object.
-fn put_object<W: Sink>(
-    segment: &Segment,
-    object: Object,
-    out: &mut W,
-) -> Result<Answered, DeviceFault>
+fn put_object<W: Sink>(segment: &Segment, object: Object, out: &mut W) -> Result<(), DeviceFault>
     requires writer { (W.history out.old).failures < 2 ^ 64 - 1 }
     requires object { IsObject object segment.now }
-    ensures { AnswersFor (W.history out.old) (W.history out.new) result (DenotesCurrent segment.now.cut.bytes)
-        (λ d. told_at d (ByHandle object.handle)) }
+    ensures { WritesFor (W.history out.old) (W.history out.new) result (DenotesCurrent segment.now.cut.bytes)
+        (λ d. answer_text (told_at d (ByHandle object.handle))) }
 {
-    match segment.instance(&object) {
-        Ok(said) => match segment.measure(&object) {
-            Ok((len, capacity)) => match said.kind {
-                Kind::Map(_, _) => Answered::Done.once(put_instance(said, Some(len), None, out)),
-                _ => Answered::Done.once(put_instance(said, Some(len), Some(capacity), out)),
-            },
-            Err(_) => Answered::Done.once(put_instance(said, None, None, out)),
+    let said = instance_here(segment, object.handle);
+    match measure_object(segment, object) {
+        Ok((len, capacity)) => match said.kind {
+            Kind::Map(_, _) => put_instance(said, Some(len), None, out),
+            _ => put_instance(said, Some(len), Some(capacity), out),
         },
-        Err(why) => put_refusal_line(out, why),
+        Err(_) => put_instance(said, None, None, out),
     }
 }
 

@@ -1,17 +1,21 @@
 -- The lines of objects in a listing.
 use Rattle.std.proofs.Common.{◌≡◌, ℕ, List, [], ◌∷◌, ◌++◌, length, Option, Some, None, Result, Ok, Err, refl, sym, ap}
-use Rattle.std.proofs.Common.{◌∙◌, false}
+use Rattle.std.proofs.Common.{◌∙◌, false, true}
+use Rattle.std.specs.Option.{is_some}
 use Rattle.seg_types.specs.declared.kinds.Kind.TheVariants.{Map}
 use Rattle.seg_types.specs.declared.kinds.ScalarKind.{ScalarKind}
 use Rattle.seg_types.specs.declared.refusals.Refusal.{Refusal}
 use Rattle.seg_types.specs.Names.{Key}
 use Rattle.segment_lang.specs.Texts.{kind_text, name_text, number_text}
 use Rattle.segment_manager.specs.declared.objects.instance_info.Instance.{Instance}
+use Rattle.segment_manager.specs.declared.objects.object_ref.Object.{Object as Located}
 use Rattle.segment_manager.specs.Answers.{Refused}
 use Rattle.segment_manager.specs.Directory.{Value, Numbers, Elements, Bytes, Pairs, Texts, Object, Directory, kind_of}
+use Rattle.segment_manager.specs.objects.{Found.is_object_at, Located.IsLocated}
 use Rattle.segment_manager.specs.objects.Instances.{IsInstance, IsMissing, SaysAt, SaysOf}
 use Rattle.segment_manager.specs.State.{AnswersWith, SegmentState, DenotesCurrent}
 use Rattle.segment_manager.specs.containers.Contents.{sizes_at, sizes_of}
+use Rattle.segment_manager.proofs.Laws.{said-at, same-object}
 use Rattle.segment_scripts.specs.Answer.{answer_text, class_tokens, entry_tokens, handle_text, line, measure_tokens}
 use Rattle.segment_scripts.specs.Refusing.{is_refusal}
 use Rattle.segment_scripts.specs.Replies.{told_at, told_of}
@@ -88,10 +92,6 @@ module _ (s : SegmentState) (key : Key) (said : Instance) (h : SaysOf s key said
       (λ j. line (class_tokens (f.2.class j) (f.2.name j) ++ entry-said f.0 said f.2 j ++ e j))
       ∙ ap (λ (q : Option Object). answer_text (told_of q)) (sym f.1)
 
-  -- it is told
-  pub told-here : (d : Directory) → DenotesCurrent s.cut.bytes d → false ≡ is_refusal (told_at d key)
-  told-here d st = ap (λ (q : Option Object). is_refusal (told_of q)) (sym (h.says d st).1)
-
   measured : (r : Result (ℕ × ℕ) Refusal) → AnswersWith s (λ d. sizes_at d key) r
       → (d : Directory) (st : DenotesCurrent s.cut.bytes d) → r ≡ sizes_of (h.says d st).0.value
   measured r a d st = a.answers d st ∙ ap sizes_of_object (h.says d st).1
@@ -122,6 +122,18 @@ module _ (s : SegmentState) (key : Key) (said : Instance) (h : SaysOf s key said
       → line (class_tokens said.class said.name.now ++ said_tokens said ++ (number_tokens None ++ number_tokens None))
       ≡ answer_text (told_at d key)
   told-numbers why a d st = tokens-said d st [] (measure-none (h.says d st).0.value why (measured (Err why) a d st))
+
+module _ (s : SegmentState) (key : Key) (o : Located) (l : IsLocated s key o) where
+  -- a located object is there
+  pub object-here : AnswersWith s (λ d. is_object_at d o.handle) true
+  object-here = record {
+    answers = λ d st. sym (ap (λ (q : Option Object). is_some q)
+        (sym (same-object s key o l d st) ∙ (said-at s key o l d st).is));
+  }
+
+  -- it is told
+  pub told-here : (d : Directory) → DenotesCurrent s.cut.bytes d → false ≡ is_refusal (told_at d key)
+  told-here d st = ap (λ (q : Option Object). is_refusal (told_of q)) (sym (said-at s key o l d st).is)
 
 -- there is none
 pub told-missing : (s : SegmentState) (key : Key) (r : Refusal) → IsMissing s key r → (d : Directory)

@@ -1,8 +1,8 @@
 use Rattle.std.proofs.Common.{refl}
 use Rattle.seg_types.specs.Commands.{Assign}
 use Rattle.seg_types.specs.Keys.{key_seen}
-use Rattle.segment_manager.proofs.CommandLaws.{assign-unchangeable, handle-to-change}
-use Rattle.segment_manager.proofs.Laws.{step-by_key}
+use Rattle.segment_manager.proofs.CommandLaws.{assign-unchangeable}
+use Rattle.segment_manager.proofs.Laws.{binds, step-by_key}
 use Rattle.segment_scripts.proofs.changing.Elements.{assign-neither}
 use Rattle.segment_values.proofs.Exits.{exit-is}
 use Rattle.segment_scripts.proofs.changing.assign.Goals as goal
@@ -11,14 +11,14 @@ pub returns-in_err-object-clause-step : goal.returns-in_err-object-clause-step
 returns-in_err-object-clause-step c =
     rw (exit-is c.from_residual.ensures.1) (assign-unchangeable c.in_err-object.ensures _)
 
-pub assign_vector-requires-clause-kind_fit : goal.assign_vector-requires-clause-kind_fit
-assign_vector-requires-clause-kind_fit c = handle-to-change c.in_ok-object.ensures c.in-Vector.is
+pub assign_vector-requires-clause-object : goal.assign_vector-requires-clause-object
+assign_vector-requires-clause-object c = binds c.in_ok-object.ensures.located.here c.in-Vector.is
 
-pub assign_string-requires-clause-kind_fit : goal.assign_string-requires-clause-kind_fit
-assign_string-requires-clause-kind_fit c = handle-to-change c.in_ok-object.ensures c.in-String.is
+pub assign_string-requires-clause-object : goal.assign_string-requires-clause-object
+assign_string-requires-clause-object c = binds c.in_ok-object.ensures.located.here c.in-String.is
 
-pub assign_texts-requires-clause-kind_fit : goal.assign_texts-requires-clause-kind_fit
-assign_texts-requires-clause-kind_fit c = handle-to-change c.in_ok-object.ensures c.in-Strings.is
+pub assign_texts-requires-clause-object : goal.assign_texts-requires-clause-object
+assign_texts-requires-clause-object c = binds c.in_ok-object.ensures.located.here c.in-Strings.is
 
 pub returns-in-Vector-clause-step : goal.returns-in-Vector-clause-step
 returns-in-Vector-clause-step c =

@@ -6,9 +6,9 @@ use Rattle.seg_types.specs.Keys.{key_seen}
 use Rattle.seg_types.specs.Values.{kind_of_scalar, value_of_scalar}
 use Rattle.segment_manager.specs.Answers.{Element, Refused}
 use Rattle.segment_manager.specs.State.{scalar_answer}
-use Rattle.segment_manager.proofs.Laws.{located-steps, step-same}
+use Rattle.segment_manager.proofs.Laws.{binds, located-steps, step-same}
 use Rattle.segment_scripts.proofs.segments.CommandSteps.{keeps-refused, kept-refused}
-use Rattle.segment_manager.proofs.CommandLaws.{handle-to-change, pop-no_vector, pop-unchangeable}
+use Rattle.segment_manager.proofs.CommandLaws.{pop-no_vector, pop-unchangeable}
 use Rattle.segment_scripts.proofs.segments.Refusals.{answers-owed, answers-same}
 use Rattle.segment_scripts.proofs.changing.Texts.{executes-by_key, executes-step, step-answers}
 use Rattle.segment_scripts.proofs.popping.pop.Goals as goal
@@ -47,8 +47,11 @@ returns-in-Vector-clause-outcome g c =
     (located-steps s key c.in-Ok.object c.in-Ok.ensures.located new (Vector c.in-Vector.kind) (Pop key)
     (scalar_answer r) c.in-Vector.is c.pop_element.ensures.step) c.element-answer.ensures c.put_answer.ensures
 
-pub pop_text-requires-clause-kind_fit : goal.pop_text-requires-clause-kind_fit
-pop_text-requires-clause-kind_fit g c = handle-to-change c.in-Ok.ensures c.in-Strings.is
+pub pop_text-requires-clause-object : goal.pop_text-requires-clause-object
+pop_text-requires-clause-object g c = binds c.in-Ok.ensures.located.here c.in-Strings.is
+
+pub pop_element-requires-clause-object : goal.pop_element-requires-clause-object
+pop_element-requires-clause-object g c = binds c.in-Ok.ensures.located.here c.in-Vector.is
 
 pub returns-in-Strings-clause-execution : goal.returns-in-Strings-clause-execution
 returns-in-Strings-clause-execution g c =

@@ -4,10 +4,13 @@ use Rattle.seg_types.specs.Keys.{key_seen}
 use Rattle.seg_types.specs.Names.{ByHandle}
 use Rattle.segment_manager.specs.Calls.{kind_at}
 use Rattle.segment_manager.specs.State.{AnswersWith, scalar_answer}
-use Rattle.segment_manager.proofs.Laws.{kind-by_key, kind-no_texts, located-here, scalars-replies, step-same}
+use Rattle.segment_manager.proofs.Laws.{binds, kind-by_key, kind-no_texts, located-here, scalars-replies, step-same}
 use Rattle.segment_scripts.proofs.segments.Refusals.{answers-owed, answers-same}
 use Rattle.segment_scripts.proofs.changing.Texts.{get-missing, get-text}
 use Rattle.segment_scripts.proofs.showing.put_get_answer.Goals as goal
+
+pub put_text_at-requires-clause-object : goal.put_text_at-requires-clause-object
+put_text_at-requires-clause-object g c = binds c.in-Ok.ensures.here c.in-Strings.is
 
 pub returns-in-Strings : goal.returns-in-Strings
 returns-in-Strings g c =
@@ -29,9 +32,9 @@ returns-in_default g c =
     let o = c.in-Ok.object in
     let handle = ByHandle o.handle in
     let l = c.in-Ok.ensures in
-    let r = scalars-replies s handle c.args.index (scalar_answer c.get.result)
+    let r = scalars-replies s handle c.args.index (scalar_answer c.get_element.result)
     (kind-no_texts s handle o.kind (kind-by_key s handle o (located-here s key o l)) c.in_default.not-Strings)
-    c.get.ensures in
+    c.get_element.ensures in
     answers-same c.put_answer.ensures
     (λ d k. c.element.ensures d ∙ r.answers d k ∙ ap (λ n. n.0) (step-same s key o l (Get key c.args.index) d k))
 

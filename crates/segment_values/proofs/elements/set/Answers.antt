@@ -34,8 +34,8 @@ returns-in_ok-scalar-in-Scalar-clause-step g c =
 pub returns-in_ok-scalar-in-Scalar-clause-element : goal.returns-in_ok-scalar-in-Scalar-clause-element
 returns-in_ok-scalar-in-Scalar-clause-element g c =
     element-told c.args.segment.now c.set_array_element.new.segment (key_seen c.args.key.now) c.in_ok-object.object
-    c.in_ok-object.ensures.located (kind_of_scalar c.in_ok-scalar-in-Scalar.scalar) c.args.index c.set_array_element.result
-    (elements-told (handle-to-change c.in_ok-object.ensures
+    c.in_ok-object.ensures.located (kind_of_scalar c.in_ok-scalar-in-Scalar.scalar) c.args.index
+    c.set_array_element.result (elements-told (handle-to-change c.in_ok-object.ensures
     (c.in-Scalar.is ∙ ap Scalar (sym c.in_ok-scalar-in-Scalar.ensures.0))) refl) c.set_array_element.ensures.element
 
 pub returns-in_err-scalar-in-Vector-clause-step : goal.returns-in_err-scalar-in-Vector-clause-step
@@ -50,8 +50,9 @@ returns-in_ok-scalar-in-Vector-clause-step g c =
 
 pub returns-in_ok-scalar-in-Vector-clause-element : goal.returns-in_ok-scalar-in-Vector-clause-element
 returns-in_ok-scalar-in-Vector-clause-element g c =
-    element-elsewhere c.args.segment.now c.set_vector_element.new.segment (key_seen c.args.key.now) c.in_ok-object.object
-    c.in_ok-object.ensures.located c.in-Vector.is (λ j e. absurd (cc)) c.args.index c.set_vector_element.result
+    element-elsewhere c.args.segment.now c.set_vector_element.new.segment (key_seen c.args.key.now)
+    c.in_ok-object.object c.in_ok-object.ensures.located c.in-Vector.is (λ j e. absurd (cc)) c.args.index
+    c.set_vector_element.result
 
 pub returns-in-Some-clause-step : goal.returns-in-Some-clause-step
 returns-in-Some-clause-step g c =
@@ -59,9 +60,9 @@ returns-in-Some-clause-step g c =
     rw c.in-Some.ensures
     (located-steps c.args.segment.now (key_seen c.args.key.now) c.in_ok-object.object c.in_ok-object.ensures.located
     _ _ (Set (key_seen c.args.key.now) c.args.index _) _ c.in-Strings.is
-    (of-change (λ o u v. TakesStepOfKind u v (key_of o) Strings (Set (key_of o) c.args.index (Quoted c.in-Some.text.now))
-    (done_answer c.set-in-Some.result)) c.at-in-Some.ensures.object c.at-in-Some.ensures.segment e
-    c.set-in-Some.ensures.step))
+    (of-change (λ o u v. TakesStepOfKind u v (key_of o) Strings (Set (key_of o) c.args.index
+    (Quoted c.in-Some.text.now)) (done_answer c.set-in-Some.result)) c.at-in-Some.ensures.object
+    c.at-in-Some.ensures.segment e c.set-in-Some.ensures.step))
 
 pub returns-in-Some-clause-element : goal.returns-in-Some-clause-element
 returns-in-Some-clause-element g c =

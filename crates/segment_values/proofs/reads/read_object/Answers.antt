@@ -6,8 +6,8 @@ use Rattle.segment_values.proofs.reads.read_object.Goals as goal
 
 pub returns-then-not-is_slice-clause-read : goal.returns-then-not-is_slice-clause-read
 returns-then-not-is_slice-clause-read g c =
-    no-reads c.args.segment.now c.args.object (of-handle c.requires) g.T.Scalar.kind c.args.first (length c.args.series.now)
-    (sym c.if-not-is_slice.ensures)
+    no-reads c.args.segment.now c.args.object (of-handle c.requires) g.T.Scalar.kind c.args.first
+    (length c.args.series.now) (sym c.if-not-is_slice.ensures)
 
 pub returns-then-not-has_range-clause-read : goal.returns-then-not-has_range-clause-read
 returns-then-not-has_range-clause-read g c =

@@ -8,8 +8,9 @@ use Rattle.segment_values.proofs.Located.{map-bound}
 use Rattle.segment_values.proofs.walking.typed_pair.Goals as goal
 
 pub at-map-requires : goal.at-map-requires
-at-map-requires g c = map-bound c.requires.object (subst IsSegment c.as_bytes.ensures.bytes c.as_bytes.ensures.denotation)
-    g.K.Scalar.kind g.V.Scalar.kind c.requires.map
+at-map-requires g c = map-bound c.requires.object
+    (subst IsSegment c.as_bytes.ensures.bytes c.as_bytes.ensures.denotation) g.K.Scalar.kind g.V.Scalar.kind
+    c.requires.map
 
 pub returns-then-above : goal.returns-then-above
 returns-then-above g c =

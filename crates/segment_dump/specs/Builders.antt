@@ -10,6 +10,7 @@ use Rattle.seg_types.specs.declared.values.ScalarValue.{ScalarValue}
 use Rattle.best_fit.specs.Table.{BackingArray}
 use Rattle.segment_manager.specs.{Directory.Bytes, Plan.bare, objects.Found.is_object_at, objects.Located.IsObject}
 use Rattle.segment_manager.specs.{State.AnswersWith, State.IsSegment, State.SegmentState, Parts.parts_until}
+use Rattle.segment_manager.specs.Step.{is_read_only}
 use Rattle.segment_manager.specs.declared.objects.object_ref.Object.{Object as Located}
 use Rattle.seg_types.specs.Texts.{class_text, name_text, quoted_text}
 use Rattle.segment_lang.specs.{Tokens.next_token, Lexing.Bare}
@@ -38,15 +39,17 @@ pub record ReadsPair {E : Type 0} (k w : ScalarKind) (text rest : List ℕ) (res
 
 -- ---- objects that are filled
 
--- in a segment, an object has the handle
+-- in a segment that can be written, an object has the handle
 pub record HasObjectAt (s : SegmentState) (h : ℕ) : Type 0 where
   pub segment : IsSegment s.cut.bytes
   pub object : AnswersWith s (λ d. is_object_at d h) true
+  pub writing : is_read_only s.mode ≡ false
 
--- an object that was located is there
+-- an object that was located is there, in a segment that can be written
 pub record HasLocatedObject (s : SegmentState) (o : Located) : Type 0 where
   pub segment : IsSegment s.cut.bytes
   pub object : IsObject o s
+  pub writing : is_read_only s.mode ≡ false
 
 -- all elements are there
 pub record IsFilled (s : SegmentState) (text : List ℕ) (p : FillState) : Type 0 where

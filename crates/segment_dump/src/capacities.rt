@@ -18,7 +18,7 @@ use raw_region::{DeviceFault, Sink, word_in};
 use seg_types::{Class, Kind};
 use segment_lang::{Piece, put_pieces};
 use segment_manager::layout::{NAMED_AT, UNIQUE_AT};
-use segment_manager::unchecked::object_here;
+use segment_manager::unchecked::{measure_object, object_here};
 use segment_manager::{Instance, Object, Segment};
 
 /// Where an index has its capacity, after its first word.
@@ -123,7 +123,7 @@ fn count_slots(segment: &Segment, object: Object) -> Option<u64>
     requires { IsObject object segment.now }
     ensures { AnswersWith segment.now (λ d. measured_slots (sizes_at d (ByHandle object.handle))) result }
 {
-    match segment.measure(&object) {
+    match measure_object(segment, object) {
         Ok((_, slots)) => Some(slots),
         Err(_) => None,
     }

@@ -12,7 +12,7 @@ use crate::tokens::{Lines, next_pair, next_value};
 use seg_types::{Kind, Refusal, ScalarKind};
 use segment_lang::LineBuffer;
 use segment_manager::{Object, Segment};
-use segment_values::{InsertSpot, add_scalar, put_scalars, set_in_array};
+use segment_values::{InsertSpot, insert_pair, insert_scalar, set_array_element};
 
 /// Fills an object with the values of the next lines.
 pub fn fill(
@@ -24,15 +24,15 @@ pub fn fill(
     scratch: &mut LineBuffer,
 ) -> Result<(), BuildError>
     requires { HasLocatedObject segment.old object }
-    ensures filling { FillsNew segment.old segment.new object.handle shape.kind shape.count lines.old lines.new
+    ensures filling { FillsNew segment.old segment.new object.handle object.kind shape.count lines.old lines.new
         (length room.old) result }
     ensures place { SameSurroundings segment.old.cut segment.new.cut }
 {
-    match shape.kind {
+    match object.kind {
         Kind::String => fill_string(segment, object, lines, scratch),
         Kind::Vector(_) => fill_reserved(segment, object, shape, lines, room, scratch),
         Kind::Strings => fill_reserved(segment, object, shape, lines, room, scratch),
-        _ => fill_elements(segment, object, shape, lines, room, scratch),
+        _ => fill_elements(segment, object, shape.count, lines, room, scratch),
     }
 }
 
@@ -46,33 +46,33 @@ fn fill_reserved(
     scratch: &mut LineBuffer,
 ) -> Result<(), BuildError>
     requires { HasLocatedObject segment.old object }
-    ensures filling { IsVectorKind shape.kind
-        → FillsNew segment.old segment.new object.handle shape.kind shape.count lines.old lines.new
+    ensures filling { IsVectorKind object.kind
+        → FillsNew segment.old segment.new object.handle object.kind shape.count lines.old lines.new
         (length room.old) result }
     ensures place { SameSurroundings segment.old.cut segment.new.cut }
 {
     match segment.reserve(&object, shape.count) {
-        Ok(()) => fill_elements(segment, object, shape, lines, room, scratch),
+        Ok(()) => fill_elements(segment, object, shape.count, lines, room, scratch),
         Err(why) => Err(build_error_of(why, shape.at)),
     }
 }
 
-/// Adds to an object the elements that its line counts.
+/// Adds `count` elements to an object.
 fn fill_elements(
     segment: &mut Segment,
     object: Object,
-    shape: ObjectLine,
+    count: u64,
     lines: &mut Lines<'_>,
     room: &mut [u8],
     scratch: &mut LineBuffer,
 ) -> Result<(), BuildError>
     requires { HasLocatedObject segment.old object }
-    ensures filling { FillsElements segment.old segment.new object.handle shape.kind shape.count lines.old lines.new
+    ensures filling { FillsElements segment.old segment.new object.handle object.kind count lines.old lines.new
         (length room.old) result }
     ensures place { SameSurroundings segment.old.cut segment.new.cut }
 {
-    'elements: for index in 0..shape.count {
-        add_element(segment, object, shape.kind, index, lines, room, scratch)?;
+    'elements: for index in 0..count {
+        add_element(segment, object, index, lines, room, scratch)?;
     }
     Ok(())
 }
@@ -81,19 +81,18 @@ fn fill_elements(
 fn add_element(
     segment: &mut Segment,
     object: Object,
-    kind: Kind,
     index: u64,
     lines: &mut Lines<'_>,
     room: &mut [u8],
     scratch: &mut LineBuffer,
 ) -> Result<(), BuildError>
     requires { HasLocatedObject segment.old object }
-    ensures visits { AddsElement segment.old segment.new object.handle kind index lines.old lines.new
+    ensures visits { AddsElement segment.old segment.new object.handle object.kind index lines.old lines.new
         (length room.old) result }
     ensures place { SameSurroundings segment.old.cut segment.new.cut }
     ensures in_place { HasLocatedObject segment.new object }
 {
-    match kind {
+    match object.kind {
         Kind::Scalar(kind) => set_next(segment, object, kind, index, lines),
         Kind::Vector(kind) => push_next(segment, object, kind, lines),
         Kind::Map(keys, values) => put_next(segment, object, keys, values, lines),
@@ -110,7 +109,8 @@ fn set_next(
     index: u64,
     lines: &mut Lines<'_>,
 ) -> Result<(), BuildError>
-    requires { HasLocatedObject segment.old object }
+    requires object { HasLocatedObject segment.old object }
+    requires kind { object.kind ≡ ScalarOf kind }
     ensures visits { (room : ℕ) → AddsElement segment.old segment.new object.handle (ScalarOf kind) index lines.old
         lines.new room result }
     ensures place { SameSurroundings segment.old.cut segment.new.cut }
@@ -118,7 +118,7 @@ fn set_next(
 {
     let at = lines.at();
     let value = next_value(lines, kind)?;
-    ended(set_in_array(segment, &object, index, value), at)
+    ended(set_array_element(segment, object, index, value), at)
 }
 
 /// Puts the value of the next line after the elements of a vector.
@@ -128,7 +128,8 @@ fn push_next(
     kind: ScalarKind,
     lines: &mut Lines<'_>,
 ) -> Result<(), BuildError>
-    requires { HasLocatedObject segment.old object }
+    requires object { HasLocatedObject segment.old object }
+    requires kind { object.kind ≡ VectorOf kind }
     ensures visits { (index room : ℕ)
         → AddsElement segment.old segment.new object.handle (VectorOf kind) index lines.old lines.new room result }
     ensures place { SameSurroundings segment.old.cut segment.new.cut }
@@ -136,7 +137,7 @@ fn push_next(
 {
     let at = lines.at();
     let value = next_value(lines, kind)?;
-    ended(add_scalar(segment, &object, InsertSpot::End, value), at)
+    ended(insert_scalar(segment, object, InsertSpot::End, value), at)
 }
 
 /// Puts the pair of the next line into a map.
@@ -147,7 +148,8 @@ fn put_next(
     values: ScalarKind,
     lines: &mut Lines<'_>,
 ) -> Result<(), BuildError>
-    requires { HasLocatedObject segment.old object }
+    requires object { HasLocatedObject segment.old object }
+    requires kind { object.kind ≡ MapOf keys values }
     ensures visits { (index room : ℕ)
         → AddsElement segment.old segment.new object.handle (MapOf keys values) index lines.old lines.new room result }
     ensures place { SameSurroundings segment.old.cut segment.new.cut }
@@ -155,7 +157,7 @@ fn put_next(
 {
     let at = lines.at();
     let (key, value) = next_pair(lines, keys, values)?;
-    match put_scalars(segment, &object, key, value) {
+    match insert_pair(segment, object, key, value) {
         Ok(_) => Ok(()),
         Err(why) => Err(build_error_of(why, at)),
     }

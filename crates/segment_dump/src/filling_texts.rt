@@ -11,7 +11,7 @@ use crate::filling::ended;
 use crate::texts::PIECE;
 use crate::tokens::{LineTokens, Lines};
 use segment_lang::{LineBuffer, Quoted, numbers_are_decimals, texts_are_spelled};
-use segment_manager::{Object, Segment};
+use segment_manager::{Object, Segment, StringMut, StringsMut};
 
 /// Sets a string to the text of the next lines, with exactly the capacity for it.
 pub fn fill_string(
@@ -20,7 +20,8 @@ pub fn fill_string(
     lines: &mut Lines<'_>,
     scratch: &mut LineBuffer,
 ) -> Result<(), BuildError>
-    requires { HasLocatedObject segment.old object }
+    requires object { HasLocatedObject segment.old object }
+    requires kind { object.kind ≡ StringKind }
     ensures filling { (room : ℕ)
         → FillsNew segment.old segment.new object.handle StringKind 1 lines.old lines.new room result }
     ensures place { SameSurroundings segment.old.cut segment.new.cut }
@@ -73,14 +74,18 @@ fn append_piece(
     tokens: &mut LineTokens<'_>,
     scratch: &mut LineBuffer,
 ) -> Result<(), BuildError>
-    requires { HasLocatedObject segment.old object }
+    requires object { HasLocatedObject segment.old object }
+    requires kind { object.kind ≡ StringKind }
     ensures append { AppendsPiece segment.old segment.new object.handle tokens.old result }
     ensures place { SameSurroundings segment.old.cut segment.new.cut }
     ensures in_place { HasLocatedObject segment.new object }
 {
     let at = tokens.at();
     let piece = last_text(tokens)?;
-    ended(segment.string_append(&object, piece.bytes(scratch)), at)
+    ended(
+        StringMut::at(segment, object).append(piece.bytes(scratch)),
+        at,
+    )
 }
 
 /// Appends the text of the next lines to a vector of strings.
@@ -91,7 +96,8 @@ pub fn push_text(
     room: &mut [u8],
     scratch: &mut LineBuffer,
 ) -> Result<(), BuildError>
-    requires { HasLocatedObject segment.old object }
+    requires object { HasLocatedObject segment.old object }
+    requires kind { object.kind ≡ StringsKind }
     ensures visits { (index : ℕ) → AddsElement segment.old segment.new object.handle StringsKind index lines.old
         lines.new (length room.old) result }
     ensures place { SameSurroundings segment.old.cut segment.new.cut }
@@ -99,7 +105,7 @@ pub fn push_text(
 {
     let at = lines.at();
     let len = collect(lines, room, scratch)?;
-    ended(segment.texts_push(&object, &room[..len]), at)
+    ended(StringsMut::at(segment, object).push(&room[..len]), at)
 }
 
 /// Copies the text of the next lines to the front of the buffer, and returns its length.

@@ -1,6 +1,7 @@
 //! A dump that is read: its lines one after another, and the words of a line.
 ghost use Rattle.std.specs.Prelude.{◌≡◌, ◌≤◌, ◌<◌, ◌^◌, ◌↔◌, ◌==◌, ℕ, List, [], length, position, true, IfOk, IsTrue};
 ghost use Rattle.raw_region.specs.Format.{current};
+ghost use Rattle.seg_types.specs.Values.{kind_of_scalar};
 ghost use Rattle.segment_lang.specs.Language.{whole_language};
 ghost use Rattle.segment_lang.specs.Reading.{kind_of_token, number};
 ghost use Rattle.segment_lang.specs.Seen.{bytes_said};
@@ -207,7 +208,8 @@ impl<'a> LineTokens<'a> {
 
     /// Returns the next word, a value of a kind.
     pub fn next_value(&mut self, kind: ScalarKind) -> Result<ScalarValue, SyntaxError>
-        ensures { ReadsToken (value_token kind) self.old self.new result }
+        ensures value { ReadsToken (value_token kind) self.old self.new result }
+        ensures kind { IfOk result (λ value. kind_of_scalar value ≡ kind) }
     {
         let misfit = self.misfit(DumpFault::BadValue);
         scalar_of(kind, self.next_token()?).ok_or(misfit)
@@ -216,7 +218,8 @@ impl<'a> LineTokens<'a> {
 
 /// Returns the value that the next line is, alone.
 pub fn next_value(lines: &mut Lines<'_>, kind: ScalarKind) -> Result<ScalarValue, SyntaxError>
-    ensures { ReadsElement kind lines.old lines.new result }
+    ensures value { ReadsElement kind lines.old lines.new result }
+    ensures kind { IfOk result (λ value. kind_of_scalar value ≡ kind) }
 {
     wholes_are_decimals();
     let mut tokens = lines.next_line()?;
@@ -231,7 +234,8 @@ pub fn next_pair(
     keys: ScalarKind,
     values: ScalarKind,
 ) -> Result<(ScalarValue, ScalarValue), SyntaxError>
-    ensures { ReadsPair keys values lines.old lines.new result }
+    ensures value { ReadsPair keys values lines.old lines.new result }
+    ensures kinds { IfOk result (λ pair. (kind_of_scalar pair.0 ≡ keys) × (kind_of_scalar pair.1 ≡ values)) }
 {
     wholes_are_decimals();
     let mut tokens = lines.next_line()?;

@@ -5,12 +5,17 @@ use Rattle.segment_dump.proofs.Common.{◌++◌, length, get_or, Result, Ok, Err
 use Rattle.segment_dump.proofs.Common.{append-nil, append_assoc, codes, eq-eqb, length-append, Class, Anonymous, Named}
 use Rattle.segment_dump.proofs.Common.{Unique, Kind, class_code, name_text, bare, SegmentState, ObjectLine, AreLeft}
 use Rattle.segment_dump.proofs.Common.{BuildsAllObjects, FillsNew, HasIndexSlot, IsEmptyObject, IsFillable}
-use Rattle.segment_dump.proofs.Common.{CanBuildItem, StartsNext, content_need, first_content, Site, class_tokens}
+use Rattle.segment_dump.proofs.Common.{CanBuildItem, StartsNext, content_need, first_content, class_tokens}
 use Rattle.segment_dump.proofs.Common.{count_class, measure_tokens, of_class, FillState, IsNameIn, StandsBuilt}
 use Rattle.segment_dump.proofs.Common.{StandsFilling, DumpItem, count_of_content, kind_of_content, IsShortLine}
 use Rattle.segment_dump.proofs.Common.{ReadsLine, all_needs, item_needs, HasNoEnd, ended, content_text, end_text}
 use Rattle.segment_dump.proofs.{Common.head_line, Common.item_text, Common.items_text, texts.Options.never-ok}
-use Rattle.segment_dump.proofs.{texts.Options.ok-same}
+use Rattle.segment_dump.proofs.{texts.Options.ok-same, building.MachineSteps.filled-at}
+use Rattle.segment_dump.proofs.Common.{ByHandle, Head, Object, Site, Value, kind_of, object_at, said-at}
+use Rattle.seg_types.specs.declared.kinds.Kind.TheVariants as kinds
+use Rattle.std.proofs.lemmas.Option.{same_Some}
+use Rattle.segment_manager.specs.{declared.objects.object_ref.Object.Object as Located, objects.Located.IsObject}
+use Rattle.segment_values.proofs.Located.{of-handle}
 use Rattle.segment_dump.proofs.{texts.QuotedTexts.IsName, texts.QuotedTexts.name-is, building.NewObjects.items-rest}
 use Rattle.segment_dump.proofs.{building.ObjectOrder.of-both}
 use Rattle.segment_dump.specs.{Builders.BuildsObject, Builders.IsAtItems, Builders.AcceptsEnd, Building.head_tokens}
@@ -18,6 +23,26 @@ use Rattle.segment_dump.proofs.texts.Elements.{no_end-both, quoted-no_end, token
 use Rattle.segment_dump.proofs.texts.Lines.{measure-no_end, measure-short, name-short}
 
 -- ---- one object
+
+-- an object with its first contents has its kind
+first-kind : (kind : Kind) (n : ℕ) → kind_of (bare (first_content kind n)) ≡ kind
+first-kind (kinds.Scalar k) n = refl
+first-kind kinds.String n = refl
+first-kind (kinds.Vector k) n = refl
+first-kind (kinds.Map k v) n = refl
+first-kind kinds.Strings n = refl
+
+-- an object that is located during its filling has the kind of its value
+located-kind : {s : SegmentState} (o : Located) (here : IsObject o s) {site : Site} {done : List DumpItem} {head : Head}
+    {v : Value} {rest : ℕ} → (st : StandsFilling s site done head v rest) → o.handle ≡ head.handle → o.kind ≡ kind_of v
+located-kind {s} o here {site} {done} {head} {v} {rest} st e =
+    let key = ByHandle o.handle in
+    let p = said-at s key o (of-handle here) st.directory st.stands in
+    let there = ap (λ h. object_at st.directory (ByHandle h)) e
+    ∙ filled-at st.directory site done head v rest st.stands.denotes.directory st.filling in
+    ap (λ (q : Located). q.kind) p.said
+    ∙ ap (λ (q : Object). kind_of q.value) (same_Some p.object st.filling.object (sym p.is ∙ there))
+    ∙ ap kind_of st.filling.value_is
 
 module _ {E F : Type 0} (old mid : SegmentState) (tokens : List ℕ) where
   -- if the object was not made, no item has this line, and `BuildsObject` holds
@@ -35,9 +60,10 @@ module _ {E F : Type 0} (old mid : SegmentState) (tokens : List ℕ) where
   -- an object that was made and filled is built
   pub object-built : (new : SegmentState) (text rest : List ℕ) (room h : ℕ) (shape : ObjectLine)
       (result : Result (Unit {0}) F) → StartsNext {E = E} old mid tokens (Ok (h, shape))
-      → FillsNew mid new h shape.kind shape.count text rest room result
+      → (o : Located) → o.handle ≡ h → IsObject o mid
+      → FillsNew mid new o.handle o.kind shape.count text rest room result
       → BuildsObject old new tokens text rest room result
-  object-built new text rest room h shape result s f = record {
+  object-built new text rest room h shape result s o own here f = record {
     builds = λ site done i more a next w t.
         let q = s.starts site done i more room next w in
         let said : ObjectLine = record {
@@ -56,17 +82,19 @@ module _ {E F : Type 0} (old mid : SegmentState) (tokens : List ℕ) where
           more = more;
           after = a;
         } in
-        let good : IsFillable p shape.kind room =
+        let handle_is : o.handle ≡ q.handle = own ∙ ap (λ (b : ℕ × ObjectLine). b.0) both in
+        let good : IsFillable p o.kind room =
         record {
-          kind_is = sym (ap (λ (b : ℕ × ObjectLine). b.1.kind) both);
+          kind_is = sym (located-kind o here q.stands handle_is
+              ∙ first-kind (kind_of_content i.content) (count_of_content i.content));
           good = next.good.content;
           rest = next.rest;
           longest = next.longest;
         } in
-        let begun : IsEmptyObject mid text p h = record {
+        let begun : IsEmptyObject mid text p o.handle = record {
           stands = subst (λ g. StandsFilling mid site done (record { class = i.class; name = i.name; handle = g })
               (bare (first_content (kind_of_content i.content) (count_of_content i.content)))
-              (content_need i.content + more)) (sym (ap (λ (b : ℕ × ObjectLine). b.0) both)) q.stands;
+              (content_need i.content + more)) (sym handle_is) q.stands;
           text_is = t;
         } in
         let r = f.fills p good (ap (λ (b : ℕ × ObjectLine). b.1.count) both) begun in

@@ -4,7 +4,9 @@ use Rattle.segment_dump.proofs.Common.{append-nil, option_map, ScalarKind, Scala
 use Rattle.segment_dump.proofs.Common.{WholesAreDecimals, next_token, Bare, ReadsElement, ReadsPair, IsTypedPair}
 use Rattle.segment_dump.proofs.Common.{ReadsEnd, ReadsLine, ReadsToken, value_token, element_line, pair_line}
 use Rattle.segment_dump.proofs.{texts.Elements.pair-no_end, texts.Elements.pair_prefix, texts.Options.never-ok}
-use Rattle.segment_dump.proofs.{texts.Options.ok-same}
+use Rattle.segment_dump.proofs.{texts.Options.ok-same, filling.Addition.scalar-kind}
+use Rattle.segment_dump.proofs.Common.{IfOk, None, Option, kind_of_scalar, subst}
+use Rattle.std.specs.Option.{ok_or}
 use Rattle.segment_dump.proofs.texts.Lines.{element-no_end, element-short, element_prefix, pair-short}
 use Rattle.segment_dump.proofs.reading.NextTokens.{blank-next, value-next, value-said}
 
@@ -16,6 +18,18 @@ last-value : (k : ScalarKind) (z : ℤ) → next_token (value_text k z) ≡ Some
 last-value k z = ap next_token (sym (append-nil (value_text k z))) ∙ value-next k z [] refl
 
 -- ---- a scalar
+
+kind-if : {E : Type 0} (k : ScalarKind) (r : Option ℤ) (e : E)
+    → IfOk (ok_or (option_map (scalar_of k) r) e) (λ v. kind_of_scalar v ≡ k)
+kind-if k None e = tt
+kind-if k (Some z) e = scalar-kind k z
+
+-- a value that is read has the kind
+pub value-kind : {E : Type 0} (k : ScalarKind) (r : Option ℤ) (o : Option ScalarValue) (e : E)
+    (result : Result ScalarValue E) → o ≡ option_map (scalar_of k) r → result ≡ ok_or o e
+    → IfOk result (λ v. kind_of_scalar v ≡ k)
+value-kind {E} k r o e result q is = subst (λ (x : Result ScalarValue E). IfOk x (λ v. kind_of_scalar v ≡ k))
+    (sym (is ∙ ap (λ p. ok_or p e) q)) (kind-if k r e)
 
 element-token : (kind : ScalarKind) (z : ℤ) → next_token (element_prefix kind z) ≡ Some (Bare (value_text kind z), [])
 element-token kind z = blank-next (0x20 ∷ value_text kind z) ∙ blank-next (value_text kind z) ∙ last-value kind z

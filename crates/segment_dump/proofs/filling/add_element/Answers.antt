@@ -28,5 +28,5 @@ returns-in-Strings-clause-visits c =
 
 pub returns-in-String-clause-visits : goal.returns-in-String-clause-visits
 returns-in-String-clause-visits c =
-    no-element c.args.segment.now c.args.segment.now c.args.object.handle c.args.kind c.args.index c.args.lines.now
-    c.args.lines.now (length c.args.room.now) _ c.in-String.is
+    no-element c.args.segment.now c.args.segment.now c.args.object.handle c.args.object.kind c.args.index
+    c.args.lines.now c.args.lines.now (length c.args.room.now) _ c.in-String.is

@@ -4,7 +4,7 @@ use Rattle.segment_dump.proofs.filling.fill.Goals as goal
 
 pub returns-in-String-clause-filling : goal.returns-in-String-clause-filling
 returns-in-String-clause-filling c =
-    fills-text c.args.segment.now c.fill_string.new.segment c.args.object.handle c.args.shape.kind
+    fills-text c.args.segment.now c.fill_string.new.segment c.args.object.handle c.args.object.kind
     c.args.shape.count c.args.lines.now c.fill_string.new.lines (length c.args.room.now) c.fill_string.result
     c.in-String.is (c.fill_string.ensures.filling (length c.args.room.now))
 
@@ -17,7 +17,7 @@ returns-in-Strings-clause-filling c =
 
 pub returns-in_default-clause-filling : goal.returns-in_default-clause-filling
 returns-in_default-clause-filling c =
-    fills-plain c.args.segment.now c.fill_elements.new.segment c.args.object.handle c.args.shape.kind
+    fills-plain c.args.segment.now c.fill_elements.new.segment c.args.object.handle c.args.object.kind
     c.args.shape.count c.args.lines.now c.fill_elements.new.lines (length c.args.room.now) c.fill_elements.result
     c.in_default.not-String
-    (not-vector c.args.shape.kind c.in_default.not-Vector c.in_default.not-Strings) c.fill_elements.ensures.filling
+    (not-vector c.args.object.kind c.in_default.not-Vector c.in_default.not-Strings) c.fill_elements.ensures.filling

@@ -5,7 +5,7 @@ use Rattle.segment_dump.proofs.filling.fill_elements.Goals as goal
 
 pub elements-init : goal.elements-init
 elements-init c = (
-  elements-start c.args.segment.now c.args.object.handle c.args.shape.kind c.args.lines.now
+  elements-start c.args.segment.now c.args.object.handle c.args.object.kind c.args.lines.now
       (length c.args.room.now),
   refl,
   c.requires,
@@ -15,20 +15,20 @@ elements-init c = (
 pub returns-in_err-add_element-clause-filling : goal.returns-in_err-add_element-clause-filling
 returns-in_err-add_element-clause-filling c =
     elements-cut c.args.segment.now c.elements.segment c.add_element.new.segment c.add_element.new.segment
-    c.args.object.handle c.args.shape.kind c.args.shape.count c.args.lines.now c.elements.lines
+    c.args.object.handle c.args.object.kind c.args.count c.args.lines.now c.elements.lines
     c.add_element.new.lines c.add_element.new.lines
     (length c.args.room.now) c.elements.index _ c.from_residual.result (omega (arith, c.elements-test.true))
     c.elements.invariant.0
-    (as-room c.elements.segment c.add_element.new.segment c.args.object.handle c.args.shape.kind c.elements.index
+    (as-room c.elements.segment c.add_element.new.segment c.args.object.handle c.args.object.kind c.elements.index
     c.elements.lines c.add_element.new.lines (length c.elements.room) (length c.args.room.now) _ c.elements.invariant.1
     c.in_err-add_element.ensures.visits)
 
 pub elements-preserved : goal.elements-preserved
 elements-preserved c = (
   elements-more c.args.segment.now c.elements.segment c.add_element.new.segment c.args.object.handle
-      c.args.shape.kind c.args.lines.now c.elements.lines c.add_element.new.lines (length c.args.room.now)
+      c.args.object.kind c.args.lines.now c.elements.lines c.add_element.new.lines (length c.args.room.now)
       c.elements.index c.in_ok-add_element.field-0 c.elements.invariant.0
-      (as-room c.elements.segment c.add_element.new.segment c.args.object.handle c.args.shape.kind c.elements.index
+      (as-room c.elements.segment c.add_element.new.segment c.args.object.handle c.args.object.kind c.elements.index
       c.elements.lines c.add_element.new.lines (length c.elements.room) (length c.args.room.now) _
       c.elements.invariant.1
       c.in_ok-add_element.ensures.visits),
@@ -39,7 +39,7 @@ elements-preserved c = (
 
 pub returns-clause-filling : goal.returns-clause-filling
 returns-clause-filling c =
-    elements-end c.args.segment.now c.elements.segment c.args.object.handle c.args.shape.kind c.args.shape.count
+    elements-end c.args.segment.now c.elements.segment c.args.object.handle c.args.object.kind c.args.count
     c.args.lines.now c.elements.lines (length c.args.room.now) c.elements.index (omega (
       arith,
       c.elements-test.false,

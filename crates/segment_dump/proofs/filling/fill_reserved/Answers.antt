@@ -5,15 +5,15 @@ use Rattle.segment_dump.proofs.filling.EmptyObjects.{fills-refused, fills-reserv
 
 pub returns-in-Ok-clause-filling : goal.returns-in-Ok-clause-filling
 returns-in-Ok-clause-filling c = λ v.
-    fills-reserved c.args.segment.now c.reserve.new.self c.args.object.handle c.args.shape.kind c.args.shape.count
-    c.args.lines.now (length c.args.room.now) c.reserve.result v c.reserve.ensures.step c.fill_elements.new.segment
-    c.fill_elements.new.lines c.fill_elements.result c.fill_elements.ensures.filling
+    fills-reserved c.args.segment.now c.reserve.new.self c.args.object.handle c.args.object.kind
+    c.args.shape.count c.args.lines.now (length c.args.room.now) c.reserve.result v c.reserve.ensures.step
+    c.fill_elements.new.segment c.fill_elements.new.lines c.fill_elements.result c.fill_elements.ensures.filling
 
 pub returns-in-Err-clause-filling : goal.returns-in-Err-clause-filling
 returns-in-Err-clause-filling c = λ v.
-    fills-refused c.args.segment.now c.reserve.new.self c.args.object.handle c.args.shape.kind c.args.shape.count
-    c.args.lines.now (length c.args.room.now) c.reserve.result v c.reserve.ensures.step c.reserve.new.self
-    c.args.lines.now c.in-Err.why _ c.in-Err.is
+    fills-refused c.args.segment.now c.reserve.new.self c.args.object.handle c.args.object.kind
+    c.args.shape.count c.args.lines.now (length c.args.room.now) c.reserve.result v c.reserve.ensures.step
+    c.reserve.new.self c.args.lines.now c.in-Err.why _ c.in-Err.is
 
 pub reserve-requires : goal.reserve-requires
 reserve-requires c = c.requires.object

@@ -52,13 +52,13 @@ returns-clause-filling c = λ room. string-end (c.pieces.invariant.0 room)
     (omega (arith, c.pieces-test.false, c.pieces_behind-end.ensures))
 
 pub reserve-requires : goal.reserve-requires
-reserve-requires c = c.requires.object
+reserve-requires c = c.requires.object.object
 
-pub append_piece-requires : goal.append_piece-requires
-append_piece-requires c = still-here c.requires _ _ c.reserve.ensures.step refl
+pub append_piece-requires-clause-object : goal.append_piece-requires-clause-object
+append_piece-requires-clause-object c = still-here c.requires.object _ _ c.reserve.ensures.step refl
 
-pub append_piece-requires-in-pieces : goal.append_piece-requires-in-pieces
-append_piece-requires-in-pieces c = c.pieces.invariant.1
+pub append_piece-requires-in-pieces-clause-object : goal.append_piece-requires-in-pieces-clause-object
+append_piece-requires-in-pieces-clause-object c = c.pieces.invariant.1
 
 pub returns-in_err-append_piece-clause-place : goal.returns-in_err-append_piece-clause-place
 returns-in_err-append_piece-clause-place c = SameSurroundings-trans _ _ _ c.reserve.ensures.step.stays.place

@@ -1,30 +1,30 @@
 use Rattle.segment_dump.proofs.reading.Elements.{pair-more, pair-no_key, pair-no_line, pair-no_value, pair-some}
 use Rattle.segment_dump.proofs.tokens.next_pair.Goals as goal
 
-pub returns-in_err-tokens : goal.returns-in_err-tokens
-returns-in_err-tokens c = pair-no_line c.wholes_are_decimals.ensures c.args.keys c.args.values c.args.lines.now
-    c.next_line.new.self _ c.from_residual.result c.in_err-tokens.ensures
+pub returns-in_err-tokens-clause-value : goal.returns-in_err-tokens-clause-value
+returns-in_err-tokens-clause-value c = pair-no_line c.wholes_are_decimals.ensures c.args.keys c.args.values
+    c.args.lines.now c.next_line.new.self _ c.from_residual.result c.in_err-tokens.ensures
 
-pub returns-in_err-key : goal.returns-in_err-key
-returns-in_err-key c = pair-no_key c.wholes_are_decimals.ensures c.args.keys c.args.values c.args.lines.now
+pub returns-in_err-key-clause-value : goal.returns-in_err-key-clause-value
+returns-in_err-key-clause-value c = pair-no_key c.wholes_are_decimals.ensures c.args.keys c.args.values c.args.lines.now
     c.next_line.new.self c.in_ok-tokens.tokens c.next_value.new.self _ c.from_residual-in_err-key.result
-    c.in_ok-tokens.ensures c.in_err-key.ensures
+    c.in_ok-tokens.ensures c.in_err-key.ensures.value
 
-pub returns-in_err-value : goal.returns-in_err-value
-returns-in_err-value c =
+pub returns-in_err-value-clause-value : goal.returns-in_err-value-clause-value
+returns-in_err-value-clause-value c =
     pair-no_value c.wholes_are_decimals.ensures c.args.keys c.args.values c.args.lines.now c.next_line.new.self
     c.in_ok-tokens.tokens c.next_value.new.self c.next_value-2.new.self c.in_ok-key.key c.in_ok-tokens.ensures
-    c.in_ok-key.ensures _ c.from_residual-in_err-value.result c.in_err-value.ensures
+    c.in_ok-key.ensures.value _ c.from_residual-in_err-value.result c.in_err-value.ensures.value
 
-pub returns-in_err-finish : goal.returns-in_err-finish
-returns-in_err-finish c =
+pub returns-in_err-finish-clause-value : goal.returns-in_err-finish-clause-value
+returns-in_err-finish-clause-value c =
     pair-more c.wholes_are_decimals.ensures c.args.keys c.args.values c.args.lines.now c.next_line.new.self
     c.in_ok-tokens.tokens c.next_value.new.self c.next_value-2.new.self c.in_ok-key.key c.in_ok-tokens.ensures
-    c.in_ok-key.ensures c.in_ok-value.value _
-    c.from_residual-in_err-finish.result c.in_ok-value.ensures c.in_err-finish.ensures
+    c.in_ok-key.ensures.value c.in_ok-value.value _
+    c.from_residual-in_err-finish.result c.in_ok-value.ensures.value c.in_err-finish.ensures
 
-pub returns : goal.returns
-returns c =
+pub returns-clause-value : goal.returns-clause-value
+returns-clause-value c =
     pair-some c.wholes_are_decimals.ensures c.args.keys c.args.values c.args.lines.now c.next_line.new.self
     c.in_ok-tokens.tokens c.next_value.new.self c.next_value-2.new.self c.in_ok-key.key c.in_ok-tokens.ensures
-    c.in_ok-key.ensures c.in_ok-value.value c.in_ok-value.ensures
+    c.in_ok-key.ensures.value c.in_ok-value.value c.in_ok-value.ensures.value

@@ -11,6 +11,7 @@ use crate::filling_texts::{fill_string, push_text};
 use crate::tokens::{Lines, next_pair, next_value};
 use seg_types::{Kind, Refusal, ScalarKind};
 use segment_lang::LineBuffer;
+use segment_manager::unchecked::reserve_object;
 use segment_manager::{Object, Segment};
 use segment_values::{InsertSpot, insert_pair, insert_scalar, set_array_element};
 
@@ -51,7 +52,7 @@ fn fill_reserved(
         (length room.old) result }
     ensures place { SameSurroundings segment.old.cut segment.new.cut }
 {
-    match segment.reserve(&object, shape.count) {
+    match reserve_object(segment, object, shape.count) {
         Ok(()) => fill_elements(segment, object, shape.count, lines, room, scratch),
         Err(why) => Err(build_error_of(why, shape.at)),
     }

@@ -11,6 +11,7 @@ use crate::filling::ended;
 use crate::texts::PIECE;
 use crate::tokens::{LineTokens, Lines};
 use segment_lang::{LineBuffer, Quoted, numbers_are_decimals, texts_are_spelled};
+use segment_manager::unchecked::reserve_object;
 use segment_manager::{Object, Segment, StringMut, StringsMut};
 
 /// Sets a string to the text of the next lines, with exactly the capacity for it.
@@ -28,7 +29,7 @@ pub fn fill_string(
 {
     let at = lines.at();
     let (mut tokens, len) = first_line(lines)?;
-    if let Err(why) = segment.reserve(&object, len) {
+    if let Err(why) = reserve_object(segment, object, len) {
         return Err(build_error_of(why, at));
     }
     append_piece(segment, object, &mut tokens, scratch)?;

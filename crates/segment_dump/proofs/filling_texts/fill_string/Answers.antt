@@ -10,23 +10,23 @@ returns-in_err-tokens-clause-filling c = λ room. string-no_first c.in_err-token
 
 pub returns-in-Err-clause-filling : goal.returns-in-Err-clause-filling
 returns-in-Err-clause-filling c =
-    λ room. string-refused c.args.segment.now c.reserve.new.self c.args.object.handle room
-    c.args.lines.now c.first_line.new.lines c.in_ok-tokens.tokens c.in_ok-tokens.len c.reserve.result
-    c.reserve.ensures.step c.in_ok-tokens.ensures c.in-Err.is
+    λ room. string-refused c.args.segment.now c.reserve_object.new.segment c.args.object.handle room
+    c.args.lines.now c.first_line.new.lines c.in_ok-tokens.tokens c.in_ok-tokens.len c.reserve_object.result
+    c.reserve_object.ensures.step c.in_ok-tokens.ensures c.in-Err.is
 
 pub returns-in_err-append_piece-clause-filling : goal.returns-in_err-append_piece-clause-filling
 returns-in_err-append_piece-clause-filling c =
-    λ room. string-no_piece c.args.segment.now c.reserve.new.self c.args.object.handle room c.args.lines.now
-    c.first_line.new.lines c.in_ok-tokens.tokens c.in_ok-tokens.len c.reserve.result c.reserve.ensures.step
-    c.in_ok-tokens.ensures c.in_err-append_piece.ensures.append
+    λ room. string-no_piece c.args.segment.now c.reserve_object.new.segment c.args.object.handle room c.args.lines.now
+    c.first_line.new.lines c.in_ok-tokens.tokens c.in_ok-tokens.len c.reserve_object.result
+    c.reserve_object.ensures.step c.in_ok-tokens.ensures c.in_err-append_piece.ensures.append
 
 pub pieces-init : goal.pieces-init
 pieces-init c = (
-  λ room. string-start c.args.segment.now c.reserve.new.self c.args.object.handle room
-      c.args.lines.now c.first_line.new.lines c.in_ok-tokens.tokens c.in_ok-tokens.len c.reserve.result
-      c.reserve.ensures.step c.in_ok-tokens.ensures c.in_ok-append_piece.ensures.append,
+  λ room. string-start c.args.segment.now c.reserve_object.new.segment c.args.object.handle room
+      c.args.lines.now c.first_line.new.lines c.in_ok-tokens.tokens c.in_ok-tokens.len c.reserve_object.result
+      c.reserve_object.ensures.step c.in_ok-tokens.ensures c.in_ok-append_piece.ensures.append,
   c.in_ok-append_piece.ensures.in_place,
-  SameSurroundings-trans _ _ _ c.reserve.ensures.step.stays.place c.in_ok-append_piece.ensures.place,
+  SameSurroundings-trans _ _ _ c.reserve_object.ensures.step.stays.place c.in_ok-append_piece.ensures.place,
 )
 
 pub returns-in_err-tokens-2-clause-filling : goal.returns-in_err-tokens-2-clause-filling
@@ -51,17 +51,17 @@ pub returns-clause-filling : goal.returns-clause-filling
 returns-clause-filling c = λ room. string-end (c.pieces.invariant.0 room)
     (omega (arith, c.pieces-test.false, c.pieces_behind-end.ensures))
 
-pub reserve-requires : goal.reserve-requires
-reserve-requires c = c.requires.object.object
+pub reserve_object-requires : goal.reserve_object-requires
+reserve_object-requires c = c.requires.object.object
 
 pub append_piece-requires-clause-object : goal.append_piece-requires-clause-object
-append_piece-requires-clause-object c = still-here c.requires.object _ _ c.reserve.ensures.step refl
+append_piece-requires-clause-object c = still-here c.requires.object _ _ c.reserve_object.ensures.step refl
 
 pub append_piece-requires-in-pieces-clause-object : goal.append_piece-requires-in-pieces-clause-object
 append_piece-requires-in-pieces-clause-object c = c.pieces.invariant.1
 
 pub returns-in_err-append_piece-clause-place : goal.returns-in_err-append_piece-clause-place
-returns-in_err-append_piece-clause-place c = SameSurroundings-trans _ _ _ c.reserve.ensures.step.stays.place
+returns-in_err-append_piece-clause-place c = SameSurroundings-trans _ _ _ c.reserve_object.ensures.step.stays.place
     c.in_err-append_piece.ensures.place
 
 pub returns-in_err-tokens-2-clause-place : goal.returns-in_err-tokens-2-clause-place

@@ -1,8 +1,11 @@
 //! Makes a map of an image in a segment of its own.
+ghost use Rattle.std.specs.Prelude.{◌≡◌, OnErr};
 ghost use Rattle.std.specs.List.{AllByRecursion};
+ghost use Rattle.seg_types.specs.Commands.{Put, literal_of};
 ghost use Rattle.seg_types.specs.declared.kinds.Kind.TheVariants.{Map as MapOf};
-ghost use Rattle.seg_types.specs.Keys.{new_key_seen};
-ghost use Rattle.segment_manager.specs.objects.NewObjects.{IsOfKind};
+ghost use Rattle.seg_types.specs.Keys.{key_seen, new_key_seen};
+ghost use Rattle.seg_types.specs.{Values.kind_of_scalar, Written.literal_seen};
+ghost use Rattle.segment_manager.specs.{State.TakesStepOfKind, State.truth_answer, objects.NewObjects.IsOfKind};
 ghost use Rattle.segment_salvage.specs.Pairs.{IsPairOfImage};
 ghost use Rattle.segment_salvage.specs.Standing.{Salvages};
 ghost use Rattle.segment_salvage.specs.Steps.{IsHead};
@@ -12,9 +15,8 @@ use crate::allowance::Allowance;
 use crate::heads::Head;
 use crate::losses::{LossCause, Unbuilt};
 use crate::nodes::{Pair, pairs_at};
-use seg_types::{Handle, Key, ScalarKind};
+use seg_types::{Handle, Key, Refusal, Scalar, ScalarKind, ScalarValue, by_value};
 use segment_manager::Segment;
-use segment_values::put_scalars;
 use std::alloc::Global;
 
 /// Makes a map with its pairs.
@@ -104,4 +106,33 @@ fn put_pair(
         Ok(false) => Err(LossCause::BadValue),
         Err(_) => Err(LossCause::NoSpace),
     }
+}
+
+/// Sets the value of a map key in the map of a key, a map of the kinds of both, and returns true if the map key is new.
+fn put_scalars(
+    segment: &mut Segment,
+    key: &Key,
+    at: ScalarValue,
+    value: ScalarValue,
+) -> Result<bool, Refusal>
+    ensures step { TakesStepOfKind segment.old segment.new (key_seen key.now)
+        (MapOf (kind_of_scalar at) (kind_of_scalar value))
+        (Put (key_seen key.now) (literal_seen at) (literal_seen value)) (truth_answer result) }
+    ensures refused { OnErr result (segment.new ≡ segment.old) }
+{
+    by_value!(at, at => put_by_key(segment, key, at, value))
+}
+
+/// Sets the value of a map key, for map keys of a type, and returns true if the map key is new.
+fn put_by_key<K: Scalar>(
+    segment: &mut Segment,
+    key: &Key,
+    at: K,
+    value: ScalarValue,
+) -> Result<bool, Refusal>
+    ensures step { TakesStepOfKind segment.old segment.new (key_seen key.now) (MapOf K.kind (kind_of_scalar value))
+        (Put (key_seen key.now) (literal_of K.kind (K.whole at)) (literal_seen value)) (truth_answer result) }
+    ensures refused { OnErr result (segment.new ≡ segment.old) }
+{
+    by_value!(value, value => segment.map_put(key, at, value))
 }

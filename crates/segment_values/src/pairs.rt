@@ -17,7 +17,7 @@ use crate::objects::object_to_change;
 use seg_types::{
     Key, Kind, Refusal, Scalar, ScalarKind, ScalarValue, WrittenValue, by_kind, by_value, pair_of,
 };
-use segment_manager::{Map, MapMut, Object, ObjectRef, Segment, locate};
+use segment_manager::{Map, MapMut, Object, Segment, locate};
 
 /// Sets the value of a map key in a map, and returns true if the map key is new.
 ///
@@ -48,48 +48,6 @@ pub fn put_pair<A: WrittenValue, B: WrittenValue>(
         }
         _ => Err(Refusal::WrongKind),
     }
-}
-
-/// Sets the value of the map key `at` in a map of the kinds of both, and returns true if `at` is new.
-///
-/// # Errors
-///
-/// The first that applies; nothing changes:
-/// - `ReadOnly` if the segment is open for reading;
-/// - `NotFound` if no object has the key;
-/// - `WrongKind` if the object has another kind;
-/// - `NoSpace` if `at` is new and no gap is long enough for its block.
-pub fn put_scalars<O: ObjectRef>(
-    segment: &mut Segment,
-    key: &O,
-    at: ScalarValue,
-    value: ScalarValue,
-) -> Result<bool, Refusal>
-    ensures step { TakesStepOfKind segment.old segment.new (O.key key.now)
-        (MapOf (kind_of_scalar at) (kind_of_scalar value))
-        (Put (O.key key.now) (literal_seen at) (literal_seen value)) (truth_answer result) }
-    ensures refused { OnErr result (segment.new ≡ segment.old) }
-    ensures overwrite { ChangesValue segment.old segment.new (O.key key.now) (kind_of_scalar at) (value_of_scalar at)
-        (kind_of_scalar value) }
-{
-    by_value!(at, at => put_by_key(segment, key, at, value))
-}
-
-/// Sets the value of the map key `at`, for map keys of a type, and returns true if `at` is new.
-#[inline(always)]
-fn put_by_key<K: Scalar, O: ObjectRef>(
-    segment: &mut Segment,
-    key: &O,
-    at: K,
-    value: ScalarValue,
-) -> Result<bool, Refusal>
-    ensures step { TakesStepOfKind segment.old segment.new (O.key key.now) (MapOf K.kind (kind_of_scalar value))
-        (Put (O.key key.now) (literal_of K.kind (K.whole at)) (literal_seen value)) (truth_answer result) }
-    ensures refused { OnErr result (segment.new ≡ segment.old) }
-    ensures overwrite { ChangesValue segment.old segment.new (O.key key.now) K.kind (K.whole at)
-        (kind_of_scalar value) }
-{
-    by_value!(value, value => segment.map_put(key, at, value))
 }
 
 /// Sets the value of the map key `at` in a located map of the kinds of both, and returns true if `at` is new.

@@ -21,7 +21,7 @@ ghost use Rattle.segment_values.specs.Changes.{command_at};
 use crate::calls::{enter, enter_with, passed};
 use crate::changes::{ObjectChange, make_change};
 use crate::codes::{done, element};
-use crate::keys::{FoundHandle, ObjectKey};
+use crate::keys::ObjectKey;
 use crate::segment_slot::{SegmentSlot, take};
 use crate::values::CScalar;
 use seg_types::{Handle, Key, Kind, Refusal, ScalarKind, ScalarValue, by_kind};
@@ -115,9 +115,7 @@ fn number_pushed(h: &mut SegmentSlot, segment: Box<Segment>, handle: Handle, num
     ensures marks { h.new.marks ≡ raised h.old.marks }
 {
     let mut segment = segment;
-    if is_remembered(&segment, handle)
-        && push_within(&mut segment, &FoundHandle { handle }, number)
-    {
+    if is_remembered(&segment, handle) && push_within(&mut segment, handle, number) {
         return done(Ok(()), h, segment);
     }
     number_added(h, segment, handle, number)

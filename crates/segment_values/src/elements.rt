@@ -26,6 +26,7 @@ use segment_manager::{
 ///
 /// `NotFound` if no object has the key, `WrongKind` if its elements are not scalars, `OutOfRange` if `index` is not
 /// below the length.
+#[inline(always)]
 pub fn get<O: ObjectRef>(segment: &Segment, key: &O, index: u64) -> Result<ScalarValue, Refusal>
     ensures { AnswersWith segment.now
         (λ d. scalar_reply segment.now.mode d (O.key key.now) (Get (O.key key.now) index)) (scalar_answer result) }

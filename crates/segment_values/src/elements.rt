@@ -1,17 +1,18 @@
 //! Reads and sets elements of arrays, vectors and strings, with values as callers write them.
-ghost use Rattle.std.specs.Prelude.{◌≡◌, OnErr, OnOk};
+ghost use Rattle.std.specs.Prelude.{◌≡◌, OnErr, OnOk, length};
 ghost use Rattle.seg_types.specs.declared.kinds.Kind.TheVariants.{Scalar as ScalarOf, Vector as VectorOf};
 ghost use Rattle.seg_types.specs.declared.kinds.ScalarKind.{ScalarKind as AnyScalarKind};
 ghost use Rattle.seg_types.specs.Commands.{Get, Set};
 ghost use Rattle.seg_types.specs.Keys.{key_seen};
 ghost use Rattle.seg_types.specs.Names.{ByHandle};
-ghost use Rattle.seg_types.specs.Values.{kind_of_scalar};
+ghost use Rattle.seg_types.specs.{Kinds.size_of, Values.SpelledBy, Values.kind_of_scalar};
 ghost use Rattle.seg_types.specs.Written.{literal_seen};
 ghost use Rattle.segment_manager.specs.{Calls.scalar_reply, Keeping.ChangesElement};
 ghost use Rattle.segment_manager.specs.objects.Located.{IsObject};
 ghost use Rattle.segment_manager.specs.State.{AnswersWith, TakesStep, TakesStepOfKind, done_answer, scalar_answer};
 
 use crate::objects::object_to_change;
+use seg_types::theorems::scalar_is_number;
 use seg_types::{Key, Kind, Refusal, ScalarKind, ScalarValue, WrittenValue, by_value};
 use segment_manager::{Object, ObjectRef, Segment};
 
@@ -34,7 +35,20 @@ pub fn get<O: ObjectRef>(segment: &Segment, key: &O, index: u64) -> Result<Scala
     }
     let size = run.kind.size();
     let from = (run.offset + size * index) as usize;
-    ScalarValue::read(run.kind, &image[from..from + size as usize]).ok_or(Refusal::WrongKind)
+    read_value(run.kind, &image[from..from + size as usize]).ok_or(Refusal::WrongKind)
+}
+
+/// Returns the value of the kind that `bytes` encode, or `None` if they encode none. An `i64`, the kind that is read
+/// most, is read without a call.
+#[inline(always)]
+fn read_value(kind: ScalarKind, bytes: &[u8]) -> Option<ScalarValue>
+    requires { length bytes.now ≡ size_of kind }
+    ensures { SpelledBy kind bytes.now result }
+{
+    if let ScalarKind::I64 = kind {
+        return scalar_is_number::<i64>(bytes).map(ScalarValue::I64);
+    }
+    ScalarValue::read(kind, bytes)
 }
 
 /// Sets the element at `index`. The object is an array of scalars, a vector of scalars or of strings, or a string,

@@ -18,11 +18,11 @@ returns g c =
     let s = c.args.segment.now in let key = g.O.ObjectRef.key c.args.key.now in let run = c.in_ok-run.run' in
     let k = run.kind in let i = c.args.index in
     let inside = element-inside s key run i c.in_ok-run.ensures.bytes (omega (arith, c.if-index-run.false)) in
-    let gives : c.ok_or.result ≡ ok_or c.read.result WrongKind = c.ok_or.ensures.value in
+    let gives : c.ok_or.result ≡ ok_or c.read_value.result WrongKind = c.ok_or.ensures.value in
     rw gives (run-reads s key i run c.in_ok-run.ensures.run c.in_ok-run.ensures.bytes
     (omega (arith, c.if-index-run.false)) _
     (slice-part c.as_bytes-image.ensures.bytes (ap (λ n. run.offset + n * i) c.size-size.ensures) c.size-size.ensures
-    ∙ sym (read-part s.cut.bytes (run.offset + size_of k * i) (size_of k) inside)) c.read.result c.read.ensures)
+    ∙ sym (read-part s.cut.bytes (run.offset + size_of k * i) (size_of k) inside)) c.read_value.result c.read_value.ensures)
 
 pub returns-then-index-run : goal.returns-then-index-run
 returns-then-index-run g c = run-past c.args.segment.now (g.O.ObjectRef.key c.args.key.now) c.args.index

@@ -96,7 +96,7 @@ fn get_any(
 {
     let (which, segment) = passed!(enter(alloc, h, key));
     let answer = get(&segment, &which, index);
-    put(element_out(answer, value), h, segment)
+    put_taken_back(element_out(answer, value), h, segment)
 }
 
 /// Makes a value the element at `index` in the object of a key: of scalars, of a vector of scalars, or of a string.
@@ -184,6 +184,9 @@ fn push_here(segment: &mut Segment, handle: Handle, number: i64) -> bool
     ensures refused { result ≡ false → segment.new ≡ segment.old }
 {
     let object = object_here(segment, handle);
+    let Kind::Vector(ScalarKind::I64) = object.kind else {
+        return false;
+    };
     let Ok(vector) = Vector::<i64>::of(segment, &object) else {
         return false;
     };

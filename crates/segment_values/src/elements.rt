@@ -23,6 +23,7 @@ use segment_manager::{Object, ObjectRef, Segment};
 ///
 /// `NotFound` if no object has the key, `WrongKind` if its elements are not scalars, `OutOfRange` if `index` is not
 /// below the length.
+#[inline(always)]
 pub fn get<O: ObjectRef>(segment: &Segment, key: &O, index: u64) -> Result<ScalarValue, Refusal>
     requires { O.stands key.now segment.now }
     ensures { AnswersWith segment.now

@@ -22,7 +22,8 @@ returns g c =
     rw gives (run-reads s key i run c.in_ok-run.ensures.run c.in_ok-run.ensures.bytes
     (omega (arith, c.if-index-run.false)) _
     (slice-part c.as_bytes-image.ensures.bytes (ap (λ n. run.offset + n * i) c.size-size.ensures) c.size-size.ensures
-    ∙ sym (read-part s.cut.bytes (run.offset + size_of k * i) (size_of k) inside)) c.read_value.result c.read_value.ensures)
+    ∙ sym (read-part s.cut.bytes (run.offset + size_of k * i) (size_of k) inside)) c.read_value.result
+    c.read_value.ensures)
 
 pub returns-then-index-run : goal.returns-then-index-run
 returns-then-index-run g c = run-past c.args.segment.now (g.O.ObjectRef.key c.args.key.now) c.args.index

@@ -1,6 +1,7 @@
 //! Pairs of maps, several read by one call.
 ghost use Rattle.std.specs.Prelude.{◌≡◌, ◌≤◌, ◌+◌, int_lt, length, map, pos, ℤ};
 ghost use Rattle.seg_map.specs.Listing.{pairs_past};
+ghost use Rattle.seg_types.specs.declared.kinds.ScalarKind.TheVariants.{I64};
 ghost use Rattle.seg_types.specs.Keys.{key_seen};
 ghost use Rattle.seg_types.specs.Values.{kind_of_scalar, value_of_scalar};
 ghost use Rattle.seg_types.specs.Written.{literal_seen};
@@ -154,6 +155,47 @@ fn read_pairs(
 /// Reads pairs of the map of a key in a segment into two series, for a map of the kind of `from` to the kind `to`: the
 /// pairs whose keys are not below `from`, or above it if `past` is set. Returns how many they are.
 fn read_of_kinds(
+    segment: &Segment,
+    key: &Key,
+    from: ScalarValue,
+    past: bool,
+    to: ScalarKind,
+    keys: &mut [i64],
+    values: &mut [i64],
+) -> usize
+    ensures { (d : Directory) → DenotesCurrent segment.now.cut.bytes d
+        → FillsSeries (pairs_past int_lt past (value_of_scalar from)
+        (pairs_at_kinds d (key_seen key.now) (kind_of_scalar from) to)) keys.old keys.new values.old values.new result }
+{
+    match (from, to) {
+        (ScalarValue::I64(at), ScalarKind::I64) => {
+            read_numbers(segment, key, at, past, keys, values)
+        }
+        _ => read_of_any(segment, key, from, past, to, keys, values),
+    }
+}
+
+/// Reads pairs of a map from `i64` to `i64`. It is not inlined, so that it pays for no list but its own.
+#[inline(never)]
+fn read_numbers(
+    segment: &Segment,
+    key: &Key,
+    from: i64,
+    past: bool,
+    keys: &mut [i64],
+    values: &mut [i64],
+) -> usize
+    ensures { (d : Directory) → DenotesCurrent segment.now.cut.bytes d
+        → FillsSeries (pairs_past int_lt past from (pairs_at_kinds d (key_seen key.now) I64 I64)) keys.old keys.new
+        values.old values.new result }
+{
+    let mut list = [(from, 0i64); WALK];
+    read_typed(segment, key, from, past, &mut list, keys, values)
+}
+
+/// Reads pairs of a map of any two kinds.
+#[inline(never)]
+fn read_of_any(
     segment: &Segment,
     key: &Key,
     from: ScalarValue,

@@ -1,9 +1,9 @@
 //! Maps: values at keys, and neighbours.
-ghost use Rattle.std.specs.Prelude.{◌≡◌, ◌≤◌, IfOk, IsTrue, Ok, OnErr, Some, option_map, true};
+ghost use Rattle.std.specs.Prelude.{◌≡◌, ◌≤◌, IfOk, IsTrue, Ok, OnErr, Some, false, option_map, true};
 ghost use Rattle.std.specs.declared.option.Option.TheVariants.{Some as Held};
 ghost use Rattle.seg_types.specs.Commands.{Integer, Lookup, Put, Remove};
 ghost use Rattle.seg_types.specs.{Keys.key_seen, Names.ByHandle, Written.literal_seen};
-ghost use Rattle.seg_types.specs.declared.kinds.ScalarKind.TheVariants.{I64};
+ghost use Rattle.seg_types.specs.declared.kinds.{Kind.TheVariants.Map as MapOf, ScalarKind.TheVariants.I64};
 ghost use Rattle.segment_c.specs.{Calls.ReachesSegment, Handles.ChangesHandle, Handles.AsksHandle, Handles.ReadsHandle};
 ghost use Rattle.segment_c.specs.Codes.{answer_for, is_answer};
 ghost use Rattle.segment_c.specs.{Calls.HoldsSegment, Marked.raised};
@@ -12,7 +12,9 @@ ghost use Rattle.segment_c.specs.Reads.{TellsPair, TellsPairOf, first_at, next_a
 ghost use Rattle.segment_manager.specs.Answers.{Boolean};
 ghost use Rattle.segment_manager.specs.Directory.{Directory};
 ghost use Rattle.segment_manager.specs.Keeping.{UnchangedWhere};
-ghost use Rattle.segment_manager.specs.State.{AnswersQuery, AnswersWith, DenotesCurrent, TakesStep};
+ghost use Rattle.segment_manager.specs.{Step.is_read_only, objects.BoundObjects.IsBound};
+ghost use Rattle.segment_manager.specs.State.{AnswersQuery, AnswersQueryOfKind, AnswersWith, DenotesCurrent, TakesStep};
+ghost use Rattle.segment_manager.specs.State.{TakesStepOfKind};
 ghost use Rattle.segment_manager.specs.{State.truth_answer, objects.Found.is_object_at};
 ghost use Rattle.segment_manager.specs.containers.{Maps.any_value_answer, Walks.item_of_kinds};
 ghost use Rattle.segment_values.specs.Absent.{LacksLiteral};
@@ -25,7 +27,7 @@ use crate::values::CScalar;
 use seg_types::theorems::holds_value;
 use seg_types::{Handle, Key, Kind, Refusal, ScalarKind, ScalarValue, WrittenValue};
 use segment_manager::unchecked::object_of_kind;
-use segment_manager::{Map, MapMut, Mode, Segment, is_remembered, locate};
+use segment_manager::{Map, MapMut, Mode, Object, Segment, is_remembered, locate};
 use segment_values::{first_pair, next_pair};
 use std::alloc::Global;
 
@@ -130,12 +132,21 @@ fn number_at(segment: &Segment, handle: Handle, at: i64) -> Result<Option<Scalar
 {
     holds_value(at);
     match object_of_kind(segment, handle, NUMBERS) {
-        Ok(object) => match Map::<i64, i64>::at(segment, object).get(at) {
-            None => Ok(None),
-            Some(value) => Ok(Some(ScalarValue::I64(value))),
-        },
+        Ok(object) => Ok(number_in(segment, object, at)),
         Err(why) => Err(why),
     }
+}
+
+/// Returns the value of a number in a located map from `i64` to `i64`.
+#[inline(always)]
+fn number_in(segment: &Segment, object: Object, at: i64) -> Option<ScalarValue>
+    requires { IsBound (MapOf I64 I64) object segment.now }
+    ensures { AnswersQueryOfKind segment.now (ByHandle object.handle) (MapOf I64 I64)
+        (Lookup (ByHandle object.handle) (Integer at)) (any_value_answer (Ok result)) }
+{
+    Map::<i64, i64>::at(segment, object)
+        .get(at)
+        .map(ScalarValue::I64)
 }
 
 /// Puts a value at a key of the map of a key, and says whether that is new.
@@ -198,11 +209,23 @@ fn put_here(segment: &mut Segment, handle: Handle, at: i64, value: i64) -> Resul
 {
     if segment.mode() != Mode::ReadOnly {
         if let Ok(object) = object_of_kind(segment, handle, NUMBERS) {
-            return MapMut::<i64, i64>::at(segment, object).insert(at, value);
+            return put_in(segment, object, at, value);
         }
     }
     let (new_key, new_value) = (ScalarValue::I64(at), ScalarValue::I64(value));
     segment_values::put_pair(segment, &Key::Handle(handle), &new_key, &new_value)
+}
+
+/// Puts a number at a number in a located map from `i64` to `i64`, and returns true if that is new.
+#[inline(always)]
+fn put_in(segment: &mut Segment, object: Object, at: i64, value: i64) -> Result<bool, Refusal>
+    requires object { IsBound (MapOf I64 I64) object segment.old }
+    requires writing { is_read_only segment.old.mode ≡ false }
+    ensures step { TakesStepOfKind segment.old segment.new (ByHandle object.handle) (MapOf I64 I64)
+        (Put (ByHandle object.handle) (Integer at) (Integer value)) (truth_answer result) }
+    ensures refused { OnErr result (segment.new ≡ segment.old) }
+{
+    MapMut::<i64, i64>::at(segment, object).insert(at, value)
 }
 
 /// Puts a number at a number in the map of a handle, and says whether that is new. It searches for the handle, and

@@ -19,7 +19,7 @@ above : {s t : SegmentState} {o q : Object} {its_after after : ℤ} (p : Option 
     → t ≡ s → AnswersWith t (λ d. answer_of_map d (key_of q) I64 I64 (pair_above its_after))
     (Ok (option_map (λ (x : ℤ × ℤ). (let y : ℤ × ℤ = (x.0, x.1) in y)) p))
     → AnswersWith s (λ d. answer_of_map d (key_of o) I64 I64 (pair_above after)) (Ok p)
-above {t = t} {q = q} {its_after} p e is same a =
+above {t = t} {q = q} {its_after = its_after} {after = after} p e is same a =
     of-bound (λ o s. AnswersWith s (λ d. answer_of_map d (key_of o) I64 I64 (pair_above after)) (Ok p)) is same
     (subst (λ (z : ℤ). AnswersWith t (λ d. answer_of_map d (key_of q) I64 I64 (pair_above z)) (Ok p)) e
     (subst (λ (r : Option (ℤ × ℤ)). AnswersWith t (λ d. answer_of_map d (key_of q) I64 I64 (pair_above its_after))

@@ -7,26 +7,18 @@ static zx_value word_of(uint32_t kind, int64_t word) {
     return kind == ZX_I32 || kind == ZX_I64 ? zx_number(kind, word) : zx_natural(kind, (uint64_t)word);
 }
 
-static int64_t word_in(const zx_value *value) {
-    return value->kind == ZX_I32 || value->kind == ZX_I64 ? value->number : (int64_t)value->natural;
-}
-
 /* ---- rows */
 
 zx_code zx_read_pairs(zx_segment *segment, const zx_key *key, const zx_value *after, int64_t *keys, int64_t *values,
                       size_t count, size_t *read) {
-    zx_value last, at, value;
+    zx_value least, value;
     *read = 0;
     if (!keys || !values) return ZX_NULL_SLICE;
-    for (; *read < count; ++*read) {
-        zx_code code = after ? zx_map_next(segment, key, after, &at, &value) : zx_map_first(segment, key, &at, &value);
-        if (code) return code == ZX_ABSENT ? (zx_code)ZX_DONE : code;
-        keys[*read] = word_in(&at);
-        values[*read] = word_in(&value);
-        last = at;
-        after = &last;
-    }
-    return ZX_DONE;
+    if (!count) return ZX_DONE;
+    if (after) return zx_read_pairs_proved(segment, key, after, true, keys, count, values, count, read);
+    zx_code code = zx_map_first(segment, key, &least, &value);
+    if (code) return code == ZX_ABSENT ? (zx_code)ZX_DONE : code;
+    return zx_read_pairs_proved(segment, key, &least, false, keys, count, values, count, read);
 }
 
 zx_code zx_put_pairs(zx_segment *segment, const zx_key *key, uint32_t key_kind, uint32_t value_kind,

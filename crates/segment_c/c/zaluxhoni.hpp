@@ -17,6 +17,7 @@
 
 #include "zaluxhoni.h"
 #include "zaluxhoni_files.h"
+#include "zaluxhoni_rows.h"
 
 #include <algorithm>
 #include <cerrno>
@@ -2376,7 +2377,8 @@ template <class K, class V> class const_map : public object {
     using size_type = std::uint64_t;
 
     /// Holds a copy of a pair. It moves to the pair with the least key above it, or with the greatest key below it,
-    /// even if the map has changed meanwhile; a step back looks up at most some 64 keys.
+    /// even if the map has changed meanwhile; a step back looks up at most some 64 keys. From the second step on it
+    /// reads pairs ahead, up to 32, until a call changes the segment.
     class iterator {
       public:
         using iterator_category = std::bidirectional_iterator_tag;
@@ -2387,13 +2389,27 @@ template <class K, class V> class const_map : public object {
 
         iterator() = default;
         iterator(detail::spot of, std::optional<value_type> pair) : of_(of), pair_(pair) {}
+        // a copy has no pairs ahead, so it costs no more than its pair
+        iterator(const iterator &other) : of_(other.of_), pair_(other.pair_) {}
+        iterator(iterator &&) noexcept = default;
+        iterator &operator=(const iterator &other) {
+            of_ = other.of_, pair_ = other.pair_, changes_ = never;
+            return *this;
+        }
+        iterator &operator=(iterator &&) noexcept = default;
+        ~iterator() = default;
+
         reference operator*() const { return *pair_; }
         pointer operator->() const { return pointer(*pair_); }
-        iterator &operator++() {
-            pair_ = next_of(of_, pair_->first);
+        [[gnu::always_inline]] iterator &operator++() {
+            const std::uint64_t changes = of_.of->raw()->changes;
+            if (changes != changes_) step(changes);
+            else if (__builtin_expect(ahead_ && ahead_->at < ahead_->count, true)) pair_ = ahead_->next();
+            else step_ahead(changes);
             return *this;
         }
         iterator &operator--() {
+            changes_ = never;
             pair_ = pair_ ? below(of_, pair_->first) : greatest(of_, std::numeric_limits<K>::max());
             return *this;
         }
@@ -2414,8 +2430,49 @@ template <class K, class V> class const_map : public object {
         friend bool operator!=(const iterator &a, const iterator &b) { return !(a == b); }
 
       private:
+        // a number that no segment counts to: no step was made since the iterator came to its pair
+        static constexpr std::uint64_t never = std::numeric_limits<std::uint64_t>::max();
+
+        /// The pairs behind the one that is held: from `at` on, `count` of the `places` that were asked for.
+        struct pairs_ahead {
+            std::size_t at = 0, count = 0, places = 0;
+            std::int64_t keys[32], values[32];
+
+            value_type next() {
+                const value_type pair(static_cast<K>(keys[at]), static_cast<V>(values[at]));
+                at++;
+                return pair;
+            }
+        };
+
         detail::spot of_;
         std::optional<value_type> pair_;
+        // the segment's counter of changes at the last step: it looked at the kinds of the map, and read the pairs ahead
+        std::uint64_t changes_ = never;
+        std::unique_ptr<pairs_ahead> ahead_;
+
+        /// Makes a first step, alone or after a change.
+        [[gnu::always_inline]] void step(std::uint64_t changes) {
+            pair_ = next_of(of_, pair_->first);
+            changes_ = changes;
+            if (__builtin_expect(ahead_ != nullptr, false)) ahead_->at = ahead_->count = ahead_->places = 0;
+        }
+        /// Reads 4 pairs ahead, and twice as many each time. Without memory for them it makes a step.
+        [[gnu::noinline]] void step_ahead(std::uint64_t changes) {
+            if (!ahead_) ahead_.reset(new (std::nothrow) pairs_ahead);
+            if (!ahead_) return step(changes);
+            const bool is_end = ahead_->count < ahead_->places;
+            if (!is_end) read_ahead();
+            if (is_end || ahead_->count == 0) pair_.reset();
+            else pair_ = ahead_->next();
+        }
+        void read_ahead() {
+            const zx_value after = stored<K>::value(pair_->first);
+            const std::size_t places = std::min<std::size_t>(std::max<std::size_t>(2 * ahead_->places, 4), 32);
+            std::size_t count = 0;
+            check_code(of_.code_of(zx_read_pairs, &after, ahead_->keys, ahead_->values, places, &count));
+            ahead_->at = 0, ahead_->count = count, ahead_->places = places;
+        }
     };
     using const_iterator = iterator;
     using reverse_iterator = std::reverse_iterator<iterator>;
@@ -2459,7 +2516,7 @@ template <class K, class V> class const_map : public object {
     [[nodiscard]] std::map<K, V> to_map() const { return std::map<K, V>(begin(), end()); }
     [[nodiscard]] std::vector<value_type> to_vector() const {
         std::vector<value_type> all;
-        for (std::optional<value_type> pair = first(); pair; pair = next(pair->first)) all.push_back(*pair);
+        for (iterator it = begin(); it != end(); ++it) all.push_back(*it);
         return all;
     }
     [[nodiscard]] iterator begin() const { return {spot(), first()}; }

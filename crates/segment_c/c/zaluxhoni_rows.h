@@ -1,5 +1,6 @@
-/* Rows: many texts, pairs or names by one call. They are C over the calls of zaluxhoni.h: tested, not proved. Python
-   uses them, since a single call of C costs it much; they save C its loops.
+/* Rows: many texts, pairs or names by one call. They are C over the calls of zaluxhoni.h: tested, not proved.
+   zx_read_pairs is some lines over a call of its own that is proved. Python uses rows, since a single call of C costs it
+   much; they save C its loops, and the iterator of C++ reads pairs ahead.
 
    Each takes its parameters as the calls of zaluxhoni.h do, and returns their codes. A call that fails may have done
    the first part of its row; the same call continues from there. */
@@ -14,9 +15,13 @@ extern "C" {
 
 /* Reads at most `count` pairs of a map, in the order of their keys: those above `after`, or from the least key on if
    that is null. Keys and values are 64 bits each; a ZX_U64 keeps its bits. `read` is the number of pairs: below `count`
-   at the end of the map. Errors: ZX_NULL_SLICE, and those of zx_map_next. */
+   at the end of the map. The other places of the two rows keep what they had. Errors: ZX_NULL_SLICE, and those of
+   zx_map_next. */
 zx_code zx_read_pairs(zx_segment *segment, const zx_key *key, const zx_value *after, int64_t *keys, int64_t *values,
                       size_t count, size_t *read);
+zx_code zx_read_pairs_proved(zx_segment *segment, const zx_key *key, const zx_value *from, bool past, int64_t *keys,
+                             size_t key_places, int64_t *values, size_t value_places,
+                             size_t *read) ZX_NAMED(zx_read_pairs_from);
 /* Puts values at keys: numbers of two kinds, 64 bits each. Errors: ZX_NULL_SLICE, and those of zx_map_put. */
 zx_code zx_put_pairs(zx_segment *segment, const zx_key *key, uint32_t key_kind, uint32_t value_kind,
                      const int64_t *keys, const int64_t *values, size_t count);

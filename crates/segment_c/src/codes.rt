@@ -179,21 +179,14 @@ pub fn truth(
     put_changed(code, h, segment)
 }
 
-/// Returns the code of a call for an element. It goes out.
-pub fn element(
-    element: Result<ScalarValue, Refusal>,
-    value: &mut CScalar,
-    h: &mut SegmentSlot,
-    segment: Box<Segment>,
-) -> u32
+/// Returns the code of a call for an element. It goes out; the segment is not put back.
+#[inline(always)]
+pub fn element_out(element: Result<ScalarValue, Refusal>, value: &mut CScalar) -> u32
     ensures outcome { answer_for result (element_in value.new) ≡ scalar_answer element }
     ensures answer { IsTrue (is_answer result) }
     ensures unchanged_on_error { 1 ≤ result → value.new ≡ value.old }
-    ensures effect { h.new.segment.value ≡ Held segment.value }
-    ensures marks { h.new.marks ≡ h.old.marks }
 {
-    let code = code_for!(element, it => *value = CScalar::of(it));
-    put(code, h, segment)
+    code_for!(element, it => *value = CScalar::of(it))
 }
 
 /// Returns the code of a call that finds or makes an object. Its handle and how many elements it has go out.

@@ -1,6 +1,6 @@
 //! Elements of objects of scalars, of vectors and of strings.
 ghost use Rattle.std.specs.Prelude.{◌≡◌, ◌≤◌, IsTrue, OnErr};
-ghost use Rattle.std.specs.declared.option.Option.TheVariants.{Some as Held};
+ghost use Rattle.std.specs.declared.option.Option.TheVariants.{None, Some as Held};
 ghost use Rattle.seg_types.specs.Commands.{Erase, Get, Insert, Integer, Pop, Push, Set};
 ghost use Rattle.seg_types.specs.{Keys.key_seen, Names.ByHandle, Written.literal_seen};
 ghost use Rattle.seg_types.specs.declared.kinds.Kind.TheVariants.{Strings as StringsKind, Vector as VectorOf};
@@ -20,13 +20,14 @@ ghost use Rattle.segment_values.specs.Changes.{command_at};
 
 use crate::calls::{enter, enter_with, passed};
 use crate::changes::{ObjectChange, make_change};
-use crate::codes::{done, element};
-use crate::keys::{FoundHandle, ObjectKey};
-use crate::segment_slot::{SegmentSlot, take};
+use crate::codes::{DONE, done, element_out};
+use crate::keys::ObjectKey;
+use crate::segment_slot::{SegmentSlot, put, put_taken_back, take};
 use crate::values::CScalar;
 use seg_types::{Handle, Key, Kind, Refusal, ScalarKind, ScalarValue, by_kind};
+use segment_manager::unchecked::object_here;
 use segment_manager::{Segment, is_remembered, locate, push_within};
-use segment_values::{InsertSpot, add_scalar, get};
+use segment_values::{InsertSpot, add_scalar, get, get_element};
 use std::alloc::Global;
 
 /// Returns the element at `index` in the object of a key: of scalars, of a vector of scalars, or of a string, which has
@@ -44,8 +45,58 @@ pub extern "C" fn zx_get(
         (answer_for result (element_in value.new))) }
     ensures outputs_on_error { 1 ≤ result → value.new ≡ value.old }
 {
+    let Some(handle) = key.as_handle() else {
+        return get_any(alloc, h, key, index, value);
+    };
+    let segment = passed!(take(alloc, h));
+    if is_remembered(&segment, handle) {
+        let object = object_here(&segment, handle);
+        let answer = get_element(&segment, object, index);
+        return put_taken_back(element_out(answer, value), h, segment);
+    }
+    get_searched(h, segment, handle, index, value)
+}
+
+/// Returns the element at `index` in the object of a handle. It searches for the handle, and remembers it.
+#[inline(never)]
+fn get_searched(
+    h: &mut SegmentSlot,
+    segment: Box<Segment>,
+    handle: Handle,
+    index: u64,
+    value: &mut CScalar,
+) -> u32
+    ensures read { AnswersWith segment.value
+        (λ d. scalar_reply segment.value.mode d (ByHandle handle) (Get (ByHandle handle) index))
+        (answer_for result (element_in value.new)) }
+    ensures answer { IsTrue (is_answer result) }
+    ensures unchanged_on_error { 1 ≤ result → value.new ≡ value.old }
+    ensures effect { h.new.segment.value ≡ Held segment.value }
+    ensures marks { h.new.marks ≡ h.old.marks }
+{
+    let mut segment = segment;
+    segment.remember(handle);
+    let answer = get(&segment, &Key::Handle(handle), index);
+    put(element_out(answer, value), h, segment)
+}
+
+/// Returns the element at `index` in the object of a key, for any form of key.
+#[inline(never)]
+fn get_any(
+    alloc: Global,
+    h: &mut SegmentSlot,
+    key: &ObjectKey<'_>,
+    index: u64,
+    value: &mut CScalar,
+) -> u32
+    ensures call { AsksHandle (key_wrong key.now) result h.old h.new
+        (λ s t. AnswersWith s (λ d. scalar_reply s.mode d (key_of key.now) (Get (key_of key.now) index))
+        (answer_for result (element_in value.new))) }
+    ensures outputs_on_error { 1 ≤ result → value.new ≡ value.old }
+{
     let (which, segment) = passed!(enter(alloc, h, key));
-    element(get(&segment, &which, index), value, h, segment)
+    let answer = get(&segment, &which, index);
+    put_taken_back(element_out(answer, value), h, segment)
 }
 
 /// Makes a value the element at `index` in the object of a key: of scalars, of a vector of scalars, or of a string.
@@ -104,10 +155,11 @@ fn push_any(alloc: Global, h: &mut SegmentSlot, key: &ObjectKey<'_>, value: &CSc
     done(push(&mut segment, &which, new), h, segment)
 }
 
-/// Puts a number after the last element of the vector of a handle, and answers so. It is inlined, and what it calls for
-/// a handle that is not remembered, a vector of another kind or a full one is not.
-#[inline(always)]
+/// Puts a number after the last element of the vector of a handle, and answers so. It is not inlined, and what it calls
+/// within the capacity is, since only one function makes those calls.
+#[inline(never)]
 fn number_pushed(h: &mut SegmentSlot, segment: Box<Segment>, handle: Handle, number: i64) -> u32
+    requires { h.old.segment.value ≡ None }
     ensures step { HoldsSegment h.new.segment.value (λ t. TakesStep segment.value t
         (Push (ByHandle handle) (Integer number)) (answer_for result Done)) }
     ensures answer { IsTrue (is_answer result) }
@@ -115,10 +167,9 @@ fn number_pushed(h: &mut SegmentSlot, segment: Box<Segment>, handle: Handle, num
     ensures marks { h.new.marks ≡ raised h.old.marks }
 {
     let mut segment = segment;
-    if is_remembered(&segment, handle)
-        && push_within(&mut segment, &FoundHandle { handle }, number)
-    {
-        return done(Ok(()), h, segment);
+    if is_remembered(&segment, handle) && push_within(&mut segment, handle, number) {
+        h.marks.raise();
+        return put_taken_back(DONE, h, segment);
     }
     number_added(h, segment, handle, number)
 }
@@ -219,7 +270,8 @@ pub extern "C" fn zx_pop(
 {
     let (which, mut segment) = passed!(enter(alloc, h, key));
     h.marks.raise();
-    element(pop(&mut segment, &which), value, h, segment)
+    let answer = pop(&mut segment, &which);
+    put(element_out(answer, value), h, segment)
 }
 
 /// Takes the last element out of the vector of a key in a segment.

@@ -1,15 +1,12 @@
 //! The keys that C passes.
-ghost use Rattle.std.specs.Prelude.{◌≡◌, ◌≢◌, ◌≤◌, IfSome, MatchResult, true};
+ghost use Rattle.std.specs.Prelude.{◌≡◌, ◌≢◌, ◌≤◌, IfSome, MatchResult};
 ghost use Rattle.seg_types.specs.Keys.{index_key_seen, key_seen};
 ghost use Rattle.seg_types.specs.Names.{ByHandle, NoKey};
 ghost use Rattle.segment_c.specs.Passed.{entry_of, entry_wrong, key_of, key_wrong};
-ghost use Rattle.segment_manager.specs.objects.{Found.is_object_at, NewObjects.IsOfKind};
-ghost use Rattle.segment_manager.specs.State.{AnswersWith};
+ghost use Rattle.segment_manager.specs.objects.{NewObjects.IsOfKind};
 
 use crate::codes::{BAD_KEY, BAD_KIND, BAD_NAME, NULL_SLICE};
 use seg_types::{Handle, IndexKey, Key, Kind, Name};
-use segment_manager::unchecked::object_here;
-use segment_manager::{Object, ObjectRef, Segment};
 
 /// Which object, by `how`. It is the one of the name (0), the unique one of the kind (1), the one of the handle (2), or
 /// a new one with no key (3). 4 stands for a null name.
@@ -80,24 +77,5 @@ impl<'a> ObjectKey<'a> {
             4 => Err(NULL_SLICE),
             _ => Err(BAD_KEY),
         }
-    }
-}
-
-/// The handle of an object of the segment. A call on the object does not look for it again.
-#[derive(Clone, Copy)]
-pub struct FoundHandle {
-    /// The handle.
-    pub handle: Handle,
-}
-
-impl ObjectRef for FoundHandle {
-    ghost key = { λ found. ByHandle found.handle };
-
-    // It can be used in a segment that has the object.
-    ghost stands = { λ found s. AnswersWith s (λ d. is_object_at d found.handle) true };
-
-    #[inline(always)]
-    fn find(&self, segment: &Segment) -> Option<Object> {
-        Some(object_here(segment, self.handle))
     }
 }

@@ -15,6 +15,7 @@ mod logs;
 mod maps;
 mod message;
 mod objects;
+mod pair_series;
 mod ranges;
 mod reading;
 mod resizing;

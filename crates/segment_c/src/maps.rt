@@ -1,5 +1,5 @@
 //! Maps: values at keys, and neighbours.
-ghost use Rattle.std.specs.Prelude.{◌≡◌, ◌≤◌, IsTrue, Ok, OnErr, Some, option_map, true};
+ghost use Rattle.std.specs.Prelude.{◌≡◌, ◌≤◌, IfOk, IsTrue, Ok, OnErr, Some, false, option_map, true};
 ghost use Rattle.std.specs.declared.option.Option.TheVariants.{Some as Held};
 ghost use Rattle.seg_types.specs.Commands.{Integer, Lookup, Put, Remove};
 ghost use Rattle.seg_types.specs.{Keys.key_seen, Names.ByHandle, Written.literal_seen};
@@ -12,21 +12,27 @@ ghost use Rattle.segment_c.specs.Reads.{TellsPair, TellsPairOf, first_at, next_a
 ghost use Rattle.segment_manager.specs.Answers.{Boolean};
 ghost use Rattle.segment_manager.specs.Directory.{Directory};
 ghost use Rattle.segment_manager.specs.Keeping.{UnchangedWhere};
+ghost use Rattle.segment_manager.specs.{Step.is_read_only, objects.BoundObjects.IsBound};
 ghost use Rattle.segment_manager.specs.State.{AnswersQuery, AnswersQueryOfKind, AnswersWith, DenotesCurrent, TakesStep};
+ghost use Rattle.segment_manager.specs.State.{TakesStepOfKind};
 ghost use Rattle.segment_manager.specs.{State.truth_answer, objects.Found.is_object_at};
 ghost use Rattle.segment_manager.specs.containers.{Maps.any_value_answer, Walks.item_of_kinds};
 ghost use Rattle.segment_values.specs.Absent.{LacksLiteral};
 
 use crate::calls::{enter, enter_pair, enter_with, passed};
 use crate::codes::{ABSENT, DONE, NOT_FOUND, WRONG_KIND, code_of, truth, value_found};
-use crate::keys::{FoundHandle, ObjectKey};
+use crate::keys::ObjectKey;
 use crate::segment_slot::{SegmentSlot, put, take};
 use crate::values::CScalar;
 use seg_types::theorems::holds_value;
-use seg_types::{Handle, Key, Kind, Refusal, ScalarValue, WrittenValue};
-use segment_manager::{ObjectRef, Segment, is_remembered, locate};
+use seg_types::{Handle, Key, Kind, Refusal, ScalarKind, ScalarValue, WrittenValue};
+use segment_manager::unchecked::object_of_kind;
+use segment_manager::{Map, MapMut, Mode, Object, Segment, is_remembered, locate};
 use segment_values::{first_pair, next_pair};
 use std::alloc::Global;
+
+/// The kind of maps from `i64` to `i64`.
+const NUMBERS: Kind = Kind::Map(ScalarKind::I64, ScalarKind::I64);
 
 /// Returns the value at a key of the map of a key.
 #[unsafe(no_mangle)]
@@ -91,10 +97,7 @@ fn number_found(
 {
     match number_at(&segment, handle, at) {
         Ok(found) => value_found(Ok(found), value, h, segment),
-        Err(why) => match why {
-            Refusal::WrongKind => number_found_in_any(h, segment, handle, at, value),
-            _ => value_found(Err(why), value, h, segment),
-        },
+        Err(_) => number_found_in_any(h, segment, handle, at, value),
     }
 }
 
@@ -120,18 +123,30 @@ fn number_found_in_any(
     value_found(answer, value, h, segment)
 }
 
-/// Returns the value of a number in a map from `i64` to `i64`.
+/// Returns the value of a number in the map of a handle, or an error if that is not from `i64` to `i64`.
 #[inline(always)]
 fn number_at(segment: &Segment, handle: Handle, at: i64) -> Result<Option<ScalarValue>, Refusal>
     requires { AnswersWith segment.now (λ d. is_object_at d handle) true }
-    ensures { AnswersQueryOfKind segment.now (ByHandle handle) (MapOf I64 I64) (Lookup (ByHandle handle) (Integer at))
-        (any_value_answer result) }
+    ensures { IfOk result (λ found.
+        AnswersQuery segment.now (Lookup (ByHandle handle) (Integer at)) (any_value_answer (Ok found))) }
 {
-    match segment.map_get::<i64, i64, FoundHandle>(&FoundHandle { handle }, at) {
-        Ok(None) => Ok(None),
-        Ok(Some(value)) => Ok(Some(ScalarValue::I64(value))),
+    holds_value(at);
+    match object_of_kind(segment, handle, NUMBERS) {
+        Ok(object) => Ok(number_in(segment, object, at)),
         Err(why) => Err(why),
     }
+}
+
+/// Returns the value of a number in a located map from `i64` to `i64`.
+#[inline(always)]
+fn number_in(segment: &Segment, object: Object, at: i64) -> Option<ScalarValue>
+    requires { IsBound (MapOf I64 I64) object segment.now }
+    ensures { AnswersQueryOfKind segment.now (ByHandle object.handle) (MapOf I64 I64)
+        (Lookup (ByHandle object.handle) (Integer at)) (any_value_answer (Ok result)) }
+{
+    Map::<i64, i64>::at(segment, object)
+        .get(at)
+        .map(ScalarValue::I64)
 }
 
 /// Puts a value at a key of the map of a key, and says whether that is new.
@@ -177,11 +192,40 @@ fn number_put(
 {
     let mut segment = segment;
     if is_remembered(&segment, handle) {
-        let (object, key) = (FoundHandle { handle }, Key::Handle(handle));
-        let answer = put_numbers(&mut segment, &object, &key, at, value);
+        let answer = put_here(&mut segment, handle, at, value);
         return truth(answer, is_new, h, segment);
     }
     put_searched(h, segment, handle, at, is_new, value)
+}
+
+/// Puts a number at a number in the map of a handle, which the segment has, and returns true if that is new. It looks
+/// the map up if that is not from `i64` to `i64`.
+#[inline(always)]
+fn put_here(segment: &mut Segment, handle: Handle, at: i64, value: i64) -> Result<bool, Refusal>
+    requires { AnswersWith segment.old (λ d. is_object_at d handle) true }
+    ensures step { TakesStep segment.old segment.new (Put (ByHandle handle) (Integer at) (Integer value))
+        (truth_answer result) }
+    ensures refused { OnErr result (segment.new ≡ segment.old) }
+{
+    if segment.mode() != Mode::ReadOnly {
+        if let Ok(object) = object_of_kind(segment, handle, NUMBERS) {
+            return put_in(segment, object, at, value);
+        }
+    }
+    let (new_key, new_value) = (ScalarValue::I64(at), ScalarValue::I64(value));
+    segment_values::put_pair(segment, &Key::Handle(handle), &new_key, &new_value)
+}
+
+/// Puts a number at a number in a located map from `i64` to `i64`, and returns true if that is new.
+#[inline(always)]
+fn put_in(segment: &mut Segment, object: Object, at: i64, value: i64) -> Result<bool, Refusal>
+    requires object { IsBound (MapOf I64 I64) object segment.old }
+    requires writing { is_read_only segment.old.mode ≡ false }
+    ensures step { TakesStepOfKind segment.old segment.new (ByHandle object.handle) (MapOf I64 I64)
+        (Put (ByHandle object.handle) (Integer at) (Integer value)) (truth_answer result) }
+    ensures refused { OnErr result (segment.new ≡ segment.old) }
+{
+    MapMut::<i64, i64>::at(segment, object).insert(at, value)
 }
 
 /// Puts a number at a number in the map of a handle, and says whether that is new. It searches for the handle, and
@@ -242,31 +286,20 @@ fn put_pair(
     ensures refused { OnErr result (segment.new ≡ segment.old) }
 {
     match (at, value) {
-        (ScalarValue::I64(number), ScalarValue::I64(new)) => {
-            let object = *key;
-            put_numbers(segment, &object, key, number, new)
-        }
+        (ScalarValue::I64(number), ScalarValue::I64(new)) => put_numbers(segment, key, number, new),
         _ => segment_values::put_pair(segment, key, &at, &value),
     }
 }
 
 /// Puts a number at a number in the map of a key in a segment, and returns true if that is new. It looks the map up
-/// once, as `object`, if that is from `i64` to `i64`.
+/// once if that is from `i64` to `i64`.
 #[inline(always)]
-fn put_numbers<O: ObjectRef>(
-    segment: &mut Segment,
-    object: &O,
-    key: &Key,
-    at: i64,
-    value: i64,
-) -> Result<bool, Refusal>
-    requires target { O.stands object.now segment.old }
-    requires key { O.key object.now ≡ key_seen key.now }
+fn put_numbers(segment: &mut Segment, key: &Key, at: i64, value: i64) -> Result<bool, Refusal>
     ensures step { TakesStep segment.old segment.new (Put (key_seen key.now) (Integer at) (Integer value))
         (truth_answer result) }
     ensures refused { OnErr result (segment.new ≡ segment.old) }
 {
-    match segment.map_put::<i64, i64, O>(object, at, value) {
+    match segment.map_put::<i64, i64, Key>(key, at, value) {
         Ok(is_new) => Ok(is_new),
         Err(refusal) => match refusal {
             Refusal::WrongKind => {
@@ -420,8 +453,11 @@ fn next_number(
     ensures unchanged_on_error { 1 ≤ result → (at.new ≡ at.old) × (value.new ≡ value.old) }
 {
     holds_value(after);
-    match segment.map_next_after::<i64, i64, FoundHandle>(&FoundHandle { handle }, after) {
-        Ok(pair) => numbers_out(pair, at, value),
+    match object_of_kind(segment, handle, NUMBERS) {
+        Ok(object) => {
+            let pair = Map::<i64, i64>::at(segment, object).next_after(after);
+            numbers_out(pair, at, value)
+        }
         Err(_) => next(
             segment,
             &Key::Handle(handle),

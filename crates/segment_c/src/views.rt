@@ -1,6 +1,6 @@
 //! Where elements stand, for C that reads and writes them there.
 ghost use denote.RawPtr.{block_ptr};
-ghost use Rattle.std.specs.Prelude.{◌≡◌, ◌≤◌};
+ghost use Rattle.std.specs.Prelude.{◌≡◌, ◌≤◌, IfOk};
 ghost use Rattle.std.specs.declared.option.Option.TheVariants.{None, Some as Held};
 ghost use Rattle.seg_types.specs.{Keys.key_seen, Names.ByHandle};
 ghost use Rattle.segment_c.specs.{Calls.HoldsSegment, Calls.PerformsRead, Handles.ReadsHandle};
@@ -9,15 +9,16 @@ ghost use Rattle.segment_c.specs.Passed.{key_of, key_wrong};
 ghost use Rattle.segment_c.specs.Reads.{IsCoded};
 ghost use Rattle.segment_c.specs.Views.{HasView, IsView, writable};
 ghost use Rattle.segment_manager.specs.Directory.{Directory};
-ghost use Rattle.segment_manager.specs.State.{DenotesCurrent};
-ghost use Rattle.segment_manager.specs.containers.ElementRuns.{run_at};
+ghost use Rattle.segment_manager.specs.State.{AnswersWith, DenotesCurrent};
+ghost use Rattle.segment_manager.specs.containers.ElementRuns.{IsRunOf, run_at};
 
 use crate::calls::{enter, passed};
 use crate::codes::{DONE, READ_ONLY, code_of};
-use crate::keys::{FoundHandle, ObjectKey};
+use crate::keys::ObjectKey;
 use crate::segment_slot::{Marks, SegmentSlot, put, put_taken_back, take};
-use seg_types::{Handle, Key};
-use segment_manager::{Mode, ObjectRef, Segment, is_remembered};
+use seg_types::{Handle, Key, Refusal};
+use segment_manager::unchecked::{element_run_of, object_here};
+use segment_manager::{ElementRun, Mode, Segment, is_remembered};
 use std::alloc::Global;
 
 /// Elements that stand one after another. The fields say where the first stands, its offset in the segment, how many
@@ -93,7 +94,9 @@ fn view_found(h: &mut SegmentSlot, segment: Box<Segment>, handle: Handle, view: 
     ensures marks { h.new.marks ≡ h.old.marks }
 {
     if is_remembered(&segment, handle) {
-        let code = fill_view(&segment, &FoundHandle { handle }, &h.marks, view);
+        let object = object_here(&segment, handle);
+        let run = element_run_of(&segment, object);
+        let code = fill_view(&segment, &Key::Handle(handle), run, &h.marks, view);
         return put_taken_back(code, h, segment);
     }
     view_searched(h, segment, handle, view)
@@ -117,7 +120,9 @@ fn view_searched(
 {
     let mut segment = segment;
     segment.remember(handle);
-    let code = fill_view(&segment, &Key::Handle(handle), &h.marks, view);
+    let key = Key::Handle(handle);
+    let run = segment.element_run(&key);
+    let code = fill_view(&segment, &key, run, &h.marks, view);
     put(code, h, segment)
 }
 
@@ -132,7 +137,8 @@ fn view_any(alloc: Global, h: &mut SegmentSlot, key: &ObjectKey<'_>, view: &mut 
     ensures outputs_on_error { 1 ≤ result → view.new ≡ view.old }
 {
     let (which, segment) = passed!(enter(alloc, h, key));
-    let code = fill_view(&segment, &which, &h.marks, view);
+    let run = segment.element_run(&which);
+    let code = fill_view(&segment, &which, run, &h.marks, view);
     put(code, h, segment)
 }
 
@@ -171,20 +177,27 @@ fn fill_view_mut(segment: &Segment, key: &Key, marks: &Marks, view: &mut CView) 
     if segment.mode() == Mode::ReadOnly {
         return READ_ONLY;
     }
-    fill_view(segment, key, marks, view)
+    fill_view(segment, key, segment.element_run(key), marks, view)
 }
 
-/// Returns where the elements of an object of a segment stand.
+/// Returns where the elements of the object of a key stand, which `run` says.
 #[inline(always)]
-fn fill_view<O: ObjectRef>(segment: &Segment, key: &O, marks: &Marks, view: &mut CView) -> u32
-    requires { O.stands key.now segment.now }
+fn fill_view(
+    segment: &Segment,
+    _key: &Key,
+    run: Result<ElementRun, Refusal>,
+    marks: &Marks,
+    view: &mut CView,
+) -> u32
+    requires run { AnswersWith segment.now (λ d. run_at d (key_seen _key.now)) run }
+    requires bytes { IfOk run (IsRunOf segment.now (key_seen _key.now)) }
     ensures read { (d : Directory) → DenotesCurrent segment.now.cut.bytes d
-        → IsCoded (IsView view.new) result (run_at d (O.key key.now)) }
-    ensures bytes { result ≡ 0 → HasView segment.now (O.key key.now) view.new }
+        → IsCoded (IsView view.new) result (run_at d (key_seen _key.now)) }
+    ensures bytes { result ≡ 0 → HasView segment.now (key_seen _key.now) view.new }
     ensures current { result ≡ 0 → view.new.changes ≡ marks.now.changes }
     ensures unchanged_on_error { 1 ≤ result → view.new ≡ view.old }
 {
-    match segment.element_run(key) {
+    match run {
         Ok(run) => {
             *view = CView {
                 at: start_of(&segment.as_bytes()[run.offset as usize..]),

@@ -338,6 +338,78 @@ template <class K, class V> void beside_map(const char *name, u64 keys, u64 coun
     same(ours.to_map() == theirs, "all");
 }
 
+/// Goes over maps of many lengths, beside a key of a `std::map` that goes with it, while either nothing or anything
+/// changes, the next pair above all.
+template <class K, class V> void beside_walk(const char *name, u64 pairs, u64 chance_of_change) {
+    trying = name;
+    segment s = segment::create(1024);
+    s.set_growing(true);
+    std::map<K, V> theirs;
+    auto ours = s.map<K, V>("m");
+    auto more = s.vector<i64>("v");
+    for (step = 0; theirs.size() < pairs; step++) {
+        const K key = below(3) == 0 ? any<K>() : static_cast<K>(below(2 * pairs) - pairs);
+        const V value = any<V>();
+        ours.put(key, value), theirs[key] = value;
+    }
+    same(ours.to_vector() == std::vector<std::pair<K, V>>(theirs.begin(), theirs.end()), "to_vector");
+    auto it = ours.begin();
+    auto at = theirs.begin();
+    for (step = 0; at != theirs.end(); step++) {
+        same(it != ours.end() && *it == std::pair<K, V>(*at), "the pair");
+        const K key = at->first;
+        auto next = std::next(at);
+        auto copy = it;
+        if (below(50) == 0) it = copy;
+        if (below(50) == 0) it = std::move(copy);
+        if (below(50) == 0 && at != theirs.begin()) {
+            same((--it)->first == std::prev(at)->first, "a step back");
+            same((++it)->first == key, "a step back, and one on");
+        }
+        if (chance_of_change != 0 && below(chance_of_change) == 0) {
+            const V value = any<V>();
+            switch (below(7)) {
+            case 0: ours.erase(key), theirs.erase(key); break;
+            case 1: if (next != theirs.end()) ours.erase(next->first), theirs.erase(next); break;
+            case 2: if (next != theirs.end()) ours.put(next->first, value), next->second = value; break;
+            case 3: if (next == theirs.end() || key + 1 != next->first) {
+                if (key == std::numeric_limits<K>::max()) break;
+                const K between = static_cast<K>(key + 1);
+                ours.put(between, value), theirs[between] = value;
+                break;
+            } break;
+            case 4: more.push_back(1); break;
+            case 5: if (below(100) == 0) ours.clear(), theirs.clear(); break;
+            default: {
+                const K other = any<K>();
+                ours.put(other, value), theirs[other] = value;
+            }
+            }
+            at = theirs.upper_bound(key);
+        } else at = next;
+        if (below(2) == 0) ++it;
+        else it++;
+    }
+    same(it == ours.end(), "the end");
+    if (!theirs.empty()) same(*--it == std::pair<K, V>(*theirs.rbegin()), "a step back from the end");
+    same(ours == theirs, "all");
+}
+
+template <class K, class V> void beside_walks(const char *name) {
+    for (const u64 pairs : std::initializer_list<u64>{0, 1, 2, 3, 4, 5, 31, 32, 33, 59, 60, 61, 64, 65, 91, 92, 93, 200}) {
+        const u64 most = std::is_same_v<K, bool> ? 2 : std::is_same_v<K, u8> ? 256 : pairs;
+        for (const u64 changing : std::initializer_list<u64>{0, 40, 5, 1}) beside_walk<K, V>(name, std::min(pairs, most), changing);
+    }
+}
+
+template <class K> void beside_walks_from(const char *name) {
+    beside_walks<K, bool>(name);
+    beside_walks<K, u8>(name);
+    beside_walks<K, i32>(name);
+    beside_walks<K, i64>(name);
+    beside_walks<K, u64>(name);
+}
+
 } // namespace
 
 int main(int arguments, char **argument) {
@@ -358,6 +430,12 @@ int main(int arguments, char **argument) {
         beside_map<bool, u64>("map of bool and u64", 2, count);
         beside_map<i32, u8>("map of i32 and u8", 100, count);
         beside_map<u64, i32>("map of u64 and i32", 100, count);
+        beside_walks_from<bool>("steps over a map of bool");
+        beside_walks_from<u8>("steps over a map of u8");
+        beside_walks_from<i32>("steps over a map of i32");
+        beside_walks_from<i64>("steps over a map of i64");
+        beside_walks_from<u64>("steps over a map of u64");
+        if (count >= 100000) beside_walk<i64, i64>("steps over many pairs", 200000, 1000);
     } catch (const std::exception &error) {
         differs(error.what());
     }

@@ -1566,10 +1566,43 @@ static void extended(void) {
     IS(zx_extend(&s, &v, &one), ZX_CLOSED);
 }
 
+/* Rows of pairs of a map of each two kinds, of its least and its greatest numbers, beside single steps. */
+static void rows_of_kinds(zx_segment *s) {
+    const uint64_t most[] = { 1, 255, INT32_MAX, INT64_MAX, UINT64_MAX };
+    for (uint32_t k = ZX_BOOL; k <= ZX_U64; k++) {
+        for (uint32_t v = ZX_BOOL; v <= ZX_U64; v++) {
+            const bool has_sign = v == ZX_I32 || v == ZX_I64, below_0 = k == ZX_I32 || k == ZX_I64;
+            zx_key m = zx_name("kinds");
+            uint64_t handle;
+            int64_t keys[3] = { 0, 0, 7 }, numbers[3] = { 0, 0, 7 };
+            size_t read;
+            bool is_new, existed;
+            zx_value least = below_0 ? zx_number(k, -(int64_t)most[k - 1] - 1) : zx_natural(k, 0);
+            zx_value greatest = below_0 ? zx_number(k, (int64_t)most[k - 1]) : zx_natural(k, most[k - 1]);
+            zx_value low = has_sign ? zx_number(v, -(int64_t)most[v - 1] - 1) : zx_natural(v, 0);
+            zx_value high = has_sign ? zx_number(v, (int64_t)most[v - 1]) : zx_natural(v, most[v - 1]);
+            DONE(zx_construct_map(s, &m, k, v, &handle));
+            DONE(zx_map_put(s, &m, &greatest, &low, &is_new));
+            DONE(zx_map_put(s, &m, &least, &high, &is_new));
+            DONE(zx_read_pairs(s, &m, 0, keys, numbers, 3, &read));
+            IS(read == 2 && keys[2] == 7 && numbers[2] == 7, true);
+            IS(keys[0] == (below_0 ? least.number : 0), true);
+            IS(keys[1] == (int64_t)most[k - 1], true);
+            IS(numbers[0] == (int64_t)most[v - 1], true);
+            IS(numbers[1] == (has_sign ? low.number : 0), true);
+            DONE(zx_read_pairs(s, &m, &least, keys, numbers, 3, &read));
+            IS(read == 1 && keys[0] == (int64_t)most[k - 1], true);
+            DONE(zx_read_pairs(s, &m, &greatest, keys, numbers, 3, &read));
+            IS(read, 0);
+            DONE(zx_destroy(s, &m, &existed));
+        }
+    }
+}
+
 /* Rows of pairs. */
 static void rows_of_numbers(void) {
     zx_segment s = ZX_CLOSED_HANDLE;
-    zx_key v = zx_name("v"), m = zx_name("m");
+    zx_key v = zx_name("v"), m = zx_name("m"), none = zx_name("none");
     int32_t few[2] = { 7, -8 };
     int64_t keys[4] = { 3, 1, -2, 3 }, numbers[4] = { 30, 10, 20, 31 };
     zx_value after = zx_i64(1);
@@ -1589,7 +1622,26 @@ static void rows_of_numbers(void) {
     DONE(zx_read_pairs(&s, &m, &after, keys, numbers, 4, &read));
     IS(read == 1 && keys[0] == 3 && numbers[0] == 31, true);
     IS(zx_read_pairs(&s, &m, 0, keys, 0, 4, &read), ZX_NULL_SLICE);
+    IS(zx_read_pairs(&s, &m, 0, 0, numbers, 4, &read), ZX_NULL_SLICE);
     IS(zx_read_pairs(&s, &v, 0, keys, numbers, 4, &read), ZX_WRONG_KIND);
+    IS(zx_read_pairs(&s, &v, &after, keys, numbers, 4, &read), ZX_WRONG_KIND);
+    IS(zx_read_pairs(&s, &none, &after, keys, numbers, 4, &read), ZX_NOT_FOUND);
+    IS(zx_read_pairs(&s, &none, 0, keys, numbers, 4, &read), ZX_NOT_FOUND);
+    after = zx_i64(INT64_MAX);
+    IS(zx_read_pairs(&s, &m, &after, keys, numbers, 4, &read), ZX_OUT_OF_RANGE);
+    after.kind = 6;
+    IS(zx_read_pairs(&s, &m, &after, keys, numbers, 4, &read), ZX_BAD_VALUE);
+    IS(read, 0);
+    // the pairs from a key on, into rows of two lengths; the other places keep what they had
+    after = zx_i32(1);
+    keys[2] = numbers[1] = numbers[2] = 5;
+    DONE(zx_read_pairs_proved(&s, &m, &after, false, keys, 3, numbers, 1, &read));
+    IS(read == 1 && keys[0] == 1 && numbers[0] == 10 && keys[2] == 5 && numbers[1] == 5, true);
+    DONE(zx_read_pairs_proved(&s, &m, &after, false, keys, 3, numbers, 4, &read));
+    IS(read == 2 && keys[1] == 3 && numbers[1] == 31 && keys[2] == 5 && numbers[2] == 5, true);
+    DONE(zx_read_pairs(&s, &m, &after, keys, numbers, 0, &read));
+    IS(read, 0);
+    rows_of_kinds(&s);
     IS(zx_clear_map(&s, &v), ZX_WRONG_KIND);
     DONE(zx_clear_map(&s, &m));
     DONE(zx_measure(&s, &m, &len, &places));

@@ -171,13 +171,41 @@ def updated(of, *others):
     return None
 
 
+def pairs_of(of):
+    """The pairs of a map one after another; of a dict the one with the least key above the last, as it is by then."""
+    if not isinstance(of, dict):
+        yield from of.items()
+        return
+    left = sorted(of)
+    while left:
+        yield left[0], of[left[0]]
+        left = sorted(key for key in of if key > left[0])
+
+
+def stepped(of, seed, truths, value):
+    """The pairs of a map, while some steps erase the pair, or erase or put another."""
+    seen, turns = [], random.Random(seed)
+    for pair in pairs_of(of):
+        seen.append(pair)
+        turn, at = turns.randint(0, 40), turns.random() < 0.5 if truths else turns.randint(0, 99)
+        if turn == 0:
+            of.pop(pair[0], None)
+        elif turn == 1:
+            of.pop(at, None)
+        elif turn == 2:
+            of[at] = value
+    return seen
+
+
 def one_of_map(theirs, kinds):
     """A random call to a map. Keys are few, so that calls meet the same key again."""
     key = scalar(kinds[0]) if kinds[0] == "bool" else chance.randint(0, 99)
     value = scalar(kinds[1])
     more = {scalar(kinds[0]) if kinds[0] == "bool" else chance.randint(0, 99): scalar(kinds[1]) for _ in range(3)}
     strange = chance.choice(("a", None, 2**70, -1.5, (1,), b"x"))
+    seed = chance.random()
     return chance.choice((
+        lambda of: stepped(of, seed, kinds[0] == "bool", value),
         lambda of: set_item(of, key, value), lambda of: set_item(of, key, value), lambda of: of[key],
         lambda of: delete_item(of, key), lambda of: of.pop(key), lambda of: of.pop(key, None),
         lambda of: of.pop(key, "x"),

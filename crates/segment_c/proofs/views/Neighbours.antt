@@ -15,6 +15,9 @@ use Rattle.segment_manager.specs.containers.Maps.{answer_of_map, told_of}
 use Rattle.seg_types.specs.Kinds.{code_of, kind_of_code, same_kind}
 use Rattle.seg_types.proofs.Laws.{code-read}
 use Rattle.segment_manager.specs.State.{AnswersWith, DenotesCurrent, SegmentState}
+use Rattle.segment_manager.specs.declared.objects.object_ref.Object.{Object as Located}
+use Rattle.segment_manager.specs.objects.{BoundObjects.key_of, Located.IsLocated}
+use Rattle.segment_manager.proofs.Laws.{told-by_key}
 use Rattle.segment_manager.specs.containers.Walks.{KindedPair, first_of, pairs_at, pairs_of}
 use Rattle.segment_c.specs.declared.values.CScalar.{CScalar}
 use Rattle.segment_c.specs.Reads.{TellsPair, above_in, first_at, first_in, item_in, next_at, next_in}
@@ -88,13 +91,15 @@ module _ (k v : ScalarKind) (l : Literal) (z : ℤ) (e : value_of_literal k l �
   at-object (Some o) f = of-value o.value (same_kind (Map k v) (kind_of o.value)) refl f
 
 module _ (s : SegmentState) (key : Key) (at value : CScalar) where
-  -- the pair that a map of two kinds answers is told
-  pub next-of_kinds : (k v : ScalarKind) (l : Literal) (z : ℤ) → value_of_literal k l ≡ Ok z → (p : Option (ℤ × ℤ))
-      → AnswersWith s (λ d. answer_of_map d key k v (pair_above z)) (Ok p) → (code : ℕ)
+  -- the pair that a located map of two kinds answers is told
+  pub next-of_kinds : {o : Located} → IsLocated s key o → (k v : ScalarKind) (l : Literal) (z : ℤ)
+      → value_of_literal k l ≡ Ok z → (p : Option (ℤ × ℤ))
+      → AnswersWith s (λ d. answer_of_map d (key_of o) k v (pair_above z)) (Ok p) → (code : ℕ)
       → TellsPair at value code (Ok (item_in k v p)) → (d : Directory) → DenotesCurrent s.cut.bytes d
       → TellsPair at value code (next_at d key l)
-  next-of_kinds k v l z e p a code told d st =
-      subst (TellsPair at value code) (at-object k v l z e p (object_at d key) (a.answers d st)) told
+  next-of_kinds {o} there k v l z e p a code told d st =
+      subst (TellsPair at value code) (at-object k v l z e p (object_at d key)
+      ((told-by_key s key o there (λ d. above_at k v z) (Ok p) a).answers d st)) told
 
   -- no object has the key
   pub first-missing : (why : Refusal) → IsMissing s key why → (d : Directory) → DenotesCurrent s.cut.bytes d

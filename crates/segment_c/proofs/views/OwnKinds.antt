@@ -1,13 +1,13 @@
 -- A call for objects of the value's own kind, which is tried first.
 use Rattle.std.proofs.Common.{◌≡◌, refl, sym, ap, subst, ◌∙◌, Bool, true, false, ◌&&◌, Option, Some, None}
 use Rattle.std.specs.Prelude.{if◌then◌else◌}
-use Rattle.seg_types.specs.{Commands.Command, Commands.Literal, Commands.Lookup, Commands.Push, Commands.Put}
+use Rattle.seg_types.specs.{Commands.Command, Commands.Literal, Commands.Push, Commands.Put}
 use Rattle.seg_types.specs.{Commands.is_changing, Kinds.same_kind, Names.Key, declared.kinds.Kind.Kind}
 use Rattle.seg_types.specs.declared.refusals.Refusal.TheVariants.{ReadOnly, WrongKind}
 use Rattle.segment_manager.specs.{Answers.Answer, Answers.Refused, declared.modes.Mode.Mode}
 use Rattle.segment_manager.specs.Directory.{Directory, Object, kind_of, live, object_at}
 use Rattle.segment_manager.specs.Plan.{Plan, Refuse, perform, with}
-use Rattle.segment_manager.specs.State.{AnswersQuery, AnswersQueryOfKind, TakesStep, TakesStepOfKind, SegmentState}
+use Rattle.segment_manager.specs.State.{TakesStep, TakesStepOfKind, SegmentState}
 use Rattle.segment_manager.specs.State.{DenotesCurrent}
 use Rattle.segment_manager.specs.Step.{effect, found_at, is_read_only, step, step_of_kind}
 use Rattle.segment_manager.proofs.ElementLaws.{step_of_kind-step, with-found, with-not_found}
@@ -87,11 +87,3 @@ pub put-step : (old new : SegmentState) (key : Key) (kind : Kind) (l m : Literal
     → (a ≡ Refused WrongKind → ⊥) → TakesStepOfKind old new key kind (Put key l m) a → TakesStep old new (Put key l m) a
 put-step old new key kind l m a not =
     own-step old new key kind (Put key l m) (λ d. (_, refl)) a not
-
--- a key is looked up in a map of its own kind
-pub looked-up : (s : SegmentState) (key : Key) (kind : Kind) (l : Literal) (a : Answer) → (a ≡ Refused WrongKind → ⊥)
-    → AnswersQueryOfKind s key kind (Lookup key l) a → AnswersQuery s (Lookup key l) a
-looked-up s key kind l a not m = record {
-  answers = λ d st. m.answers d st ∙ ap (λ (a : Answer × Directory). a.0)
-      (same-step s.mode d key kind (Lookup key l) _ refl a not (m.answers d st));
-}

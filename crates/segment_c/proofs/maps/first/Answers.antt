@@ -9,10 +9,11 @@ pub returns-in-Err-clause-read : goal.returns-in-Err-clause-read
 returns-in-Err-clause-read c =
     first-missing c.args.segment.now (key_seen c.args.key.now) c.args.at.now c.args.value.now _ c.in-Err.ensures
 
-pub first_pair-requires-clause-map : goal.first_pair-requires-clause-map
-first_pair-requires-clause-map c =
-    (subst (λ (k : Kind). AnswersWith c.args.segment.now (λ d. kind_at d (key_seen c.args.key.now)) (Ok k))
-    c.in-Map.is (kind-by_key c.args.segment.now (key_seen c.args.key.now) c.in-Ok.object c.in-Ok.ensures))
+pub first_pair-requires : goal.first_pair-requires
+first_pair-requires c = record {
+  map = subst (λ (k : Kind). AnswersWith c.args.segment.now (λ d. kind_at d (key_seen c.args.key.now)) (Ok k))
+      c.in-Map.is (kind-by_key c.args.segment.now (key_seen c.args.key.now) c.in-Ok.object c.in-Ok.ensures);
+}
 
 pub returns-in-Map-clause-read : goal.returns-in-Map-clause-read
 returns-in-Map-clause-read c =

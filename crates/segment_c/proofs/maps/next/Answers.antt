@@ -22,12 +22,13 @@ returns-in-Err-value_of-clause-read c =
     c.code_of.result (literal_seen c.args.after) c.in-Err-value_of.why c.in-Err-value_of.ensures
     c.code_of.ensures.number
 
-pub next_pair-requires-clause-map : goal.next_pair-requires-clause-map
-next_pair-requires-clause-map c =
-    subst (λ j. AnswersWith c.args.segment.now (λ d.
-    kind_at d (key_seen c.args.key.now)) (Ok (Map j c.in-Map.values))) (sym c.in-Ok-value_of.ensures.0)
-    (subst (λ (k : Kind). AnswersWith c.args.segment.now (λ d. kind_at d (key_seen c.args.key.now)) (Ok k))
-    c.in-Map.is (kind-by_key c.args.segment.now (key_seen c.args.key.now) c.in-Ok.object c.in-Ok.ensures))
+pub next_pair-requires : goal.next_pair-requires
+next_pair-requires c = record {
+  map = subst (λ j. AnswersWith c.args.segment.now (λ d.
+      kind_at d (key_seen c.args.key.now)) (Ok (Map j c.in-Map.values))) (sym c.in-Ok-value_of.ensures.0)
+      (subst (λ (k : Kind). AnswersWith c.args.segment.now (λ d. kind_at d (key_seen c.args.key.now)) (Ok k))
+      c.in-Map.is (kind-by_key c.args.segment.now (key_seen c.args.key.now) c.in-Ok.object c.in-Ok.ensures));
+}
 
 pub returns-in-Ok-value_of-clause-read : goal.returns-in-Ok-value_of-clause-read
 returns-in-Ok-value_of-clause-read c =

@@ -10,26 +10,22 @@ use Rattle.segment_manager.specs.State.{TakesStep, TakesStepOfKind}
 use Rattle.seg_types.specs.declared.refusals.Refusal.TheVariants.{WrongKind}
 use Rattle.segment_c.proofs.views.OwnKinds.{put-step}
 
--- the call passes its own key and numbers on
-put-of_numbers : (old new : SegmentState) (its_key key : Key) (at value its_at its_value : ℤ) (a : Answer)
-    → (a ≡ Refused WrongKind → ⊥) → its_key ≡ key → its_at ≡ at → its_value ≡ value
-    → TakesStepOfKind old new its_key (Map I64 I64) (Put its_key (Integer its_at) (Integer its_value)) a
+-- the call passes its own numbers on
+put-of_numbers : (old new : SegmentState) (key : Key) (at value its_at its_value : ℤ) (a : Answer)
+    → (a ≡ Refused WrongKind → ⊥) → its_at ≡ at → its_value ≡ value
+    → TakesStepOfKind old new key (Map I64 I64) (Put key (Integer its_at) (Integer its_value)) a
     → TakesStep old new (Put key (Integer at) (Integer value)) a
-put-of_numbers old new its_key key at value its_at its_value a not d e f m =
+put-of_numbers old new key at value its_at its_value a not e f m =
     put-step old new key (Map I64 I64) (Integer at) (Integer value) a not
-    (subst (λ (k : Key). TakesStepOfKind old new k (Map I64 I64) (Put k (Integer at) (Integer value)) a) d
-    (subst (λ (z : ℤ). TakesStepOfKind old new its_key (Map I64 I64) (Put its_key (Integer z) (Integer value)) a) e
-    (subst (λ (z : ℤ). TakesStepOfKind old new its_key (Map I64 I64) (Put its_key (Integer its_at) (Integer z)) a) f
-    m)))
+    (subst (λ (z : ℤ). TakesStepOfKind old new key (Map I64 I64) (Put key (Integer z) (Integer value)) a) e
+    (subst (λ (z : ℤ). TakesStepOfKind old new key (Map I64 I64) (Put key (Integer its_at) (Integer z)) a) f m))
 
 pub returns-in-Ok-clause-step : goal.returns-in-Ok-clause-step
-returns-in-Ok-clause-step g c = put-of_numbers c.args.segment.now c.map_put.new.self
-    (g.O.ObjectRef.key c.args.object.now) (key_seen c.args.key.now) c.args.at c.args.value _ _
-    (Boolean c.in-Ok.is_new) (λ e. cc) c.requires.key (to_z-of_z w64 c.args.at c.ranges.at)
+returns-in-Ok-clause-step c = put-of_numbers c.args.segment.now c.map_put.new.self (key_seen c.args.key.now) c.args.at
+    c.args.value _ _ (Boolean c.in-Ok.is_new) (λ e. cc) (to_z-of_z w64 c.args.at c.ranges.at)
     (to_z-of_z w64 c.args.value c.ranges.value) c.in-Ok.ensures.step
 
 pub returns-in_default-clause-step : goal.returns-in_default-clause-step
-returns-in_default-clause-step g c = put-of_numbers c.args.segment.now c.map_put.new.self
-    (g.O.ObjectRef.key c.args.object.now) (key_seen c.args.key.now) c.args.at c.args.value _ _
-    (Refused c.in-Err.refusal) (λ e. c.in_default.not-WrongKind (cc)) c.requires.key
+returns-in_default-clause-step c = put-of_numbers c.args.segment.now c.map_put.new.self (key_seen c.args.key.now)
+    c.args.at c.args.value _ _ (Refused c.in-Err.refusal) (λ e. c.in_default.not-WrongKind (cc))
     (to_z-of_z w64 c.args.at c.ranges.at) (to_z-of_z w64 c.args.value c.ranges.value) c.in-Err.ensures.step

@@ -1,0 +1,70 @@
+-- Pairs of a map that C reads several at a time, as two series of numbers of 64 bits.
+use Rattle.std.specs.Prelude.{◌≡◌, ℕ, ◌+◌, ℤ, ◌-ℤ◌, pos, int_lt, if◌then◌else◌, Bool, List, ◌++◌, length, take}
+use Rattle.std.specs.Prelude.{drop, map, min, Result, Ok, Err}
+use Rattle.seg_map.specs.{Listing.pairs_past, Numbers.NumberPair, Places.item_of}
+use Rattle.seg_types.specs.{Commands.Literal, Commands.value_of_literal, Names.Key}
+use Rattle.seg_types.specs.{declared.kinds.Kind.Kind, declared.refusals.Refusal.Refusal}
+use Rattle.seg_types.specs.declared.kinds.Kind.TheVariants.{Map, Scalar, String, Strings, Vector}
+use Rattle.seg_types.specs.declared.refusals.Refusal.TheVariants.{WrongKind}
+use Rattle.segment_manager.specs.{Calls.kind_at, Directory.Directory, containers.Maps.number_item}
+use Rattle.segment_manager.specs.containers.Walks.{pairs_at_kinds}
+
+-- ---- the pairs
+
+-- those from a key on, or above it, or why it is none
+abbrev pub those_past : List NumberPair → Bool → Result ℤ Refusal → Result (List NumberPair) Refusal
+those_past ps past (Ok z) = Ok (pairs_past int_lt past z ps)
+those_past ps past (Err why) = Err why
+
+-- the pairs of a map of a kind from the key on that a literal is, or above it
+abbrev pub pairs_in : Directory → Key → Bool → Literal → Kind → Result (List NumberPair) Refusal
+pairs_in d key past l (Map k v) = those_past (pairs_at_kinds d key k v) past (value_of_literal k l)
+pairs_in d key past l (Scalar k) = Err WrongKind
+pairs_in d key past l (Vector k) = Err WrongKind
+pairs_in d key past l String = Err WrongKind
+pairs_in d key past l Strings = Err WrongKind
+
+-- the pairs of the map of a key from the key on that a literal is, or above it
+abbrev pub pairs_from_at : Directory → Key → Bool → Literal → Result (List NumberPair) Refusal
+pairs_from_at d key past l = elim (kind_at d key) as (λ _. Result (List NumberPair) Refusal) [
+  | Err why ↦ Err why
+  | Ok kind ↦ pairs_in d key past l kind
+]
+
+-- ---- the series
+
+-- a number as 64 bits with a sign: one that is above those keeps its bits
+abbrev pub bits_of : ℤ → ℤ
+bits_of z = if int_lt z (pos 9223372036854775808) then z else z -ℤ pos 18446744073709551616
+
+-- the bits of the key and of the value of a pair
+abbrev pub key_bits : NumberPair → ℤ
+key_bits p = bits_of p.key
+
+abbrev pub value_bits : NumberPair → ℤ
+value_bits p = bits_of p.value
+
+-- the bits of an item that a map's call returned
+abbrev pub item_key : {K V : Type 0} → (K → ℤ) → K × V → ℤ
+item_key whole (x, y) = bits_of (whole x)
+
+abbrev pub item_value : {K V : Type 0} → (V → ℤ) → K × V → ℤ
+item_value whole (x, y) = bits_of (whole y)
+
+-- the series with the first `n` of these numbers from a place on
+abbrev pub written : List ℤ → ℕ → List ℤ → ℕ → List ℤ
+written series at zs n = take at series ++ take n zs ++ drop (at + n) series
+
+-- the list has the first of these pairs in its first places: as many as there are places, and as there are pairs
+pub record ListsPairs {K V : Type 0} (k : K → ℤ) (v : V → ℤ) (ps : List NumberPair) (capacity : ℕ) (list : List (K × V))
+    (count : ℕ) : Type 0
+  where
+    pub count_is : count ≡ min capacity (length ps)
+    pub items : map (number_item k v) (take count list) ≡ map item_of (take count ps)
+
+-- The two series have the bits of the first of these pairs in their first places: as many as both have places, and as
+-- there are pairs. The other places keep what they had.
+pub record FillsSeries (ps : List NumberPair) (keys keys' values values' : List ℤ) (count : ℕ) : Type 0 where
+  pub count_is : count ≡ min (min (length keys) (length values)) (length ps)
+  pub keys_are : keys' ≡ map key_bits (take count ps) ++ drop count keys
+  pub values_are : values' ≡ map value_bits (take count ps) ++ drop count values

@@ -2405,7 +2405,7 @@ template <class K, class V> class const_map : public object {
             const std::uint64_t changes = of_.of->raw()->changes;
             if (changes != changes_) step(changes);
             else if (__builtin_expect(ahead_ && ahead_->at < ahead_->count, true)) pair_ = ahead_->next();
-            else step_ahead(changes);
+            else step_ahead();
             return *this;
         }
         iterator &operator--() {
@@ -2432,6 +2432,8 @@ template <class K, class V> class const_map : public object {
       private:
         // a number that no segment counts to: no step was made since the iterator came to its pair
         static constexpr std::uint64_t never = std::numeric_limits<std::uint64_t>::max();
+        // to read ahead costs as much as some sixteen steps, so a shorter walk makes its steps one by one
+        static constexpr std::uint32_t steps_alone = 16;
 
         /// The pairs behind the one that is held: from `at` on, `count` of the `places` that were asked for.
         struct pairs_ahead {
@@ -2449,18 +2451,25 @@ template <class K, class V> class const_map : public object {
         std::optional<value_type> pair_;
         // the segment's counter of changes at the last step: it looked at the kinds of the map, and read the pairs ahead
         std::uint64_t changes_ = never;
+        // the steps that were made one by one since then
+        std::uint32_t steps_ = 0;
         std::unique_ptr<pairs_ahead> ahead_;
 
         /// Makes a first step, alone or after a change.
         [[gnu::always_inline]] void step(std::uint64_t changes) {
             pair_ = next_of(of_, pair_->first);
-            changes_ = changes;
+            changes_ = changes, steps_ = 1;
             if (__builtin_expect(ahead_ != nullptr, false)) ahead_->at = ahead_->count = ahead_->places = 0;
         }
-        /// Reads 4 pairs ahead, and twice as many each time. Without memory for them it makes a step.
-        [[gnu::noinline]] void step_ahead(std::uint64_t changes) {
-            if (!ahead_) ahead_.reset(new (std::nothrow) pairs_ahead);
-            if (!ahead_) return step(changes);
+        /// Reads 16 pairs ahead, then 32 each time. The first steps, and all without memory for the pairs, are made one
+        /// by one.
+        [[gnu::noinline]] void step_ahead() {
+            if (steps_ >= steps_alone && !ahead_) ahead_.reset(new (std::nothrow) pairs_ahead);
+            if (!ahead_ || steps_ < steps_alone) {
+                pair_ = next_of(of_, pair_->first);
+                steps_++;
+                return;
+            }
             const bool is_end = ahead_->count < ahead_->places;
             if (!is_end) read_ahead();
             if (is_end || ahead_->count == 0) pair_.reset();
@@ -2468,7 +2477,7 @@ template <class K, class V> class const_map : public object {
         }
         void read_ahead() {
             const zx_value after = stored<K>::value(pair_->first);
-            const std::size_t places = std::min<std::size_t>(std::max<std::size_t>(2 * ahead_->places, 4), 32);
+            const std::size_t places = ahead_->places ? 32 : 16;
             std::size_t count = 0;
             check_code(of_.code_of(zx_read_pairs, &after, ahead_->keys, ahead_->values, places, &count));
             ahead_->at = 0, ahead_->count = count, ahead_->places = places;

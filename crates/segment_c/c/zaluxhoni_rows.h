@@ -19,9 +19,11 @@ extern "C" {
    zx_map_next. */
 zx_code zx_read_pairs(zx_segment *segment, const zx_key *key, const zx_value *after, int64_t *keys, int64_t *values,
                       size_t count, size_t *read);
+
 zx_code zx_read_pairs_proved(zx_segment *segment, const zx_key *key, const zx_value *from, bool past, int64_t *keys,
                              size_t key_places, int64_t *values, size_t value_places,
                              size_t *read) ZX_NAMED(zx_read_pairs_from);
+
 /* Puts values at keys: numbers of two kinds, 64 bits each. Errors: ZX_NULL_SLICE, and those of zx_map_put. */
 zx_code zx_put_pairs(zx_segment *segment, const zx_key *key, uint32_t key_kind, uint32_t value_kind,
                      const int64_t *keys, const int64_t *values, size_t count);

@@ -23,7 +23,8 @@ returns c =
     rw gives (run-reads s key i run c.in_ok-run.ensures.run c.in_ok-run.ensures.bytes
     (omega (arith, c.if-index-run.false)) _
     (slice-part c.as_bytes-image.ensures.bytes (ap (λ n. run.offset + n * i) c.size-size.ensures) c.size-size.ensures
-    ∙ sym (read-part s.cut.bytes (run.offset + size_of k * i) (size_of k) inside)) c.read_value.result c.read_value.ensures)
+    ∙ sym (read-part s.cut.bytes (run.offset + size_of k * i) (size_of k) inside)) c.read_value.result
+    c.read_value.ensures)
 
 pub returns-then-index-run : goal.returns-then-index-run
 returns-then-index-run c = run-past c.args.segment.now (ByHandle c.args.object.handle) c.args.index

@@ -2377,7 +2377,7 @@ template <class K, class V> class const_map : public object {
     using size_type = std::uint64_t;
 
     /// Holds a copy of a pair. It moves to the pair with the least key above it, or with the greatest key below it,
-    /// even if the map has changed meanwhile; a step back looks up at most some 64 keys. From the second step on it
+    /// even if the map has changed meanwhile; a step back looks up at most some 64 keys. After six steps it
     /// reads pairs ahead, up to 32, until a call changes the segment.
     class iterator {
       public:
@@ -2432,8 +2432,8 @@ template <class K, class V> class const_map : public object {
       private:
         // a number that no segment counts to: no step was made since the iterator came to its pair
         static constexpr std::uint64_t never = std::numeric_limits<std::uint64_t>::max();
-        // to read ahead costs as much as some sixteen steps, so a shorter walk makes its steps one by one
-        static constexpr std::uint32_t steps_alone = 16;
+        // to read ahead costs as much as some ten steps, so a short walk makes its steps one by one
+        static constexpr std::uint32_t steps_alone = 6;
 
         /// The pairs behind the one that is held: from `at` on, `count` of the `places` that were asked for.
         struct pairs_ahead {

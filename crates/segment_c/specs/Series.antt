@@ -11,7 +11,7 @@ use Rattle.segment_manager.specs.containers.Walks.{pairs_at_kinds}
 
 -- ---- the pairs
 
--- those from a key on, or above it, or why it is none
+-- the pairs from a key on, or above it; the error if there is no key
 abbrev pub those_past : List NumberPair → Bool → Result ℤ Refusal → Result (List NumberPair) Refusal
 those_past ps past (Ok z) = Ok (pairs_past int_lt past z ps)
 those_past ps past (Err why) = Err why
@@ -33,7 +33,7 @@ pairs_from_at d key past l = elim (kind_at d key) as (λ _. Result (List NumberP
 
 -- ---- the series
 
--- a number as 64 bits with a sign: one that is above those keeps its bits
+-- a number as 64 bits with a sign; a larger number keeps its bits
 abbrev pub bits_of : ℤ → ℤ
 bits_of z = if int_lt z (pos 9223372036854775808) then z else z -ℤ pos 18446744073709551616
 

@@ -179,7 +179,7 @@ pub fn truth(
     put_changed(code, h, segment)
 }
 
-/// Returns the code of a call for an element. It goes out; the segment is not put back.
+/// Writes the element to the output, and returns the code of the call. It does not put the segment back.
 #[inline(always)]
 pub fn element_out(element: Result<ScalarValue, Refusal>, value: &mut CScalar) -> u32
     ensures outcome { answer_for result (element_in value.new) ≡ scalar_answer element }

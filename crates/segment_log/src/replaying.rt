@@ -61,8 +61,8 @@ pub(crate) fn replay_within(buffer: &mut [u8], len: usize, log: &[u8]) -> Replay
     }
 }
 
-/// Makes of an image what all records of a log say, one after the other, and returns where the records end. First makes
-/// room for the longest image on the way, by one request at most. After an error the image is as before.
+/// Applies all records of a log to an image, one after the other, and returns where the records end. First makes room
+/// for the longest image on the way, by one request at most. After an error the image is as before.
 pub(crate) fn replay(image: &mut Vec<u8>, log: &[u8]) -> Result<usize, AllocError>
     ensures image { MatchResult result
         (λ _. image.new.items ≡ applied_all (recovered log.now) image.old.items)

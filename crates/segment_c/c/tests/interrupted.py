@@ -32,6 +32,9 @@ def goes_on(until, before):
 
 def interrupt(*_):
     global raised, left
+    # a thread that ends may hand its signal on late, when the call is over
+    if left <= 0:
+        return
     raised += 1
     left -= 1
     if left > 0:

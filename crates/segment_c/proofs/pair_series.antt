@@ -1,5 +1,5 @@
--- Pairs that are read into two series: those above the key of a pair, series that are filled in parts, what a walk
--- lists, and what goes out.
+-- Pairs are read into two series: the pairs above a key, series that are filled in parts, the list of a walk, and the
+-- answer of the call.
 pub mod Behind
 pub mod Filled
 pub mod Walked

@@ -112,8 +112,8 @@ pub trait Disk: LogDisk {
     fn end_log(&mut self, path: &str, hold: &mut Self::Hold)
         ensures { step self.old (LogEnded path.now) self.new };
 
-    /// Syncs a locked file, the log beside it, and their folder. After Ok, both files survive a crash. Fails if a
-    /// sync fails, or another file has taken the name of the locked file.
+    /// Syncs a locked file, its log and the folder. Once this returns Ok, a crash loses neither file. Returns an error
+    /// if a sync fails, or if the name of the locked file leads to another file.
     fn sync(&mut self, path: &str, hold: &mut Self::Hold) -> Result<(), DeviceFault>
         ensures { step self.old (Synced path.now (is_ok result)) self.new };
 }

@@ -15,7 +15,7 @@ pub record RecoversTo (file log new : List ℕ) (len end base after : ℕ) : Typ
   pub after_is : after ≡ fingerprint (stands_for (with_log file log))
   pub tags : AreTogether (with_log file log)
 
--- the log is that of another file, and the buffer is as it was
+-- the log belongs to another file, and the buffer does not change
 pub record RefusesForeign (file log old new : List ℕ) : Type 0 where
   pub cause : AreTogether (with_log file log) → ⊥
   pub unchanged : new ≡ old

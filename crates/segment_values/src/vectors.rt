@@ -66,7 +66,7 @@ pub fn add<L: WrittenValue>(
 ///
 /// # Errors
 ///
-/// Those of `add`, for a value of the kind of the elements. Nothing changes.
+/// The errors of `add` apply; a value of another kind than the elements is `WrongKind`. Nothing changes.
 #[inline(always)]
 pub fn add_scalar<O: ObjectRef>(
     segment: &mut Segment,

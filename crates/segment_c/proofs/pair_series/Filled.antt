@@ -31,7 +31,7 @@ module _ (f : NumberPair → ℤ) (row0 : List ℤ) (all : List NumberPair) wher
       ∙ ap (λ zs. written row0 0 zs (n + m)) (sym (ap (map f) (take-add n m all)
       ∙ map-append f (take n all) (take m (drop n all))))
 
-  -- the row as it goes out
+  -- the row after the call
   pub has-all : (row : List ℤ) (n : ℕ) → n ≤ length all → Has row n → row ≡ map f (take n all) ++ drop n row0
   has-all row n l had = had
       ∙ ap (λ m. take n (map f (take n all)) ++ drop m row0) (let here : 0 + n ≡ n = omega arith in here)
@@ -60,7 +60,7 @@ module _ {K V : Type 0} (kw : K → ℤ) (vw : V → ℤ) (all rest : List Numbe
   pub row-long : m ≡ length row
   row-long = sym (length-take-le m (new ++ drop room old) (omega (arith, few, same, length-append new (drop room old))))
 
-  -- so many pairs are left
+  -- the number of pairs left
   pub left : length rest ≡ length all - n
   left = ap length is_rest ∙ length-drop n all
 

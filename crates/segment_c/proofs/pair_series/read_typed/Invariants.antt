@@ -1,4 +1,4 @@
--- So many pairs are read, and the rest are those above the key of the last one.
+-- `read` pairs are read. The rest of the pairs are above the key of the last one.
 use Rattle.std.proofs.Common.{◌≡◌, ◌≤◌, ◌-◌, drop, int_lt, length}
 use Rattle.seg_map.specs.Listing.{pairs_past}
 use Rattle.seg_types.specs.Keys.{key_seen}

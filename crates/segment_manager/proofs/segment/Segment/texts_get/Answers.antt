@@ -1,4 +1,4 @@
--- The text is that of the vector of strings that is found.
+-- The text is an element of the vector of strings that is found.
 use Rattle.segment_manager.proofs.Common.{exit-is, refl, Get, StringsKind}
 use Rattle.segment_manager.proofs.bound.ByKey.{lacks-replies, replies}
 use Rattle.segment_manager.proofs.segment.Segment.texts_get.Goals as goal

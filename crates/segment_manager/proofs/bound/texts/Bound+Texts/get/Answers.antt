@@ -1,4 +1,4 @@
--- The text is that of the vector of strings.
+-- The text is an element of the vector of strings.
 use Rattle.segment_manager.proofs.Common.{StringsKind, Get}
 use Rattle.segment_manager.proofs.bound.Places.{container-here, texts-here}
 use Rattle.segment_manager.proofs.containers.{Safely.of-error, StorageSteps.seen-reply, TextListCalls.text-got}

@@ -1,5 +1,5 @@
 -- Rotations and recolourings, as functions of trees.
-use Rattle.std.specs.Prelude.{◌≡◌, ℕ, Bool, true, false, not, Option, List, if◌then◌else◌}
+use Rattle.std.specs.Prelude.{◌≡◌, ℕ, Bool, true, false, not, ◌&&◌, ◌||◌, Option, List, if◌then◌else◌}
 use Rattle.link_tree.specs.Tree.{Cell, Tree, leaf, fork, IsTree, has_black_root}
 use Rattle.link_tree.specs.Nodes.{is_in}
 use Rattle.link_tree.specs.Sides.{opposite, tree_on, joined_at}
@@ -22,6 +22,11 @@ blackened t = painted false t
 -- the root of the tree is red
 abbrev pub is_red_tree : Tree → Bool
 is_red_tree t = not (has_black_root t)
+
+-- the tree with a red root over two black children
+abbrev pub flipped : Tree → Tree
+flipped leaf = leaf
+flipped (fork red left n right) = fork true (blackened left) n (blackened right)
 
 abbrev pub lifted_over : Side → Bool → Tree → ℕ → Tree → Tree
 lifted_over side red leaf n far = joined_at side red leaf n far
@@ -47,16 +52,21 @@ balanced_outer side a m b n far =
     if is_red_tree a then joined_at side true (blackened a) m (joined_at side false b n far) else balanced_inner side a
     m b n far
 
--- a black node over two trees; if the tree on this side has two red nodes in a row, rotated to a red node over two
--- black ones
+abbrev pub balanced_red : Side → Tree → ℕ → Tree → ℕ → Tree → Tree
+balanced_red side a m b n far =
+    if (is_red_tree a || is_red_tree b) && is_red_tree far
+    then flipped (joined_at side false (joined_at side true a m b) n far)
+    else balanced_outer side a m b n far
+
+-- A black node over two trees. If the tree on this side has two red nodes in a row, the result is a red node over two
+-- black ones: by the colours alone if both trees have a red root, else by rotations.
 abbrev pub balanced : Side → Tree → ℕ → Tree → Tree
 balanced side leaf n far = joined_at side false leaf n far
 balanced side (fork false left m right) n far = joined_at side false (fork false left m right) n far
-balanced side (fork true left m right) n far = balanced_outer side (tree_on side left right) m
+balanced side (fork true left m right) n far = balanced_red side (tree_on side left right) m
     (tree_on (opposite side) left right) n far
 
--- rotates a black root whose red child on this side has a red child, so that a red root stands over two black nodes,
--- after Okasaki
+-- repairs a black root whose red child on this side has a red child: a red root then stands over two black nodes
 abbrev pub rebalanced : Side → Tree → Tree
 rebalanced side leaf = leaf
 rebalanced side (fork true left n right) = fork true left n right

@@ -3,7 +3,8 @@
 ghost use Rattle.std.specs.Prelude.{◌≡◌, ℕ, ◌+◌, ◌<◌, ◌≤◌, ◌^◌, Bool, true, false, Option, Some, None};
 ghost use Rattle.link_tree.specs.Tree.{Cell, Tree, IsTree, nodes_of, is_sorted};
 ghost use Rattle.link_tree.specs.Nodes.{leads};
-ghost use Rattle.link_tree.specs.Turning.{BecomesTree, rotated, painted, rebalanced, is_red_tree};
+ghost use Rattle.link_tree.specs.Turning.{BecomesTree, rotated, painted, flipped, rebalanced, is_red_tree};
+ghost use Rattle.link_tree.specs.Sides.{opposite, child_of};
 ghost use Rattle.link_tree.specs.Frame.{SameExceptCells};
 
 use crate::cursor::{NodeCursorMut, Side};
@@ -69,13 +70,36 @@ pub fn rotate<N: NodesMut>(visits: &mut NodeCursorMut<N>, top: u64, side: Side) 
     child
 }
 
-/// Repairs a black node whose red child on this side has a red child: rotates the three nodes so that a red node stands
-/// over two black ones. Returns the new top node.
+/// Makes a node red and its children black.
+fn flip_colours<N: NodesMut>(visits: &mut NodeCursorMut<N>, top: u64, near: u64, far: Option<u64>)
+    requires node { N.is_node visits.old.nodes.now top ≡ true }
+    requires near { N.is_node visits.old.nodes.now near ≡ true }
+    requires far { leads (N.is_node visits.old.nodes.now) far ≡ true }
+    requires no_overflow { visits.old.steps + 3 < 2 ^ 64 }
+    ensures flip { (side : Side) (t : Tree) → IsTree (N.cells visits.old.nodes.now) (Some top) t
+        → is_sorted (N.order visits.old.nodes.now) (nodes_of t) ≡ true
+        → child_of side (N.cells visits.old.nodes.now top) ≡ Some near
+        → child_of (opposite side) (N.cells visits.old.nodes.now top) ≡ far
+        → BecomesTree (N.cells visits.old.nodes.now) (N.cells visits.new.nodes.now) (nodes_of t) (Some top)
+        (flipped t) }
+    ensures steps_upper { visits.new.steps ≤ visits.old.steps + 3 }
+    ensures steps_lower { visits.old.steps ≤ visits.new.steps }
+    ensures same_borrow { visits.new.nodes.ghost_name ≡ visits.old.nodes.ghost_name }
+    ensures keeper { SameExceptCells N.Nodes visits.old.nodes.now visits.new.nodes.now }
+{
+    paint(visits, far, false);
+    paint(visits, Some(near), false);
+    visits.set_red(top, true);
+}
+
+/// Repairs a black node whose red child on this side has a red child: a red node then stands over two black ones.
+/// Returns the new top node. If the other child is red too, only colours change, so the node stays above both.
 ///
-/// Chris Okasaki, Red-Black Trees in a Functional Setting, 1999.
+/// The rotations are those of Chris Okasaki, Red-Black Trees in a Functional Setting, 1999; the change of colours is in
+/// Cormen, Leiserson, Rivest and Stein, Introduction to Algorithms.
 pub fn fix_double_red<N: NodesMut>(visits: &mut NodeCursorMut<N>, top: u64, side: Side) -> u64
     requires node { N.is_node visits.old.nodes.now top ≡ true }
-    requires no_overflow { visits.old.steps + 11 < 2 ^ 64 }
+    requires no_overflow { visits.old.steps + 12 < 2 ^ 64 }
     ensures balanced { (t : Tree) → IsTree (N.cells visits.old.nodes.now) (Some top) t
         → is_sorted (N.order visits.old.nodes.now) (nodes_of t) ≡ true
         → BecomesTree (N.cells visits.old.nodes.now) (N.cells visits.new.nodes.now) (nodes_of t)
@@ -93,22 +117,30 @@ pub fn fix_double_red<N: NodesMut>(visits: &mut NodeCursorMut<N>, top: u64, side
     if visits.red(top) {
         return top;
     }
+    let far = visits.child(top, side.other());
     if !visits.red(near) {
         return top;
     }
     let outer = visits.child(near, side);
     let inner = visits.child(near, side.other());
     if is_red(visits, outer) {
+        if is_red(visits, far) {
+            flip_colours(visits, top, near, far);
+            return top;
+        }
         let risen = rotate(visits, top, side);
         paint(visits, outer, false);
         return risen;
     }
     if is_red(visits, inner) {
+        if is_red(visits, far) {
+            flip_colours(visits, top, near, far);
+            return top;
+        }
         let lower = rotate(visits, near, side.other());
-        visits.set_child(top, side, Some(lower));
-        let risen = rotate(visits, top, side);
         visits.set_red(near, false);
-        return risen;
+        visits.set_child(top, side, Some(lower));
+        return rotate(visits, top, side);
     }
     top
 }

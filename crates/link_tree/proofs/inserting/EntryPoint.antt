@@ -12,7 +12,7 @@ use Rattle.link_tree.specs.Ways.{insert_point_of, entry_over}
 use Rattle.link_tree.specs.declared.cursor.Side.{Side}
 use Rattle.link_tree.specs.declared.cursor.Side.TheVariants.{Left, Right}
 use Rattle.link_tree.proofs.trees.OrderedLists.{IsStrict}
-use Rattle.link_tree.proofs.inserting.Rotations.{outer_same}
+use Rattle.link_tree.proofs.inserting.Rotations.{red_same}
 use Rattle.link_tree.proofs.trees.Linked.{IsChanged, some_same, none_some, one_tree}
 use Rattle.link_tree.proofs.inserting.ChangePoint.{Begins, begins_deeper, begins_here, begun}
 use Rattle.link_tree.proofs.trees.OneSided.{joint_of, apart_of, in_near, child_of_cell}
@@ -30,9 +30,9 @@ black_same Left leaf n far e = refl
 black_same Right leaf n far e = refl
 black_same Left (fork false l m r) n far e = refl
 black_same Right (fork false l m r) n far e = refl
-black_same Left (fork true l m r) n far e = let u = under_red l m r e in outer_same Left l m r n far u.left_root
+black_same Left (fork true l m r) n far e = let u = under_red l m r e in red_same Left l m r n far u.left_root
     u.right_root
-black_same Right (fork true l m r) n far e = let u = under_red l m r e in outer_same Right r m l n far u.right_root
+black_same Right (fork true l m r) n far e = let u = under_red l m r e in red_same Right r m l n far u.right_root
     u.left_root
 
 balance_same : (side : Side) (red : Bool) (near : Tree) (n : ℕ) (far : Tree) → has_no_red_pair near ≡ true

@@ -9,7 +9,8 @@ use Rattle.link_tree.specs.Tree.{Cell, Tree, leaf, fork, root_of, nodes_of, IsTr
 use Rattle.link_tree.specs.Tree.{has_black_root, has_no_red_pair, has_black_height, IsRedBlack, height}
 use Rattle.link_tree.specs.Nodes.{is_in, is_ordered_with, insert_in_order, with_left, with_right, with_red}
 use Rattle.link_tree.specs.Sides.{opposite, tree_on, child_of, with_child, joined_at, side_of}
-use Rattle.link_tree.specs.Turning.{BecomesTree, blackened, rebalanced, is_red_tree, balanced_outer, balanced_inner}
+use Rattle.link_tree.specs.Turning.{BecomesTree, blackened, flipped, rebalanced, is_red_tree, balanced_red}
+use Rattle.link_tree.specs.Turning.{balanced_outer, balanced_inner}
 use Rattle.link_tree.specs.Growing.{CanInsert, after_insert}
 use Rattle.link_tree.specs.declared.cursor.Side.{Side}
 use Rattle.link_tree.specs.declared.cursor.Side.TheVariants.{Left, Right}
@@ -113,6 +114,18 @@ nodes_of-outer side a m b n far =
       | inr e ↦ rw e (nodes_of-inner side a m b n far)
     ]
 
+nodes_of-flipped : (t : Tree) → nodes_of (flipped t) ≡ nodes_of t
+nodes_of-flipped leaf = refl
+nodes_of-flipped (fork red l n r) = rw (nodes_of-painted false l, nodes_of-painted false r) refl
+
+nodes_of-red : (side : Side) (a : Tree) (m : ℕ) (b : Tree) (n : ℕ) (far : Tree)
+    → nodes_of (balanced_red side a m b n far) ≡ nodes_of (joined_at side false (joined_at side true a m b) n far)
+nodes_of-red side a m b n far =
+    elim (cases_Bool ((is_red_tree a || is_red_tree b) && is_red_tree far)) [
+      | inl e ↦ rw e (nodes_of-flipped (joined_at side false (joined_at side true a m b) n far))
+      | inr e ↦ rw e (nodes_of-outer side a m b n far)
+    ]
+
 -- rebalancing keeps the nodes and their order
 pub nodes_of-rebalanced : (side : Side) (red : Bool) (near : Tree) (n : ℕ) (far : Tree)
     → nodes_of (rebalanced side (joined_at side red near n far)) ≡ nodes_of (joined_at side red near n far)
@@ -120,10 +133,10 @@ nodes_of-rebalanced Left true near n far = refl
 nodes_of-rebalanced Right true near n far = refl
 nodes_of-rebalanced Left false leaf n far = refl
 nodes_of-rebalanced Left false (fork false l m r) n far = refl
-nodes_of-rebalanced Left false (fork true l m r) n far = nodes_of-outer Left l m r n far
+nodes_of-rebalanced Left false (fork true l m r) n far = nodes_of-red Left l m r n far
 nodes_of-rebalanced Right false leaf n far = refl
 nodes_of-rebalanced Right false (fork false l m r) n far = refl
-nodes_of-rebalanced Right false (fork true l m r) n far = nodes_of-outer Right r m l n far
+nodes_of-rebalanced Right false (fork true l m r) n far = nodes_of-red Right r m l n far
 
 module _ (lt : ℕ → ℕ → Bool) (transitive : (a b c : ℕ) → lt a b ≡ true → lt b c ≡ true → lt a c ≡ true) where
   -- a list that a node is put into stays sorted

@@ -1,11 +1,12 @@
 -- Rotations and recolourings of cells have the effect on trees that their names say.
-use Rattle.std.proofs.Common.{◌≡◌, ℕ, Bool, true, false, Option, Some, List, refl, sym, ap, ◌∙◌, subst, not}
+use Rattle.std.proofs.Common.{◌≡◌, ℕ, Bool, true, false, Option, Some, List, refl, sym, ap, ◌∙◌, subst, not, ◌&&◌, ◌||◌}
 use Rattle.std.proofs.lemmas.Bool.{true≢false, false≢true, not-false}
 use Rattle.link_tree.specs.Tree.{has_black_root, Cell, Tree, leaf, fork, root_of, nodes_of, AreCellsOf, IsTree}
 use Rattle.link_tree.specs.Tree.{is_sorted}
 use Rattle.link_tree.specs.Nodes.{is_in, with_red}
 use Rattle.link_tree.specs.Sides.{opposite, child_of, with_child, tree_on, joined_at}
-use Rattle.link_tree.specs.Turning.{balanced_inner, balanced_outer, BecomesTree, blackened, painted, rotated}
+use Rattle.link_tree.specs.Turning.{balanced_inner, balanced_outer, balanced_red, BecomesTree, blackened, flipped}
+use Rattle.link_tree.specs.Turning.{painted, rotated}
 use Rattle.link_tree.specs.Turning.{rebalanced}
 use Rattle.link_tree.specs.Turning.{is_red_tree}
 use Rattle.link_tree.specs.declared.cursor.Side.{Side}
@@ -17,7 +18,7 @@ use Rattle.link_tree.proofs.trees.OneSided.{with_red-other}
 use Rattle.link_tree.proofs.trees.OneSided.{with_red-same, fork_joined, root_joined, joint_of, tree_joint, open_side}
 use Rattle.link_tree.proofs.trees.OneSided.{apart_of}
 use Rattle.link_tree.proofs.trees.OneSided.{in_near, in_far, in_root, outside_all, other_than, nodes_of-joined}
-use Rattle.link_tree.proofs.trees.OneSided.{nodes_of-painted, nodes_of-turn, rotated-joined}
+use Rattle.link_tree.proofs.trees.OneSided.{nodes_of-joined_far, nodes_of-painted, nodes_of-turn, rotated-joined}
 
 -- the tree on one side is another now, and the root's link leads to it
 pub graft : (side : Side) (h h1 h2 : ℕ → Cell) (red : Bool) (near near' : Tree) (n : ℕ) (far : Tree) (link : Option ℕ)
@@ -136,17 +137,31 @@ module _ {lt : ℕ → ℕ → Bool} (strict : IsStrict lt) where
       rw same (recolour Left h h' m old red l r w.holds apart.not_near apart.not_far e')
 
 rebalanced-outer : (side : Side) (a : Tree) (m : ℕ) (b : Tree) (n : ℕ) (far : Tree) → is_red_tree a ≡ true
+    → is_red_tree far ≡ false
     → rebalanced side (joined_at side false (joined_at side true a m b) n far) ≡ joined_at side true (blackened a) m
     (joined_at side false b n far)
-rebalanced-outer Left a m b n far e = rw e refl
-rebalanced-outer Right a m b n far e = rw e refl
+rebalanced-outer Left a m b n far e f = rw (e, f) refl
+rebalanced-outer Right a m b n far e f = rw (e, f) refl
 
 rebalanced-inner : (side : Side) (a : Tree) (m : ℕ) (p : Tree) (k : ℕ) (q : Tree) (n : ℕ) (far : Tree)
-    → is_red_tree a ≡ false
+    → is_red_tree a ≡ false → is_red_tree far ≡ false
     → rebalanced side (joined_at side false (joined_at side true a m (joined_at side true p k q)) n far)
     ≡ joined_at side true (joined_at side false a m p) k (joined_at side false q n far)
-rebalanced-inner Left a m p k q n far e = rw e refl
-rebalanced-inner Right a m p k q n far e = rw e refl
+rebalanced-inner Left a m p k q n far e f = rw (e, f) refl
+rebalanced-inner Right a m p k q n far e f = rw (e, f) refl
+
+-- over two red children only colours change
+rebalanced-flipped : (side : Side) (a : Tree) (m : ℕ) (b : Tree) (n : ℕ) (far : Tree)
+    → (is_red_tree a || is_red_tree b) ≡ true → is_red_tree far ≡ true
+    → rebalanced side (joined_at side false (joined_at side true a m b) n far)
+    ≡ flipped (joined_at side false (joined_at side true a m b) n far)
+rebalanced-flipped Left a m b n far e f = rw (e, f) refl
+rebalanced-flipped Right a m b n far e f = rw (e, f) refl
+
+flipped-joined : (side : Side) (red : Bool) (near : Tree) (n : ℕ) (far : Tree)
+    → flipped (joined_at side red near n far) ≡ joined_at side true (blackened near) n (blackened far)
+flipped-joined Left red near n far = refl
+flipped-joined Right red near n far = refl
 
 -- without a red pair nothing is rotated
 inner_same : (side : Side) (a : Tree) (m : ℕ) (b : Tree) (n : ℕ) (far : Tree) → has_black_root b ≡ true
@@ -156,17 +171,23 @@ inner_same side a m (fork false p i q) n far k = refl
 inner_same side a m (fork true p i q) n far k = absurd (false≢true k)
 
 -- a tree with no red child is not changed by balancing
-pub outer_same : (side : Side) (a : Tree) (m : ℕ) (b : Tree) (n : ℕ) (far : Tree) → has_black_root a ≡ true
+outer_same : (side : Side) (a : Tree) (m : ℕ) (b : Tree) (n : ℕ) (far : Tree) → has_black_root a ≡ true
     → has_black_root b ≡ true → balanced_outer side a m b n far ≡ joined_at side false (joined_at side true a m b) n far
 outer_same side a m b n far j k = let e = ap not j in rw e (inner_same side a m b n far k)
+
+pub red_same : (side : Side) (a : Tree) (m : ℕ) (b : Tree) (n : ℕ) (far : Tree) → has_black_root a ≡ true
+    → has_black_root b ≡ true → balanced_red side a m b n far ≡ joined_at side false (joined_at side true a m b) n far
+red_same side a m b n far j k =
+    let e : ((is_red_tree a || is_red_tree b) && is_red_tree far) ≡ false = rw (ap not j, ap not k) refl in
+    rw e (outer_same side a m b n far j k)
 
 rebalanced-none : (side : Side) (a : Tree) (m : ℕ) (b : Tree) (n : ℕ) (far : Tree) → is_red_tree a ≡ false
     → is_red_tree b ≡ false → rebalanced side (joined_at side false (joined_at side true a m b) n far)
     ≡ joined_at side false (joined_at side true a m b) n far
 rebalanced-none Left a m b n far e f =
-    outer_same Left a m b n far (not-false (has_black_root a) e) (not-false (has_black_root b) f)
+    red_same Left a m b n far (not-false (has_black_root a) e) (not-false (has_black_root b) f)
 rebalanced-none Right a m b n far e f =
-    outer_same Right a m b n far (not-false (has_black_root a) e) (not-false (has_black_root b) f)
+    red_same Right a m b n far (not-false (has_black_root a) e) (not-false (has_black_root b) f)
 
 -- a black node over a red child, each seen from the side of the child
 record IsBlackRed (h : ℕ → Cell) (side : Side) (top near : ℕ) (t : Tree) : Type 0 where
@@ -176,6 +197,7 @@ record IsBlackRed (h : ℕ → Cell) (side : Side) (top near : ℕ) (t : Tree) :
   is : t ≡ joined_at side false (joined_at side true a near b) top far
   a_tree : IsTree h (child_of side (h near)) a
   b_tree : IsTree h (child_of (opposite side) (h near)) b
+  far_tree : IsTree h (child_of (opposite side) (h top)) far
 
 black_red : (side : Side) (h : ℕ → Cell) (top near : ℕ) (t : Tree) → IsTree h (Some top) t
     → child_of side (h top) ≡ Some near → (h top).red ≡ false → (h near).red ≡ true → IsBlackRed h side top near t
@@ -190,6 +212,7 @@ black_red side h top near t w e1 e2 e3 =
       is = p.is ∙ ap (λ s. joined_at side (h top).red s top p.far) q.is ∙ rw (e2, e3) refl;
       a_tree = q.near_tree;
       b_tree = q.far_tree;
+      far_tree = p.far_tree;
     }
 
 -- a red tree, seen from a side
@@ -216,6 +239,16 @@ blackened-joined : (side : Side) (red : Bool) (near : Tree) (n : ℕ) (far : Tre
 blackened-joined Left red near n far = refl
 blackened-joined Right red near n far = refl
 
+painted-joined : (side : Side) (old red : Bool) (near : Tree) (n : ℕ) (far : Tree)
+    → painted red (joined_at side old near n far) ≡ joined_at side red near n far
+painted-joined Left old red near n far = refl
+painted-joined Right old red near n far = refl
+
+joined_opposite : (side : Side) (red : Bool) (near : Tree) (n : ℕ) (far : Tree)
+    → joined_at (opposite side) red far n near ≡ joined_at side red near n far
+joined_opposite Left red near n far = refl
+joined_opposite Right red near n far = refl
+
 -- links of joined trees lead to their roots
 same_root : (side : Side) (h : ℕ → Cell) (m n : ℕ) (red : Bool) (near far : Tree)
     → IsTree h (Some m) (joined_at side red near n far) → m ≡ n
@@ -238,9 +271,11 @@ module _ {lt : ℕ → ℕ → Bool} (strict : IsStrict lt) where
   pub balance_outer : (side : Side) (h h1 h2 : ℕ → Cell) (top near risen : ℕ) (outer : Option ℕ) (t : Tree)
       → IsTree h (Some top) t → is_sorted lt (nodes_of t) ≡ true
       → child_of side (h top) ≡ Some near → (h top).red ≡ false → (h near).red ≡ true → child_of side (h near) ≡ outer
-      → ((u : Tree) → IsTree h outer u → true ≡ is_red_tree u) → Makes lt h h1 (Some top) (Some risen) (rotated side)
+      → ((u : Tree) → IsTree h outer u → true ≡ is_red_tree u)
+      → ((u : Tree) → IsTree h (child_of (opposite side) (h top)) u → false ≡ is_red_tree u)
+      → Makes lt h h1 (Some top) (Some risen) (rotated side)
       → Makes lt h1 h2 outer outer blackened → BecomesTree h h2 (nodes_of t) (Some risen) (rebalanced side t)
-  balance_outer side h h1 h2 top near risen outer t w o e1 e2 e3 e4 red lift blacken =
+  balance_outer side h h1 h2 top near risen outer t w o e1 e2 e3 e4 red far_black lift blacken =
       let s = black_red side h top near t w e1 e2 e3 in
       let low = joined_at side false s.b top s.far in
       let is_lifted : rotated side t ≡ joined_at side true s.a near low = ap (λ x. rotated side x) s.is
@@ -266,7 +301,8 @@ module _ {lt : ℕ → ℕ → Bool} (strict : IsStrict lt) where
       (ap (is_in near) (nodes_of-painted false s.a) ∙ apart.not_near) apart.not_far here (λ m d. refl) in
       let red_a : is_red_tree s.a ≡ true = sym (red s.a (record { root = a_root; holds = s.a_tree.holds })) in
       let is_balanced : rebalanced side t ≡ joined_at side true (blackened s.a) near low =
-      ap (λ x. rebalanced side x) s.is ∙ rebalanced-outer side s.a near s.b top s.far red_a in
+      ap (λ x. rebalanced side x) s.is
+      ∙ rebalanced-outer side s.a near s.b top s.far red_a (sym (far_black s.far s.far_tree)) in
       record {
         tree = rw (is_balanced, same) whole;
         frame = λ m i.
@@ -281,59 +317,60 @@ module _ {lt : ℕ → ℕ → Bool} (strict : IsStrict lt) where
       → AreCellsOf h (joined_at side false (joined_at side true a near (joined_at side true p k q)) top far)
       → is_sorted lt (nodes_of (joined_at side false (joined_at side true a near (joined_at side true p k q)) top far))
       ≡ true → Makes lt h h1 (Some near) (Some lower) (rotated (opposite side))
-      → h2 ≡ with_child side h1 top (Some lower) → Makes lt h2 h3 (Some top) (Some risen) (rotated side)
-      → h4 ≡ with_red h3 near false
+      → h2 ≡ with_red h1 near false → h3 ≡ with_child side h2 top (Some lower)
+      → Makes lt h3 h4 (Some top) (Some risen) (rotated side)
       → BecomesTree h h4 (nodes_of (joined_at side false (joined_at side true a near (joined_at side true p k q))
       top far))
       (Some risen) (joined_at side true (joined_at side false a near p) k (joined_at side false q top far))
-  balance_inner_at side h h1 h2 h3 h4 a near p k q top far lower risen w o lift1 set lift2 blacken =
+  balance_inner_at side h h1 h2 h3 h4 a near p k q top far lower risen w o lift1 blacken set lift2 =
       let old = joined_at side true a near (joined_at side true p k q) in
-      let new = joined_at side true (joined_at side true a near p) k q in
+      let up = joined_at side true a near p in
+      let up' = joined_at side false a near p in
+      let new = joined_at side true up k q in
+      let new' = joined_at side true up' k q in
       let joint = joint_of h side false old top far w in
       let apart = apart_of strict side false old top far o in
       let old_tree : IsTree h (Some near) old =
       record { root = sym (root_joined side true a near (joined_at side true p k q)); holds = joint.near_holds } in
       let l1 = rw (rotated-opposite side a near p k q) at (lift1 old old_tree apart.near_rises) in
-      let same1 = same_root side h1 lower k true (joined_at side true a near p) q l1.tree in
+      let same1 = same_root side h1 lower k true up q l1.tree in
       let nodes1 : nodes_of new ≡ nodes_of old = sym (nodes_of-turn side true true true true a near p k q) in
-      let set_at : (m : ℕ) → h2 m ≡ with_child side h1 top (Some lower) m = λ m. ap (λ (f : ℕ → Cell). f m) set in
-      let top_cell = set_at top ∙ with_child-near side h1 top false (root_of old) (root_of far) (Some lower)
-      (l1.frame top apart.not_near ∙ joint.cell) in
-      let rest2 : (m : ℕ) → (m ≡ top → ⊥) → h2 m ≡ h1 m = λ m d. set_at m
-      ∙ with_child-other side h1 top m (Some lower) d in
-      let t2 = graft side h h1 h2 false old new top far (Some lower) (nodes_of old) w l1 apart.not_near
-      apart.near_of_far (ap (is_in top) nodes1 ∙ apart.not_near) apart.not_far top_cell rest2 in
-      let nodes2 = nodes_of-joined side false false old new top far nodes1 in
-      let o2 : is_sorted lt (nodes_of (joined_at side false new top far)) ≡ true = ap (is_sorted lt) nodes2 ∙ o in
-      let low = joined_at side false q top far in
-      let up = joined_at side true a near p in
-      let l2 = rw (rotated-joined side false true up k q top far) at (lift2 (joined_at side false new top far) t2 o2) in
-      let same2 = same_root side h3 risen k true up low l2.tree in
-      let nodes3 = nodes_of-turn side false true false true up k q top far in
-      let o3 : is_sorted lt (nodes_of (joined_at side true up k low)) ≡ true = ap (is_sorted lt) nodes3 ∙ o2 in
-      let apart3 = apart_of strict side true up k low o3 in
-      let joint3 = joint_of h3 side true up k low l2.tree.holds in
-      let up_tree : IsTree h3 (Some near) up =
-      record { root = sym (root_joined side true a near p); holds = joint3.near_holds } in
+      let o1 : is_sorted lt (nodes_of new) ≡ true = ap (is_sorted lt) nodes1 ∙ apart.near_rises in
+      let apart1 = apart_of strict side true up k q o1 in
+      let joint1 = joint_of h1 side true up k q l1.tree.holds in
+      let up_tree : IsTree h1 (Some near) up =
+      record { root = sym (root_joined side true a near p); holds = joint1.near_holds } in
       let black = rw (blackened-joined side true a near p) at
-      (paint_turns strict h3 h4 near false up up_tree apart3.near_rises blacken) in
-      let nodes4 = nodes_of-painted false up in
-      let top4 : h4 k ≡ cell_at side true (Some near) (root_of low) =
-      black.frame k apart3.not_near ∙ joint3.cell
-      ∙ ap (λ x. cell_at side true x (root_of low)) (root_joined side true a near p) in
-      let k_out : is_in k (nodes_of (joined_at side false a near p)) ≡ false =
-      ap (λ x. is_in k (nodes_of x)) (sym (blackened-joined side true a near p)) ∙ ap (is_in k) nodes4
-      ∙ apart3.not_near in
-      let whole = graft side h3 h4 h4 true up (joined_at side false a near p) k low (Some near)
-      (nodes_of up) l2.tree.holds black apart3.not_near apart3.near_of_far k_out apart3.not_far top4 (λ m d. refl) in
-      record {
-        tree = rw same2 whole;
+      (paint_turns strict h1 h2 near false up up_tree apart1.near_rises blacken) in
+      let nodes_up : nodes_of up' ≡ nodes_of up = nodes_of-joined side true false a a near p refl in
+      let k_cell : h2 k ≡ cell_at side true (Some near) (root_of q) =
+      black.frame k apart1.not_near ∙ joint1.cell
+      ∙ ap (λ x. cell_at side true x (root_of q)) (root_joined side true a near p) in
+      let turned = graft side h1 h2 h2 true up up' k q (Some near) (nodes_of up) l1.tree.holds black apart1.not_near
+      apart1.near_of_far (ap (is_in k) nodes_up ∙ apart1.not_near) apart1.not_far k_cell (λ m d. refl) in
+      let nodes2 : nodes_of new' ≡ nodes_of old = nodes_of-joined side true true up up' k q nodes_up ∙ nodes1 in
+      let l2 : BecomesTree h h2 (nodes_of old) (Some lower) new' = record {
+        tree = rw same1 turned;
         frame = λ m i.
-            let i2 : is_in m (nodes_of (joined_at side false new top far)) ≡ false = ap (is_in m) nodes2 ∙ i in
-            let i3 : is_in m (nodes_of (joined_at side true up k low)) ≡ false = ap (is_in m) nodes3 ∙ i2 in
+            let i1 : is_in m (nodes_of new) ≡ false = ap (is_in m) nodes1 ∙ i in
+            black.frame m (outside_all side true up k q m i1).near_out ∙ l1.frame m i;
+      } in
+      let set_at : (m : ℕ) → h3 m ≡ with_child side h2 top (Some lower) m = λ m. ap (λ (f : ℕ → Cell). f m) set in
+      let top_cell = set_at top ∙ with_child-near side h2 top false (root_of old) (root_of far) (Some lower)
+      (l2.frame top apart.not_near ∙ joint.cell) in
+      let rest3 : (m : ℕ) → (m ≡ top → ⊥) → h3 m ≡ h2 m = λ m d. set_at m
+      ∙ with_child-other side h2 top m (Some lower) d in
+      let t3 = graft side h h2 h3 false old new' top far (Some lower) (nodes_of old) w l2 apart.not_near
+      apart.near_of_far (ap (is_in top) nodes2 ∙ apart.not_near) apart.not_far top_cell rest3 in
+      let nodes3 = nodes_of-joined side false false old new' top far nodes2 in
+      let o3 : is_sorted lt (nodes_of (joined_at side false new' top far)) ≡ true = ap (is_sorted lt) nodes3 ∙ o in
+      let l4 = rw (rotated-joined side false true up' k q top far) at (lift2 (joined_at side false new' top far) t3 o3) in
+      record {
+        tree = l4.tree;
+        frame = λ m i.
+            let i3 : is_in m (nodes_of (joined_at side false new' top far)) ≡ false = ap (is_in m) nodes3 ∙ i in
             let out = outside_all side false old top far m i in
-            let out3 = outside_all side true up k low m i3 in
-            black.frame m out3.near_out ∙ l2.frame m i2 ∙ rest2 m out.root_out ∙ l1.frame m out.near_out;
+            l4.frame m i3 ∙ rest3 m out.root_out ∙ l2.frame m out.near_out;
       }
 
   -- balancing an inner red pair: two rotations of the cells
@@ -343,20 +380,93 @@ module _ {lt : ℕ → ℕ → Bool} (strict : IsStrict lt) where
       → child_of (opposite side) (h near) ≡ inner
       → ((u : Tree) → IsTree h (child_of side (h near)) u → false ≡ is_red_tree u)
       → ((u : Tree) → IsTree h inner u → true ≡ is_red_tree u)
-      → Makes lt h h1 (Some near) (Some lower) (rotated (opposite side)) → h2 ≡ with_child side h1 top (Some lower)
-      → Makes lt h2 h3 (Some top) (Some risen) (rotated side) → h4 ≡ with_red h3 near false
+      → ((u : Tree) → IsTree h (child_of (opposite side) (h top)) u → false ≡ is_red_tree u)
+      → Makes lt h h1 (Some near) (Some lower) (rotated (opposite side)) → h2 ≡ with_red h1 near false
+      → h3 ≡ with_child side h2 top (Some lower) → Makes lt h3 h4 (Some top) (Some risen) (rotated side)
       → BecomesTree h h4 (nodes_of t) (Some risen) (rebalanced side t)
-  balance_inner side h h1 h2 h3 h4 top near lower risen inner t w o e1 e2 e3 e4 outer_black inner_red lift1 set lift2
-      blacken =
+  balance_inner side h h1 h2 h3 h4 top near lower risen inner t w o e1 e2 e3 e4 outer_black inner_red far_black lift1
+      blacken set lift2 =
       let s = black_red side h top near t w e1 e2 e3 in
       let b_root : inner ≡ root_of s.b = sym e4 ∙ s.b_tree.root in
       let r = red_at side s.b (sym (inner_red s.b (record { root = b_root; holds = s.b_tree.holds }))) in
       let is : t ≡ joined_at side false (joined_at side true s.a near (joined_at side true r.p r.k r.q)) top s.far =
       s.is ∙ ap (λ x. joined_at side false (joined_at side true s.a near x) top s.far) r.is in
       let turned = balance_inner_at side h h1 h2 h3 h4 s.a near r.p r.k r.q top s.far lower risen (rw is at w.holds)
-      (rw is at o) lift1 set lift2 blacken in
+      (rw is at o) lift1 blacken set lift2 in
       let is_balanced : rebalanced side t ≡ joined_at side true (joined_at side false s.a near r.p) r.k
       (joined_at side false r.q top s.far) =
       ap (λ x. rebalanced side x) is ∙ rebalanced-inner side s.a near r.p r.k r.q top s.far
-      (sym (outer_black s.a s.a_tree)) in
+      (sym (outer_black s.a s.a_tree)) (sym (far_black s.far s.far_tree)) in
       record { tree = rw is_balanced turned.tree; frame = λ m i. let i' = rw is at i in turned.frame m i' }
+
+  -- a child of the root made black
+  child_black : (side : Side) (h h' : ℕ → Cell) (top : ℕ) (link : Option ℕ) (red : Bool) (near far : Tree)
+      → IsTree h (Some top) (joined_at side red near top far)
+      → is_sorted lt (nodes_of (joined_at side red near top far)) ≡ true
+      → root_of near ≡ link → Makes lt h h' link link blackened
+      → BecomesTree h h' (nodes_of (joined_at side red near top far)) (Some top)
+      (joined_at side red (blackened near) top far)
+  child_black side h h' top link red near far w o e blacken =
+      let joint = joint_of h side red near top far w.holds in
+      let apart = apart_of strict side red near top far o in
+      let black = blacken near (record { root = sym e; holds = joint.near_holds }) apart.near_rises in
+      let cell : h' top ≡ cell_at side red link (root_of far) = black.frame top apart.not_near ∙ joint.cell
+      ∙ ap (λ x. cell_at side red x (root_of far)) e in
+      record {
+        tree = graft side h h' h' red near (blackened near) top far link (nodes_of near) w.holds black apart.not_near
+            apart.near_of_far (ap (is_in top) (nodes_of-painted false near) ∙ apart.not_near) apart.not_far cell
+            (λ m d. refl);
+        frame = λ m i. black.frame m (outside_all side red near top far m i).near_out;
+      }
+
+  -- both children made black and then the root red, each seen from the side of the first child
+  pub flip_turns : (side : Side) (h h1 h2 h3 : ℕ → Cell) (top : ℕ) (near far : Option ℕ) (t : Tree)
+      → IsTree h (Some top) t → is_sorted lt (nodes_of t) ≡ true
+      → child_of side (h top) ≡ near → child_of (opposite side) (h top) ≡ far
+      → Makes lt h h1 far far blackened → Makes lt h1 h2 near near blackened → h3 ≡ with_red h2 top true
+      → BecomesTree h h3 (nodes_of t) (Some top) (flipped t)
+  flip_turns side h h1 h2 h3 top near far t w o e1 e2 blacken_far blacken_near redden =
+      let p = open_side h side top t w in
+      let red = (h top).red in
+      let whole = joined_at side red p.near top p.far in
+      let tree : IsTree h (Some top) whole = rw p.is at w in
+      let order : is_sorted lt (nodes_of whole) ≡ true = rw p.is at o in
+      let turned : joined_at (opposite side) red p.far top p.near ≡ whole = joined_opposite side red p.near top p.far in
+      let first : BecomesTree h h1 (nodes_of whole) (Some top) (joined_at side red p.near top (blackened p.far)) =
+      rw (turned, joined_opposite side red p.near top (blackened p.far)) at
+      (child_black (opposite side) h h1 top far red p.far p.near (rw turned tree) (rw turned order)
+      (sym p.far_tree.root ∙ e2) blacken_far) in
+      let nodes1 : nodes_of (joined_at side red p.near top (blackened p.far)) ≡ nodes_of whole =
+      nodes_of-joined_far side red red p.near top p.far (blackened p.far) (nodes_of-painted false p.far) in
+      let second = child_black side h1 h2 top near red p.near (blackened p.far) first.tree
+      (ap (is_sorted lt) nodes1 ∙ order) (sym p.near_tree.root ∙ e1) blacken_near in
+      let both = joined_at side red (blackened p.near) top (blackened p.far) in
+      let nodes2 : nodes_of both ≡ nodes_of whole =
+      nodes_of-joined side red red p.near (blackened p.near) top (blackened p.far) (nodes_of-painted false p.near)
+      ∙ nodes1 in
+      let third = rw (painted-joined side red true (blackened p.near) top (blackened p.far)) at
+      (paint_turns strict h2 h3 top true both second.tree (ap (is_sorted lt) nodes2 ∙ order) redden) in
+      let is : flipped t ≡ joined_at side true (blackened p.near) top (blackened p.far) =
+      ap flipped p.is ∙ flipped-joined side red p.near top p.far in
+      record {
+        tree = rw is third.tree;
+        frame = λ m i.
+            let i0 : is_in m (nodes_of whole) ≡ false = rw p.is at i in
+            third.frame m (ap (is_in m) nodes2 ∙ i0) ∙ second.frame m (ap (is_in m) nodes1 ∙ i0) ∙ first.frame m i0;
+      }
+
+  -- balancing over two red children: another colour for each of the three nodes
+  pub balance_flipped : (side : Side) (h h' : ℕ → Cell) (top near : ℕ) (t : Tree) → IsTree h (Some top) t
+      → child_of side (h top) ≡ Some near → (h top).red ≡ false → (h near).red ≡ true
+      → ((u v : Tree) → IsTree h (child_of side (h near)) u → IsTree h (child_of (opposite side) (h near)) v
+      → (is_red_tree u || is_red_tree v) ≡ true)
+      → ((u : Tree) → IsTree h (child_of (opposite side) (h top)) u → true ≡ is_red_tree u)
+      → BecomesTree h h' (nodes_of t) (Some top) (flipped t)
+      → BecomesTree h h' (nodes_of t) (Some top) (rebalanced side t)
+  balance_flipped side h h' top near t w e1 e2 e3 pair far_red flip =
+      let s = black_red side h top near t w e1 e2 e3 in
+      let is : rebalanced side t ≡ flipped t =
+      ap (λ x. rebalanced side x) s.is
+      ∙ rebalanced-flipped side s.a near s.b top s.far (pair s.a s.b s.a_tree s.b_tree) (sym (far_red s.far s.far_tree))
+      ∙ ap flipped (sym s.is) in
+      rw is flip

@@ -1,9 +1,10 @@
 -- Balancing keeps black heights and leaves no red pair.
-use Rattle.std.proofs.Common.{◌≡◌, ℕ, zero, suc, Bool, true, false, ◌&&◌, cond, refl, inl, inr, not, ap}
+use Rattle.std.proofs.Common.{◌≡◌, ℕ, zero, suc, Bool, true, false, ◌&&◌, ◌||◌, cond, refl, inl, inr, not, ap}
 use Rattle.std.proofs.lemmas.Bool.{false≢true, and_parts, cases_Bool, not-false}
 use Rattle.link_tree.specs.Tree.{Tree, leaf, fork, has_black_root, has_no_red_pair, has_black_height, IsRedBlack}
 use Rattle.link_tree.specs.Sides.{opposite, tree_on, joined_at}
-use Rattle.link_tree.specs.Turning.{blackened, rebalanced, is_red_tree, balanced, balanced_outer, balanced_inner}
+use Rattle.link_tree.specs.Turning.{blackened, flipped, rebalanced, is_red_tree, balanced, balanced_red}
+use Rattle.link_tree.specs.Turning.{balanced_outer, balanced_inner}
 use Rattle.link_tree.specs.declared.cursor.Side.{Side}
 use Rattle.link_tree.specs.declared.cursor.Side.TheVariants.{Left, Right}
 
@@ -217,6 +218,26 @@ outer_even side a m c n far b ea ec ef =
       | inr e ↦ rw e (inner_even side a m c n far b ea (not-false (has_black_root a) e) ec ef)
     ]
 
+-- flipped colours keep a tree even, one black higher
+flipped_even : (side : Side) (a : Tree) (m : ℕ) (c : Tree) (n : ℕ) (far : Tree) (b : ℕ) → IsEven a b → IsEven c b
+    → IsEven far b → is_red_tree far ≡ true
+    → IsEven (flipped (joined_at side false (joined_at side true a m c) n far)) (suc b)
+flipped_even Left a m c n far b ea ec ef e =
+    red_join Left (joined_at Left false a m c) n (blackened far) (suc b) (black_join Left a m c b ea ec)
+    (blackened_even far b (nearly_even far b ef) e) refl (blackened_root far)
+flipped_even Right a m c n far b ea ec ef e =
+    red_join Right (joined_at Right false a m c) n (blackened far) (suc b) (black_join Right a m c b ea ec)
+    (blackened_even far b (nearly_even far b ef) e) refl (blackened_root far)
+
+red_even : (side : Side) (a : Tree) (m : ℕ) (c : Tree) (n : ℕ) (far : Tree) (b : ℕ) → IsEven a b → IsEven c b
+    → IsEven far b → IsEven (balanced_red side a m c n far) (suc b)
+red_even side a m c n far b ea ec ef =
+    elim (cases_Bool ((is_red_tree a || is_red_tree c) && is_red_tree far)) [
+      | inl e ↦ rw e (flipped_even side a m c n far b ea ec ef
+          (and_parts (is_red_tree a || is_red_tree c) (is_red_tree far) e).1)
+      | inr e ↦ rw e (outer_even side a m c n far b ea ec ef)
+    ]
+
 balanced_even : (side : Side) (near : Tree) (n : ℕ) (far : Tree) (b : ℕ) → IsNearlyEven near b → IsEven far b
     → IsEven (balanced side near n far) (suc b)
 balanced_even side leaf n far b e f = black_join side leaf n far b (even_black leaf b e refl) f
@@ -224,7 +245,7 @@ balanced_even side (fork false l m r) n far b e f = black_join side (fork false 
     (even_black (fork false l m r) b e refl) f
 balanced_even side (fork true l m r) n far b e f =
     let s = sides_of_red side l m r b e in
-    outer_even side (tree_on side l r) m (tree_on (opposite side) l r) n far b s.near_even s.far_even f
+    red_even side (tree_on side l r) m (tree_on (opposite side) l r) n far b s.near_even s.far_even f
 
 -- under a black root, balancing mends a red pair at the root of the near tree
 pub rebalanced_even : (side : Side) (near : Tree) (n : ℕ) (far : Tree) (b : ℕ) → IsNearlyEven near b → IsEven far b

@@ -3,8 +3,8 @@
 //! The caller implements `Nodes`, and `NodesMut` to change the tree: nodes are `u64`, links `Option<u64>`. No call
 //! creates, copies or moves a node, or allocates. Each call returns its number of steps. A step is a visit of a node,
 //! with all reads and writes of its fields until the call goes to another node. The crate implements the red-black
-//! trees of Cormen, Leiserson, Rivest and Stein, Introduction to Algorithms, chapter 13. `insert` follows Okasaki,
-//! `remove` follows Filliâtre and Letouzey.
+//! trees of Cormen, Leiserson, Rivest and Stein, Introduction to Algorithms, chapter 13. `insert` recolours as they do
+//! and rotates as Okasaki does; `remove` follows Filliâtre and Letouzey.
 #![tactic(auto)]
 
 mod change_points;

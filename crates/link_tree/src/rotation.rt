@@ -93,10 +93,11 @@ fn flip_colours<N: NodesMut>(visits: &mut NodeCursorMut<N>, top: u64, near: u64,
 }
 
 /// Repairs a black node whose red child on this side has a red child: a red node then stands over two black ones.
-/// Returns the new top node. If the other child is red too, only colours change, so the node stays above both.
+/// Returns the new top node. If the other child is red too, only colours change. So older nodes stay high in the tree,
+/// and nodes that were inserted one after the other stay near each other.
 ///
-/// The rotations are those of Chris Okasaki, Red-Black Trees in a Functional Setting, 1999; the change of colours is in
-/// Cormen, Leiserson, Rivest and Stein, Introduction to Algorithms.
+/// Rotations: Chris Okasaki, Red-Black Trees in a Functional Setting, 1999. Colours: Cormen, Leiserson, Rivest and
+/// Stein, Introduction to Algorithms, chapter 13.
 pub fn fix_double_red<N: NodesMut>(visits: &mut NodeCursorMut<N>, top: u64, side: Side) -> u64
     requires node { N.is_node visits.old.nodes.now top ≡ true }
     requires no_overflow { visits.old.steps + 12 < 2 ^ 64 }

@@ -1,14 +1,14 @@
 -- The pairs of a map whose keys lie between two bounds, one after another, from both ends.
 use Rattle.std.specs.Prelude.{◌≡◌, ℕ, ◌≤◌, ℤ, int_le, int_lt, Bool, true, ◌&&◌, Option, Some, None}
-use Rattle.std.specs.Prelude.{List, [], ◌∷◌, ◌++◌, filter, length, map, reverse, slice_get}
+use Rattle.std.specs.Prelude.{List, [], ◌∷◌, ◌++◌, filter, length, map, reverse, slice_get, take}
 use Rattle.std.specs.declared.ops.Bound.{Bound}
 use Rattle.std.specs.declared.ops.Bound.TheVariants.{Included, Excluded, Unbounded}
 use Rattle.seg_types.specs.declared.kinds.ScalarKind.{ScalarKind}
 use Rattle.seg_types.specs.Names.{Key}
 use Rattle.seg_map.specs.Numbers.{NumberPair}
-use Rattle.seg_map.specs.Places.{item_of}
+use Rattle.seg_map.specs.Places.{item_of, nodes_of_pairs}
 use Rattle.segment_manager.specs.Directory.{Directory}
-use Rattle.segment_manager.specs.State.{SegmentState, DenotesCurrent}
+use Rattle.segment_manager.specs.State.{AnswersWith, SegmentState, DenotesCurrent}
 use Rattle.segment_manager.specs.containers.Walks.{pairs_at_kinds}
 
 -- ---- bounds
@@ -28,6 +28,10 @@ is_up_to Unbounded z = true
 abbrev pub is_between : Bound ℤ → Bound ℤ → NumberPair → Bool
 is_between start end p = is_from start p.key && is_up_to end p.key
 
+-- the pairs from a bound on
+abbrev pub pairs_from : Bound ℤ → List NumberPair → List NumberPair
+pairs_from start ps = filter (is_between start Unbounded) ps
+
 -- the pairs between bounds, as keys and values
 abbrev pub range_of : Bound ℤ → Bound ℤ → List NumberPair → List (ℤ × ℤ)
 range_of start end ps = map item_of (filter (is_between start end) ps)
@@ -35,6 +39,15 @@ range_of start end ps = map item_of (filter (is_between start end) ps)
 -- the last of them, which is the first from the other end
 abbrev pub last_between : Bound ℤ → Bound ℤ → List NumberPair → Option (ℤ × ℤ)
 last_between start end ps = slice_get (range_of start end (reverse ps)) 0
+
+-- of a map no pair has a key from a bound on
+abbrev pub HasNoneFrom : SegmentState → Key → ScalarKind → ScalarKind → Bound ℤ → Type 0
+HasNoneFrom s key k v start = AnswersWith s (λ d. pairs_from start (pairs_at_kinds d key k v)) []
+
+-- the nodes are the nodes of the first pairs of a map from a bound on
+abbrev pub AreAhead : SegmentState → Key → ScalarKind → ScalarKind → Bound ℤ → List ℕ → Type 0
+AreAhead s key k v start nodes =
+    AnswersWith s (λ d. nodes_of_pairs (take (length nodes) (pairs_from start (pairs_at_kinds d key k v)))) nodes
 
 -- ---- an iterator over them
 
@@ -76,6 +89,7 @@ pub record GoesBackPairs {A : Type 0} (k v : ScalarKind) (seen : A
   pub pairs : (d : Directory) → DenotesCurrent old.segment.cut.bytes d
       → TakesLast seen item (pairs_left k v d old) (pairs_left k v d new)
 
--- this many pairs are left at most
-pub record IsPairWalk (k v : ScalarKind) (w : PairWalk) : Type 0 where
+-- this many pairs are left at most, and these nodes are listed ahead
+pub record IsPairWalk (k v : ScalarKind) (w : PairWalk) (ahead : List ℕ) : Type 0 where
   pub few : (d : Directory) → DenotesCurrent w.segment.cut.bytes d → length (pairs_left k v d w) ≤ w.left
+  pub nodes : AreAhead w.segment w.key k v w.start ahead

@@ -1,6 +1,7 @@
 //! Iterators over the elements of objects that were looked up, and calls that read several elements.
 #![tactic(auto)]
 
+mod ahead;
 mod maps;
 mod ranges;
 mod slices;

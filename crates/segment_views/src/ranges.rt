@@ -1,17 +1,18 @@
 //! The pairs of a map, those with keys between two bounds, one after another from either end.
-ghost use Rattle.std.specs.Prelude.{◌≡◌, slice_get};
+ghost use Rattle.std.specs.Prelude.{◌≡◌, IfSome, drop, slice_get};
 ghost use Rattle.std.specs.Iterator.{at_most};
 ghost use Rattle.std.specs.Range.Bound.{bound_map};
-ghost use Rattle.std.specs.declared.ops.Bound.TheVariants.{Unbounded};
+ghost use Rattle.std.specs.declared.ops.Bound.TheVariants.{Excluded, Unbounded};
 ghost use Rattle.seg_types.specs.Kinds.{lowest as lowest_of};
 ghost use Rattle.seg_types.specs.Values.{kind_of_scalar, value_of_scalar};
 ghost use Rattle.segment_manager.specs.objects.BoundObjects.{key_of};
 ghost use Rattle.segment_manager.specs.containers.Maps.{numbers_in};
 ghost use Rattle.segment_manager.specs.State.{AnswersWith};
 ghost use Rattle.segment_manager.specs.containers.Walks.{pairs_at_kinds};
-ghost use Rattle.segment_views.specs.Ranged.{GoesBackPairs, GoesOnPairs, is_from as is_from_start};
+ghost use Rattle.segment_views.specs.Ranged.{AreAhead, GoesBackPairs, GoesOnPairs, is_from as is_from_start};
 ghost use Rattle.segment_views.specs.Ranged.{is_up_to as is_up_to_end, last_between as last_of, range_of};
 
+use crate::ahead::NodesAhead;
 use seg_types::theorems::scalar_is_number;
 use seg_types::{Scalar, ScalarKind, ScalarValue};
 use segment_manager::{BoundContent, Map, Pairs};
@@ -22,7 +23,8 @@ use std::ops::Bound;
 const LONGEST: usize = 8;
 
 /// The pairs of a map that was looked up with keys in a range, one after another by rising keys, and by falling keys
-/// from the other end. What one end gave, the other does not give again. Each is looked for from the root of the tree.
+/// from the other end. What one end gave, the other does not give again. The nodes of the pairs by rising keys are
+/// listed ahead, a few and then 32 at once; each pair from the other end is looked for from the root of the tree.
 ///
 /// Contracts see the segment, the map's key, the bounds of the pairs that are left, and how many these are at most. The
 /// content is a parameter, because a struct can hold an object that was looked up only with a bound on a parameter.
@@ -32,6 +34,7 @@ pub struct BoundItems<'a, C: BoundContent, K: Scalar, V: Scalar> {
     start: Bound<K>,
     end: Bound<K>,
     left: u64,
+    ahead: NodesAhead,
     of: PhantomData<V>,
 }
 
@@ -59,7 +62,7 @@ impl<'a, C: BoundContent, K: Scalar, V: Scalar> Model for BoundItems<'a, C, K, V
       start = bound_map K.whole w.start;
       end = bound_map K.whole w.end;
       left = w.left;
-    }) };
+    }) w.ahead };
 }
 
 impl<'a, K: Scalar, V: Scalar> BoundItems<'a, Pairs<K, V>, K, V> {
@@ -76,6 +79,7 @@ impl<'a, K: Scalar, V: Scalar> BoundItems<'a, Pairs<K, V>, K, V> {
             start,
             end,
             left,
+            ahead: NodesAhead::new(),
             of: PhantomData,
         }
     }
@@ -92,7 +96,8 @@ impl<'a, K: Scalar, V: Scalar> Iterator for BoundItems<'a, Pairs<K, V>, K, V> {
         if self.left == 0 {
             return None;
         }
-        let pair = first_between(&self.map, self.start, self.end)?;
+        let pair = first_between(&self.map, self.start, self.end, &mut self.ahead)?;
+        self.ahead.skip();
         self.start = Bound::Excluded(pair.0);
         self.left -= 1;
         Some(pair)
@@ -113,31 +118,44 @@ impl<'a, K: Scalar, V: Scalar> DoubleEndedIterator for BoundItems<'a, Pairs<K, V
     }
 }
 
-/// Returns the first pair of a map with a key between two bounds.
+/// Returns the first pair of a map with a key between two bounds, whose node is then the first that is listed ahead.
 fn first_between<K: Scalar, V: Scalar>(
     map: &Map<'_, K, V>,
     start: Bound<K>,
     end: Bound<K>,
+    ahead: &mut NodesAhead,
 ) -> Option<(K, V)>
-    ensures { AnswersWith map.now.segment.now (λ d.
+    requires { AreAhead map.now.segment.now (key_of map.now.object) K.kind V.kind (bound_map K.whole start) ahead.old }
+    ensures nodes { AreAhead map.now.segment.now (key_of map.now.object) K.kind V.kind (bound_map K.whole start)
+        ahead.new }
+    ensures rest { IfSome result (λ pair. AreAhead map.now.segment.now (key_of map.now.object) K.kind V.kind
+        (Excluded (K.whole pair.0)) (drop 1 ahead.new)) }
+    ensures pair { AnswersWith map.now.segment.now (λ d.
         slice_get (range_of (bound_map K.whole start) (bound_map K.whole end)
         (pairs_at_kinds d (key_of map.now.object) K.kind V.kind)) 0) (numbers_in K.whole V.whole result) }
 {
-    let pair = first_from(map, start)?;
+    let pair = first_from(map, start, ahead)?;
     is_up_to(end, pair.0).then_some(pair)
 }
 
-/// Returns the first pair of a map with a key that is not below a bound.
-fn first_from<K: Scalar, V: Scalar>(map: &Map<'_, K, V>, start: Bound<K>) -> Option<(K, V)>
-    ensures { AnswersWith map.now.segment.now (λ d.
+/// Returns the first pair of a map with a key that is not below a bound, whose node is then the first that is listed
+/// ahead.
+fn first_from<K: Scalar, V: Scalar>(
+    map: &Map<'_, K, V>,
+    start: Bound<K>,
+    ahead: &mut NodesAhead,
+) -> Option<(K, V)>
+    requires { AreAhead map.now.segment.now (key_of map.now.object) K.kind V.kind (bound_map K.whole start) ahead.old }
+    ensures nodes { AreAhead map.now.segment.now (key_of map.now.object) K.kind V.kind (bound_map K.whole start)
+        ahead.new }
+    ensures rest { IfSome result (λ pair. AreAhead map.now.segment.now (key_of map.now.object) K.kind V.kind
+        (Excluded (K.whole pair.0)) (drop 1 ahead.new)) }
+    ensures pair { AnswersWith map.now.segment.now (λ d.
         slice_get (range_of (bound_map K.whole start) Unbounded
         (pairs_at_kinds d (key_of map.now.object) K.kind V.kind)) 0) (numbers_in K.whole V.whole result) }
 {
-    match start {
-        Bound::Included(from) => map.first_from(from),
-        Bound::Excluded(after) => map.next_after(after),
-        Bound::Unbounded => map.first_from(lowest()),
-    }
+    ahead.list(map, start);
+    map.pair_of(ahead.first()?)
 }
 
 /// Returns the last pair of a map with a key between two bounds.
@@ -168,7 +186,7 @@ fn last_up_to<K: Scalar, V: Scalar>(map: &Map<'_, K, V>, end: Bound<K>) -> Optio
 }
 
 /// Returns the least value of a scalar type.
-fn lowest<T: Scalar>() -> T
+pub fn lowest<T: Scalar>() -> T
     ensures { T.whole result ≡ lowest_of T.kind }
 {
     let mut bytes = [0; LONGEST];

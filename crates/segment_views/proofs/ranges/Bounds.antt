@@ -12,9 +12,10 @@ use Rattle.std.specs.declared.ops.Bound.TheVariants.{Included, Excluded, Unbound
 use Rattle.seg_map.specs.Map.{is_rising}
 use Rattle.seg_map.specs.Numbers.{NumberPair}
 use Rattle.seg_map.specs.Places.{item_of}
-use Rattle.segment_manager.specs.containers.Maps.{pair_above, pair_at_end, pair_below, pair_from, pair_up_to}
+use Rattle.seg_map.specs.Listing.{pairs_past}
+use Rattle.segment_manager.specs.containers.Maps.{pair_at_end, pair_below, pair_from, pair_up_to}
 use Rattle.segment_manager.specs.containers.Walks.{first_of}
-use Rattle.segment_views.specs.Ranged.{is_between, is_from, is_up_to, last_between, range_of}
+use Rattle.segment_views.specs.Ranged.{is_between, is_from, is_up_to, last_between, pairs_from, range_of}
 
 -- ---- truths
 
@@ -47,13 +48,20 @@ exchanged false false = refl
 abbrev items : (NumberPair → Bool) → List NumberPair → List (ℤ × ℤ)
 items t ps = map item_of (filter t ps)
 
+abbrev kept_if : Bool → NumberPair → List NumberPair → List NumberPair
+kept_if b p ps = if b then p ∷ ps else ps
+
+filter-if : (t : NumberPair → Bool) (p : NumberPair) (qs : List NumberPair) (b : Bool) → t p ≡ b
+    → filter t (p ∷ qs) ≡ kept_if b p (filter t qs)
+filter-if t p qs b e = ap (λ (b : Bool). kept_if b p (filter t qs)) e
+
 abbrev one_more : Bool → NumberPair → List (ℤ × ℤ) → List (ℤ × ℤ)
 one_more b p xs = if b then item_of p ∷ xs else xs
 
 items-if : (t : NumberPair → Bool) (p : NumberPair) (qs : List NumberPair) (b : Bool) → t p ≡ b
     → items t (p ∷ qs) ≡ one_more b p (items t qs)
-items-if t p qs true e = ap (λ (b : Bool). map item_of (if b then p ∷ filter t qs else filter t qs)) e
-items-if t p qs false e = ap (λ (b : Bool). map item_of (if b then p ∷ filter t qs else filter t qs)) e
+items-if t p qs true e = ap (map item_of) (filter-if t p qs true e)
+items-if t p qs false e = ap (map item_of) (filter-if t p qs false e)
 
 first-if : (t : NumberPair → Bool) (p : NumberPair) (qs : List NumberPair) (b : Bool) → t p ≡ b
     → slice_get (items t (p ∷ qs)) 0 ≡ slice_get (one_more b p (items t qs)) 0
@@ -88,20 +96,18 @@ module _ (less : ℤ → ℤ → Bool) (transitive : (x y z : ℤ) → less x y 
       both-true (less p.key s.key) (is_rising less (s ∷ qs))
       (transitive p.key q.key s.key (next-above p q (s ∷ qs) r) (next-above q s qs rest)) (rest-rises q (s ∷ qs) rest)
 
-  -- what is found after a pair is above it
-  found-above : (t : NumberPair → Bool) (p : NumberPair) (qs : List NumberPair) (x y : ℤ)
-      → is_rising less (p ∷ qs) ≡ true → slice_get (items t qs) 0 ≡ Some (x, y) → less p.key x ≡ true
-  found-above t p [] x y r e = absurd (cc)
-  found-above t p (q ∷ qs) x y r e = by_cases (λ h. found-above t p qs x y (skip-rises p q qs r) h) (t q) refl
+  -- a pair that passes after another is above it
+  found-above : (t : NumberPair → Bool) (p : NumberPair) (qs : List NumberPair) (q : NumberPair) (rest : List
+      NumberPair) → is_rising less (p ∷ qs) ≡ true → filter t qs ≡ q ∷ rest → less p.key q.key ≡ true
+  found-above t p [] q rest r e = absurd (cc)
+  found-above t p (s ∷ qs) q rest r e = by_cases (λ h. found-above t p qs q rest (skip-rises p s qs r) h) (t s) refl
     where
-      by_cases : (slice_get (items t qs) 0 ≡ Some (x, y) → less p.key x ≡ true) → (b : Bool) → t q ≡ b
-          → less p.key x ≡ true
+      by_cases : (filter t qs ≡ q ∷ rest → less p.key q.key ≡ true) → (b : Bool) → t s ≡ b → less p.key q.key ≡ true
       by_cases next true f =
-          let one : Some (q.key, q.value) ≡ Some (x, y) = sym (first-if t q qs true f) ∙ e in
-          let pair = same_Some (q.key, q.value) (x, y) one in
-          let same : q.key ≡ x = λ i. (pair i).0 in
-          subst (λ z. less p.key z ≡ true) same (next-above p q qs r)
-      by_cases next false f = next (sym (first-if t q qs false f) ∙ e)
+          let two : s ∷ filter t qs ≡ q ∷ rest = sym (filter-if t s qs true f) ∙ e in
+          let same : s ≡ q = cc in
+          subst (λ (z : NumberPair). less p.key z.key ≡ true) same (next-above p s qs r)
+      by_cases next false f = next (sym (filter-if t s qs false f) ∙ e)
 
   -- A test, and one for each key: of the key's pair it is false, after a pair that passes it is the test, and before
   -- the pair it is false. So after the first pair that passes there are those that pass the test of its key.
@@ -109,32 +115,40 @@ module _ (less : ℤ → ℤ → Bool) (transitive : (x y z : ℤ) → less x y 
       (behind : (p q : NumberPair) → less p.key q.key ≡ true → t p ≡ true
       → t q ≡ u p.key q) (before : (x : ℤ) (p : NumberPair) → less p.key x ≡ true → u x p ≡ false) where
     same-behind : (p : NumberPair) (qs : List NumberPair) → t p ≡ true → is_rising less (p ∷ qs) ≡ true
-        → items t qs ≡ items (u p.key) qs
+        → filter t qs ≡ filter (u p.key) qs
     same-behind p [] f r = refl
     same-behind p (q ∷ qs) f r =
-        items-if t q qs (t q) refl ∙ ap (λ (xs : List (ℤ × ℤ)).
-        one_more (t q) q xs) (same-behind p qs f (skip-rises p q qs r))
-        ∙ ap (λ (b : Bool). one_more b q (items (u p.key) qs)) (behind p q (next-above p q qs r) f)
-        ∙ sym (items-if (u p.key) q qs (u p.key q) refl)
+        ap (λ (ps : List NumberPair). kept_if (t q) q ps) (same-behind p qs f (skip-rises p q qs r))
+        ∙ ap (λ (b : Bool). kept_if b q (filter (u p.key) qs)) (behind p q (next-above p q qs r) f)
+
+    others : (ps : List NumberPair) (q : NumberPair) (rest : List NumberPair) → is_rising less ps ≡ true
+        → filter t ps ≡ q ∷ rest → filter (u q.key) ps ≡ rest
+    others [] q rest r e = absurd (cc)
+    others (p ∷ qs) q rest r e = by_cases (λ h. others qs q rest (rest-rises p qs r) h) (t p) refl
+      where
+        by_cases : (filter t qs ≡ q ∷ rest → filter (u q.key) qs ≡ rest) → (b : Bool) → t p ≡ b
+            → filter (u q.key) (p ∷ qs) ≡ rest
+        by_cases next true f =
+            let two : p ∷ filter t qs ≡ q ∷ rest = sym (filter-if t p qs true f) ∙ e in
+            let same : p ≡ q = cc in
+            let behind_it : filter t qs ≡ rest = cc in
+            subst (λ (z : NumberPair). filter (u z.key) (p ∷ qs) ≡ rest) same
+            (filter-if (u p.key) p qs false (itself p) ∙ sym (same-behind p qs f r) ∙ behind_it)
+        by_cases next false f =
+            let there : filter t qs ≡ q ∷ rest = sym (filter-if t p qs false f) ∙ e in
+            filter-if (u q.key) p qs false (before q.key p (found-above t p qs q rest r there)) ∙ next there
 
     begins : (ps : List NumberPair) (x y : ℤ) → is_rising less ps ≡ true → slice_get (items t ps) 0 ≡ Some (x, y)
         → items t ps ≡ (x, y) ∷ items (u x) ps
-    begins [] x y r e = absurd (cc)
-    begins (p ∷ qs) x y r e = by_cases (λ h. begins qs x y (rest-rises p qs r) h) (t p) refl
+    begins ps x y r e = by_list (filter t ps) refl e
       where
-        by_cases : (slice_get (items t qs) 0 ≡ Some (x, y) → items t qs ≡ (x, y) ∷ items (u x) qs) → (b : Bool)
-            → t p ≡ b → items t (p ∷ qs) ≡ (x, y) ∷ items (u x) (p ∷ qs)
-        by_cases next true f =
-            let one : Some (p.key, p.value) ≡ Some (x, y) = sym (first-if t p qs true f) ∙ e in
-            let pair = same_Some (p.key, p.value) (x, y) one in
-            items-if t p qs true f ∙ ap (λ (xs : List (ℤ × ℤ)). (p.key, p.value) ∷ xs) (same-behind p qs f r
-            ∙ sym (items-if (u p.key) p qs false (itself p)))
-            ∙ (λ i. pair i ∷ items (u (pair i).0) (p ∷ qs))
-        by_cases next false f =
-            let rest : slice_get (items t qs) 0 ≡ Some (x, y) = sym (first-if t p qs false f) ∙ e in
-            items-if t p qs false f ∙ next rest
-            ∙ ap (λ (xs : List (ℤ × ℤ)). (x, y) ∷ xs)
-            (sym (items-if (u x) p qs false (before x p (found-above t p qs x y r rest))))
+        by_list : (qs : List NumberPair) → filter t ps ≡ qs → slice_get (map item_of qs) 0 ≡ Some (x, y)
+            → items t ps ≡ (x, y) ∷ items (u x) ps
+        by_list [] f e = absurd (cc)
+        by_list (q ∷ qs) f e =
+            let pair = same_Some (item_of q) (x, y) e in
+            ap (map item_of) f ∙ (λ i. item_of q ∷ map item_of (sym (others ps q qs r f) i))
+            ∙ (λ i. pair i ∷ items (u (pair i).0) ps)
 
   -- A test that is two, of which the second is false after a pair of which it is: the first pair that passes the first
   -- passes both, or none does.
@@ -253,16 +267,28 @@ falls (p ∷ q ∷ qs) r =
 
 -- ---- the first pair between bounds, and the others
 
--- the first pair of a range begins it
-pub range-begins : (start end : Bound ℤ) (ps : List NumberPair) (x y : ℤ) → is_rising int_lt ps ≡ true
-    → slice_get (range_of start end ps) 0 ≡ Some (x, y)
-    → range_of start end ps ≡ (x, y) ∷ range_of (Excluded x) end ps
-range-begins start end ps x y r e =
-    begins int_lt lesser (is_between start end) (λ z. is_between (Excluded z) end) (λ p.
-    (λ i. irreflexive p.key i && is_up_to end p.key))
-    (λ p q l f. (λ i. above-from start p.key q.key (left-true (is_from start p.key) (is_up_to end p.key) f) l i
-    && is_up_to end q.key) ∙ sym (λ i. l i && is_up_to end q.key))
-    (λ z p l. (λ i. not-above p.key z l i && is_up_to end p.key)) ps x y r e
+module _ (start end : Bound ℤ) where
+  itself : (p : NumberPair) → is_between (Excluded p.key) end p ≡ false
+  itself p = λ i. irreflexive p.key i && is_up_to end p.key
+
+  behind : (p q : NumberPair) → int_lt p.key q.key ≡ true → is_between start end p ≡ true
+      → is_between start end q ≡ is_between (Excluded p.key) end q
+  behind p q l f = (λ i. above-from start p.key q.key (left-true (is_from start p.key) (is_up_to end p.key) f) l i
+      && is_up_to end q.key) ∙ sym (λ i. l i && is_up_to end q.key)
+
+  before : (z : ℤ) (p : NumberPair) → int_lt p.key z ≡ true → is_between (Excluded z) end p ≡ false
+  before z p l = λ i. not-above p.key z l i && is_up_to end p.key
+
+  -- the first pair of a range begins it
+  pub range-begins : (ps : List NumberPair) (x y : ℤ) → is_rising int_lt ps ≡ true
+      → slice_get (range_of start end ps) 0 ≡ Some (x, y)
+      → range_of start end ps ≡ (x, y) ∷ range_of (Excluded x) end ps
+  range-begins = begins int_lt lesser (is_between start end) (λ z. is_between (Excluded z) end) itself behind before
+
+  -- after it there are the pairs above its key
+  pub pairs-behind : (ps : List NumberPair) (q : NumberPair) (rest : List NumberPair) → is_rising int_lt ps ≡ true
+      → filter (is_between start end) ps ≡ q ∷ rest → filter (is_between (Excluded q.key) end) ps ≡ rest
+  pairs-behind = others int_lt lesser (is_between start end) (λ z. is_between (Excluded z) end) itself behind before
 
 upper-only : (start end : Bound ℤ) (p : NumberPair)
     → is_between start end p ≡ (is_between start Unbounded p && is_up_to end p.key)
@@ -345,15 +371,55 @@ not-not : (b : Bool) → not (not b) ≡ b
 not-not true = refl
 not-not false = refl
 
--- the pair from a key on is the first of its range
-pub from-ranged : (a : ℤ) (ps : List NumberPair) → pair_from a ps ≡ slice_get (range_of (Included a) Unbounded ps) 0
-from-ranged a ps = found-first (λ p. not (int_lt p.key a)) (is_between (Included a) Unbounded) (λ p.
-    not-below a p.key ∙ sym (and-true (int_le a p.key))) ps
+filter-same : (s t : NumberPair → Bool) → ((p : NumberPair) → s p ≡ t p) → (ps : List NumberPair)
+    → filter s ps ≡ filter t ps
+filter-same s t same [] = refl
+filter-same s t same (p ∷ ps) = λ i. kept_if (same p i) p (filter-same s t same ps i)
 
--- the pair above a key is the first of its range
-pub above-ranged : (a : ℤ) (ps : List NumberPair) → pair_above a ps ≡ slice_get (range_of (Excluded a) Unbounded ps) 0
-above-ranged a ps = found-first (λ p. not (not (int_lt a p.key))) (is_between (Excluded a) Unbounded) (λ p.
-    not-not (int_lt a p.key) ∙ sym (and-true (int_lt a p.key))) ps
+-- the pairs that are listed from a key on
+pub from-past : (a : ℤ) (ps : List NumberPair) → pairs_past int_lt false a ps ≡ pairs_from (Included a) ps
+from-past a = filter-same (λ p. not (int_lt p.key a)) (is_between (Included a) Unbounded) (λ p.
+    not-below a p.key ∙ sym (and-true (int_le a p.key)))
+
+-- the pairs that are listed above a key
+pub above-past : (a : ℤ) (ps : List NumberPair) → pairs_past int_lt true a ps ≡ pairs_from (Excluded a) ps
+above-past a = filter-same (λ p. not (not (int_lt a p.key))) (is_between (Excluded a) Unbounded) (λ p.
+    not-not (int_lt a p.key) ∙ sym (and-true (int_lt a p.key)))
+
+still : (x y z : ℤ) → int_lt x y ≡ true → int_lt x z ≡ false → int_lt y z ≡ false
+still x y z l f = grind arith
+
+all-above : (z : ℤ) (p : NumberPair) (qs : List NumberPair) → is_rising int_lt (p ∷ qs) ≡ true
+    → int_lt p.key z ≡ false → pairs_past int_lt false z (p ∷ qs) ≡ pairs_from Unbounded (p ∷ qs)
+all-above z p [] r f = filter-if (λ p. not (int_lt p.key z)) p [] true (ap not f)
+all-above z p (q ∷ qs) r f =
+    filter-if (λ p. not (int_lt p.key z)) p (q ∷ qs) true (ap not f)
+    ∙ ap (λ (ps : List NumberPair). p ∷ ps) (all-above z q qs (rest-rises int_lt lesser p (q ∷ qs) r)
+    (still p.key q.key z (next-above int_lt lesser p q qs r) f))
+
+-- if the first pair from a key on is the first of all, all pairs are from the key on
+pub all-past : (z : ℤ) (ps : List NumberPair) → is_rising int_lt ps ≡ true
+    → pair_from z ps ≡ option_map item_of (first_of ps) → pairs_past int_lt false z ps ≡ pairs_from Unbounded ps
+all-past z [] r e = refl
+all-past z (p ∷ qs) r e = by_cases (int_lt p.key z) refl
+  where
+    passes : NumberPair → Bool
+    passes p = not (int_lt p.key z)
+
+    found : (rest : List NumberPair) → filter passes qs ≡ rest → slice_get (map item_of rest) 0 ≡ Some (p.key, p.value)
+        → int_lt p.key p.key ≡ true
+    found [] f e = absurd (cc)
+    found (q ∷ rest) f e =
+        let pair = same_Some (item_of q) (p.key, p.value) e in
+        subst (λ (x : ℤ × ℤ). int_lt p.key x.0 ≡ true) pair (found-above int_lt lesser passes p qs q rest r f)
+
+    by_cases : (b : Bool) → int_lt p.key z ≡ b → pairs_past int_lt false z (p ∷ qs) ≡ pairs_from Unbounded (p ∷ qs)
+    by_cases false f = all-above z p qs r f
+    by_cases true f =
+        let later : option_map item_of (find passes qs) ≡ Some (p.key, p.value) =
+        sym (found-one passes p qs false (ap not f)) ∙ e in
+        let itself = found (filter passes qs) refl (sym (found-first passes passes (λ p. refl) qs) ∙ later) in
+        let never = irreflexive p.key in absurd (cc)
 
 -- the first pair of all is the first of the whole range
 pub all-ranged : (ps : List NumberPair)

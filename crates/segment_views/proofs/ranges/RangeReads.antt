@@ -2,20 +2,18 @@
 use Rattle.std.proofs.Common.{◌≡◌, refl, sym, ap, ◌∙◌, ℕ, ◌-◌, ◌≤◌, ℤ, Bool, true, false, Option, Some, None, Ok}
 use Rattle.std.proofs.Common.{List, [], ◌∷◌, ◌++◌, length, arith, subst, if◌then◌else◌}
 use Rattle.std.specs.Bool.{then_some}
-use Rattle.std.specs.Prelude.{option_map, slice_get}
+use Rattle.std.specs.Prelude.{slice_get}
 use Rattle.std.proofs.lemmas.List.{length-append}
 use Rattle.std.specs.declared.ops.Bound.{Bound}
 use Rattle.std.specs.declared.ops.Bound.TheVariants.{Excluded, Unbounded}
 use Rattle.seg_types.specs.declared.kinds.ScalarKind.{ScalarKind}
-use Rattle.seg_types.specs.Kinds.{lowest}
 use Rattle.seg_types.specs.Names.{Key}
 use Rattle.seg_map.specs.Numbers.{NumberPair}
-use Rattle.seg_map.specs.Places.{item_of}
 use Rattle.segment_manager.specs.Directory.{Directory}
-use Rattle.segment_manager.specs.containers.Maps.{answer_of_map, numbers_in, pair_from}
+use Rattle.segment_manager.specs.containers.Maps.{answer_of_map, numbers_in}
 use Rattle.segment_manager.specs.State.{AnswersWith, SegmentState, DenotesCurrent}
-use Rattle.segment_manager.specs.containers.Walks.{first_of, pairs_at_kinds}
-use Rattle.segment_manager.proofs.Laws.{map-least, map-rises, map-told}
+use Rattle.segment_manager.specs.containers.Walks.{pairs_at_kinds}
+use Rattle.segment_manager.proofs.Laws.{map-rises, map-told}
 use Rattle.segment_views.specs.Ranged.{GoesBackPairs, GoesOnPairs, IsPairWalk, PairWalk, is_from, is_up_to}
 use Rattle.segment_views.specs.Ranged.{last_between, pairs_left, range_of}
 use Rattle.segment_views.proofs.ranges.Bounds.{admitted, last-within, range-begins, range-empty, range-ends, range-few}
@@ -35,15 +33,6 @@ module _ (s : SegmentState) (key : Key) (k v : ScalarKind) where
       → AnswersWith s (λ d. answer_of_map d key k v say) (Ok o) → AnswersWith s (λ d. see (pairs_at_kinds d key k v)) o
   reads-told say see same o a = record {
     answers = λ d h. map-told d key k v say (Ok o) (a.answers d h) ∙ same (pairs_at_kinds d key k v);
-  }
-
-  -- from the least key on the first pair comes
-  pub reads-least : {z : ℤ} → z ≡ lowest k → (o : Option (ℤ × ℤ))
-      → AnswersWith s (λ d. answer_of_map d key k v (pair_from z)) (Ok o)
-      → AnswersWith s (λ d. answer_of_map d key k v (λ ps. option_map item_of (first_of ps))) (Ok o)
-  reads-least e o a = record {
-    answers = λ d h. a.answers d h ∙ ap (λ z. answer_of_map d key k v (pair_from z)) e
-        ∙ map-least d key k v s.cut.bytes h.denotes;
   }
 
   -- the first that the lower bound admits is the first between the bounds, if the upper one admits it
@@ -119,7 +108,7 @@ module _ (s : SegmentState) (key : Key) (k v : ScalarKind) where
 
 -- ---- an iterator over the pairs between two bounds
 
-module _ {k v : ScalarKind} {w : PairWalk} (is : IsPairWalk k v w) {A B : Type 0} (kw : A → ℤ)
+module _ {k v : ScalarKind} {w : PairWalk} {nodes : List ℕ} (is : IsPairWalk k v w nodes) {A B : Type 0} (kw : A → ℤ)
     (vw : B → ℤ) where
   abbrev seen : A × B → ℤ × ℤ
   seen pair = (kw pair.0, vw pair.1)
@@ -131,8 +120,8 @@ module _ {k v : ScalarKind} {w : PairWalk} (is : IsPairWalk k v w) {A B : Type 0
 
   -- no first pair: the range is empty
   pub finds-none : {t : PairWalk} → w ≡ t → {r : Option (A × B)} → r ≡ None → HasFirst r
-      → GoesOnPairs k v seen t None t
-  finds-none e was a = subst (λ t. GoesOnPairs k v seen t None t) e (record {
+      → GoesOnPairs k v seen t None w
+  finds-none e was a = subst (λ t. GoesOnPairs k v seen t None w) e (record {
     segment = refl;
     key = refl;
     pairs = λ d h. let n = none-left w.segment w.key k v w.start w.end (subst HasFirst was a) d h in (n, n);

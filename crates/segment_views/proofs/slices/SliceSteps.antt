@@ -1,5 +1,5 @@
 -- Steps of an iterator over an array or a vector, by what the read of an element answered.
-use Rattle.std.proofs.Common.{◌≡◌, refl, sym, ap, subst, ◌∙◌, ℕ, ℤ, ◌+◌, Option, Some, None, Result, Ok, Err, List}
+use Rattle.std.proofs.Common.{◌≡◌, refl, sym, ap, subst, ◌∙◌, ℤ, ◌+◌, Option, Some, None, Result, Ok, Err}
 use Rattle.std.specs.{Option.ok_or, Prelude.slice_get}
 use Rattle.seg_types.specs.declared.{kinds.Kind.Kind, refusals.Refusal.Refusal}
 use Rattle.seg_types.specs.declared.refusals.Refusal.TheVariants.{OutOfRange}

@@ -10,7 +10,7 @@ use Rattle.seg_types.specs.declared.refusals.Refusal.TheVariants.{NotFound, Wron
 use Rattle.segment_manager.proofs.Laws.{code-read, got, text-read}
 use Rattle.segment_manager.specs.{Answers.Answer, Answers.TextElement, State.AnswersQueryOfKind, State.AnswersWith}
 use Rattle.segment_manager.specs.{State.SegmentState, State.answer_of}
-use Rattle.segment_manager.specs.Directory.{Directory, Object, Texts, Value, kind_of, object_at}
+use Rattle.segment_manager.specs.Directory.{Object, Texts, Value, kind_of, object_at}
 use Rattle.segment_manager.specs.containers.Contents.{sizes_of, sizes_of_kind}
 use Rattle.segment_manager.specs.objects.ElementLists.{first_size, length_at_kind, number_or_none, texts_at, texts_in}
 use Rattle.segment_views.specs.Walked.{element_of}

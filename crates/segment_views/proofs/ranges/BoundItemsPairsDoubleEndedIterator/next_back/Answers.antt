@@ -5,6 +5,7 @@ use Rattle.segment_views.proofs.ranges.BoundItemsPairsDoubleEndedIterator.next_b
 pub invariant_of-self : goal.invariant_of-self
 invariant_of-self g c = record {
   few = fewer-back c.self.invariant g.K.Scalar.whole g.V.Scalar.whole c.in_ok-pair.was c.last_between.ensures;
+  nodes = c.self.invariant.nodes;
 }
 
 pub returns-in_err-pair-clause-steps : goal.returns-in_err-pair-clause-steps

@@ -1,18 +1,32 @@
 -- The first pair is taken, and the others are left.
+use Rattle.std.proofs.Common.{sym, subst, drop, IfSome}
+use Rattle.std.specs.declared.ops.Bound.TheVariants.{Excluded}
+use Rattle.segment_manager.specs.objects.BoundObjects.{key_of}
+use Rattle.segment_views.specs.Ranged.{AreAhead}
 use Rattle.segment_views.proofs.ranges.RangeReads.{fewer, finds-none, finds-one}
 use Rattle.segment_views.proofs.ranges.BoundItemsPairsIterator.next.Goals as goal
 
 pub invariant_of-self : goal.invariant_of-self
-invariant_of-self g c = record {
-  few = fewer c.self.invariant g.K.Scalar.whole g.V.Scalar.whole c.in_ok-pair.was c.first_between.ensures;
-}
+invariant_of-self g c = record { few = c.self.invariant.few; nodes = c.first_between.ensures.nodes }
+
+pub invariant_of-self-2 : goal.invariant_of-self-2
+invariant_of-self-2 g c =
+    let s = c.self.inside.map.segment.now in
+    let key = key_of c.self.inside.map.object in
+    record {
+      few = fewer c.self.invariant g.K.Scalar.whole g.V.Scalar.whole c.in_ok-pair.was c.first_between.ensures.pair;
+      nodes = subst (AreAhead s key g.K.Scalar.kind g.V.Scalar.kind (Excluded (g.K.Scalar.whole c.in_ok-pair.pair.0)))
+          (sym c.skip.ensures) (subst (λ r. IfSome r (λ pair. AreAhead s key g.K.Scalar.kind g.V.Scalar.kind
+          (Excluded (g.K.Scalar.whole pair.0)) (drop 1 c.first_between.new.ahead))) c.in_ok-pair.was
+          c.first_between.ensures.rest);
+    }
 
 pub returns-in_err-pair-clause-steps : goal.returns-in_err-pair-clause-steps
 returns-in_err-pair-clause-steps g c =
     rw c.from_residual.ensures (finds-none c.self.invariant g.K.Scalar.whole g.V.Scalar.whole c.self.view_is
-    c.in_err-pair.was c.first_between.ensures)
+    c.in_err-pair.was c.first_between.ensures.pair)
 
 pub returns-clause-steps : goal.returns-clause-steps
 returns-clause-steps g c =
     finds-one c.self.invariant g.K.Scalar.whole g.V.Scalar.whole c.self.view_is c.in_ok-pair.was
-    c.first_between.ensures
+    c.first_between.ensures.pair

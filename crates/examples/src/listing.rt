@@ -1,16 +1,16 @@
 //! What is in a segment. Boost: `named_begin`, `unique_begin`, `anonymous_instance`, `unique_instance`.
 use anyhow::Result;
 use zaluxhoni::{
-    AnonymousInstance, Disk, Name, Refusal, Segment, SegmentFile, UniqueInstance, named,
+    AnonymousInstance, Disk, Key, Name, Refusal, Segment, SegmentFile, UniqueInstance, named,
 };
 
 /// Constructs an `i64` with a name, the unique `i32`, and three bytes without a key, and returns the handle of the
 /// bytes.
 fn fill(segment: &mut Segment, name: &Name) -> Result<u64, Refusal> {
     segment.construct(name, 1, 640i64)?;
-    segment.find_or_construct_array(name, 3, 0i64)?;
+    segment.find_or_construct(name, 3, 0i64)?;
     segment.construct(&UniqueInstance, 1, 7i32)?;
-    segment.construct_array(&AnonymousInstance, 3, 9u8)
+    segment.construct(&AnonymousInstance, 3, 9u8)
 }
 
 /// Prints the first object of each index.
@@ -48,8 +48,8 @@ fn tell_of_all(rt: &HostRuntime, segment: &Segment) -> Result<()> {
 
 /// Prints the object with this handle.
 fn tell_of_one(rt: &HostRuntime, segment: &Segment, handle: u64) -> Result<()> {
-    let (known, len) = (segment.is_object_handle(handle), segment.length_of(handle)?);
-    println!(rt; "a list: #{handle} is an object: {known}, of {len} elements")?;
+    let len = segment.instance_length(&Key::Handle(handle))?;
+    println!(rt; "a list: #{handle} has {len} elements")?;
     Ok(())
 }
 

@@ -1,6 +1,6 @@
 //! A shop in a file, which the first run makes and each later one opens. Boost: `open_or_create`, `find_or_construct`.
 use anyhow::Result;
-use zaluxhoni::{Disk, Mode, Segment, SegmentFile, named, read};
+use zaluxhoni::{Disk, Mode, Segment, SegmentFile, StringsMut, named, read};
 
 /// Writes three prices into the map of a shop, and puts one more thing into its basket.
 fn fill(shop: &mut Segment) -> Result<()> {
@@ -10,7 +10,7 @@ fn fill(shop: &mut Segment) -> Result<()> {
     shop.map_put(&prices, 2i32, 1999i64)?;
     shop.map_put(&prices, 3i32, 75i64)?;
     shop.find_or_construct_texts(&basket, &[])?;
-    Ok(shop.texts_push(&basket, b"apples")?)
+    Ok(StringsMut::of(shop, &basket)?.push(b"apples")?)
 }
 
 /// Counts the things in the basket of a shop.

@@ -1,12 +1,13 @@
 //! A vector of strings. Boost: `vector<basic_string<..>, allocator<..>>`.
 use anyhow::Result;
-use zaluxhoni::{Disk, Name, Refusal, Segment, SegmentFile, named};
+use zaluxhoni::{Disk, Name, Refusal, Segment, SegmentFile, StringsMut, named};
 
 /// Makes a vector of two strings, puts a third after them, and tells how many there are.
 fn keep_three(segment: &mut Segment, list: &Name) -> Result<u64, Refusal> {
     segment.construct_texts(list, &[b"apples", b"pears"])?;
-    segment.texts_push(list, b"plums")?;
-    segment.texts_len(list)
+    let mut texts = StringsMut::of(segment, list)?;
+    texts.push(b"plums")?;
+    Ok(texts.read().len())
 }
 
 /// Tells how many strings there are, and the last one.

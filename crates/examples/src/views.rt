@@ -31,7 +31,7 @@ fn take_of_a_queue(segment: &mut Segment, name: &Name) -> Result<(i64, u64, i64)
 fn change_an_array(segment: &mut Segment, name: &Name) -> Result<u8, Refusal> {
     segment.construct(name, 2, 7u8)?;
     let mut flags = ArrayMut::<u8>::of(segment, name)?;
-    flags.copy_from(&[1, 8])?;
+    flags.overwrite(0, &[1, 8])?;
     flags.set(1, 9)?;
     let mut both = [0u8; 2];
     flags.read().copy_to(&mut both)?;

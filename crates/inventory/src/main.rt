@@ -7,7 +7,7 @@
 use anyhow::Result;
 use std::alloc::Global;
 use std::{env, fs};
-use zaluxhoni::{Disk, HostDisk, Name, Segment, SegmentFile, VectorMut, named};
+use zaluxhoni::{Disk, HostDisk, Name, Segment, SegmentFile, Vector, VectorMut, named};
 
 /// What is kept of an article, as the bytes of a struct of C. Its weight is the bits of a double.
 #[derive(Clone, Copy)]
@@ -143,7 +143,7 @@ fn tell_of(rt: &HostRuntime, shop: &Segment, article: Article) -> Result<()> {
 /// Tells of all articles.
 fn tell_of_articles(rt: &HostRuntime, shop: &Segment) -> Result<()> {
     let articles = named("articles")?;
-    for index in 0..shop.vec_len::<u8, _>(&articles)? / 16 {
+    for index in 0..Vector::<u8>::of(shop, &articles)?.len() / 16 {
         tell_of(rt, shop, article_at(shop, &articles, index)?)?;
     }
     Ok(())
@@ -158,7 +158,7 @@ fn tell_of_suppliers(rt: &HostRuntime, shop: &Segment) -> Result<()> {
         };
         print!(rt; "{supplier} sells")?;
         let seller = named(name)?;
-        for offset in 0..shop.vec_len::<i32, _>(&seller)? {
+        for offset in 0..Vector::<i32>::of(shop, &seller)?.len() {
             let number: i32 = shop.vec_get(&seller, offset)?;
             print!(rt; " {number}")?;
         }

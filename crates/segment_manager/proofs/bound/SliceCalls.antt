@@ -5,13 +5,12 @@ use common.{◌≡◌, refl, sym, ap, subst, ◌∙◌, ℕ, ◌+◌, ℤ, Bool,
 use common.{List}
 use common.{[], length, slice_get, arith, nat_lt, WindowState, Kind, ScalarKind, Scalar, Vector, Key}
 use common.{Answer}
-use common.{Refusal, NotFound, OutOfRange, WrongKind, ReadOnly, Element, Refused, Done, Directory, Object, Value}
+use common.{Refusal, NotFound, OutOfRange, ReadOnly, Element, Refused, Done, Directory, Object, Value}
 use common.{Numbers}
 use common.{Elements, kind_of, object_at, live, get, perform, code_of, same_kind, eq-eqb, SegmentState, DenotesCurrent}
 use common.{IsSegment, AnswersWith, AnswersQueryOfKind, step_of_kind, answer_of, done_answer, is_read_only, Located}
 use common.{Place}
-use common.{IsLocated, IsNotToChange, container_at, container_place, if◌then◌else◌, length_at_kind, first_size}
-use common.{sizes_of}
+use common.{IsLocated, IsNotToChange, container_at, if◌then◌else◌}
 use common.{size_of, exit-is, slice_get_past, ltb-false, storage_of, with, Refuse, Get, SameBytesExcept, bytes_of}
 use Rattle.std.specs.Prelude.{IfOk, IsErrAnd, OnOk}
 use Rattle.std.specs.Option.{ok_or}
@@ -19,7 +18,7 @@ use Rattle.best_fit.specs.Heap.{KeepsGaps}
 use Rattle.best_fit.proofs.Laws.{gaps-refl}
 use Rattle.segment_manager.specs.{Keeping.ChangesElement, objects.Located.element_in}
 use Rattle.segment_manager.specs.containers.Ranges.{ExtendsVector, extended}
-use Rattle.segment_manager.specs.objects.BoundObjects.{IsBound, LacksKind, key_of}
+use Rattle.segment_manager.specs.objects.BoundObjects.{IsBound, key_of}
 use Rattle.segment_manager.specs.objects.ElementLists.{element_of, numbers_at, numbers_in, whole_of}
 use Rattle.segment_manager.proofs.bound.ByKey.{from-to}
 use Rattle.segment_manager.proofs.containers.ContentPlans.{clear-plan}
@@ -27,12 +26,12 @@ use Rattle.segment_manager.proofs.containers.Extending.{VectorExtended, extended
 use Rattle.segment_manager.proofs.containers.{Extending.extended-stays, Extending.of_object, ItemSteps.vector-only}
 use Rattle.segment_manager.proofs.containers.RangeCalls.{HasNumbers, RangeWritten, index_at, many, numbers-of}
 use Rattle.segment_manager.proofs.containers.RangeCalls.{on_ok-map}
-use Rattle.segment_manager.proofs.containers.Refilled.{by-kind, not-Err, placed, same_Err, told-none, told-some}
+use Rattle.segment_manager.proofs.containers.Refilled.{by-kind, placed, told-none, told-some}
 use Rattle.segment_manager.proofs.containers.Refilled.{told_if}
 use Rattle.segment_manager.proofs.directory.CommandSteps.{moves-same, open-reading, open-writing}
 use Rattle.segment_manager.proofs.directory.CommandSteps.{refuses_of_kind-read_only, step_of_kind-found}
 use Rattle.segment_manager.proofs.directory.CommandSteps.{step_of_kind-not_found, step_of_kind-other, with-found}
-use Rattle.segment_manager.proofs.objects.ElementLists.{length-first, list-of, numbers-listed, told}
+use Rattle.segment_manager.proofs.objects.ElementLists.{list-of, numbers-listed, told}
 use Rattle.segment_manager.proofs.objects.{Locating.IsSaidAt, Locating.said-at, Locating.same-object}
 use Rattle.segment_manager.proofs.objects.StayingObjects.{extends-stay, writes-stay}
 
@@ -154,24 +153,6 @@ module _ {s t : SegmentState} (same : t ≡ s) {key : Key} {o : Located} (l : Is
         same a).answers d st ∙ ap length h.lists) ∙ sym (only h.object.value h.of_kind)
         ∙ sym (told-some d key kind (λ p. say p.value) h.object true h.at h.of_kind);
   }
-
--- without an object of the kind, a function of it has this error
-pub lacks-told : {A : Type 0} {s : SegmentState} (key : Key) (kind : Kind) {why : Refusal} (say : Object
-    → Result A Refusal) → LacksKind s key kind why → AnswersWith s (λ d. told_if d key kind say) (Err why)
-lacks-told {s = s} key kind {why} say a = record {
-  answers = λ d st. by-kind d key kind
-      (λ f. ap Err (same_Err why NotFound (a.answers d st ∙ told-none d key kind placed f))
-      ∙ sym (told-none d key kind say f))
-      (λ o f g. ap Err (same_Err why WrongKind (a.answers d st ∙ told-some d key kind placed o false f g))
-      ∙ sym (told-some d key kind say o false f g))
-      (λ o f g. not-Err (container_place o) why (sym (a.answers d st ∙ told-some d key kind placed o true f g)));
-}
-
--- the length of a container of the kind
-pub of-length : {s : SegmentState} (key : Key) (kind : Kind) {r : Result ℕ Refusal} → AnswersWith s (λ d.
-    told_if d key kind (λ o. first_size (sizes_of o.value))) r → AnswersWith s (λ d. length_at_kind d key kind) r
-of-length key kind a =
-    record { answers = λ d st. a.answers d st ∙ sym (length-first kind (object_at d key)) }
 
 -- ---- the segment as the call by key leaves it
 

@@ -5,7 +5,7 @@ use Rattle.segment_manager.proofs.Common.{object_at, first_size, pair_from, firs
 use Rattle.segment_manager.proofs.Common.{Refusal, lowest, item_of, Denotes, Object, kind_of, told_of, pairs_of}
 use Rattle.segment_manager.proofs.Common.{MatchResult, option_map, ScalarKind, WrongKind, NumberPair, length_at_kind}
 use Rattle.segment_manager.proofs.containers.Refilled.{by-kind, told-none, told-some}
-use Rattle.segment_manager.proofs.objects.ElementLists.{length-first, list-of, listed-length, none-listed}
+use Rattle.segment_manager.proofs.objects.ElementLists.{list-of, listed-length, none-listed}
 use Rattle.segment_manager.proofs.containers.PairWalks.{good-value, rising-if, starts, told-of-them}
 use Rattle.segment_manager.proofs.{Common.number_or_none, Common.answer_of_map, containers.AnyStorage.IsOfKindAt}
 use Rattle.segment_manager.proofs.{objects.Here.standing, containers.MapSteps.map-only}
@@ -50,19 +50,6 @@ module _ (d : Directory) (key : Key) (k v : ScalarKind) where
       o.value) o true e g ∙ ap (told_of say) is.1) (ap say (sym (those-of o e g ∙ ap pairs_of is.1))))
 
   -- ---- their number
-
-  -- the length that the map says is the number of its pairs
-  pub map-counted : answer_of_map d key k v length ≡ length_at_kind d key (Map k v)
-  map-counted = by-kind d key (Map k v) (λ e. told-none d key (Map k v) (λ o. told_of length o.value) e
-      ∙ sym (told-none d key (Map k v) first e)) (λ o e g. told-some d key (Map k v) (λ o. told_of length o.value) o
-      false e g ∙ sym (told-some d key (Map k v) first o false e g)) (λ o e g.
-      let is = map-only k v o.value g in
-      told-some d key (Map k v) (λ o. told_of length o.value) o true e g ∙ ap (told_of length) is.1
-      ∙ sym (told-some d key (Map k v) first o true e g ∙ ap (λ (w : Value). first_size (sizes_of w)) is.1))
-      ∙ sym (length-first (Map k v) (object_at d key))
-    where
-      first : Object → Result ℕ Refusal
-      first o = first_size (sizes_of o.value)
 
   map-many : (w : Value) → same_kind (Map k v) (kind_of w) ≡ true → first_size (sizes_of w) ≡ Ok (length (pairs_of w))
   map-many w e =

@@ -3,8 +3,8 @@ use Rattle.segment_manager.proofs.Common as common
 use common.{◌++◌, ◌<◌, Err, IsTrue, List, None, Ok, Option, Result, Some, [], ap, arith, false, get_or, length, map}
 use common.{nat_abs, nat_le, nat_lt, pos, refl, slice_get, subst, suc, sym, true, zero, ℕ, ◌∙◌, ◌∷◌, ◌≡◌, and_from}
 use common.{le-leb, slice_get-get_or, slice_get-map, slice_get_past, option_map, slice_set, WindowState, BackingArray}
-use common.{Append, Assign, Get, Quoted, Set, literal_of, is_value, Key, String, U8, Refusal, NotFound, OutOfRange}
-use common.{AssignsText, IsSomeText, GrowsTextOk, ReplacesText, capacity_for_text, Place, Done, Element, Refused}
+use common.{Append, Assign, Get, Quoted, Set, literal_of, is_value, Key, String, U8, Refusal, NotFound}
+use common.{AssignsText, IsSomeText, GrowsTextOk, ReplacesText, capacity_for_text, Place, Done, Element}
 use common.{are_bytes, bytes_at, container_at, Bytes, Object, Value, kind_of, live, Reply, perform, AnswersWith}
 use common.{IsSegment, TakesStepOfKind, SegmentState, changed, is_read_only, Command, StepsSafely, done_answer}
 use Rattle.segment_manager.proofs.containers.ContentPlans.{append-plan, byte-plan, set_byte-plan, text-plan}
@@ -116,15 +116,6 @@ module _ {s t : SegmentState} (view : s ≡ t) (key : Key) (p : Place) (b : IsSe
   text-got i x a = items-stay texts s key p b there-too (Get key i) (Element U8 (pos x)) (open-reading s.mode
       (Get key i) refl) (λ d den h. ap (perform d (live d)) (byte-plan d key h.object h.items h.table h.is h.value i
       (Some (pos x)) (byte-got h.items i (Some x) (a h.items h.table h.stands))))
-
-  -- a byte after the end is refused
-  pub text_got-past : (i : ℕ) (e : Refusal) → GetsByte s.cut p i (Err e)
-      → TakesStepOfKind s s key String (Get key i) (Refused e)
-  text_got-past i e a = subst (λ (r : Refusal). TakesStepOfKind s s key String (Get key i) (Refused r))
-      (sym (a some.items some.table some.stands).refusal)
-      (items-stay texts s key p b there-too (Get key i) (Refused OutOfRange) (open-reading s.mode (Get key i) refl)
-      (λ d den h. ap (perform d (live d)) (byte-plan d key h.object h.items h.table h.is h.value i None
-      (byte-got h.items i None (slice_get_past h.items i (a h.items h.table h.stands).outside)))))
 
 -- for a segment that is open for writing
 module _ {s t : SegmentState} (view : s ≡ t) (b : IsSegment s.cut.bytes) {key : Key} {p : Place}

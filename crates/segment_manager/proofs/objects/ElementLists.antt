@@ -4,7 +4,7 @@ use common.{code_of, eq-eqb}
 use common.{◌≡◌, refl, sym, ap, ◌∙◌, ℕ, zero, suc, ℤ, Bool, true, false, Option, Some, None, Result, Ok, Err, List, []}
 use common.{◌∷◌, length, map, if◌then◌else◌, option_map, slice_get, Kind, ScalarOf, StringsKind, ScalarKind, Refusal}
 use common.{NotFound, OutOfRange, WrongKind, same_kind, Key, OwnedText, Mode, Answer, Element, Refused, TextElement}
-use common.{sizes_of, sizes_of_kind, Value, Object, Directory, count_of, kind_of, live, object_at, first_size}
+use common.{sizes_of, sizes_of_kind, Value, Object, Directory, kind_of, live, object_at, first_size}
 use common.{length_at_kind, number_or_none, Reply, perform, with, answer_of, get, step_of_kind}
 use Rattle.segment_manager.proofs.directory.CommandSteps.{open-reading, step_of_kind-found, step_of_kind-not_found}
 use Rattle.segment_manager.proofs.directory.CommandSteps.{step_of_kind-other}
@@ -173,22 +173,6 @@ pub length-first : (kind : Kind) (p : Option Object) → first_size (elim p as (
     ]
 length-first kind None = refl
 length-first kind (Some o) = sizes-first (same_kind kind (kind_of o.value)) o.value
-
--- the length of a vector is the number of its elements
-pub vector-many : (k : ScalarKind) (v : Value) → same_kind (VectorOf k) (kind_of v) ≡ true
-    → first_size (sizes_of v) ≡ Ok (length (numbers_in v))
-vector-many k v e =
-    let is = vector-only k v e in
-    ap (λ (w : Value). first_size (sizes_of w)) is.1.1 ∙ sym (ap (λ (w : Value). Ok (length (numbers_in w))) is.1.1)
-
-abbrev array_size : Value → Result ℕ Refusal
-array_size v = Ok (count_of v)
-
--- and that of an array
-pub array-many : (k : ScalarKind) (v : Value) → same_kind (ScalarOf k) (kind_of v) ≡ true
-    → array_size v ≡ Ok (length (numbers_in v))
-array-many k v e =
-    let is = numbers-only k v e in ap array_size is.1 ∙ sym (ap (λ (w : Value). Ok (length (numbers_in w))) is.1)
 
 -- the length of a container of a kind is the number of its listed elements
 pub listed-length : {A : Type 0} (items : Value → List A) (d : Directory) (key : Key) (kind : Kind)

@@ -2,13 +2,11 @@
 use Rattle.std.specs.Prelude.{ℕ, ℤ, Some, None, Result, Ok, Err, List, [], map, slice_get, if◌then◌else◌}
 use Rattle.std.specs.Option.{ok_or}
 use Rattle.seg_types.specs.{declared.kinds.Kind.Kind, declared.refusals.Refusal.Refusal, Kinds.same_kind, Names.Key}
-use Rattle.seg_types.specs.declared.kinds.Kind.TheVariants.{Scalar as ScalarOf}
 use Rattle.seg_types.specs.declared.kinds.Kind.TheVariants.{Strings as StringsKind}
-use Rattle.seg_types.specs.declared.kinds.ScalarKind.{ScalarKind}
-use Rattle.seg_types.specs.declared.refusals.Refusal.TheVariants.{NotFound, OutOfRange, WrongKind}
+use Rattle.seg_types.specs.declared.refusals.Refusal.TheVariants.{OutOfRange}
 use Rattle.seg_vector.specs.Vector.{OwnedText}
 use Rattle.segment_manager.specs.{containers.Contents.sizes_at_kind, Directory.object_at}
-use Rattle.segment_manager.specs.Directory.{Value, Numbers, Elements, Bytes, Pairs, Texts, Directory, count_of, kind_of}
+use Rattle.segment_manager.specs.Directory.{Value, Numbers, Elements, Bytes, Pairs, Texts, Directory, kind_of}
 
 -- the numbers of a value that is an array or a vector of scalars
 abbrev pub numbers_in : Value → List ℤ
@@ -58,15 +56,6 @@ first_size (Err why) = Err why
 -- the length of a key's object of a kind
 abbrev pub length_at_kind : Directory → Key → Kind → Result ℕ Refusal
 length_at_kind d key kind = first_size (sizes_at_kind d key kind)
-
--- the length of a key's array of a kind
-abbrev pub array_length_at : Directory → Key → ScalarKind → Result ℕ Refusal
-array_length_at d key k = elim
-    (object_at d key) [
-      | None ↦ Err NotFound
-      | Some o ↦ if same_kind (ScalarOf k) (kind_of o.value) then Ok
-          (count_of o.value) else Err WrongKind
-    ]
 
 -- a number, or 0 after an error
 abbrev pub number_or_none : Result ℕ Refusal → ℕ

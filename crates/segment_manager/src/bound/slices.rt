@@ -200,24 +200,6 @@ impl<'a, T: Scalar> BoundMut<'a, Slice<T, Fixed>> {
         spell(&mut segment.heap, self.object.handle, at, values);
         Ok(())
     }
-
-    /// Sets the first elements, all of them or none. No other byte changes.
-    ///
-    /// Example: `flags.copy_from(&[1, 2])?`.
-    ///
-    /// # Errors
-    ///
-    /// `OutOfRange` if there are more values than elements. Nothing changes.
-    pub fn copy_from(&mut self, values: &[T]) -> Result<(), Refusal>
-        ensures unchanged { SameBound self.old self.new }
-        ensures step { WritesRange self.old.segment.now self.new.segment.now (key_of self.old.object) T.kind 0
-            (map T.whole values.now) (done_answer result) }
-        ensures refused { OnErr result (self.new.segment.now ≡ self.old.segment.now) }
-        ensures frame { OnOk result (ChangesRange self.old.segment.now self.new.segment.now (key_of self.old.object)
-            T.kind 0 (length values.now)) }
-    {
-        self.overwrite(0, values)
-    }
 }
 
 impl<'a, T: Scalar> Bound<'a, Slice<T, Growable>> {

@@ -1,5 +1,7 @@
 //! Strings and vectors of strings that were looked up once.
-ghost use Rattle.std.specs.Prelude.{◌≡◌, ◌⊎◌, ◌∷◌, [], IfErr, Ok, OnErr, length, map, pos};
+ghost use Rattle.std.specs.{Prelude.◌≡◌, Prelude.◌⊎◌, Prelude.◌∷◌, Prelude.[], Prelude.IfErr, Prelude.IsTrue};
+ghost use Rattle.std.specs.{Prelude.Ok, Prelude.OnErr, Prelude.length, Prelude.map, Prelude.pos, List.list_all};
+ghost use Rattle.raw_region.specs.Memory.{are_bytes};
 ghost use Rattle.best_fit.specs.Heap.{KeepsGaps};
 ghost use Rattle.seg_types.specs.Commands.{Append, Assign, Erase, Get, Insert, Pop, Push, Quoted, Set, literal_of};
 ghost use Rattle.seg_types.specs.declared.kinds.Kind.TheVariants.{String as StringKind, Strings as StringsKind};
@@ -13,7 +15,7 @@ ghost use Rattle.segment_manager.specs.{containers.TextLists.LeadsOnOfKind};
 ghost use Rattle.segment_manager.specs.objects.{BoundObjects.key_of, ElementLists.length_at_kind};
 
 use crate::bound::{Bound, BoundContent, BoundMut};
-use crate::containers::text_lists::judge_all;
+use raw_region::bytes_are_octets;
 use seg_types::{Kind, Refusal};
 use seg_vector::{SegString, SegTexts};
 
@@ -273,5 +275,14 @@ impl<'a> BoundMut<'a, Texts> {
         let place = self.object.own_container();
         let segment = &mut *self.segment;
         SegTexts { place }.erase(&mut segment.heap, index)
+    }
+}
+
+/// States that the texts consist of bytes. Their type implies it, for one slice at a time.
+pub(crate) fn judge_all(texts: &[&[u8]])
+    ensures { IsTrue (list_all are_bytes (map (λ text. text.now) texts.now)) }
+{
+    for text in texts {
+        bytes_are_octets(text);
     }
 }

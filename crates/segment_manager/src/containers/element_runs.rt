@@ -45,14 +45,9 @@ impl Segment {
     }
 }
 
-/// Returns the place of a located object's elements in the image. The object is an array of scalars, a vector of
-/// scalars or a string. The place is valid until a call moves the elements.
+/// As [`Segment::element_run`] on a located object.
 ///
 /// Example: `let run = element_run_of(&segment, object)?`.
-///
-/// # Errors
-///
-/// `WrongKind` if its elements are not scalars.
 ///
 /// # Conditions
 ///

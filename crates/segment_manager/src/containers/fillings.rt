@@ -6,7 +6,7 @@ ghost use Rattle.seg_types.specs.Commands.{Bytes, Content, Elements, NoPairs, Nu
 ghost use Rattle.segment_manager.specs.{Directory.value_len, Plan.bare};
 ghost use Rattle.segment_manager.specs.containers.Filled.{IsShapeOf, MakesValue, container_shape, numbers_shape};
 
-use crate::containers::text_lists::judge_all;
+use crate::bound::texts::judge_all;
 use crate::layout::CONTAINER_LEN;
 use crate::objects::element::write_elements;
 use best_fit::Heap;

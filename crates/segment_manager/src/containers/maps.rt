@@ -1,4 +1,5 @@
-//! Reads and changes the pairs of maps.
+//! Reads and changes the pairs of maps by their keys: each call looks the map up, and then calls the function of `Map` or
+//! `MapMut`. An error of the look-up comes first, and changes nothing.
 ghost use Rattle.std.specs.Prelude.{◌≡◌, OnErr};
 ghost use Rattle.seg_types.specs.Commands.{Lookup, Put, Remove, literal_of};
 ghost use Rattle.seg_types.specs.declared.kinds.Kind.TheVariants.{Map as MapOf};
@@ -13,13 +14,9 @@ use crate::segment::Segment;
 use seg_types::{Refusal, Scalar};
 
 impl Segment {
-    /// Looks `at` up in the map and returns its value, or `None` if the map lacks it. The map's types must match.
+    /// As [`Map::get`] on the map of a key. Also `NotFound`, `WrongKind`.
     ///
     /// Example: `let price: Option<i64> = segment.map_get(&name, 2i32)?`.
-    ///
-    /// # Errors
-    ///
-    /// `NotFound` if no object has the key, `WrongKind` if the object has another kind.
     pub fn map_get<K: Scalar, V: Scalar, O: ObjectRef>(
         &self,
         key: &O,
@@ -31,14 +28,9 @@ impl Segment {
         Ok(Map::<K, V>::of(self, key)?.get(at))
     }
 
-    /// Returns the map's first pair whose map key is not below `from`, or `None` if there is none. The map's types must
-    /// match.
+    /// As [`Map::first_from`] on the map of a key. Also `NotFound`, `WrongKind`.
     ///
     /// Example: `let first: Option<(i32, i64)> = segment.map_first_from(&name, 2)?`.
-    ///
-    /// # Errors
-    ///
-    /// `NotFound` if no object has the key, `WrongKind` if the object has another kind.
     pub fn map_first_from<K: Scalar, V: Scalar, O: ObjectRef>(
         &self,
         key: &O,
@@ -50,13 +42,9 @@ impl Segment {
         Ok(Map::<K, V>::of(self, key)?.first_from(from))
     }
 
-    /// Returns the map's next pair after the map key `after`, or `None` if there is none. The map's types must match.
+    /// As [`Map::next_after`] on the map of a key. Also `NotFound`, `WrongKind`.
     ///
     /// Example: `let next: Option<(i32, i64)> = segment.map_next_after(&name, 2)?`.
-    ///
-    /// # Errors
-    ///
-    /// `NotFound` if no object has the key, `WrongKind` if the object has another kind.
     pub fn map_next_after<K: Scalar, V: Scalar, O: ObjectRef>(
         &self,
         key: &O,
@@ -68,18 +56,9 @@ impl Segment {
         Ok(Map::<K, V>::of(self, key)?.next_after(after))
     }
 
-    /// Sets the value of the map key `at`, and returns true if `at` is new. The map's types must match. All other pairs
-    /// keep their blocks, and so does a pair whose map key is not new.
+    /// As [`MapMut::insert`] on the map of a key. Also `ReadOnly`, `NotFound`, `WrongKind`.
     ///
     /// Example: `let is_new = segment.map_put(&name, 2i32, 1999i64)?`.
-    ///
-    /// # Errors
-    ///
-    /// The first that applies; nothing changes:
-    /// - `ReadOnly` if the segment is open for reading;
-    /// - `NotFound` if no object has the key;
-    /// - `WrongKind` if the object has another kind;
-    /// - `NoSpace` if `at` is new and no gap is long enough for its block.
     pub fn map_put<K: Scalar, V: Scalar, O: ObjectRef>(
         &mut self,
         key: &O,
@@ -95,15 +74,9 @@ impl Segment {
         MapMut::<K, V>::of(self, key)?.insert(at, value)
     }
 
-    /// Erases the map key `at`, frees its block, and returns true if the map had it. The map's types must match. All
-    /// other pairs keep their blocks.
+    /// As [`MapMut::erase`] on the map of a key. Also `ReadOnly`, `NotFound`, `WrongKind`.
     ///
     /// Example: `let was_there = segment.map_erase::<i32, i64, _>(&name, 2)?`.
-    ///
-    /// # Errors
-    ///
-    /// `ReadOnly` if the segment is open for reading. Otherwise `NotFound` if no object has the key, `WrongKind` if the
-    /// object has another kind. Nothing changes.
     pub fn map_erase<K: Scalar, V: Scalar, O: ObjectRef>(
         &mut self,
         key: &O,

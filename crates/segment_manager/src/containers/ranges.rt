@@ -1,8 +1,7 @@
-//! Writes several elements of arrays and vectors of scalars, or appends several, in one call.
+//! Writes several elements of arrays and vectors of scalars in one call.
 ghost use Rattle.std.specs.Prelude.{◌≡◌, OnErr, OnOk, length, map};
 ghost use Rattle.best_fit.specs.Heap.{KeepsGaps};
-ghost use Rattle.segment_manager.specs.{Keeping.KeepsUnused, State.done_answer};
-ghost use Rattle.segment_manager.specs.containers.Ranges.{ChangesRange, ExtendsVector, WritesRange};
+ghost use Rattle.segment_manager.specs.{State.done_answer, containers.Ranges.ChangesRange, containers.Ranges.WritesRange};
 
 use crate::bound::of_kind;
 use crate::bound::slices::{ArrayMut, VectorMut};
@@ -43,27 +42,5 @@ impl Segment {
         }
         let array = of_kind(object, Kind::Scalar(T::kind()))?;
         ArrayMut::<T>::at(self, array).overwrite(first, values)
-    }
-
-    /// Appends values to the vector. The vector's type must match. If the capacity is too small, it doubles, to at
-    /// least 4 and at least the new length.
-    ///
-    /// Example: `segment.vec_extend(&name, &[6i64, 7])?`.
-    ///
-    /// # Errors
-    ///
-    /// `ReadOnly` if the segment is open for reading. Otherwise `NotFound` if no object has the key, `WrongKind` if the
-    /// object has another kind, `NoSpace` if its storage cannot be regrown. Nothing changes.
-    pub fn vec_extend<T: Scalar, O: ObjectRef>(
-        &mut self,
-        key: &O,
-        values: &[T],
-    ) -> Result<(), Refusal>
-        ensures step { ExtendsVector self.old self.new (O.key key.now) T.kind (map T.whole values.now)
-            (done_answer result) }
-        ensures refused { OnErr result (self.new ≡ self.old) }
-        ensures gaps { KeepsUnused self.old self.new }
-    {
-        VectorMut::<T>::of(self, key)?.extend(values)
     }
 }

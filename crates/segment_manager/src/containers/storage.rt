@@ -1,21 +1,15 @@
 //! The capacity of vectors, strings and vectors of strings, and the number of elements of containers.
 ghost use Rattle.std.specs.Prelude.{◌≡◌, Ok, OnErr, false, true};
-ghost use Rattle.seg_types.specs.declared.kinds.Kind.TheVariants.{Map as MapOf, Vector as VectorOf};
-ghost use Rattle.seg_types.specs.declared.kinds.Kind.TheVariants.{Strings as StringsKind};
 ghost use Rattle.seg_types.specs.Commands.{Clear, Reserve, Shrink};
 ghost use Rattle.segment_manager.specs.containers.Contents.{has_sizes, sizes_at};
 ghost use Rattle.segment_manager.specs.{Keeping.HasCapacity, containers.Stored.HasEnough, containers.Stored.command_of};
 ghost use Rattle.segment_manager.specs.{Keeping.UnchangedWhere, State.AnswersWith, State.TakesStep, State.done_answer};
-ghost use Rattle.segment_manager.specs.objects.ElementLists.{array_length_at, length_at_kind};
 ghost use Rattle.segment_manager.specs.{Step.is_read_only, objects.BoundObjects.key_of, objects.Located.IsObject};
 
-use crate::bound::maps::Map;
-use crate::bound::slices::{Array, Vector};
-use crate::bound::texts::Strings;
 use crate::containers::storages::{Change, change_elements, change_texts, element_len};
 use crate::objects::object_ref::{Object, ObjectRef, locate};
 use crate::segment::Segment;
-use seg_types::{Kind, Refusal, Scalar};
+use seg_types::{Kind, Refusal};
 use seg_vector::SegTexts;
 
 /// The offset of a container's number of elements or pairs; its capacity follows.
@@ -100,59 +94,6 @@ impl Segment {
         let object = locate(self, key)?;
         change_object(self, object, change)
     }
-
-    /// Returns the number of elements of the array of scalars; a single scalar is an array of 1. The array's type must
-    /// match.
-    ///
-    /// Example: `let count = segment.array_len::<u8, _>(&name)?`.
-    ///
-    /// # Errors
-    ///
-    /// `NotFound` if no object has the key, `WrongKind` if the object has another kind.
-    pub fn array_len<T: Scalar, O: ObjectRef>(&self, key: &O) -> Result<u64, Refusal>
-        ensures { AnswersWith self.now (λ d. array_length_at d (O.key key.now) T.kind) result }
-    {
-        Ok(Array::<T>::of(self, key)?.len())
-    }
-
-    /// Returns the number of elements of the vector. The vector's type must match.
-    ///
-    /// Example: `let count = segment.vec_len::<i64, _>(&name)?`.
-    ///
-    /// # Errors
-    ///
-    /// `NotFound` if no object has the key, `WrongKind` if the object has another kind.
-    pub fn vec_len<T: Scalar, O: ObjectRef>(&self, key: &O) -> Result<u64, Refusal>
-        ensures { AnswersWith self.now (λ d. length_at_kind d (O.key key.now) (VectorOf T.kind)) result }
-    {
-        Ok(Vector::<T>::of(self, key)?.len())
-    }
-
-    /// Returns the number of texts of the vector of strings.
-    ///
-    /// Example: `let count = segment.texts_len(&name)?`.
-    ///
-    /// # Errors
-    ///
-    /// `NotFound` if no object has the key, `WrongKind` if the object has another kind.
-    pub fn texts_len<O: ObjectRef>(&self, key: &O) -> Result<u64, Refusal>
-        ensures { AnswersWith self.now (λ d. length_at_kind d (O.key key.now) StringsKind) result }
-    {
-        Ok(Strings::of(self, key)?.len())
-    }
-
-    /// Returns the number of pairs of the map. The map's types must match.
-    ///
-    /// Example: `let count = segment.map_len::<i32, i64, _>(&name)?`.
-    ///
-    /// # Errors
-    ///
-    /// `NotFound` if no object has the key, `WrongKind` if the object has another kind.
-    pub fn map_len<K: Scalar, V: Scalar, O: ObjectRef>(&self, key: &O) -> Result<u64, Refusal>
-        ensures { AnswersWith self.now (λ d. length_at_kind d (O.key key.now) (MapOf K.kind V.kind)) result }
-    {
-        Ok(Map::<K, V>::of(self, key)?.len())
-    }
 }
 
 /// Changes the storage of a located vector or string. It is inlined, so the choice of the change costs no test.
@@ -172,13 +113,9 @@ fn change_object(segment: &mut Segment, object: Object, change: Change) -> Resul
     }
 }
 
-/// Grows the capacity of a located vector or string to at least `n` elements.
+/// As [`Segment::reserve`] on a located object.
 ///
 /// Example: `reserve_object(&mut segment, object, 1000)?`.
-///
-/// # Errors
-///
-/// As `Segment::reserve`, but for `NotFound`. Nothing changes.
 ///
 /// # Conditions
 ///
@@ -196,13 +133,9 @@ pub fn reserve_object(segment: &mut Segment, object: Object, n: u64) -> Result<(
     change_object(segment, object, Change::Reserve(n))
 }
 
-/// Returns the length and the capacity of a located vector or string, or the number of a map's pairs and 0.
+/// As [`Segment::measure`] on a located object.
 ///
 /// Example: `let (count, places) = measure_object(&segment, object)?`.
-///
-/// # Errors
-///
-/// `WrongKind` if the object is no container.
 ///
 /// # Conditions
 ///

@@ -1,9 +1,10 @@
-//! Reads and changes the elements of vectors of scalars.
+//! Reads and changes the elements of vectors of scalars by their keys: each call looks the vector up, and then calls the
+//! function of `Vector` or `VectorMut`. An error of the look-up comes first, and changes nothing.
 ghost use Rattle.std.specs.{Prelude.◌≡◌, Prelude.IsTrue, Prelude.OnErr, Prelude.map, Prelude.true, List.list_all};
 ghost use Rattle.seg_types.specs.declared.kinds.Kind.TheVariants.{Vector as VectorOf};
 ghost use Rattle.seg_types.specs.Commands.{Assign, Erase, Get, Insert, Pop, Push, Set, literal_of};
 ghost use Rattle.best_fit.specs.Heap.{KeepsGaps};
-ghost use Rattle.segment_manager.specs.{Answers.Element, Keeping.KeepsUnused};
+ghost use Rattle.segment_manager.specs.{Answers.Element, Keeping.KeepsUnused, containers.Ranges.ExtendsVector};
 ghost use Rattle.segment_manager.specs.State.{AnswersQueryOfKind, TakesStepOfKind, answer_of, done_answer};
 
 use crate::bound::slices::{Vector, VectorMut};
@@ -13,14 +14,9 @@ use seg_types::theorems::holds_value;
 use seg_types::{Refusal, Scalar};
 
 impl Segment {
-    /// Returns the element at `index` of the vector. The vector's type must match.
+    /// As [`Vector::get`] on the vector of a key. Also `NotFound`, `WrongKind`.
     ///
     /// Example: `let number: i64 = segment.vec_get(&name, 0)?`.
-    ///
-    /// # Errors
-    ///
-    /// `NotFound` if no object has the key, `WrongKind` if the object has another kind, `OutOfRange` if `index` is not
-    /// below the length.
     pub fn vec_get<T: Scalar, O: ObjectRef>(&self, key: &O, index: u64) -> Result<T, Refusal>
         ensures { AnswersQueryOfKind self.now (O.key key.now) (VectorOf T.kind)
             (Get (O.key key.now) index) (answer_of (λ x. Element T.kind (T.whole x)) result) }
@@ -28,14 +24,9 @@ impl Segment {
         Vector::<T>::of(self, key)?.get(index)
     }
 
-    /// Sets the element at `index` of the vector. The vector's type must match.
+    /// As [`VectorMut::set`] on the vector of a key. Also `ReadOnly`, `NotFound`, `WrongKind`.
     ///
     /// Example: `segment.vec_set(&name, 1, 5i64)?`.
-    ///
-    /// # Errors
-    ///
-    /// `ReadOnly` if the segment is open for reading. Otherwise `NotFound` if no object has the key, `WrongKind` if the
-    /// object has another kind, `OutOfRange` if `index` is not below the length. Nothing changes.
     pub fn vec_set<T: Scalar, O: ObjectRef>(
         &mut self,
         key: &O,
@@ -50,15 +41,9 @@ impl Segment {
         VectorMut::<T>::of(self, key)?.set(index, value)
     }
 
-    /// Appends a value to the vector. The vector's type must match. A full vector first doubles its capacity, to at
-    /// least 4.
+    /// As [`VectorMut::push`] on the vector of a key. Also `ReadOnly`, `NotFound`, `WrongKind`.
     ///
     /// Example: `segment.vec_push(&name, 4i64)?`.
-    ///
-    /// # Errors
-    ///
-    /// `ReadOnly` if the segment is open for reading. Otherwise `NotFound` if no object has the key, `WrongKind` if the
-    /// object has another kind, `NoSpace` if it is full and its storage cannot be regrown. Nothing changes.
     pub fn vec_push<T: Scalar, O: ObjectRef>(&mut self, key: &O, value: T) -> Result<(), Refusal>
         ensures step { TakesStepOfKind self.old self.new (O.key key.now) (VectorOf T.kind)
             (Push (O.key key.now) (literal_of T.kind (T.whole value))) (done_answer result) }
@@ -68,15 +53,9 @@ impl Segment {
         VectorMut::<T>::of(self, key)?.push(value)
     }
 
-    /// Replaces the elements of the vector. The vector's type must match. If the values do not fit, the capacity
-    /// becomes their number.
+    /// As [`VectorMut::assign`] on the vector of a key. Also `ReadOnly`, `NotFound`, `WrongKind`.
     ///
     /// Example: `segment.vec_assign(&name, &[6i64, 7])?`.
-    ///
-    /// # Errors
-    ///
-    /// `ReadOnly` if the segment is open for reading. Otherwise `NotFound` if no object has the key, `WrongKind` if the
-    /// object has another kind, `NoSpace` if its storage cannot be regrown. Nothing changes.
     pub fn vec_assign<T: Scalar, O: ObjectRef>(
         &mut self,
         key: &O,
@@ -90,14 +69,25 @@ impl Segment {
         VectorMut::<T>::of(self, key)?.assign(values)
     }
 
-    /// Removes the last element of the vector and returns it. The vector's type must match. The capacity stays.
+    /// As [`VectorMut::extend`] on the vector of a key. Also `ReadOnly`, `NotFound`, `WrongKind`.
+    ///
+    /// Example: `segment.vec_extend(&name, &[6i64, 7])?`.
+    pub fn vec_extend<T: Scalar, O: ObjectRef>(
+        &mut self,
+        key: &O,
+        values: &[T],
+    ) -> Result<(), Refusal>
+        ensures step { ExtendsVector self.old self.new (O.key key.now) T.kind (map T.whole values.now)
+            (done_answer result) }
+        ensures refused { OnErr result (self.new ≡ self.old) }
+        ensures gaps { KeepsUnused self.old self.new }
+    {
+        VectorMut::<T>::of(self, key)?.extend(values)
+    }
+
+    /// As [`VectorMut::pop`] on the vector of a key. Also `ReadOnly`, `NotFound`, `WrongKind`.
     ///
     /// Example: `let last: i64 = segment.vec_pop(&name)?`.
-    ///
-    /// # Errors
-    ///
-    /// `ReadOnly` if the segment is open for reading. Otherwise `NotFound` if no object has the key, `WrongKind` if the
-    /// object has another kind, `OutOfRange` if it is empty. Nothing changes.
     pub fn vec_pop<T: Scalar, O: ObjectRef>(&mut self, key: &O) -> Result<T, Refusal>
         ensures step { TakesStepOfKind self.old self.new (O.key key.now) (VectorOf T.kind)
             (Pop (O.key key.now)) (answer_of (λ x. Element T.kind (T.whole x)) result) }
@@ -107,19 +97,9 @@ impl Segment {
         VectorMut::<T>::of(self, key)?.pop()
     }
 
-    /// Inserts a value before the element at `index` of the vector. The vector's type must match. The elements from
-    /// there on move up. A full vector first doubles its capacity, to at least 4.
+    /// As [`VectorMut::insert`] on the vector of a key. Also `ReadOnly`, `NotFound`, `WrongKind`.
     ///
     /// Example: `segment.vec_insert(&name, 0, 3i64)?`.
-    ///
-    /// # Errors
-    ///
-    /// The first that applies; nothing changes:
-    /// - `ReadOnly` if the segment is open for reading;
-    /// - `NotFound` if no object has the key;
-    /// - `WrongKind` if the object has another kind;
-    /// - `OutOfRange` if `index` is above the length;
-    /// - `NoSpace` if the vector is full and its storage cannot be regrown.
     pub fn vec_insert<T: Scalar, O: ObjectRef>(
         &mut self,
         key: &O,
@@ -134,15 +114,9 @@ impl Segment {
         VectorMut::<T>::of(self, key)?.insert(index, value)
     }
 
-    /// Removes the element at `index` of the vector. The vector's type must match. The elements after it move down; the
-    /// capacity stays.
+    /// As [`VectorMut::erase`] on the vector of a key. Also `ReadOnly`, `NotFound`, `WrongKind`.
     ///
     /// Example: `segment.vec_erase::<i64, _>(&name, 0)?`.
-    ///
-    /// # Errors
-    ///
-    /// `ReadOnly` if the segment is open for reading. Otherwise `NotFound` if no object has the key, `WrongKind` if the
-    /// object has another kind, `OutOfRange` if `index` is not below the length. Nothing changes.
     pub fn vec_erase<T: Scalar, O: ObjectRef>(&mut self, key: &O, index: u64) -> Result<(), Refusal>
         ensures step { TakesStepOfKind self.old self.new (O.key key.now) (VectorOf T.kind)
             (Erase (O.key key.now) index) (done_answer result) }

@@ -1,4 +1,5 @@
-//! Reads and writes the elements of arrays of scalars.
+//! Reads and writes the elements of arrays of scalars by their keys: each call looks the array up, and then calls the
+//! function of `Array` or `ArrayMut`. An error of the look-up comes first, and changes nothing.
 ghost use Rattle.std.specs.Prelude.{◌≡◌, OnErr, OnOk};
 ghost use Rattle.seg_types.specs.declared.kinds.Kind.TheVariants.{Scalar as ScalarOf};
 ghost use Rattle.seg_types.specs.Commands.{Get, Set, literal_of};
@@ -11,14 +12,9 @@ use crate::segment::Segment;
 use seg_types::{Refusal, Scalar};
 
 impl Segment {
-    /// Returns the element at `index` of the array of scalars. The array's type must match.
+    /// As [`Array::get`] on the array of a key. Also `NotFound`, `WrongKind`.
     ///
     /// Example: `let width: i64 = segment.get(&name, 0)?`.
-    ///
-    /// # Errors
-    ///
-    /// `NotFound` if no object has the key, `WrongKind` if the object has another kind, `OutOfRange` if `index` is not
-    /// below the length.
     pub fn get<T: Scalar, O: ObjectRef>(&self, key: &O, index: u64) -> Result<T, Refusal>
         ensures { AnswersQueryOfKind self.now (O.key key.now) (ScalarOf T.kind) (Get (O.key key.now) index)
             (answer_of (λ x. Element T.kind (T.whole x)) result) }
@@ -26,14 +22,9 @@ impl Segment {
         Array::<T>::of(self, key)?.get(index)
     }
 
-    /// Sets the element at `index` of the array of scalars. The array's type must match. No other byte changes.
+    /// As [`ArrayMut::set`] on the array of a key. Also `ReadOnly`, `NotFound`, `WrongKind`.
     ///
     /// Example: `segment.set(&name, 0, 640i64)?`.
-    ///
-    /// # Errors
-    ///
-    /// `ReadOnly` if the segment is open for reading. Otherwise `NotFound` if no object has the key, `WrongKind` if the
-    /// object has another kind, `OutOfRange` if `index` is not below the length. Nothing changes.
     pub fn set<T: Scalar, O: ObjectRef>(
         &mut self,
         key: &O,

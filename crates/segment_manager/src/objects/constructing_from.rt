@@ -8,7 +8,7 @@ ghost use Rattle.seg_types.specs.{Names.Key as AnyKey, Keys.new_key_seen, Kinds.
 ghost use Rattle.seg_types.specs.{Kinds.spelling as spelling_of};
 ghost use Rattle.seg_types.specs.Values.{kind_of_scalar, value_of_scalar};
 ghost use Rattle.segment_manager.specs.objects.PendingObjects.{Fills, BeginsObjectOk, IsNextOfKind, WritesNext};
-ghost use Rattle.segment_manager.specs.objects.Counted.{RefusesCount, is_count};
+ghost use Rattle.segment_manager.specs.objects.Counted.{RefusesCount, is_count, refusal_of_count};
 ghost use Rattle.segment_manager.specs.{objects.Items.ConstructsFromItems, objects.Items.TakesItemsIn};
 ghost use Rattle.segment_manager.specs.{objects.NewObjects.IsOfItsKind, State.IsSegment};
 
@@ -54,6 +54,18 @@ impl Segment {
         self.construct_items::<OfType, T, I>(&key, T::kind(), count, items)
     }
 
+    /// Returns the error for a count out of range: `ReadOnly` if the segment is open for reading, otherwise
+    /// `OutOfRange`.
+    fn refusal_of_count(&self) -> Refusal
+        ensures { result ≡ refusal_of_count self.now }
+    {
+        if self.is_read_only() {
+            Refusal::ReadOnly
+        } else {
+            Refusal::OutOfRange
+        }
+    }
+
     /// Makes an array of the next `count` values of a kind, and returns its handle.
     ///
     /// Example: `segment.construct_values(&name, ScalarKind::I64, 5, &mut values)?`.
@@ -83,7 +95,7 @@ impl Segment {
     }
 
     /// Makes an array of the next `count` numbers of a kind, under a key that suits it.
-    pub(crate) fn construct_items<S: Spelling<A>, A, I: Iterator<Item = A>>(
+    fn construct_items<S: Spelling<A>, A, I: Iterator<Item = A>>(
         &mut self,
         key: &NewKey,
         kind: ScalarKind,
@@ -108,7 +120,7 @@ impl Segment {
 
 /// Fills a new array with `count` items, and links its entry to it. If the iterator ends before `count` items, it frees
 /// everything that was allocated for the array.
-pub(crate) fn take_items<S: Spelling<A>, A, I: Iterator<Item = A>>(
+fn take_items<S: Spelling<A>, A, I: Iterator<Item = A>>(
     heap: &mut Heap,
     begun: PendingObject,
     kind: ScalarKind,

@@ -62,26 +62,11 @@ impl Segment {
 
     /// Returns true if an object of the segment has the handle, which can be any number. It finds a remembered handle
     /// at once, and searches for any other from the nearest block hint on.
-    ///
-    /// Example: `if segment.is_object_handle(handle)`.
     #[inline(always)]
-    pub fn is_object_handle(&self, handle: Handle) -> bool
+    pub(crate) fn is_object_handle(&self, handle: Handle) -> bool
         ensures { AnswersWith self.now (λ d. is_object_at d handle) result }
     {
         self.heap.is_live(handle) && self.heap.role(handle) == Role::Object
-    }
-
-    /// Returns the count of the object with a handle: the number of elements of an array, and 1 for a container.
-    ///
-    /// Example: `let count = segment.length_of(handle)?`.
-    ///
-    /// # Errors
-    ///
-    /// `NotFound` if no object has the handle.
-    pub fn length_of(&self, handle: Handle) -> Result<u64, Refusal>
-        ensures { AnswersWith self.now (λ d. told_at d (ByHandle handle) (λ (o : Object). count_of o.value)) result }
-    {
-        self.instance_length(&Key::Handle(handle))
     }
 
     /// Returns the kind of the object of a key.

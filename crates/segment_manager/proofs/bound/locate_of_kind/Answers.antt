@@ -1,10 +1,7 @@
 -- The object that is found has the kind or not.
-use Rattle.segment_manager.proofs.bound.ByKey.{none-found, of-found}
+use Rattle.segment_manager.proofs.bound.ByKey.{of-found}
 use Rattle.segment_manager.proofs.{objects.Here.seen-object}
 use Rattle.segment_manager.proofs.bound.locate_of_kind.Goals as goal
-
-pub returns-in-None-clause-location : goal.returns-in-None-clause-location
-returns-in-None-clause-location g c = none-found (g.O.ObjectRef.key c.args.key.now) c.args.kind c.in-None.ensures
 
 pub read_of_kind-requires : goal.read_of_kind-requires
 read_of_kind-requires g c =

@@ -18,12 +18,6 @@ returns-in_err-object-clause-step g c =
     (sym c.is_read_only.ensures
     ∙ c.if-is_read_only.false) c.in_err-object.ensures (λ d e. change-nowhere c.args.change d key e))
 
-pub change_object-requires : goal.change_object-requires
-change_object-requires g c = record {
-  object = c.in_ok-object.ensures.here;
-  writing = sym c.is_read_only.ensures ∙ c.if-is_read_only.false;
-}
-
 pub returns-clause-step : goal.returns-clause-step
 returns-clause-step g c = change-by_key _ _ _ c.in_ok-object.ensures c.args.change _ _ c.change_object.ensures.step
 

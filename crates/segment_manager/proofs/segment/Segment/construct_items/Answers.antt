@@ -1,6 +1,6 @@
 -- The object is begun and made of items, or refused before.
 use Rattle.segment_manager.proofs.Common.{sym, ◌∙◌, new_key_seen, exit-is}
-use Rattle.segment_manager.proofs.objects.ItemCalls.{begun-so, items-segment, items-taken}
+use Rattle.segment_manager.proofs.objects.ItemCalls.{begun-so, items-segment}
 use Rattle.segment_manager.proofs.objects.ItemCalls.{refused-items, refused-segment, takes-nothing}
 use Rattle.segment_manager.proofs.segment.Segment.construct_items.Goals as goal
 
@@ -38,13 +38,6 @@ take_items-requires-clause-start g c = (
 
 pub invariant_of-self-2 : goal.invariant_of-self-2
 invariant_of-self-2 g c = items-segment _ g.I.Iterator.next_gives g.S.Spelling.whole c.self.view_is c.self.invariant
-    (new_key_seen c.args.key.now) c.args.kind c.args.count c.numbers.ensures
-    (sym c.is_read_only.ensures ∙ c.if-is_read_only.false) c.requires.non_empty c.args.items.now
-    c.begin_object.new.heap _ _
-    c.in_ok-begun.begun.entry c.in_ok-begun.ensures c.take_items.new.heap c.take_items.result c.take_items.ensures
-
-pub returns : goal.returns
-returns g c = items-taken _ g.I.Iterator.next_gives g.S.Spelling.whole c.self.view_is c.self.invariant
     (new_key_seen c.args.key.now) c.args.kind c.args.count c.numbers.ensures
     (sym c.is_read_only.ensures ∙ c.if-is_read_only.false) c.requires.non_empty c.args.items.now
     c.begin_object.new.heap _ _

@@ -1,7 +1,6 @@
 -- An element of the array that is found is set. The segment ends as the bound object leaves it.
-use Rattle.segment_manager.proofs.Common.{◌≡◌, refl, rules, OnErr, SegmentState, Scalar, Set, literal_of}
-use Rattle.segment_manager.proofs.{bound.ByKey.from-to, bound.ByKey.not-bound, bound.ByKey.steps}
-use Rattle.segment_manager.proofs.bound.{SliceCalls.key-element}
+use Rattle.segment_manager.proofs.Common.{◌≡◌, refl, rules, Scalar, Set, literal_of}
+use Rattle.segment_manager.proofs.{bound.ByKey.not-bound, bound.ByKey.steps}
 use Rattle.segment_manager.proofs.segment.Segment.set.Goals as goal
 
 pub returns-in_err-self-clause-step : goal.returns-in_err-self-clause-step
@@ -14,14 +13,3 @@ returns-clause-step g c = let e : c.set.new.self.segment.now ≡ c.self-2-1.give
     steps c.in_ok-self.ensures.segment c.in_ok-self.ensures.location e (Scalar g.T.Scalar.kind)
     (Set (g.O.ObjectRef.key c.args.key.now) c.args.index (literal_of g.T.Scalar.kind
     (g.T.Scalar.whole c.args.value))) c.set.ensures.step.step
-
-pub returns-clause-refused : goal.returns-clause-refused
-returns-clause-refused g c = let e : c.set.new.self.segment.now ≡ c.self-2-1.given.0 = search rules in
-    from-to c.in_ok-self.ensures.segment c.in_ok-self.ensures.location e (λ (u v : SegmentState). OnErr c.set.result
-    (v ≡ u))
-    c.set.ensures.step.refused
-
-pub returns-clause-element : goal.returns-clause-element
-returns-clause-element g c = let e : c.set.new.self.segment.now ≡ c.self-2-1.given.0 = search rules in
-    key-element c.in_ok-self.ensures.segment e c.in_ok-self.ensures.location g.T.Scalar.kind c.args.index c.set.result
-    c.set.ensures.element

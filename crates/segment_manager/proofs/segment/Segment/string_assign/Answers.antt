@@ -1,6 +1,6 @@
 -- The bytes replace the bytes of the string that is found. The segment ends as the bound object leaves it.
 use Rattle.segment_manager.proofs.Common.{◌≡◌, refl, rules, subst, sym, Assign, Quoted, String, [], ◌∷◌}
-use Rattle.segment_manager.proofs.bound.ByKey.{from-to, not-bound, rests, steps}
+use Rattle.segment_manager.proofs.bound.ByKey.{not-bound, rests, steps}
 use Rattle.segment_manager.proofs.segment.Segment.string_assign.Goals as goal
 use Rattle.best_fit.proofs.Laws.{gaps-refl}
 use Rattle.segment_manager.specs.Keeping.{KeepsUnused}
@@ -17,7 +17,3 @@ pub returns-clause-step : goal.returns-clause-step
 returns-clause-step g c = let e : c.assign.new.self.segment.now ≡ c.self-2-1.given.0 = search rules in
     steps c.in_ok-self.ensures.segment c.in_ok-self.ensures.location e String (Assign (g.O.ObjectRef.key c.args.key.now)
     (Quoted c.args.bytes.now ∷ [])) c.assign.ensures.step
-
-pub returns-clause-gaps : goal.returns-clause-gaps
-returns-clause-gaps g c = let e : c.assign.new.self.segment.now ≡ c.self-2-1.given.0 = search rules in
-    from-to c.in_ok-self.ensures.segment c.in_ok-self.ensures.location e KeepsUnused c.assign.ensures.gaps

@@ -1,6 +1,6 @@
 -- The byte is written in the string that is found. The segment ends as the bound object leaves it.
 use Rattle.segment_manager.proofs.Common.{◌≡◌, refl, rules, literal_of, pos, subst, sym, Set, String, U8}
-use Rattle.segment_manager.proofs.bound.ByKey.{from-to, not-bound, rests, steps}
+use Rattle.segment_manager.proofs.bound.ByKey.{not-bound, rests, steps}
 use Rattle.segment_manager.proofs.segment.Segment.string_set.Goals as goal
 use Rattle.best_fit.proofs.Laws.{gaps-refl}
 use Rattle.best_fit.specs.Heap.{KeepsGaps}
@@ -17,8 +17,3 @@ pub returns-clause-step : goal.returns-clause-step
 returns-clause-step g c = let e : c.set.new.self.segment.now ≡ c.self-2-1.given.0 = search rules in
     steps c.in_ok-self.ensures.segment c.in_ok-self.ensures.location e String (Set (g.O.ObjectRef.key c.args.key.now)
     c.args.index (literal_of U8 (pos c.args.byte))) c.set.ensures.step
-
-pub returns-clause-gaps : goal.returns-clause-gaps
-returns-clause-gaps g c = let e : c.set.new.self.segment.now ≡ c.self-2-1.given.0 = search rules in
-    from-to c.in_ok-self.ensures.segment c.in_ok-self.ensures.location e (λ u v. KeepsGaps u.cut v.cut)
-    c.set.ensures.gaps

@@ -1,8 +1,7 @@
 -- A value of the vector that is found is erased. The segment ends as the bound object leaves it.
-use Rattle.segment_manager.proofs.Common.{◌≡◌, refl, rules, OnErr, SegmentState, Vector, Erase}
-use Rattle.segment_manager.proofs.{bound.ByKey.from-to, bound.ByKey.not-bound, bound.ByKey.steps}
+use Rattle.segment_manager.proofs.Common.{◌≡◌, refl, rules, Vector, Erase}
+use Rattle.segment_manager.proofs.{bound.ByKey.not-bound, bound.ByKey.steps}
 use Rattle.segment_manager.proofs.bound.{ByKey.rests, SliceCalls.same-gaps}
-use Rattle.best_fit.specs.Heap.{KeepsGaps}
 use Rattle.segment_manager.proofs.segment.Segment.vec_erase.Goals as goal
 
 pub returns-in_err-self-clause-step : goal.returns-in_err-self-clause-step
@@ -14,16 +13,5 @@ returns-clause-step g c = let e : c.erase.new.self.segment.now ≡ c.self-2-1.gi
     steps c.in_ok-self.ensures.segment c.in_ok-self.ensures.location e (Vector g.T.Scalar.kind)
     (Erase (g.O.ObjectRef.key c.args.key.now) c.args.index) c.erase.ensures.step.step
 
-pub returns-clause-refused : goal.returns-clause-refused
-returns-clause-refused g c = let e : c.erase.new.self.segment.now ≡ c.self-2-1.given.0 = search rules in
-    from-to c.in_ok-self.ensures.segment c.in_ok-self.ensures.location e (λ (u v : SegmentState). OnErr c.erase.result
-    (v ≡ u))
-    c.erase.ensures.step.refused
-
 pub returns-in_err-self-clause-gaps : goal.returns-in_err-self-clause-gaps
 returns-in_err-self-clause-gaps g c = same-gaps (rests c.in_err-self.was c.of.follows.holds-at-none)
-
-pub returns-clause-gaps : goal.returns-clause-gaps
-returns-clause-gaps g c = let e : c.erase.new.self.segment.now ≡ c.self-2-1.given.0 = search rules in
-    from-to c.in_ok-self.ensures.segment c.in_ok-self.ensures.location e (λ
-    (u v : SegmentState). KeepsGaps u.cut v.cut) c.erase.ensures.gaps

@@ -1,8 +1,7 @@
 -- Values are appended to the vector that is found. The segment ends as the bound vector leaves it.
-use Rattle.segment_manager.proofs.Common.{◌≡◌, rules, map, SegmentState}
-use Rattle.segment_manager.proofs.{bound.ByKey.from-to, bound.ByKey.rests}
+use Rattle.segment_manager.proofs.Common.{◌≡◌, rules, map}
+use Rattle.segment_manager.proofs.{bound.ByKey.rests}
 use Rattle.segment_manager.proofs.bound.SliceCalls.{key-extends, refused-extends, same-gaps}
-use Rattle.segment_manager.specs.Keeping.{KeepsUnused}
 use Rattle.segment_manager.proofs.segment.Segment.vec_extend.Goals as goal
 
 pub returns-in_err-self-clause-step : goal.returns-in_err-self-clause-step
@@ -16,8 +15,3 @@ returns-in_err-self-clause-gaps g c = λ e. same-gaps (rests c.in_err-self.was c
 pub returns-clause-step : goal.returns-clause-step
 returns-clause-step g c = let e : c.extend.new.self.segment.now ≡ c.self-2-1.given.0 = search rules in
     key-extends c.in_ok-self.ensures.segment e c.in_ok-self.ensures.location g.T.Scalar.kind _ c.extend.ensures.step
-
-pub returns-clause-gaps : goal.returns-clause-gaps
-returns-clause-gaps g c = let e : c.extend.new.self.segment.now ≡ c.self-2-1.given.0 = search rules in
-    from-to c.in_ok-self.ensures.segment c.in_ok-self.ensures.location e (λ (u v : SegmentState). KeepsUnused u v)
-    c.extend.ensures.gaps

@@ -1,8 +1,7 @@
 -- A value is inserted into the vector that is found. The segment ends as the bound object leaves it.
-use Rattle.segment_manager.proofs.Common.{◌≡◌, refl, rules, OnErr, SegmentState, Vector, Insert, literal_of}
-use Rattle.segment_manager.proofs.{bound.ByKey.from-to, bound.ByKey.not-bound, bound.ByKey.steps}
+use Rattle.segment_manager.proofs.Common.{◌≡◌, refl, rules, Vector, Insert, literal_of}
+use Rattle.segment_manager.proofs.{bound.ByKey.not-bound, bound.ByKey.steps}
 use Rattle.segment_manager.proofs.bound.{ByKey.rests, SliceCalls.same-gaps}
-use Rattle.segment_manager.specs.Keeping.{KeepsUnused}
 use Rattle.segment_manager.proofs.segment.Segment.vec_insert.Goals as goal
 
 pub returns-in_err-self-clause-step : goal.returns-in_err-self-clause-step
@@ -16,16 +15,5 @@ returns-clause-step g c = let e : c.insert.new.self.segment.now ≡ c.self-2-1.g
     (Insert (g.O.ObjectRef.key c.args.key.now) c.args.index (literal_of g.T.Scalar.kind
     (g.T.Scalar.whole c.args.value))) c.insert.ensures.step.step
 
-pub returns-clause-refused : goal.returns-clause-refused
-returns-clause-refused g c = let e : c.insert.new.self.segment.now ≡ c.self-2-1.given.0 = search rules in
-    from-to c.in_ok-self.ensures.segment c.in_ok-self.ensures.location e (λ (u v : SegmentState). OnErr c.insert.result
-    (v ≡ u))
-    c.insert.ensures.step.refused
-
 pub returns-in_err-self-clause-gaps : goal.returns-in_err-self-clause-gaps
 returns-in_err-self-clause-gaps g c = λ e. same-gaps (rests c.in_err-self.was c.of.follows.holds-at-none)
-
-pub returns-clause-gaps : goal.returns-clause-gaps
-returns-clause-gaps g c = let e : c.insert.new.self.segment.now ≡ c.self-2-1.given.0 = search rules in
-    from-to c.in_ok-self.ensures.segment c.in_ok-self.ensures.location e (λ
-    (u v : SegmentState). KeepsUnused u v) c.insert.ensures.gaps

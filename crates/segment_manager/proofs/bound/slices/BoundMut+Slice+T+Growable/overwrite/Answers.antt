@@ -31,10 +31,6 @@ returns-clause-refused g c = (vector-overwritten (of-vector g.met.T.Scalar) c.se
     (c.at-vector.ensures ∙ c.own_container.ensures) c.segment.invariant _ c.args.self.now.writing _ _ _
     c.overwrite.ensures.sets).refused
 
-pub returns-clause-noop : goal.returns-clause-noop
-returns-clause-noop g c =
-    λ e. (λ i. record { cut = c.overwrite.ensures.noop e i; mode = c.segment.inside.mode }) ∙ c.segment.view_is
-
 pub returns-clause-gaps : goal.returns-clause-gaps
 returns-clause-gaps g c = overwrite-gaps (of-vector g.met.T.Scalar) c.segment.view_is c.args.self.now.live
     (c.at-vector.ensures ∙ c.own_container.ensures) c.segment.invariant _ _ _ c.overwrite.ensures.sets

@@ -1,42 +1,36 @@
 -- The texts of an object's elements are the texts of its value, in each layout.
-use Rattle.std.proofs.Common.{◌≡◌, ℕ, zero, suc, ℤ, Bool, true, false, ◌&&◌, List, [], ◌∷◌, length, map, Option, Some}
+use Rattle.std.proofs.Common.{◌≡◌, ℕ, zero, suc, ℤ, List, [], ◌∷◌, length, map, Option, Some}
 use Rattle.std.proofs.Common.{None, Result, Ok, Err, if◌then◌else◌, slice_get, refl, sym, ap, ◌∙◌}
+use Rattle.std.proofs.{Math.Bool.and-false, lemmas.List.length-map}
 use Rattle.best_fit.specs.Table.{BackingArray}
 use Rattle.seg_types.specs.declared.kinds.Kind.TheVariants.{Map, Scalar, String, Strings as StringsKind}
-use Rattle.seg_types.specs.declared.kinds.ScalarKind.{ScalarKind}
-use Rattle.seg_types.specs.declared.refusals.Refusal.{Refusal}
 use Rattle.seg_types.specs.declared.refusals.Refusal.TheVariants.{NotFound, OutOfRange, WrongKind}
-use Rattle.seg_types.specs.Kinds.{same_kind}
 use Rattle.seg_types.specs.Names.{ByHandle, Key}
+use Rattle.seg_types.specs.{declared.kinds.ScalarKind.ScalarKind, declared.refusals.Refusal.Refusal, Kinds.same_kind}
 use Rattle.seg_map.specs.Places.{item_of}
 use Rattle.seg_vector.specs.Vector.{OwnedText}
-use Rattle.segment_manager.specs.declared.modes.Mode.{Mode}
-use Rattle.segment_manager.specs.declared.objects.object_ref.Object.{Object as Located}
 use Rattle.segment_manager.specs.Answers.{Answer, Element, Refused, TextElement}
-use Rattle.segment_manager.specs.Calls.{elements_of, scalar_reply}
 use Rattle.segment_manager.specs.containers.Contents.{bytes_at, sizes_at, sizes_of, text_bytes}
-use Rattle.segment_manager.specs.Directory.{Value, Numbers, Elements, Bytes, Pairs, Texts, Object, Directory}
-use Rattle.segment_manager.specs.Directory.{count_of, kind_of, live, object_at}
-use Rattle.segment_manager.specs.objects.Located.{IsLocated}
-use Rattle.segment_manager.specs.Parts.{part_of, parts_until}
+use Rattle.segment_manager.specs.Directory.{Value, Numbers, Elements, Bytes, Pairs, Texts, Object, Directory, count_of}
+use Rattle.segment_manager.specs.Directory.{kind_of, live, object_at}
 use Rattle.segment_manager.specs.Plan.{Plan, Refuse, Reply, perform, with}
-use Rattle.segment_manager.specs.State.{AnswersWith, SegmentState, DenotesCurrent}
 use Rattle.segment_manager.specs.Step.{effect, get, is_read_only, step, step_of_kind}
-use Rattle.segment_manager.proofs.CommandLaws.{IsTexts, answered-reads, texts-if}
-use Rattle.segment_manager.proofs.Laws.{said-at}
+use Rattle.segment_manager.specs.{declared.modes.Mode.Mode, declared.objects.object_ref.Object.Object as Located}
+use Rattle.segment_manager.specs.{Calls.elements_of, Calls.scalar_reply, objects.Located.IsLocated, Parts.part_of}
+use Rattle.segment_manager.specs.{Parts.parts_until, State.AnswersWith, State.SegmentState, State.DenotesCurrent}
+use Rattle.segment_manager.proofs.{CommandLaws.IsTexts, CommandLaws.answered-reads, CommandLaws.texts-if, Laws.said-at}
 use Rattle.segment_values.specs.Asked.{length_in}
-use Rattle.segment_values.specs.Contents as content
 use Rattle.segment_values.specs.Contents.{ValueContent, bytes_in, content_of, count_of_content}
 use Rattle.segment_values.specs.Layouts.{Spelling, content_part, count_at, laid_at, laid_object, laid_out, object_count}
 use Rattle.segment_values.specs.Layouts.{object_part, part_at}
+use Rattle.segment_values.specs.Contents as content
 use Rattle.segment_values.proofs.Laid.{parts-laid}
 use Rattle.seg_types.specs.declared.refusals.Refusal.TheVariants as refusal
 use Rattle.seg_types.specs.Commands as asked
 
 -- mapping keeps the length
 pub length-made : {X Y : Type 0} (g : X → Y) (xs : List X) → length (map g xs) ≡ length xs
-length-made g [] = refl
-length-made g (x ∷ xs) = ap (λ n. suc n) (length-made g xs)
+length-made g xs = length-map xs g
 
 -- ---- one element
 
@@ -121,22 +115,13 @@ text-if sp i d (Some p) = refl
 abbrev for_texts : Directory → Key → ℕ → Value → Plan
 for_texts d key i v = if same_kind StringsKind (kind_of v) then effect d (asked.Get key i) else Refuse WrongKind
 
-read-only : (b : Bool) (p : Plan) → b ≡ false → (if b then Refuse refusal.ReadOnly else p) ≡ p
-read-only true p e = absurd (cc)
-read-only false p e = refl
-
-never : (b : Bool) → (b && false) ≡ false
-never true = refl
-never false = refl
-
 asked-step : (mode : Mode) (d : Directory) (key : Key) (i : ℕ)
     → (step_of_kind mode d key StringsKind (asked.Get key i)).0
     ≡ (perform d (live d) (going_on (λ o. for_texts d key i o.value) (object_at d key))).0
 unfolding step_of_kind
 asked-step mode d key i =
-    ap (λ p. (perform d (live d) p).0)
-    (read-only (is_read_only mode && false) (going_on (λ o. for_texts d key i o.value) (object_at d key))
-    (never (is_read_only mode)))
+    ap (λ b. (perform d (live d) (if b then Refuse refusal.ReadOnly else going_on (λ o. for_texts d key i o.value)
+    (object_at d key))).0) (and-false (is_read_only mode))
 
 text-is : (sp : Spelling) (mode : Mode) (d : Directory) (key : Key) (o : Object) (ps : List OwnedText)
     (t : BackingArray) (i : ℕ) → object_at d key ≡ Some o → o.value ≡ Texts ps t
@@ -195,8 +180,8 @@ measured : (v : Value) → ((k : ScalarKind) → kind_of v ≡ Scalar k → ⊥)
 measured (Numbers k zs) n m = absurd (n k refl)
 measured (Elements k zs t) n m = refl
 measured (Bytes bs t) n m = absurd (m refl)
-measured (Pairs k v ps) n m = sym (length-made item_of ps)
-measured (Texts ps t) n m = sym (length-made bytes_in ps)
+measured (Pairs k v ps) n m = sym (length-map ps item_of)
+measured (Texts ps t) n m = sym (length-map ps bytes_in)
 
 -- ---- the object of a handle
 

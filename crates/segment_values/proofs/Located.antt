@@ -1,15 +1,10 @@
 -- Located objects: each is the object of its handle, and is bound to its kind.
 use Rattle.std.proofs.Common.{◌≡◌, false}
-use Rattle.seg_types.specs.declared.kinds.Kind.{Kind}
-use Rattle.seg_types.specs.declared.kinds.Kind.TheVariants.{Map}
+use Rattle.seg_types.specs.{declared.kinds.Kind.Kind, declared.kinds.Kind.TheVariants.Map, Names.ByHandle}
 use Rattle.seg_types.specs.declared.kinds.ScalarKind.{ScalarKind}
-use Rattle.seg_types.specs.Names.{ByHandle}
-use Rattle.segment_manager.specs.declared.objects.object_ref.Object.{Object as Located}
-use Rattle.segment_manager.specs.containers.Walks.{IsMap}
-use Rattle.segment_manager.specs.objects.BoundObjects.{IsBound}
 use Rattle.segment_manager.specs.objects.Located.{IsLocated, IsObject}
-use Rattle.segment_manager.specs.State.{SegmentState}
-use Rattle.segment_manager.specs.Step.{is_read_only}
+use Rattle.segment_manager.specs.{declared.objects.object_ref.Object.Object as Located, containers.Walks.IsMap}
+use Rattle.segment_manager.specs.{objects.BoundObjects.IsBound, State.SegmentState, Step.is_read_only}
 use Rattle.segment_manager.proofs.CommandLaws.{IsChangeable, says-kind}
 
 module _ {s : SegmentState} {o : Located} where

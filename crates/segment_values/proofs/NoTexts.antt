@@ -1,7 +1,6 @@
 -- The literal of a scalar is no text.
-use Rattle.seg_types.specs.declared.values.ScalarValue.{ScalarValue}
 use Rattle.seg_types.specs.declared.values.ScalarValue.TheVariants.{Bool, U8, I32, I64, U64}
-use Rattle.seg_types.specs.Written.{NoText, literal_seen}
+use Rattle.seg_types.specs.{declared.values.ScalarValue.ScalarValue, Written.NoText, Written.literal_seen}
 
 -- the literal of a scalar is no text
 pub seen-no_text : (v : ScalarValue) → NoText (literal_seen v)

@@ -2,8 +2,7 @@
 use Rattle.std.proofs.Common.{◌≡◌, ℕ, ◌+◌, ◌<◌, List, [], ◌++◌, refl, sym, ap, subst, ◌∙◌, arith, Result, Ok, Err}
 use Rattle.std.proofs.lemmas.List.{append-nil}
 use Rattle.std.specs.Result.{IsErr}
-use Rattle.raw_region.specs.Answers.{failures_in}
-use Rattle.raw_region.specs.Device.{WriterHistory, Writes}
+use Rattle.raw_region.specs.{Answers.failures_in, Device.WriterHistory, Device.Writes}
 use Rattle.raw_region.proofs.Laws.{writes-cut, writes-then}
 use Rattle.segment_manager.specs.Parts.{parts_until}
 use Rattle.segment_manager.proofs.PartLaws.{part-cut, part-told, well}

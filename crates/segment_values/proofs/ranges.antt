@@ -2,4 +2,3 @@
 pub mod InPlace
 pub mod Reads
 pub mod Slices
-pub mod Lists

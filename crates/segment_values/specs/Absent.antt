@@ -1,12 +1,8 @@
 -- Map keys that a map lacks, as literals.
 use Rattle.std.specs.Prelude.{◌≡◌, ℤ, Ok}
-use Rattle.seg_types.specs.declared.kinds.Kind.TheVariants.{Map}
-use Rattle.seg_types.specs.declared.kinds.ScalarKind.{ScalarKind}
 use Rattle.seg_types.specs.Commands.{Literal, value_of_literal}
-use Rattle.seg_types.specs.Names.{Key}
-use Rattle.segment_manager.specs.Calls.{kind_at}
-use Rattle.segment_manager.specs.Directory.{Directory}
-use Rattle.segment_manager.specs.Keeping.{LacksPair}
+use Rattle.seg_types.specs.{declared.kinds.Kind.TheVariants.Map, declared.kinds.ScalarKind.ScalarKind, Names.Key}
+use Rattle.segment_manager.specs.{Calls.kind_at, Directory.Directory, Keeping.LacksPair}
 
 -- the object of the key is a map that lacks the map key of the literal
 pub record LacksLiteral (key : Key) (l : Literal) (d : Directory) : Type 0 where

@@ -1,13 +1,9 @@
 -- The texts of an object's pairs, by the results of the calls that read them.
 use Rattle.std.specs.Prelude.{ℕ, List, Result, Ok, Err, slice_get}
-use Rattle.seg_types.specs.declared.kinds.ScalarKind.{ScalarKind}
-use Rattle.seg_types.specs.declared.refusals.Refusal.{Refusal}
-use Rattle.seg_types.specs.Names.{Key}
-use Rattle.seg_map.specs.Numbers.{NumberPair}
-use Rattle.seg_map.specs.Places.{item_of}
-use Rattle.segment_manager.specs.Directory.{Directory}
+use Rattle.seg_types.specs.{declared.kinds.ScalarKind.ScalarKind, declared.refusals.Refusal.Refusal, Names.Key}
+use Rattle.seg_map.specs.{Numbers.NumberPair, Places.item_of}
 use Rattle.segment_manager.specs.containers.Walks.{KindedPair, pairs_at}
-use Rattle.segment_manager.specs.Parts.{part_of}
+use Rattle.segment_manager.specs.{Directory.Directory, Parts.part_of}
 use Rattle.segment_values.specs.Layouts.{Spelling}
 
 -- a length, or 0 after an error

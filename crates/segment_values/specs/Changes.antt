@@ -1,8 +1,7 @@
 -- Elements that are set to a written value: the object's kind decides which command it is.
 use Rattle.std.specs.Prelude.{◌≡◌, ℕ, List}
-use Rattle.seg_types.specs.declared.kinds.Kind.TheVariants.{Strings}
-use Rattle.seg_types.specs.Names.{Key}
 use Rattle.seg_types.specs.Commands.{Command, Insert, Literal, Push, Quoted}
+use Rattle.seg_types.specs.{declared.kinds.Kind.TheVariants.Strings, Names.Key}
 use Rattle.segment_manager.specs.State.{SegmentState}
 use Rattle.segment_values.specs.declared.vectors.InsertSpot.{InsertSpot}
 use Rattle.segment_values.specs.declared.vectors.InsertSpot.TheVariants.{End, Before}

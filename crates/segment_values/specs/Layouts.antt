@@ -1,9 +1,7 @@
 -- The layout of an object's elements in a text.
 use Rattle.std.specs.Prelude.{ℕ, suc, ℤ, List, [], ◌∷◌, ◌++◌, Some, None, slice_get}
-use Rattle.seg_types.specs.declared.kinds.ScalarKind.{ScalarKind}
-use Rattle.seg_types.specs.Names.{Key}
-use Rattle.segment_manager.specs.Directory.{Directory, Object, object_at}
-use Rattle.segment_manager.specs.Parts.{part_of}
+use Rattle.seg_types.specs.{declared.kinds.ScalarKind.ScalarKind, Names.Key}
+use Rattle.segment_manager.specs.{Directory.Directory, Directory.Object, Directory.object_at, Parts.part_of}
 use Rattle.segment_values.specs.Contents.{ValueContent, Scalars, Vector, String, Map, Strings, content_of}
 use Rattle.segment_values.specs.Contents.{count_of_content}
 

@@ -1,18 +1,11 @@
 -- Reading a range of the elements of an array or a vector of scalars.
-use Rattle.std.specs.Prelude.{◌≡◌, ◌≤◌, ℕ, ◌+◌, ◌*◌, ℤ, IsTrue, Result, Ok, Err, List}
-use Rattle.std.specs.Prelude.{length, map}
+use Rattle.std.specs.Prelude.{◌≡◌, ℕ, ℤ, IsTrue, Result, Ok, Err, List, map}
 use Rattle.std.specs.List.{list_all}
-use Rattle.raw_region.specs.Memory.{part}
-use Rattle.seg_types.specs.declared.kinds.ScalarKind.{ScalarKind}
-use Rattle.seg_types.specs.declared.refusals.Refusal.{Refusal}
-use Rattle.seg_types.specs.Kinds.{is_value, size_of}
+use Rattle.seg_types.specs.{declared.kinds.ScalarKind.ScalarKind, declared.refusals.Refusal.Refusal, Kinds.is_value}
 use Rattle.seg_types.specs.Names.{ByHandle}
 use Rattle.seg_vector.specs.Vector.{spelled}
-use Rattle.segment_manager.specs.declared.containers.element_runs.ElementRun.{ElementRun}
-use Rattle.segment_manager.specs.declared.objects.object_ref.Object.{Object as Located}
-use Rattle.segment_manager.specs.Directory.{Directory}
 use Rattle.segment_manager.specs.objects.ElementLists.{list_at, numbers_in}
-use Rattle.segment_manager.specs.State.{AnswersWith, SegmentState, DenotesCurrent}
+use Rattle.segment_manager.specs.{declared.objects.object_ref.Object.Object as Located, Directory.Directory}
 pub use Rattle.segment_manager.specs.containers.Ranges.{is_slice, numbers_if, range_at, range_in, range_of}
 
 -- the elements of a located object, which is an array or a vector of scalars
@@ -23,14 +16,6 @@ slice_of o d = list_at numbers_in d (ByHandle o.handle) o.kind
 pub record AreSpelled (k : ScalarKind) (zs : List ℤ) (bytes : List ℕ) : Type 0 where
   pub values : IsTrue (list_all (is_value k) zs)
   pub spelled_are : bytes ≡ spelled k zs
-
--- the run lies in the image, has as many elements as the object, and its bytes encode the object's elements
-pub record HasSlice (s : SegmentState) (o : Located) (k : ScalarKind) (run : ElementRun) : Type 0 where
-  pub inside : run.offset + size_of k * run.count ≤ length s.cut.bytes
-  pub short : length s.cut.bytes ≤ 1073741824
-  pub many : AnswersWith s (λ d. length (slice_of o d)) run.count
-  pub spells : (d : Directory) → DenotesCurrent s.cut.bytes d
-      → AreSpelled k (slice_of o d) (part s.cut.bytes run.offset (size_of k * run.count))
 
 -- the elements that a call read into a slice, or its error
 abbrev pub read_into : {A : Type 0} → (A → ℤ) → List A → Result (Unit {0}) Refusal → Result (List ℤ) Refusal

@@ -1,7 +1,6 @@
 -- The text that a call writes, if that depends on the state of a machine or a segment.
 use Rattle.std.specs.Prelude.{◌≡◌, ◌+◌, List, ℕ, Result}
-use Rattle.raw_region.specs.Answers.{failures_in}
-use Rattle.raw_region.specs.Device.{WriterHistory, Writes}
+use Rattle.raw_region.specs.{Answers.failures_in, Device.WriterHistory, Device.Writes}
 
 -- the call writes the text for each place at which it stands; after an error, one more write has failed
 pub record WritesFor {P A E : Type 0} (old new : WriterHistory) (result : Result A E) (Stands : P

@@ -1,8 +1,7 @@
 //! Constructs arrays of scalars from values.
 ghost use Rattle.std.specs.Prelude.{◌≤◌, length, map};
 ghost use Rattle.std.specs.Iterator.{YieldsFirst, item_count};
-ghost use Rattle.seg_types.specs.declared.kinds.Kind.TheVariants.{Scalar as ScalarOf};
-ghost use Rattle.seg_types.specs.Commands.{ConstructIt};
+ghost use Rattle.seg_types.specs.{declared.kinds.Kind.TheVariants.Scalar as ScalarOf, Commands.ConstructIt};
 ghost use Rattle.seg_types.specs.Keys.{new_key_seen};
 ghost use Rattle.segment_manager.specs.objects.NewObjects.{IsOfKind};
 ghost use Rattle.segment_manager.specs.State.{TakesStep, UnchangedIfRefused, handle_answer};

@@ -53,26 +53,9 @@ pub fn put_content<L: Layout, W: Sink>(
     ensures { WritesFor (W.history out.old) (W.history out.new) result (DenotesCurrent segment.now.cut.bytes) (λ d.
         laid_at (L.spelling layout.now) d (ByHandle object.handle)) }
 {
-    match object.kind {
-        Kind::Map(keys, values) => put_pairs(layout, segment, object, keys, values, count, out),
-        _ => put_elements(layout, segment, object, count, out),
+    if let Kind::Map(keys, values) = object.kind {
+        return put_pairs(layout, segment, object, keys, values, count, out);
     }
-}
-
-/// Writes `count` scalars or texts of an object.
-fn put_elements<L: Layout, W: Sink>(
-    layout: &L,
-    segment: &Segment,
-    object: Object,
-    count: u64,
-    out: &mut W,
-) -> Result<(), DeviceFault>
-    requires writer { (W.history out.old).failures < 2 ^ 64 - 1 }
-    requires object { IsLocated segment.now (ByHandle object.handle) object }
-    requires kind { (keys values : AnyScalarKind) → object.kind ≡ MapOf keys values → ⊥ }
-    ensures { WritesFor (W.history out.old) (W.history out.new) result (DenotesCurrent segment.now.cut.bytes) (λ d.
-        parts_until (part_at (L.spelling layout.now) d (ByHandle object.handle)) count) }
-{
     'elements: for index in 0..count {
         put_element(layout, segment, object, index, out)?;
     }

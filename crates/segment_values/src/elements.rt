@@ -1,12 +1,9 @@
 //! Reads and sets elements of arrays, vectors and strings, with values as callers write them.
 ghost use Rattle.std.specs.Prelude.{◌≡◌, OnErr, OnOk, false, length};
-ghost use Rattle.seg_types.specs.declared.kinds.Kind.TheVariants.{Scalar as ScalarOf, Vector as VectorOf};
-ghost use Rattle.seg_types.specs.declared.kinds.ScalarKind.{ScalarKind as AnyScalarKind};
-ghost use Rattle.seg_types.specs.Commands.{Get, Set};
-ghost use Rattle.seg_types.specs.Keys.{key_seen};
-ghost use Rattle.seg_types.specs.Names.{ByHandle};
-ghost use Rattle.seg_types.specs.{Kinds.size_of, Values.SpelledBy, Values.kind_of_scalar};
-ghost use Rattle.seg_types.specs.Written.{literal_seen};
+ghost use Rattle.seg_types.specs.{declared.kinds.Kind.TheVariants.Scalar as ScalarOf, Commands.Get, Commands.Set};
+ghost use Rattle.seg_types.specs.{declared.kinds.Kind.TheVariants.Vector as VectorOf, Keys.key_seen, Names.ByHandle};
+ghost use Rattle.seg_types.specs.{declared.kinds.ScalarKind.ScalarKind as AnyScalarKind, Kinds.size_of};
+ghost use Rattle.seg_types.specs.{Values.SpelledBy, Values.kind_of_scalar, Written.literal_seen};
 ghost use Rattle.segment_manager.specs.{Calls.scalar_reply, Keeping.ChangesElement, Step.is_read_only};
 ghost use Rattle.segment_manager.specs.objects.{BoundObjects.IsBound, Located.IsObject};
 ghost use Rattle.segment_manager.specs.State.{AnswersWith, TakesStep, TakesStepOfKind, done_answer, scalar_answer};

@@ -1,16 +1,12 @@
 //! Puts, looks up and erases pairs of maps, with keys and values as callers write them.
 ghost use Rattle.std.specs.Prelude.{◌≡◌, Ok, OnErr, false};
-ghost use Rattle.seg_types.specs.declared.kinds.Kind.TheVariants.{Map as MapOf};
 ghost use Rattle.seg_types.specs.Commands.{Lookup, Put, Remove, literal_of};
-ghost use Rattle.seg_types.specs.Keys.{key_seen};
-ghost use Rattle.seg_types.specs.Names.{ByHandle};
-ghost use Rattle.seg_types.specs.Values.{kind_of_scalar, value_of_scalar};
-ghost use Rattle.seg_types.specs.Written.{literal_seen};
-ghost use Rattle.segment_manager.specs.Keeping.{ChangesValue, LacksPair, UnchangedWhere};
-ghost use Rattle.segment_manager.specs.containers.Maps.{any_value_answer};
-ghost use Rattle.segment_manager.specs.{Step.is_read_only, objects.BoundObjects.IsBound};
-ghost use Rattle.segment_manager.specs.State.{AnswersQuery, AnswersQueryOfKind, TakesStep, TakesStepOfKind};
-ghost use Rattle.segment_manager.specs.State.{truth_answer};
+ghost use Rattle.seg_types.specs.{declared.kinds.Kind.TheVariants.Map as MapOf, Keys.key_seen, Names.ByHandle};
+ghost use Rattle.seg_types.specs.{Values.kind_of_scalar, Values.value_of_scalar, Written.literal_seen};
+ghost use Rattle.segment_manager.specs.{Keeping.ChangesValue, Keeping.LacksPair, Keeping.UnchangedWhere};
+ghost use Rattle.segment_manager.specs.{containers.Maps.any_value_answer, Step.is_read_only, State.AnswersQuery};
+ghost use Rattle.segment_manager.specs.{objects.BoundObjects.IsBound, State.AnswersQueryOfKind, State.TakesStep};
+ghost use Rattle.segment_manager.specs.{State.TakesStepOfKind, State.truth_answer};
 ghost use Rattle.segment_values.specs.Absent.{LacksLiteral};
 
 use crate::by_pair::by_pair;

@@ -1,16 +1,13 @@
 //! Reads several elements of an array or a vector of scalars in one call.
-ghost use Rattle.std.specs.Prelude.{◌≡◌, ◌+◌, ◌*◌, ◌≤◌, OnErr, drop, length, map, nat_le, take, true, List, ℤ};
-ghost use Rattle.seg_types.specs.Kinds.{is_value, spelling};
-ghost use Rattle.seg_types.specs.Names.{ByHandle};
-ghost use Rattle.segment_manager.specs.Directory.{Directory};
-ghost use Rattle.segment_manager.specs.objects.Located.{IsObject};
-ghost use Rattle.segment_manager.specs.State.{AnswersWith, DenotesCurrent};
-ghost use Rattle.segment_values.specs.Ranges.{AreSpelled, HasSlice, is_slice, range_at, read_into, slice_of};
+ghost use Rattle.std.specs.Prelude.{◌≡◌, ◌+◌, ◌*◌, OnErr, length, map, nat_le, true, List, ℤ};
+ghost use Rattle.seg_types.specs.{Kinds.is_value, Kinds.spelling, Names.ByHandle};
+ghost use Rattle.segment_manager.specs.{objects.Located.IsObject, State.AnswersWith};
+ghost use Rattle.segment_values.specs.Ranges.{AreSpelled, is_slice, range_at, read_into};
 
 use seg_types::theorems::scalar_is_number;
 use seg_types::{Kind, Refusal, Scalar};
 use segment_manager::unchecked::element_run_of;
-use segment_manager::{ElementRun, Object, Segment};
+use segment_manager::{Object, Segment};
 
 /// Copies elements of a located object into a row: as many as the row has, from `first` on. The object is an array or a
 /// vector of scalars of the type.
@@ -37,25 +34,15 @@ pub fn read_elements<T: Scalar>(
     if !is_slice::<T>(object.kind) {
         return Err(Refusal::WrongKind);
     }
-    let run = slice_run::<T>(segment, object);
+    let image = segment.as_bytes();
+    let run = element_run_of(segment, object)?;
     if !has_range(run.count, first, series.len() as u64) {
         return Err(Refusal::OutOfRange);
     }
-    copy_slice(segment, object, run, first, series);
+    let from = (run.offset + T::SIZE * first) as usize;
+    let len = T::SIZE as usize * series.len();
+    read_values(&image[from..from + len], series);
     Ok(())
-}
-
-/// Returns the place of the object's elements in the image.
-fn slice_run<T: Scalar>(segment: &Segment, object: Object) -> ElementRun
-    requires object { IsObject object segment.now }
-    requires kind { is_slice T.kind object.kind ≡ true }
-    ensures { HasSlice segment.now object T.kind result }
-{
-    let _ = segment.as_bytes();
-    match element_run_of(segment, object) {
-        Ok(run) => run,
-        Err(_) => unreachable!(),
-    }
 }
 
 /// Returns true if objects of the kind are arrays or vectors of scalars of the type.
@@ -63,24 +50,6 @@ fn is_slice<T: Scalar>(kind: Kind) -> bool
     ensures { result ≡ is_slice T.kind kind }
 {
     Kind::Vector(T::kind()).code() == kind.code() || Kind::Scalar(T::kind()).code() == kind.code()
-}
-
-/// Copies elements of an object, which has enough of them, from their place in the image into a row.
-fn copy_slice<T: Scalar>(
-    segment: &Segment,
-    _object: Object,
-    run: ElementRun,
-    first: u64,
-    series: &mut [T],
-)
-    requires series { HasSlice segment.now _object T.kind run }
-    requires in_bounds { first + length series.old ≤ run.count }
-    ensures { (d : Directory) → DenotesCurrent segment.now.cut.bytes d
-        → map T.whole series.new ≡ take (length series.old) (drop first (slice_of _object d)) }
-{
-    let from = (run.offset + T::SIZE * first) as usize;
-    let len = T::SIZE as usize * series.len();
-    read_values(&segment.as_bytes()[from..from + len], series);
 }
 
 /// Reads as many values as the row has from their encodings.

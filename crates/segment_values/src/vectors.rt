@@ -1,11 +1,8 @@
 //! Inserts and erases elements of vectors, with values as callers write them.
 ghost use Rattle.std.specs.Prelude.{◌≡◌, OnErr, false};
-ghost use Rattle.seg_types.specs.declared.kinds.Kind.TheVariants.{Strings as StringsKind, Vector as VectorOf};
-ghost use Rattle.seg_types.specs.Commands.{Erase, Quoted};
-ghost use Rattle.seg_types.specs.Keys.{key_seen};
-ghost use Rattle.seg_types.specs.Names.{ByHandle};
-ghost use Rattle.seg_types.specs.Values.{kind_of_scalar};
-ghost use Rattle.seg_types.specs.Written.{NoText, literal_seen};
+ghost use Rattle.seg_types.specs.{declared.kinds.Kind.TheVariants.Strings as StringsKind, Commands.Erase};
+ghost use Rattle.seg_types.specs.{declared.kinds.Kind.TheVariants.Vector as VectorOf, Commands.Quoted, Keys.key_seen};
+ghost use Rattle.seg_types.specs.{Names.ByHandle, Values.kind_of_scalar, Written.NoText, Written.literal_seen};
 ghost use Rattle.segment_manager.specs.{Step.is_read_only, objects.BoundObjects.IsBound};
 ghost use Rattle.segment_manager.specs.State.{TakesStep, TakesStepOfKind, UnchangedIfRefused, done_answer};
 ghost use Rattle.segment_values.specs.Changes.{command_at};

@@ -4,22 +4,16 @@ use Rattle.std.proofs.Common.{inl, inr, Result, Ok, Err, if◌then◌else◌}
 use Rattle.std.specs.Prelude.{IfOk, OnOk, nat_lt}
 use Rattle.std.proofs.lemmas.Bool.{cases_Bool}
 use Rattle.raw_region.specs.Memory.{SameBytesExcept, bytes_of}
-use Rattle.best_fit.specs.Extents.{handle}
-use Rattle.seg_types.specs.declared.kinds.Kind.{Kind}
-use Rattle.seg_types.specs.declared.kinds.Kind.TheVariants.{Scalar}
-use Rattle.seg_types.specs.declared.kinds.ScalarKind.{ScalarKind}
-use Rattle.seg_types.specs.declared.refusals.Refusal.{Refusal}
+use Rattle.best_fit.specs.{Extents.handle, declared.places.Place.Place}
 use Rattle.seg_types.specs.declared.refusals.Refusal.TheVariants.{NotFound, OutOfRange, WrongKind}
-use Rattle.seg_types.specs.Kinds.{same_kind, size_of}
-use Rattle.seg_types.specs.Names.{Key, ByHandle}
-use Rattle.best_fit.specs.declared.places.Place.{Place}
-use Rattle.segment_manager.specs.declared.objects.object_ref.Object.{Object as Located}
-use Rattle.segment_manager.specs.Directory.{Object, kind_of}
-use Rattle.segment_manager.specs.Directory.{count_of, object_at}
-use Rattle.segment_manager.specs.{Calls.elements_at, Calls.elements_of, Keeping.ChangesElement}
-use Rattle.segment_manager.specs.objects.Located.{IsLocated}
-use Rattle.segment_manager.specs.objects.Standing.{element_at, offset_in}
-use Rattle.segment_manager.specs.State.{AnswersWith, SegmentState}
+use Rattle.seg_types.specs.{declared.kinds.Kind.Kind, declared.kinds.Kind.TheVariants.Scalar, Kinds.same_kind}
+use Rattle.seg_types.specs.{declared.kinds.ScalarKind.ScalarKind, declared.refusals.Refusal.Refusal, Kinds.size_of}
+use Rattle.seg_types.specs.{Names.Key, Names.ByHandle}
+use Rattle.segment_manager.specs.Directory.{Object, kind_of, count_of, object_at}
+use Rattle.segment_manager.specs.{declared.objects.object_ref.Object.Object as Located, Calls.elements_at}
+use Rattle.segment_manager.specs.{Calls.elements_of, Keeping.ChangesElement, objects.Located.IsLocated}
+use Rattle.segment_manager.specs.{objects.Standing.element_at, objects.Standing.offset_in, State.AnswersWith}
+use Rattle.segment_manager.specs.State.{SegmentState}
 use Rattle.segment_manager.proofs.Laws.{said-at, same-object}
 use Rattle.segment_values.proofs.ranges.Slices.{one-kind}
 

@@ -1,20 +1,14 @@
 -- New elements of vectors, inserted at a position of the vector of a handle.
 use Rattle.std.proofs.Common.{sym, subst, List, ℕ}
-use Rattle.seg_types.specs.declared.kinds.Kind.TheVariants.{Strings, Vector}
-use Rattle.seg_types.specs.declared.refusals.Refusal.{Refusal}
-use Rattle.seg_types.specs.declared.values.ScalarValue.{ScalarValue}
 use Rattle.seg_types.specs.Commands.{Insert, Literal, Push, Quoted}
-use Rattle.seg_types.specs.Names.{Key, ByHandle}
-use Rattle.seg_types.specs.Values.{kind_of_scalar}
-use Rattle.seg_types.specs.Written.{literal_seen}
-use Rattle.segment_manager.specs.declared.objects.object_ref.Object.{Object as Located}
-use Rattle.segment_manager.specs.Answers.{Answer, Refused}
-use Rattle.segment_manager.specs.containers.Changeable.{IsElement, IsNoElement}
-use Rattle.segment_manager.specs.objects.Located.{IsLocated}
-use Rattle.segment_manager.specs.State.{TakesStep, TakesStepOfKind, SegmentState}
+use Rattle.seg_types.specs.{declared.kinds.Kind.TheVariants.Strings, declared.kinds.Kind.TheVariants.Vector, Names.Key}
+use Rattle.seg_types.specs.{declared.refusals.Refusal.Refusal, declared.values.ScalarValue.ScalarValue, Names.ByHandle}
+use Rattle.seg_types.specs.{Values.kind_of_scalar, Written.literal_seen}
+use Rattle.segment_manager.specs.{declared.objects.object_ref.Object.Object as Located, Answers.Answer, Answers.Refused}
+use Rattle.segment_manager.specs.{containers.Changeable.IsElement, containers.Changeable.IsNoElement, State.TakesStep}
+use Rattle.segment_manager.specs.{objects.Located.IsLocated, State.TakesStepOfKind, State.SegmentState}
 use Rattle.segment_manager.proofs.CommandLaws.{insert-element, push-element}
-use Rattle.segment_manager.proofs.ElementLaws.{of_kind-steps}
-use Rattle.segment_manager.proofs.Laws.{step_of_kind-by_key}
+use Rattle.segment_manager.proofs.{ElementLaws.of_kind-steps, Laws.step_of_kind-by_key}
 use Rattle.segment_values.specs.Changes.{IsTextElementFor, command_at}
 use Rattle.segment_values.specs.declared.vectors.InsertSpot.{InsertSpot}
 use Rattle.segment_values.specs.declared.vectors.InsertSpot.TheVariants.{End, Before}

@@ -1,18 +1,11 @@
 -- One element that is read by the key of its object.
 use Rattle.std.proofs.Common.{ap, sym, ◌∙◌, ℕ, Option, Some, None, Result, Ok, Err}
-use Rattle.seg_types.specs.declared.kinds.ScalarKind.{ScalarKind}
-use Rattle.seg_types.specs.declared.refusals.Refusal.{Refusal}
-use Rattle.seg_types.specs.declared.refusals.Refusal.TheVariants.{NotFound}
-use Rattle.seg_types.specs.Commands.{Get}
-use Rattle.seg_types.specs.Names.{ByHandle, Key}
-use Rattle.segment_manager.specs.declared.objects.object_ref.Object.{Object as Located}
-use Rattle.segment_manager.specs.Answers.{Answer, Refused}
-use Rattle.segment_manager.specs.Calls.{elements_of, scalar_reply}
-use Rattle.segment_manager.specs.Directory.{Directory, Object, kind_of}
-use Rattle.segment_manager.specs.objects.Instances.{IsMissing}
-use Rattle.segment_manager.specs.objects.Located.{IsLocated}
-use Rattle.segment_manager.specs.State.{AnswersWith, SegmentState}
-use Rattle.segment_manager.specs.Step.{step}
+use Rattle.seg_types.specs.{declared.kinds.ScalarKind.ScalarKind, declared.refusals.Refusal.Refusal, Commands.Get}
+use Rattle.seg_types.specs.{declared.refusals.Refusal.TheVariants.NotFound, Names.ByHandle, Names.Key}
+use Rattle.segment_manager.specs.Directory.{Object, kind_of}
+use Rattle.segment_manager.specs.{declared.objects.object_ref.Object.Object as Located, Answers.Answer, Answers.Refused}
+use Rattle.segment_manager.specs.{Calls.elements_of, Calls.scalar_reply, objects.Instances.IsMissing, State.AnswersWith}
+use Rattle.segment_manager.specs.{objects.Located.IsLocated, State.SegmentState, Step.step}
 use Rattle.segment_manager.proofs.Laws.{same-object, step-same}
 
 -- the reply by the object, and by what the command answers

@@ -1,17 +1,11 @@
 -- An element of scalars that is set to a written value.
 use Rattle.std.proofs.Common.{◌≡◌, refl, ℕ, Ok, Err}
-use Rattle.seg_types.specs.declared.kinds.Kind.{Kind}
-use Rattle.seg_types.specs.declared.kinds.ScalarKind.{ScalarKind}
-use Rattle.seg_types.specs.declared.refusals.Refusal.{Refusal}
-use Rattle.seg_types.specs.declared.values.ScalarValue.{ScalarValue}
-use Rattle.seg_types.specs.Commands.{Literal, Set, value_of_literal}
-use Rattle.seg_types.specs.Literals.{IsValueOf}
-use Rattle.seg_types.specs.Names.{ByHandle, Key}
-use Rattle.seg_types.specs.Written.{literal_seen}
-use Rattle.segment_manager.specs.declared.objects.object_ref.Object.{Object as Located}
-use Rattle.segment_manager.specs.Answers.{Answer, Refused}
-use Rattle.segment_manager.specs.Calls.{elements_at, elements_of}
+use Rattle.seg_types.specs.{declared.kinds.Kind.Kind, declared.kinds.ScalarKind.ScalarKind, Commands.Literal, Names.Key}
+use Rattle.seg_types.specs.{declared.refusals.Refusal.Refusal, declared.values.ScalarValue.ScalarValue, Commands.Set}
+use Rattle.seg_types.specs.{Commands.value_of_literal, Literals.IsValueOf, Names.ByHandle, Written.literal_seen}
 use Rattle.segment_manager.specs.State.{AnswersWith, SegmentState, TakesStep, TakesStepOfKind}
+use Rattle.segment_manager.specs.{declared.objects.object_ref.Object.Object as Located, Answers.Answer, Answers.Refused}
+use Rattle.segment_manager.specs.{Calls.elements_at, Calls.elements_of}
 use Rattle.segment_manager.proofs.CommandLaws.{IsChangeableObject, elements-told, set-step, to-change}
 use Rattle.segment_manager.proofs.Laws.{any-no_value, located-steps}
 

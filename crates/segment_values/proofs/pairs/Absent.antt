@@ -1,25 +1,16 @@
 -- A key that a map lacks: what the map is known to lack under the handle of its object, it lacks under the key.
 use Rattle.std.proofs.Common.{◌≡◌, sym, ap, ◌∙◌, ℤ, Option, None, Some, Result, Ok, List, []}
 use Rattle.std.specs.Prelude.{int_lt}
-use Rattle.seg_types.specs.declared.kinds.Kind.{Kind}
-use Rattle.seg_types.specs.declared.kinds.Kind.TheVariants.{Map}
-use Rattle.seg_types.specs.declared.kinds.ScalarKind.{ScalarKind}
-use Rattle.seg_types.specs.declared.refusals.Refusal.{Refusal}
-use Rattle.seg_types.specs.declared.values.ScalarValue.{ScalarValue}
-use Rattle.seg_types.specs.Commands.{Literal, value_of_literal}
-use Rattle.seg_types.specs.Names.{Key, ByHandle}
-use Rattle.seg_types.specs.Values.{value_of_scalar}
-use Rattle.seg_map.specs.Map.{pair_at}
-use Rattle.seg_map.specs.Numbers.{NumberPair}
-use Rattle.segment_manager.specs.declared.objects.object_ref.Object.{Object as Located}
-use Rattle.segment_manager.specs.Directory.{Object, object_at}
-use Rattle.segment_manager.specs.Keeping.{UnchangedWhere, LacksPair}
-use Rattle.segment_manager.specs.objects.Located.{IsLocated}
-use Rattle.segment_manager.specs.State.{SegmentState}
-use Rattle.segment_manager.specs.containers.Walks.{pairs_of}
+use Rattle.seg_types.specs.{declared.kinds.Kind.Kind, declared.kinds.Kind.TheVariants.Map, Commands.Literal, Names.Key}
+use Rattle.seg_types.specs.{declared.kinds.ScalarKind.ScalarKind, declared.refusals.Refusal.Refusal, Names.ByHandle}
+use Rattle.seg_types.specs.{declared.values.ScalarValue.ScalarValue, Commands.value_of_literal, Values.value_of_scalar}
+use Rattle.seg_types.specs.Literals.{IsValueOf}
+use Rattle.seg_map.specs.{Map.pair_at, Numbers.NumberPair}
+use Rattle.segment_manager.specs.{declared.objects.object_ref.Object.Object as Located, Directory.Object}
+use Rattle.segment_manager.specs.{Directory.object_at, Keeping.UnchangedWhere, Keeping.LacksPair, State.SegmentState}
+use Rattle.segment_manager.specs.{objects.Located.IsLocated, containers.Walks.pairs_of}
 use Rattle.segment_manager.proofs.Laws.{kind-by_key, same-object}
 use Rattle.segment_values.specs.Absent.{LacksLiteral}
-use Rattle.seg_types.specs.Literals.{IsValueOf}
 
 -- two kinds of maps that are one have the same keys
 same-keys : (k v l w : ScalarKind) → Map k v ≡ Map l w → k ≡ l

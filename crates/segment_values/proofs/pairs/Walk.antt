@@ -1,32 +1,26 @@
 -- The pairs of a map: all their texts together are the texts of its value.
 use Rattle.std.proofs.Common.{◌≡◌, ℕ, ◌+◌, Bool, List, [], length, Option, Some, None, slice_get, sym, ap, ◌∙◌, false}
-use Rattle.std.proofs.Common.{subst}
+use Rattle.std.proofs.{Common.subst, lemmas.List.length-map}
 use Rattle.std.specs.Prelude.{Result, option_map, true}
 use Rattle.raw_region.specs.Device.{WriterHistory, Writes}
-use Rattle.seg_types.specs.declared.values.ScalarValue.{ScalarValue}
-use Rattle.seg_types.specs.Kinds.{lowest}
-use Rattle.seg_types.specs.Values.{kind_of_scalar, value_of_scalar}
-use Rattle.seg_types.specs.declared.kinds.Kind.TheVariants.{Map}
+use Rattle.seg_types.specs.{declared.values.ScalarValue.ScalarValue, Kinds.lowest, Values.kind_of_scalar}
+use Rattle.seg_types.specs.{Values.value_of_scalar, declared.kinds.Kind.TheVariants.Map, Names.ByHandle}
 use Rattle.seg_types.specs.declared.kinds.ScalarKind.{ScalarKind}
-use Rattle.seg_types.specs.Names.{ByHandle, Key}
-use Rattle.seg_map.specs.Numbers.{NumberPair}
-use Rattle.seg_map.specs.Places.{item_of}
-use Rattle.segment_manager.specs.declared.objects.object_ref.Object.{Object as Located}
+use Rattle.seg_map.specs.{Numbers.NumberPair, Places.item_of}
 use Rattle.segment_manager.specs.containers.Walks.{KindedPair, first_of, item_of_kinds, item_seen, pair_past, pairs_at}
 use Rattle.segment_manager.specs.containers.Walks.{pairs_of}
 use Rattle.segment_manager.specs.Directory.{Value, Pairs, Object, Directory, kind_of}
-use Rattle.segment_manager.specs.objects.{BoundObjects.IsBound, Located.IsLocated}
-use Rattle.segment_manager.specs.Parts.{part_of, parts_until}
 use Rattle.segment_manager.specs.State.{AnswersWith, SegmentState, DenotesCurrent}
+use Rattle.segment_manager.specs.{declared.objects.object_ref.Object.Object as Located, objects.BoundObjects.IsBound}
+use Rattle.segment_manager.specs.{objects.Located.IsLocated, Parts.part_of, Parts.parts_until}
 use Rattle.segment_manager.proofs.{Laws.said-at, PartLaws.well}
 use Rattle.segment_manager.proofs.NextPairs.{IsNext, first-walked, next-behind, next-first, next-none, none-text}
 use Rattle.segment_manager.proofs.NextPairs.{pair-said}
 use Rattle.segment_values.specs.{Asked.pair_part, Asked.pair_text, Asked.walked_text, Writing.WritesFor}
 use Rattle.segment_values.specs.Contents.{content_of, count_of_content}
 use Rattle.segment_values.specs.Layouts.{Spelling, count_at, laid_at, laid_object, laid_out}
-use Rattle.segment_values.proofs.Laid.{laid-made, parts-laid}
-use Rattle.segment_values.proofs.LaidElements.{count_of_object, length-made}
-use Rattle.segment_values.proofs.{Located.bound-map, Owed.of-none, Owed.of-one}
+use Rattle.segment_values.proofs.{Laid.laid-made, Laid.parts-laid, LaidElements.count_of_object, Located.bound-map}
+use Rattle.segment_values.proofs.{Owed.of-none, Owed.of-one}
 
 record ArePairs (k v : ScalarKind) (w : Value) : Type 0 where
   pairs : List NumberPair
@@ -52,7 +46,7 @@ module _ (s : SegmentState) (o : Located) (l : IsLocated s (ByHandle o.handle) o
       let w : ArePairs k v f.object.value = pairs-if k v f.object.value (sym (kind-said d st) ∙ e) in
       let long : n ≡ length w.pairs =
       a.answers d st ∙ ap count_of_object f.is ∙ ap (λ u. count_of_content (content_of u)) w.is
-      ∙ length-made item_of w.pairs in
+      ∙ length-map w.pairs item_of in
       let are : pairs_at d (ByHandle o.handle) ≡ w.pairs =
       ap (λ (r : Option Object). elim r as (λ _. List NumberPair) [ None ↦ [] | Some o ↦ pairs_of o.value ]) f.is
       ∙ ap pairs_of w.is in

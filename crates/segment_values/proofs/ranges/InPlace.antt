@@ -1,41 +1,33 @@
 -- Elements that are read where they stand in the image.
 use Rattle.std.proofs.Common.{◌≡◌, refl, sym, ap, subst, ◌∙◌, ℕ, zero, suc, ◌+◌, ◌*◌, ◌<◌, ◌≤◌, ◌⊎◌, inl, inr, ℤ, true}
-use Rattle.std.proofs.Common.{Bool, Some, None, Option, Result, Ok, Err, List, [], ◌∷◌, ◌++◌, length, length-append}
-use Rattle.std.proofs.Common.{map}
-use Rattle.std.proofs.Common.{set, take, IsTrue, zero-add, arith}
-use Rattle.std.specs.Prelude.{◌-◌, drop, slice_get}
-use Rattle.std.specs.List.{list_all}
+use Rattle.std.proofs.Common.{Bool, Some, None, Option, Result, Ok, Err, List, [], ◌∷◌, ◌++◌, length, map, set, take}
 use Rattle.std.proofs.Math.Nat.{eq_of_mul-eq-mul_left, lt_of_mul-lt-mul_left, mul-le-mul_left, mul-lt-mul_of_pos_left}
-use Rattle.std.proofs.Math.Seq.{drop-append-add, drop-nil}
-use Rattle.std.proofs.lemmas.Bool.{and_from, and_parts}
-use Rattle.std.proofs.lemmas.List.{take_all}
+use Rattle.std.proofs.lemmas.List.{map-append, take-append-drop, take_all, take_more, take_more_set}
+use Rattle.std.proofs.{Common.IsTrue, Common.arith, Math.Seq.drop-append-add, Math.Seq.drop-nil, lemmas.Bool.and_from}
+use Rattle.std.proofs.{lemmas.Bool.and_parts, lemmas.Bool.leb-true, lemmas.List.Folds.list_all-append}
+use Rattle.std.proofs.{lemmas.Option.slice_get_within, lemmas.Option.unwrap_or-slice_get}
+use Rattle.std.specs.Prelude.{◌-◌, drop, nat_le, slice_get, unwrap_or}
+use Rattle.std.specs.List.{list_all}
 use Rattle.raw_region.specs.Memory.{bytes_of, part, read}
-use Rattle.raw_region.proofs.Laws.{part-part, read-part}
-use Rattle.raw_region.proofs.Facts.{first}
+use Rattle.raw_region.proofs.{Laws.part-part, Laws.read-part, Facts.first}
 use Rattle.block_tags.specs.Format.{is_legal_size}
 use Rattle.best_fit.specs.Extents.{handle, is_proper, proper_from}
-use Rattle.seg_types.specs.declared.kinds.Kind.TheVariants.{Scalar, Vector}
-use Rattle.seg_types.specs.declared.kinds.ScalarKind.{ScalarKind}
-use Rattle.seg_types.specs.declared.kinds.ScalarKind.TheVariants.{Bool as BoolKind, U8, I32, I64, U64}
-use Rattle.seg_types.specs.declared.refusals.Refusal.{Refusal}
-use Rattle.seg_types.specs.declared.refusals.Refusal.TheVariants.{NotFound}
 use Rattle.seg_types.specs.Kinds.{is_value, size_of, spelling}
-use Rattle.seg_types.specs.Names.{ByHandle, Key}
+use Rattle.seg_types.specs.{declared.kinds.Kind.TheVariants.Scalar, declared.kinds.Kind.TheVariants.Vector, Names.Key}
+use Rattle.seg_types.specs.{declared.kinds.ScalarKind.ScalarKind, declared.refusals.Refusal.Refusal, Names.ByHandle}
+use Rattle.seg_types.specs.{declared.refusals.Refusal.TheVariants.NotFound, ScalarLaws.sizes}
 use Rattle.seg_types.proofs.Laws.{all_spell_one}
 use Rattle.seg_vector.specs.Vector.{spelled}
-use Rattle.seg_vector.proofs.storage.TypedVectors.{all-at, flat-element, flat-take, has-element}
-use Rattle.segment_manager.specs.declared.containers.element_runs.ElementRun.{ElementRun}
-use Rattle.segment_manager.specs.declared.objects.object_ref.Object.{Object as Located}
+use Rattle.seg_vector.proofs.storage.TypedVectors.{all-at, flat-element, flat-long, flat-take, has-element}
 use Rattle.segment_manager.specs.Directory.{Directory, Value, Numbers, Elements, Object, kind_of, live, padded}
-use Rattle.segment_manager.specs.Layout.{head_len}
 use Rattle.segment_manager.specs.containers.ElementRuns.{IsRunOf, run_at, run_in, run_of, spelled_at, spelled_in}
-use Rattle.segment_manager.specs.objects.ElementLists.{numbers_in}
-use Rattle.segment_manager.specs.objects.Located.{IsLocated}
 use Rattle.segment_manager.specs.State.{AnswersWith, IsSegment, SegmentState, DenotesCurrent}
+use Rattle.segment_manager.specs.{declared.containers.element_runs.ElementRun.ElementRun, Layout.head_len}
+use Rattle.segment_manager.specs.{declared.objects.object_ref.Object.Object as Located, objects.ElementLists.numbers_in}
+use Rattle.segment_manager.specs.objects.Located.{IsLocated}
 use Rattle.segment_manager.proofs.Laws.{IsSaidAt, said-at}
 use Rattle.segment_manager.proofs.ElementLaws.{AVector, AnArray, IsSliceOfKind, series-element, run-kind}
-use Rattle.segment_values.specs.Ranges.{AreSpelled, HasSlice, is_slice, slice_of}
-use Rattle.segment_values.proofs.ranges.Lists.{read-more}
+use Rattle.segment_values.specs.Ranges.{AreSpelled, is_slice, slice_of}
 use Rattle.segment_values.proofs.ranges.Slices.{its-numbers, series-cases}
 
 -- ---- bytes that spell values
@@ -46,37 +38,17 @@ all-from test [] each = refl
 all-from test (z ∷ zs) each =
     and_from (test z) (list_all test zs) (each 0 z refl) (all-from test zs (λ i y e. each (suc i) y e))
 
-all-behind : (test : ℤ → Bool) (n : ℕ) (zs : List ℤ) → IsTrue (list_all test zs) → IsTrue (list_all test (drop n zs))
-all-behind test zero zs v = v
-all-behind test (suc n) [] v = v
-all-behind test (suc n) (z ∷ zs) v = all-behind test n zs (and_parts (test z) (list_all test zs) v).1
-
-all-before : (test : ℤ → Bool) (n : ℕ) (zs : List ℤ) → IsTrue (list_all test zs) → IsTrue (list_all test (take n zs))
-all-before test zero zs v = refl
-all-before test (suc n) [] v = refl
-all-before test (suc n) (z ∷ zs) v =
-    let both = and_parts (test z) (list_all test zs) v in
-    and_from (test z) (list_all test (take n zs)) both.0 (all-before test n zs both.1)
+all-parts : (test : ℤ → Bool) (n : ℕ) (zs : List ℤ) → IsTrue (list_all test zs)
+    → IsTrue (list_all test (take n zs)) × IsTrue (list_all test (drop n zs))
+all-parts test n zs v = and_parts (list_all test (take n zs)) (list_all test (drop n zs))
+    (sym (list_all-append test (take n zs) (drop n zs)) ∙ ap (list_all test) (take-append-drop n zs) ∙ v)
 
 long : (k : ScalarKind) (z : ℤ) → is_value k z ≡ true → length (spelling k z) ≡ size_of k
 long k z e = (all_spell_one k z e).len
 
-some : (k : ScalarKind) → 0 < size_of k
-some BoolKind = omega arith
-some U8 = omega arith
-some I32 = omega arith
-some I64 = omega arith
-some U64 = omega arith
-
 spelled-length : (k : ScalarKind) (zs : List ℤ) → IsTrue (list_all (is_value k) zs)
     → length (spelled k zs) ≡ size_of k * length zs
-spelled-length k [] v = let none : size_of k * 0 ≡ 0 = omega arith in sym none
-spelled-length k (z ∷ zs) v =
-    let both = and_parts (is_value k z) (list_all (is_value k) zs) v in
-    let own = long k z both.0 in let rest = spelled-length k zs both.1 in
-    let all = length-append (spelling k z) (spelled k zs) in
-    let step : size_of k * suc (length zs) ≡ size_of k + size_of k * length zs = omega arith in
-    omega (arith, own, rest, all, step)
+spelled-length k = flat-long (size_of k) (is_value k) (spelling k) (long k)
 
 spelled-drop : (k : ScalarKind) (n : ℕ) (zs : List ℤ) → IsTrue (list_all (is_value k) zs)
     → drop (size_of k * n) (spelled k zs) ≡ spelled k (drop n zs)
@@ -89,12 +61,12 @@ spelled-drop k (suc n) (z ∷ zs) v =
     ∙ drop-append-add (spelling k z) (spelled k zs) (size_of k * n) ∙ spelled-drop k n zs both.1
 
 -- the encodings of this many elements from an index on
-pub range-spelled : (k : ScalarKind) (zs : List ℤ) (bytes : List ℕ) (first n : ℕ) → AreSpelled k zs bytes
+range-spelled : (k : ScalarKind) (zs : List ℤ) (bytes : List ℕ) (first n : ℕ) → AreSpelled k zs bytes
     → AreSpelled k (take n (drop first zs)) (part bytes (size_of k * first) (size_of k * n))
 range-spelled k zs bytes first n a =
-    let behind = all-behind (is_value k) first zs a.values in
+    let behind = (all-parts (is_value k) first zs a.values).1 in
     record {
-      values = all-before (is_value k) n (drop first zs) behind;
+      values = (all-parts (is_value k) n (drop first zs) behind).0;
       spelled_are = ap (λ bs. part bs (size_of k * first) (size_of k * n)) a.spelled_are
           ∙ ap (take (size_of k * n)) (spelled-drop k first zs a.values)
           ∙ flat-take (size_of k) (is_value k) (spelling k) (long k) n (drop first zs) behind;
@@ -125,6 +97,10 @@ slice-element bytes {each} {size} i e =
 abbrev pub AreReadOf : {A : Type 0} → (A → ℤ) → ScalarKind → List ℕ → List A → ℕ → Type 0
 AreReadOf whole k bytes series i = (zs : List ℤ) → AreSpelled k zs bytes → map whole (take i series) ≡ take i zs
 
+next-taken : (xs : List ℤ) (i : ℕ) (x : ℤ) → slice_get xs i ≡ Some x → take (i + 1) xs ≡ take i xs ++ x ∷ []
+next-taken xs i x e = take_more xs i x (slice_get_within xs i x e)
+    ∙ ap (λ y. take i xs ++ y ∷ []) (sym (unwrap_or-slice_get xs i x) ∙ ap (λ r. unwrap_or r x) e)
+
 -- the next element is read
 pub reads-value : {A : Type 0} (whole : A → ℤ) (k : ScalarKind) (bytes : List ℕ) (series : List A) (i : ℕ) (x : A)
     (from : List ℕ) → length bytes ≡ size_of k * length series → i < length series
@@ -135,13 +111,15 @@ reads-value whole k bytes series i x from many within e reads before = λ zs a.
     let all : size_of k * length series ≡ size_of k * length zs =
     sym many ∙ ap (λ bs. length bs) a.spelled_are ∙ spelled-length k zs a.values in
     let fits : i < length zs =
-    lt_of_mul-lt-mul_left (size_of k) (subst (λ n. size_of k * i < n) all (mul-lt-mul_of_pos_left within (some k))) in
+    lt_of_mul-lt-mul_left (size_of k) (subst (λ n. size_of k * i < n) all
+    (mul-lt-mul_of_pos_left within (sizes k).0)) in
     let one = has-element zs i fits in
     let same : from ≡ spelling k one.0 =
     e ∙ ap (λ bs. part bs (size_of k * i) (size_of k)) a.spelled_are
     ∙ flat-element (size_of k) (is_value k) (spelling k) (long k) zs i a.values one.1 in
     let is = reads one.0 (all-at (is_value k) zs i a.values one.1) same in
-    read-more whole zs 0 i series x within (ap (slice_get zs) (zero-add i) ∙ one.1 ∙ ap Some (sym is)) (before zs a)
+    ap (map whole) (take_more_set series i x within) ∙ map-append whole (take i series) (x ∷ [])
+    ∙ ap (λ ys. ys ++ whole x ∷ []) (before zs a) ∙ sym (next-taken zs i (whole x) (one.1 ∙ ap Some (sym is)))
 
 -- all are
 pub reads-all : {A : Type 0} (whole : A → ℤ) (k : ScalarKind) (bytes : List ℕ) (series : List A) (i : ℕ)
@@ -150,7 +128,7 @@ pub reads-all : {A : Type 0} (whole : A → ℤ) (k : ScalarKind) (bytes : List 
 reads-all whole k bytes series i many last before zs a =
     let all : size_of k * length series ≡ size_of k * length zs =
     sym many ∙ ap (λ bs. length bs) a.spelled_are ∙ spelled-length k zs a.values in
-    let same = eq_of_mul-eq-mul_left (size_of k) (some k) (length series) (length zs) all in
+    let same = eq_of_mul-eq-mul_left (size_of k) (sizes k).0 (length series) (length zs) all in
     ap (map whole) (sym (take_all i series last)) ∙ before zs a ∙ take_all i zs (omega (arith, same, last))
 
 -- ---- the object
@@ -210,6 +188,17 @@ module _ (s : SegmentState) (o : Located) (k : ScalarKind) (located : IsLocated 
   numbers-are d st = its-numbers d (ByHandle o.handle) o.kind (there d st).object (there d st).is
       (sym (ap (λ (l : Located). l.kind) (there d st).said))
 
+  -- the object has a run
+  pub has-run : (why : Refusal) → AnswersWith s (λ d. run_at d (ByHandle o.handle)) (Err why) → (d : Directory)
+      → DenotesCurrent s.cut.bytes d → ⊥
+  has-run why a d st =
+      let said = there d st in
+      run-if said.object (of-kind d st) (a.answers d st
+      ∙ ap (λ (r : Option Object). elim r as (λ _. Result ElementRun Refusal) [
+        | None ↦ Err NotFound
+        | Some p ↦ run_of p
+      ]) said.is)
+
   module _ (run : ElementRun) (place : AnswersWith s (λ d. run_at d (ByHandle o.handle)) (Ok run))
       (bytes : IsRunOf s (ByHandle o.handle) run) where
     -- the run has the kind, and the number of elements
@@ -218,11 +207,13 @@ module _ (s : SegmentState) (o : Located) (k : ScalarKind) (located : IsLocated 
         let said = run-kind s (ByHandle o.handle) run k place d st (there d st).object (there d st).is (of-kind d st) in
         (said.0, said.1 ∙ ap (λ zs. length zs) (sym (numbers-are d st)))
 
-    values-are : (d : Directory) → DenotesCurrent s.cut.bytes d → IsTrue (list_all (is_value k) (slice_of o d))
-    values-are d st = all-from (is_value k) (slice_of o d) (λ i z e. (series-element s (ByHandle o.handle) run k
-        bytes d st
-        (there d st).object (there d st).is (of-kind d st) i (ap (λ zs. slice_get zs i) (sym (numbers-are d st))
-        ∙ e)).value)
+    -- it has as many elements as the object
+    pub run-counts : AnswersWith s (λ d. length (slice_of o d)) run.count
+    run-counts = record { answers = λ d st. (run-said d st).1 }
+
+    inside : (d : Directory) → DenotesCurrent s.cut.bytes d
+        → run.offset + size_of k * run.count ≤ length s.cut.bytes
+    inside d st = subst (λ j. run.offset + size_of j * run.count ≤ length s.cut.bytes) (run-said d st).0 bytes.inside
 
     spelled-is : (d : Directory) (st : DenotesCurrent s.cut.bytes d)
         → spelled_at d (ByHandle o.handle) ≡ spelled k (slice_of o d)
@@ -230,57 +221,40 @@ module _ (s : SegmentState) (o : Located) (k : ScalarKind) (located : IsLocated 
         ap (λ (q : Option Object). elim q as (λ _. List ℕ) [ None ↦ [] | Some p ↦ spelled_in p.value ]) (there d st).is
         ∙ spelled-if k (there d st).object.value (of-kind d st) ∙ ap (spelled k) (sym (numbers-are d st))
 
-    series-inside : (d : Directory) → DenotesCurrent s.cut.bytes d
-        → run.offset + size_of k * run.count ≤ length s.cut.bytes
-    series-inside d st = subst (λ j. run.offset + size_of j * run.count ≤ length s.cut.bytes) (run-said d st).0
-        bytes.inside
+    -- its bytes encode the elements of the object
+    spells : (d : Directory) → DenotesCurrent s.cut.bytes d
+        → AreSpelled k (slice_of o d) (part s.cut.bytes run.offset (size_of k * run.count))
+    spells d st =
+        let values : IsTrue (list_all (is_value k) (slice_of o d)) =
+        all-from (is_value k) (slice_of o d) (λ i z e. (series-element s (ByHandle o.handle) run k bytes d st
+        (there d st).object (there d st).is (of-kind d st) i (ap (λ zs. slice_get zs i) (sym (numbers-are d st))
+        ∙ e)).value) in
+        let n : length (spelled_at d (ByHandle o.handle)) ≡ size_of k * run.count =
+        ap (λ bs. length bs) (spelled-is d st) ∙ spelled-length k (slice_of o d) values
+        ∙ ap (λ m. size_of k * m) (sym (run-said d st).1) in
+        record {
+          values = values;
+          spelled_are = sym (read-part s.cut.bytes run.offset (size_of k * run.count) (inside d st))
+              ∙ ap (read (bytes_of s.cut.bytes) run.offset) (sym n) ∙ bytes.spells d st ∙ spelled-is d st;
+        }
 
-    -- the object has a row of elements
-    pub has-series : IsSegment s.cut.bytes → HasSlice s o k run
-    has-series g = record {
-      inside = series-inside g.0 g.1;
-      short = segment-short s.cut.bytes g;
-      many = record { answers = λ d st. (run-said d st).1 };
-      spells = λ d st. record {
-        values = values-are d st;
-        spelled_are =
-            let n : length (spelled_at d (ByHandle o.handle)) ≡ size_of k * run.count =
-            ap (λ bs. length bs) (spelled-is d st) ∙ spelled-length k (slice_of o d) (values-are d st)
-            ∙ ap (λ m. size_of k * m) (sym (run-said d st).1) in
-            sym (read-part s.cut.bytes run.offset (size_of k * run.count) (series-inside d st))
-            ∙ ap (read (bytes_of s.cut.bytes) run.offset) (sym n) ∙ bytes.spells d st ∙ spelled-is d st;
-      };
-    }
+    module _ (first n : ℕ) (fits : nat_le (first + n) run.count ≡ true) where
+      both : size_of k * first + size_of k * n ≤ size_of k * run.count
+      both =
+          let all : size_of k * (first + n) ≤ size_of k * run.count = mul-le-mul_left (size_of k) (leb-true (first + n)
+          run.count fits)
+          in omega (arith, all)
 
-  -- the object has a run
-  pub no-run : (why : Refusal) → AnswersWith s (λ d. run_at d (ByHandle o.handle)) (Err why) → IsSegment s.cut.bytes → ⊥
-  no-run why a g =
-      let said = there g.0 g.1 in
-      run-if said.object (of-kind g.0 g.1) (a.answers g.0 g.1
-      ∙ ap (λ (r : Option Object). elim r as (λ _. Result ElementRun Refusal) [
-        | None ↦ Err NotFound
-        | Some p ↦ run_of p
-      ]) said.is)
+      -- the bytes of this many elements from an index on lie in the image, which is not too long
+      pub range-inside : IsSegment s.cut.bytes
+          → (run.offset + size_of k * first + size_of k * n ≤ length s.cut.bytes) × (length s.cut.bytes ≤ 1073741824)
+      range-inside g = let in_image = inside g.0 g.1 in (omega (arith, both, in_image), segment-short s.cut.bytes g)
 
--- this many of them from a place on
-pub series-bytes : (s : SegmentState) (o : Located) (k : ScalarKind) (run : ElementRun) (first n : ℕ) (from : List ℕ)
-    → HasSlice s o k run → first + n ≤ run.count
-    → from ≡ part s.cut.bytes (run.offset + size_of k * first) (size_of k * n)
-    → (d : Directory) → DenotesCurrent s.cut.bytes d → AreSpelled k (take n (drop first (slice_of o d))) from
-series-bytes s o k run first n from series within e d st =
-    let fits : size_of k * first + size_of k * n ≤ size_of k * run.count =
-    let all : size_of k * (first + n) ≤ size_of k * run.count = mul-le-mul_left (size_of k) within
-    in omega (arith, all) in
-    subst (λ bs. AreSpelled k (take n (drop first (slice_of o d))) bs)
-    (part-part s.cut.bytes run.offset (size_of k * run.count) (size_of k * first) (size_of k * n) fits ∙ sym e)
-    (range-spelled k (slice_of o d) (part s.cut.bytes run.offset (size_of k * run.count)) first n (series.spells d st))
-
--- the bytes of a row lie in the image
-pub series-bytes-inside : (s : SegmentState) (o : Located) (k : ScalarKind) (run : ElementRun) (first n : ℕ)
-    → HasSlice s o k run
-    → first + n ≤ run.count → run.offset + size_of k * first + size_of k * n ≤ length s.cut.bytes
-series-bytes-inside s o k run first n series within =
-    let fits : size_of k * first + size_of k * n ≤ size_of k * run.count =
-    let all : size_of k * (first + n) ≤ size_of k * run.count = mul-le-mul_left (size_of k) within
-    in omega (arith, all) in
-    let inside = series.inside in omega (arith, fits, inside)
+      -- they encode these elements
+      pub range-bytes : (from : List ℕ) → from ≡ part s.cut.bytes (run.offset + size_of k * first) (size_of k * n)
+          → (d : Directory) → DenotesCurrent s.cut.bytes d
+          → AreSpelled k (take n (drop first (slice_of o d))) from
+      range-bytes from e d st =
+          subst (λ bs. AreSpelled k (take n (drop first (slice_of o d))) bs)
+          (part-part s.cut.bytes run.offset (size_of k * run.count) (size_of k * first) (size_of k * n) both ∙ sym e)
+          (range-spelled k (slice_of o d) (part s.cut.bytes run.offset (size_of k * run.count)) first n (spells d st))

@@ -1,18 +1,14 @@
 -- Elements that one call reads: what the readings of each come to.
-use Rattle.std.proofs.Common.{◌≡◌, sym, ap, subst, ◌∙◌, ℕ, ◌+◌, ◌≤◌, ℤ, true, false, Some, None, Option, Result, Ok}
+use Rattle.std.proofs.Common.{◌≡◌, sym, ap, ◌∙◌, ℕ, ◌+◌, ℤ, true, false, Some, None, Option, Result, Ok}
 use Rattle.std.proofs.Common.{Err}
 use Rattle.std.proofs.Common.{List, length, take, if◌then◌else◌}
 use Rattle.std.specs.Prelude.{Bool, drop, nat_le}
-use Rattle.std.proofs.lemmas.Bool.{leb-true}
-use Rattle.seg_types.specs.declared.kinds.ScalarKind.{ScalarKind}
-use Rattle.seg_types.specs.declared.refusals.Refusal.{Refusal}
 use Rattle.seg_types.specs.declared.refusals.Refusal.TheVariants.{NotFound, OutOfRange, WrongKind}
-use Rattle.seg_types.specs.Names.{ByHandle}
-use Rattle.segment_manager.specs.declared.objects.object_ref.Object.{Object as Located}
+use Rattle.seg_types.specs.{declared.kinds.ScalarKind.ScalarKind, declared.refusals.Refusal.Refusal, Names.ByHandle}
 use Rattle.segment_manager.specs.Directory.{Object, Directory, kind_of}
-use Rattle.segment_manager.specs.objects.ElementLists.{numbers_in}
-use Rattle.segment_manager.specs.objects.Located.{IsLocated}
 use Rattle.segment_manager.specs.State.{AnswersWith, SegmentState, DenotesCurrent}
+use Rattle.segment_manager.specs.{declared.objects.object_ref.Object.Object as Located, objects.ElementLists.numbers_in}
+use Rattle.segment_manager.specs.objects.Located.{IsLocated}
 use Rattle.segment_manager.proofs.Laws.{IsSaidAt, said-at}
 use Rattle.segment_values.specs.Ranges.{is_slice, numbers_if, range_at, range_in, range_of, slice_of}
 use Rattle.segment_values.proofs.ranges.Slices.{its-numbers}
@@ -21,10 +17,6 @@ use Rattle.segment_values.proofs.ranges.Slices.{its-numbers}
 
 module _ (s : SegmentState) (list : Directory
     → List ℤ) (first n len : ℕ) (many : AnswersWith s (λ d. length (list d)) len) where
-  pub range-there : nat_le (first + n) len ≡ true → (d : Directory) → DenotesCurrent s.cut.bytes d
-      → first + n ≤ length (list d)
-  range-there fits = λ d st. subst (λ m. first + n ≤ m) (many.answers d st) (leb-true (first + n) len fits)
-
   -- a range that the list has is read
   pub range-read : (zs : List ℤ) → nat_le (first + n) len ≡ true
       → ((d : Directory) → DenotesCurrent s.cut.bytes d → zs ≡ take n (drop first (list d)))
@@ -67,7 +59,7 @@ module _ (s : SegmentState) (o : Located) (l : IsLocated s (ByHandle o.handle) o
       ∙ ap (λ c. range_in (if c then Ok (numbers_in p.object.value) else Err WrongKind) first n)
       (ap (is_slice k) (sym (kind-here d st)) ∙ series)
 
-  pub series-range : (d : Directory) → DenotesCurrent s.cut.bytes d → is_slice k o.kind ≡ true
+  series-range : (d : Directory) → DenotesCurrent s.cut.bytes d → is_slice k o.kind ≡ true
       → range_of (slice_of o d) first n ≡ range_at d (ByHandle o.handle) k first n
   series-range d st series =
       let p : IsSaidAt d (ByHandle o.handle) o = here d st in

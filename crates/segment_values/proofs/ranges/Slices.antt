@@ -1,16 +1,11 @@
 -- Values that are arrays or vectors of scalars of a kind: what they list.
 use Rattle.std.proofs.Common.{◌≡◌, refl, sym, ap, ◌∙◌, ℤ, Bool, true, false, ◌||◌, ◌⊎◌, inl, inr, Some, None}
-use Rattle.std.proofs.Common.{Option, List}
+use Rattle.std.proofs.{Common.Option, Common.List, lemmas.Bool.eq-eqb, lemmas.Bool.eqb-true, lemmas.Option.same_Some}
 use Rattle.std.proofs.Common.{[], if◌then◌else◌}
-use Rattle.std.proofs.lemmas.Bool.{eq-eqb, eqb-true}
-use Rattle.std.proofs.lemmas.Option.{same_Some}
-use Rattle.seg_types.specs.declared.kinds.Kind.{Kind}
 use Rattle.seg_types.specs.declared.kinds.Kind.TheVariants.{Scalar, Vector}
-use Rattle.seg_types.specs.declared.kinds.ScalarKind.{ScalarKind}
 use Rattle.seg_types.specs.Kinds.{code_of, kind_of_code, same_kind}
-use Rattle.seg_types.specs.Names.{Key}
-use Rattle.segment_manager.specs.Directory.{Object, Directory, kind_of}
-use Rattle.segment_manager.specs.Directory.{object_at}
+use Rattle.seg_types.specs.{declared.kinds.Kind.Kind, declared.kinds.ScalarKind.ScalarKind, Names.Key}
+use Rattle.segment_manager.specs.Directory.{Object, Directory, kind_of, object_at}
 use Rattle.segment_manager.specs.objects.ElementLists.{list_at, numbers_in}
 use Rattle.segment_manager.proofs.Laws.{code-read}
 use Rattle.segment_values.specs.Ranges.{is_slice}

@@ -1,11 +1,8 @@
 use Rattle.std.proofs.Common.{sym, ap, ◌∙◌, Ok}
-use Rattle.seg_types.specs.declared.kinds.Kind.TheVariants.{Strings}
-use Rattle.seg_types.specs.Commands.{Get}
 use Rattle.seg_types.specs.Values.{kind_of_scalar, value_of_scalar}
-use Rattle.segment_manager.specs.Answers.{Refused, TextElement}
-use Rattle.segment_manager.specs.containers.Contents.{bytes_at}
-use Rattle.segment_manager.specs.objects.BoundObjects.{key_of}
-use Rattle.segment_manager.specs.State.{AnswersQueryOfKind, AnswersWith}
+use Rattle.seg_types.specs.{declared.kinds.Kind.TheVariants.Strings, Commands.Get}
+use Rattle.segment_manager.specs.{Answers.Refused, Answers.TextElement, containers.Contents.bytes_at, State.AnswersWith}
+use Rattle.segment_manager.specs.{objects.BoundObjects.key_of, State.AnswersQueryOfKind}
 use Rattle.segment_manager.proofs.Laws.{of-bound}
 use Rattle.segment_values.proofs.LaidElements.{element_text, scalar-part, string-part, string_text, text-part}
 use Rattle.segment_values.proofs.Owed.{of-none, of-one}

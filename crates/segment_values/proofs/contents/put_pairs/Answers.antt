@@ -6,8 +6,7 @@ use Rattle.seg_types.specs.{Names.ByHandle, Values.kind_of_scalar, declared.valu
 use Rattle.segment_manager.specs.{Parts.parts_until, State.DenotesCurrent, objects.BoundObjects.IsBound}
 use Rattle.segment_manager.proofs.{NextPairs.IsNext, NextPairs.no-pair, PartLaws.well}
 use Rattle.segment_values.specs.{Asked.pair_part, Writing.WritesFor}
-use Rattle.segment_values.proofs.pairs.Walk.{LeadsTo, leads-first, leads-next, leads-none, led}
-use Rattle.segment_values.proofs.pairs.Walk.{none-owed, pair-owed}
+use Rattle.segment_values.proofs.pairs.Walk.{LeadsTo, leads-first, leads-next, leads-none, led, none-owed, pair-owed}
 use Rattle.segment_values.proofs.Owed.{of-all, of-cut_in, of-more, of-start}
 use Rattle.segment_values.proofs.contents.put_pairs.Goals.{in-Some+in_ok-put_pair, in_default}
 use Rattle.segment_values.proofs.contents.put_pairs.Goals as goal

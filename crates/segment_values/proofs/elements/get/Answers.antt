@@ -1,6 +1,5 @@
 -- What the object has under its handle it has under the key.
-use Rattle.segment_values.proofs.Exits.{exit-is}
-use Rattle.segment_values.proofs.elements.Reading.{reply-by_key, reply-missing}
+use Rattle.segment_values.proofs.{Exits.exit-is, elements.Reading.reply-by_key, elements.Reading.reply-missing}
 use Rattle.segment_values.proofs.elements.get.Goals as goal
 
 pub get_element-requires : goal.get_element-requires

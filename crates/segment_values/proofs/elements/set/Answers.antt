@@ -1,20 +1,16 @@
 use Rattle.std.proofs.Common.{◌≡◌, Ok, refl, rules, sym, ap, subst, ◌∙◌, pos}
 use Rattle.seg_types.specs.declared.kinds.Kind.TheVariants.{Scalar, String, Strings, Vector}
-use Rattle.seg_types.specs.declared.kinds.ScalarKind.TheVariants.{U8}
-use Rattle.seg_types.specs.declared.values.ScalarValue.{ScalarValue}
-use Rattle.seg_types.specs.declared.values.ScalarValue.TheVariants.{U8 as Byte}
 use Rattle.seg_types.specs.Commands.{Quoted, Set, literal_of, value_of_literal}
-use Rattle.seg_types.specs.Literals.{IsValueOf}
-use Rattle.seg_types.specs.Keys.{key_seen}
+use Rattle.seg_types.specs.{declared.kinds.ScalarKind.TheVariants.U8, declared.values.ScalarValue.ScalarValue}
+use Rattle.seg_types.specs.{declared.values.ScalarValue.TheVariants.U8 as Byte, Literals.IsValueOf, Keys.key_seen}
 use Rattle.seg_types.specs.Values.{kind_of_scalar}
 use Rattle.segment_manager.specs.{Calls.elements_of, objects.BoundObjects.key_of}
 use Rattle.segment_manager.specs.State.{TakesStepOfKind, done_answer}
 use Rattle.segment_manager.proofs.CommandLaws.{elements-told, handle-to-change, set-map, set-no_text, set-unchangeable}
 use Rattle.segment_manager.proofs.CommandLaws.{to-change}
 use Rattle.segment_manager.proofs.Laws.{located-steps, of-change}
-use Rattle.segment_values.proofs.Exits.{exit-is}
-use Rattle.segment_values.proofs.elements.Bytes.{element-elsewhere, element-told}
-use Rattle.segment_values.proofs.elements.Setting.{set-done, set-refused}
+use Rattle.segment_values.proofs.{Exits.exit-is, elements.Bytes.element-elsewhere, elements.Bytes.element-told}
+use Rattle.segment_values.proofs.{elements.Setting.set-done, elements.Setting.set-refused}
 use Rattle.segment_values.proofs.elements.set.Goals as goal
 
 pub returns-in_err-object-clause-step : goal.returns-in_err-object-clause-step

@@ -1,7 +1,6 @@
 -- The object's kind determines the kind of its map keys.
 use Rattle.segment_manager.proofs.CommandLaws.{remove-no_map, remove-no_value, remove-unchangeable, removes-key}
-use Rattle.segment_values.proofs.pairs.Absent.{erases-absent}
-use Rattle.segment_values.proofs.Exits.{exit-is}
+use Rattle.segment_values.proofs.{pairs.Absent.erases-absent, Exits.exit-is}
 use Rattle.segment_values.proofs.pairs.erase_pair.Goals as goal
 
 pub returns-in_err-object-clause-step : goal.returns-in_err-object-clause-step

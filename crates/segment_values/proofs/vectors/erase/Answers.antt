@@ -1,7 +1,5 @@
 use Rattle.std.proofs.Common.{◌≡◌, refl, rules}
-use Rattle.seg_types.specs.declared.kinds.Kind.TheVariants.{Strings}
-use Rattle.seg_types.specs.Commands.{Erase}
-use Rattle.seg_types.specs.Keys.{key_seen}
+use Rattle.seg_types.specs.{declared.kinds.Kind.TheVariants.Strings, Commands.Erase, Keys.key_seen}
 use Rattle.segment_manager.specs.{State.TakesStepOfKind, State.done_answer, objects.BoundObjects.key_of}
 use Rattle.segment_manager.proofs.CommandLaws.{erase-no_vector, erase-unchangeable}
 use Rattle.segment_manager.proofs.Laws.{located-steps, of-change}

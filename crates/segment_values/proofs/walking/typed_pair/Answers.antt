@@ -1,8 +1,7 @@
 -- The pair that the map's own call finds.
 use Rattle.std.proofs.Common.{Ok}
 use Rattle.segment_manager.specs.containers.Maps.{answer_of_map, numbers_in, pair_above, pair_from}
-use Rattle.segment_manager.specs.objects.BoundObjects.{key_of}
-use Rattle.segment_manager.specs.State.{AnswersWith}
+use Rattle.segment_manager.specs.{objects.BoundObjects.key_of, State.AnswersWith}
 use Rattle.segment_manager.proofs.{Laws.of-bound, NextPairs.pair-walked}
 use Rattle.segment_values.proofs.Located.{bound-map}
 use Rattle.segment_values.proofs.walking.typed_pair.Goals as goal

@@ -1,10 +1,9 @@
+-- This many elements have gone out.
 use Rattle.seg_types.specs.Names.{ByHandle}
-use Rattle.segment_manager.specs.Parts.{parts_until}
-use Rattle.segment_manager.specs.State.{DenotesCurrent}
+use Rattle.segment_manager.specs.{Parts.parts_until, State.DenotesCurrent}
 use Rattle.segment_manager.proofs.PartLaws.{well}
-use Rattle.segment_values.specs.Layouts.{part_at}
-use Rattle.segment_values.specs.Writing.{WritesFor}
-use Rattle.segment_values.proofs.contents.put_elements.Given as goal
+use Rattle.segment_values.specs.{Layouts.part_at, Writing.WritesFor}
+use Rattle.segment_values.proofs.contents.put_content.Given as goal
 
 abbrev pub invariant-elements : goal.invariant-elements
 invariant-elements g l =

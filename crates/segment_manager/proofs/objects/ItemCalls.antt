@@ -9,21 +9,19 @@ use common.{RestoresBlocks, ℕ, Option, Result, Exists, Object, TakesStep, effe
 use common.{le-ltb, perform, false, PendingEntry, list_all, take_all, Anonymous, ReadOnly, is_value, head_len, room_for}
 use common.{DenotesCurrent, Refusal, NoSpace, Command, Refused, current, resized, size_of, BeginsObjectOk}
 use common.{WritesUnindexedObject, Denotes, Numbers, BeginsObjectErr, length-map, ObjectRole, ScalarKind, OutOfRange}
-use common.{RefusesKey}
-use common.{LeadsThere, object_len, with_object, is_read_only, with_new_object, if◌then◌else◌, mul-le-mul_left}
-use common.{length-replicate, AllocatesOk, is_good_value}
+use common.{RefusesKey, LeadsThere, object_len, with_object, is_read_only, with_new_object, if◌then◌else◌}
+use common.{mul-le-mul_left, length-replicate, AllocatesOk, is_good_value}
 use Rattle.segment_manager.proofs.directory.CommandSteps.{step-segment, perform-new, refuses-read_only, by_no_change}
-use Rattle.segment_manager.proofs.directory.CommandSteps.{by_step, lands}
-use Rattle.segment_manager.proofs.directory.CommandSteps.{open-writing, step-plan, step-refuse}
+use Rattle.segment_manager.proofs.directory.CommandSteps.{by_step, lands, open-writing, step-plan, step-refuse}
 use Rattle.segment_manager.proofs.objects.Constructed.{IsMet, IsNewObject, numbers-met, restored-denotes, IsNoObject}
 use Rattle.segment_manager.proofs.objects.NewValues.{away-in, value-built, value-ready, no_key-none}
+use Rattle.segment_manager.specs.objects.PendingObjects.{Ends, IsEnding, Fills}
 use Rattle.segment_manager.proofs.objects.NotBegun.{key-taken, value-not_begun}
 use Rattle.segment_manager.proofs.objects.ArrayItems.{by-items, from-items}
 use Rattle.segment_manager.proofs.objects.FoundOrMade.{made_handle, makes}
 use Rattle.segment_manager.proofs.{objects.NewNumbers.numbers-made, objects.MadeValues.headed-change}
 use Rattle.segment_manager.proofs.{indexes.Bridge.lookup-absent, directory.HeapCalls.denotes-live}
 use Rattle.segment_manager.proofs.objects.NewKeys.{key-seeks, numbers-value}
-use Rattle.segment_manager.specs.objects.PendingObjects.{Ends, IsEnding, Fills}
 use Rattle.segment_manager.specs.objects.Items.{TakesItemsIn}
 use Rattle.segment_manager.specs.containers.Filled.{MakesValueOk, numbers_shape}
 use Rattle.segment_manager.specs.declared.containers.fillings.ObjectShape.{ObjectShape}

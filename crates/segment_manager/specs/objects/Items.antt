@@ -1,13 +1,12 @@
 -- The items that a construction takes from an iterator.
-use Rattle.std.specs.Prelude.{◌≡◌, ℕ, ◌<◌, ℤ, false, None, Option, Result, IfErr}
-use Rattle.std.specs.Prelude.{MatchResult, List, [], length, map, ⊤}
+use Rattle.std.specs.Prelude.{◌≡◌, ℕ, ◌<◌, ℤ, false, None, Option, Result, IfErr, MatchResult, List, [], length, map, ⊤}
+use Rattle.segment_manager.specs.State.{TakesStep, SegmentState, handle_answer}
 use Rattle.raw_region.specs.Memory.{WindowState}
 use Rattle.std.specs.Iterator.{Yields, YieldsThen}
-use Rattle.seg_types.specs.{declared.kinds.ScalarKind.ScalarKind, declared.refusals.Refusal.Refusal}
-use Rattle.seg_types.specs.{Names.Key, Commands.ConstructIt}
+use Rattle.seg_types.specs.{declared.kinds.ScalarKind.ScalarKind, declared.refusals.Refusal.Refusal, Names.Key}
+use Rattle.seg_types.specs.Commands.{ConstructIt}
 use Rattle.seg_types.specs.declared.refusals.Refusal.TheVariants.{NoSpace, OutOfRange}
 use Rattle.segment_manager.specs.{declared.modes.Mode.Mode, Step.is_read_only}
-use Rattle.segment_manager.specs.State.{TakesStep, SegmentState, handle_answer}
 
 -- Too few items came, or the call failed before it took one.
 abbrev pub TakesUntil : {S A : Type 0} → (S → Option A → S → Type 0) → ℕ → S → List A → S → Refusal → Type 0

@@ -14,6 +14,7 @@ use Rattle.segment_manager.proofs.containers.Refilled.{same_Err, then_room}
 
 -- ---- the plan
 
+-- the plan for the object of a key
 abbrev pub of_object : Directory → ScalarKind → List ℤ → Object → Plan
 of_object d k more o = if same_kind (Vector k) (kind_of o.value) then extend d o o.value more else Refuse WrongKind
 
